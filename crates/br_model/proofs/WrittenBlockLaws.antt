@@ -1,0 +1,205 @@
+-- A block that was written has a valid header of its size, and its fragments are those that it was written of.
+use Rattle.std.proofs.Common.{◌≡◌, ℕ, zero, suc, ◌+◌, ◌%◌, ◌^◌, ◌<◌, ◌≤◌, true, false, ltb, List, [], ◌∷◌, ◌++◌, length, take, drop, Ok, refl, sym, ap, subst, ◌∙◌, inl, inr, arith}
+use Rattle.std.proofs.lemmas.Bool.{cases_lt, le-ltb, lt-ltb}
+use Rattle.std.proofs.lemmas.List.{append-nil, length-append}
+use Rattle.std.proofs.lemmas.List.Sums.{sum_by-cons}
+use Rattle.std.proofs.lemmas.Nat.{from_be_bytes-to_be_bytes_4, mod_below}
+use Rattle.std.proofs.lemmas.Int.{fits_signed_from_abs}
+use Rattle.std.specs.Prelude.{ℤ, pos, negsuc, neg_ℤ, FitsSigned, flat_map, sum_by, bytes_eq}
+use Rattle.std.specs.Int.{w32, is_positive}
+use Rattle.std.specs.List.{AllByRecursion}
+use Rattle.br_model.specs.Name.{SessionKey}
+use Rattle.br_model.specs.Block.{Header, header_bytes, letters, u32_at, session_of, read_header, Fragment, fragment_bytes, IsFragmentOf, AreFilled, fragments_of}
+use Rattle.br_model.specs.Record.{Record, GoOn, AreParts, IsCut}
+use Rattle.br_model.specs.Session.{block_size, AreWritten, written_block}
+use Rattle.br_model.proofs.BlockLaws.{length-fragment_bytes, fragments_are_read}
+use Rattle.br_model.proofs.ListLaws.{all_append}
+
+-- ---- fragments of records that can be written
+
+-- an index from 1 to 2 ^ 31 - 1, and a stream and a length that four bytes have
+pub record IsWritable (r : Record) : Type 0 where
+  pub index_from : 1 ≤ r.index
+  pub index_to : r.index < 2 ^ 31
+  pub stream_to : r.stream < 2 ^ 31
+  pub size_to : length r.bytes < 2 ^ 32
+
+-- a fragment of a file, whose numbers have four bytes each
+pub record IsSound (f : Fragment) : Type 0 where
+  pub positive : is_positive f.index ≡ true
+  pub index_fits : FitsSigned w32 f.index
+  pub stream_fits : FitsSigned w32 f.stream
+  pub size_fits : f.size < 2 ^ 32
+
+-- a number below 2 ^ 31 and its negation have four bytes with a sign
+pos_fits : (n : ℕ) → n < 2 ^ 31 → FitsSigned w32 (pos n)
+pos_fits n lt = fits_signed_from_abs w32 (pos n) lt
+
+neg_fits : (n : ℕ) → n < 2 ^ 31 → FitsSigned w32 (neg_ℤ (pos n))
+neg_fits zero lt = fits_signed_from_abs w32 (pos 0) (omega arith)
+neg_fits (suc n) lt = fits_signed_from_abs w32 (negsuc n) lt
+
+pos_is_positive : (n : ℕ) → 1 ≤ n → is_positive (pos n) ≡ true
+pos_is_positive n le = lt-ltb 0 n le
+
+-- a fragment with such an index, stream and size is sound
+sound : (f : Fragment) (index size : ℕ) (stream : ℤ) → f.index ≡ pos index → f.stream ≡ stream → f.size ≡ size → 1 ≤ index → index < 2 ^ 31 → FitsSigned w32 stream → size < 2 ^ 32
+    → IsSound f
+sound f index size stream index_is stream_is size_is from to fits lt = record {
+  positive = rw index_is (pos_is_positive index from);
+  index_fits = rw index_is (pos_fits index to);
+  stream_fits = rw stream_is fits;
+  size_fits = omega (arith, size_is, lt);
+}
+
+-- the fragments that go on with a record that can be written are sound
+go_on_sound : (index stream : ℕ) (left : List ℕ) (fs : List Fragment) → 1 ≤ index → index < 2 ^ 31 → stream < 2 ^ 31 → length left < 2 ^ 32 → GoOn index stream left fs
+    → AllByRecursion IsSound fs
+go_on_sound index stream left [] from to stream_to size_to g = tt
+go_on_sound index stream left (f ∷ fs) from to stream_to size_to g = (
+  sound f index (length left) (neg_ℤ (pos stream)) g.0 g.1 g.2 from to (neg_fits stream stream_to) size_to,
+  go_on_sound index stream g.4 fs from to stream_to (omega (arith, size_to, ap length g.5, length-append f.bytes g.4)) g.6,
+)
+
+-- the parts of a record that can be written are sound
+parts_sound : (r : Record) (fs : List Fragment) → IsWritable r → AreParts r fs → AllByRecursion IsSound fs
+parts_sound r [] can p = absurd p
+parts_sound r (f ∷ fs) can p = (
+  sound f r.index (length r.bytes) (pos r.stream) p.0 p.1 p.2 can.index_from can.index_to (pos_fits r.stream can.stream_to) can.size_to,
+  go_on_sound r.index r.stream p.3 fs can.index_from can.index_to can.stream_to (omega (arith, can.size_to, ap length p.4, length-append f.bytes p.3)) p.5,
+)
+
+-- the fragments of a cut of records that can be written are sound
+pub cut_is_sound : (records : List Record) (fs : List Fragment) → AllByRecursion IsWritable records → IsCut records fs → AllByRecursion IsSound fs
+cut_is_sound [] fs can cut = rw cut tt
+cut_is_sound (r ∷ rs) fs can cut =
+    subst (λ (gs : List Fragment). AllByRecursion IsSound gs) (sym cut.2)
+    (all_append IsSound cut.0 cut.1 (parts_sound r cut.0 can.0 cut.3) (cut_is_sound rs cut.1 can.1 cut.4))
+
+-- ---- the header
+
+-- a header of a valid size, whose numbers have four bytes each
+record IsHeader (h : Header) : Type 0 where
+  checksum_to : h.checksum < 2 ^ 32
+  size_from : 24 ≤ h.size
+  size_to : h.size ≤ 4194304
+  number_to : h.number < 2 ^ 32
+  id_to : h.session.id < 2 ^ 32
+  time_to : h.session.time < 2 ^ 32
+
+-- a header is known by its five numbers
+same_header : (h : Header) (a b c d e : ℕ) → a ≡ h.checksum → b ≡ h.size → c ≡ h.number → d ≡ h.session.id → e ≡ h.session.time
+    → ◌≡◌ {A = Header} (record { checksum = a; size = b; number = c; session = record { id = d; time = e } }) h
+same_header h a b c d e p q r s t = rw (p, q, r, s, t) refl
+
+-- the numbers of a header are read from its bytes, whatever stands behind them
+session_is_read : (h : Header) (more : List ℕ) → IsHeader h → (u32_at 16 (header_bytes h ++ more) ≡ h.session.id) × (u32_at 20 (header_bytes h ++ more) ≡ h.session.time)
+unfolding header_bytes
+session_is_read h more is = (from_be_bytes-to_be_bytes_4 h.session.id is.id_to, from_be_bytes-to_be_bytes_4 h.session.time is.time_to)
+
+numbers_are_read : (h : Header) (more : List ℕ) → IsHeader h
+    → (u32_at 0 (header_bytes h ++ more) ≡ h.checksum) × (u32_at 4 (header_bytes h ++ more) ≡ h.size) × (u32_at 8 (header_bytes h ++ more) ≡ h.number)
+unfolding header_bytes
+numbers_are_read h more is =
+    (from_be_bytes-to_be_bytes_4 h.checksum is.checksum_to, from_be_bytes-to_be_bytes_4 h.size (omega (arith, is.size_to)), from_be_bytes-to_be_bytes_4 h.number is.number_to)
+
+-- a header has 24 bytes, with the letters among them
+pub length-header_bytes : (h : Header) (more : List ℕ) → length (header_bytes h ++ more) ≡ 24 + length more
+unfolding header_bytes
+length-header_bytes h more = omega arith
+
+letters_are_there : (h : Header) (more : List ℕ) → bytes_eq (take 4 (drop 12 (header_bytes h ++ more))) letters ≡ true
+unfolding header_bytes
+letters_are_there h more = refl
+
+-- a header that is valid is read, whatever stands behind it
+header_is_read : (h : Header) (more : List ℕ) → IsHeader h → read_header (header_bytes h ++ more) ≡ Ok h
+unfolding read_header
+header_is_read h more is =
+    let n = numbers_are_read h more is in
+    let s = session_is_read h more is in
+    let long : ltb (length (header_bytes h ++ more)) 24 ≡ false = le-ltb (length (header_bytes h ++ more)) 24 (omega (arith, length-header_bytes h more)) in
+    let low : ltb (u32_at 4 (header_bytes h ++ more)) 24 ≡ false = le-ltb (u32_at 4 (header_bytes h ++ more)) 24 (omega (arith, n.1, is.size_from)) in
+    let high : ltb 4194304 (u32_at 4 (header_bytes h ++ more)) ≡ false = le-ltb 4194304 (u32_at 4 (header_bytes h ++ more)) (omega (arith, n.1, is.size_to)) in
+    rw (long, letters_are_there h more, low, high) (ap (λ (g : Header). Ok g) (same_header h _ _ _ _ _ n.0 n.1 n.2 s.0 s.1))
+
+-- the header of a written block
+abbrev pub header_of : SessionKey → ℕ × List Fragment → Header
+header_of key block = record { checksum = 0; size = block_size block.1; number = block.0 % 2 ^ 32; session = key }
+
+-- the numbers of the session have four bytes each
+pub record IsKey (key : SessionKey) : Type 0 where
+  pub id_to : key.id < 2 ^ 32
+  pub time_to : key.time < 2 ^ 32
+
+-- the header of a written block is valid
+written_is_header : (key : SessionKey) (block : ℕ × List Fragment) → IsKey key → block_size block.1 ≤ 4194304 → IsHeader (header_of key block)
+written_is_header key block is to = record {
+  checksum_to = omega arith;
+  size_from = omega arith;
+  size_to = to;
+  number_to = mod_below block.0 (2 ^ 32) (omega arith);
+  id_to = is.id_to;
+  time_to = is.time_to;
+}
+
+-- the block is read with its header
+pub written_header : (key : SessionKey) (block : ℕ × List Fragment) → IsKey key → block_size block.1 ≤ 4194304
+    → read_header (written_block key block) ≡ Ok (header_of key block)
+written_header key block is to = header_is_read (header_of key block) (flat_map fragment_bytes block.1) (written_is_header key block is to)
+
+-- the length of fragments, as the size of a block counts it
+length-fragments : (fs : List Fragment) → length (flat_map fragment_bytes fs) ≡ sum_by (λ (f : Fragment). 12 + length f.bytes) fs
+length-fragments [] = refl
+length-fragments (f ∷ fs) =
+    length-fragment_bytes f (flat_map fragment_bytes fs) ∙ ap (λ n. 12 + length f.bytes + n) (length-fragments fs) ∙ sym (sum_by-cons (λ (g : Fragment). 12 + length g.bytes) f fs)
+
+-- the block is as long as its header says
+pub length-written_block : (key : SessionKey) (block : ℕ × List Fragment) → length (written_block key block) ≡ block_size block.1
+length-written_block key block =
+    length-header_bytes (header_of key block) (flat_map fragment_bytes block.1) ∙ ap (λ n. 24 + n) (length-fragments block.1)
+
+-- ---- the fragments
+
+-- what is behind the header of a block
+behind_header : (h : Header) (more : List ℕ) → drop 24 (header_bytes h ++ more) ≡ more
+unfolding header_bytes
+behind_header h more = refl
+
+-- a key is known by its two numbers
+key_is : (key other : SessionKey) → other.id ≡ key.id → other.time ≡ key.time → key ≡ other
+key_is key other p q = rw (← p, ← q) refl
+
+-- each fragment but the last has all its data, and nothing stands behind the last
+written_are_filled : (fs : List Fragment) → AreWritten fs → AreFilled fs []
+written_are_filled [] written = tt
+written_are_filled (f ∷ []) written =
+    elim (cases_lt (length f.bytes) f.size) [
+      | inl lt ↦ inr (lt, refl)
+      | inr le ↦ inl (omega (arith, le, written.0))
+    ]
+written_are_filled (f ∷ g ∷ more) written = (written.0, written_are_filled (g ∷ more) written.1)
+
+-- sound fragments of a session, under any key that equals it
+each_of_session : (key other : SessionKey) (fs : List Fragment) → key ≡ other → AllByRecursion (λ (f : Fragment). f.session ≡ key) fs → AllByRecursion IsSound fs
+    → AllByRecursion (IsFragmentOf other) fs
+each_of_session key other [] e of_session sound = tt
+each_of_session key other (f ∷ fs) e of_session sound = (
+  record { session_is = of_session.0 ∙ e; index_fits = sound.0.index_fits; stream_fits = sound.0.stream_fits; size_fits = sound.0.size_fits },
+  each_of_session key other fs e of_session.1 sound.1,
+)
+
+-- the fragments of a written block are those that it was written of
+pub written_fragments : (key : SessionKey) (block : ℕ × List Fragment) → IsKey key → block_size block.1 ≤ 4194304 → AreWritten block.1
+    → AllByRecursion (λ (f : Fragment). f.session ≡ key) block.1 → AllByRecursion IsSound block.1 → fragments_of (written_block key block) ≡ block.1
+written_fragments key block is to written of_session sound =
+    let h = header_of key block in
+    let body = flat_map fragment_bytes block.1 in
+    let read = session_is_read h body (written_is_header key block is to) in
+    fragments_are_read (written_block key block) block.1 (omega (arith, length-header_bytes h body)) (record {
+      rest = [];
+      joined = behind_header h body ∙ sym (append-nil body);
+      rest_is_short = omega arith;
+      filled = written_are_filled block.1 written;
+      each = each_of_session key (session_of (written_block key block)) block.1 (key_is key (session_of (written_block key block)) read.0 read.1) of_session sound;
+    })

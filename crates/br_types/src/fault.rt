@@ -1,0 +1,38 @@
+ghost use Rattle.std.specs.Prelude.{◌≡◌};
+ghost use Rattle.br_types.specs.Fault.{fault_number};
+ghost use Rattle.br_types.specs.declared.fault.NameFault.TheVariants.{Memory};
+
+use std::alloc::AllocError;
+use thiserror::Error;
+
+/// Why a name or a path was refused.
+#[derive(Clone, Copy, Debug, PartialEq, Eq, Error)]
+pub enum NameFault {
+    #[error("out of memory")]
+    Memory,
+    #[error("not a name: a name has 1 to 127 ASCII letters, digits, spaces or bytes of -_.: and a volume is not named . or ..")]
+    BadName,
+    #[error("not a path: a path begins with /, has at most 4096 bytes, no NUL, and no component that is empty, . or ..")]
+    BadPath,
+}
+
+impl NameFault {
+    /// The number of the refusal: 1 want of memory, 2 a bad name, 3 a bad path.
+    pub fn number(self) -> u32
+        ensures { result ≡ fault_number self }
+    {
+        match self {
+            NameFault::Memory => 1,
+            NameFault::BadName => 2,
+            NameFault::BadPath => 3,
+        }
+    }
+}
+
+impl From<AllocError> for NameFault {
+    ghost from_gives = { λ _ e. e ≡ Memory };
+
+    fn from(_e: AllocError) -> NameFault {
+        NameFault::Memory
+    }
+}

@@ -1,0 +1,107 @@
+ghost use Rattle.std.specs.Prelude.{◌≡◌, ◌==◌, true, not, drop, IfOk};
+ghost use Rattle.std.specs.List.{list_all, slice_split};
+ghost use Rattle.br_model.specs.Answer.{Answers};
+ghost use Rattle.br_model.specs.Name.{is_slash, is_component, are_components, is_path, checked_path};
+ghost use Rattle.br_types.specs.Fault.{cause};
+
+use crate::fault::NameFault;
+use std::alloc::{AllocError, Global};
+use std::marker::Model;
+
+/// The most bytes that a path has.
+const MAX_LEN: usize = 4096;
+
+fn is_component_of(part: &[u8]) -> bool
+    ensures { result ≡ is_component part.now }
+{
+    !part.is_empty() && part != b".".as_slice() && part != b"..".as_slice()
+}
+
+fn all_are_components(bytes: &[u8]) -> bool
+    ensures { result ≡ list_all is_component (slice_split is_slash bytes.now) }
+{
+    bytes
+        .split(|byte| *byte == b'/')
+        .all(|part| is_component_of(part))
+}
+
+fn are_components_of(bytes: &[u8]) -> bool
+    ensures { result ≡ are_components (slice_split is_slash bytes.now) }
+{
+    match bytes.split_last() {
+        None => true,
+        Some((last, front)) => {
+            if *last == b'/' {
+                all_are_components(front)
+            } else {
+                all_are_components(bytes)
+            }
+        }
+    }
+}
+
+fn has_no_nul(bytes: &[u8]) -> bool
+    ensures { result ≡ list_all (λ c. not (c == 0)) bytes.now }
+{
+    bytes.iter().all(|byte| *byte != 0)
+}
+
+#[tactic(auto, unfolding(br_model::specs::Name::is_path))]
+fn is_path_of(bytes: &[u8]) -> bool
+    ensures { result ≡ is_path bytes.now }
+{
+    match bytes {
+        [b'/', rest @ ..] => bytes.len() <= MAX_LEN && has_no_nul(bytes) && are_components_of(rest),
+        _ => false,
+    }
+}
+
+/// An absolute path: it begins with `/`, has at most 4,096 bytes, no NUL, and no component that is empty, `.` or `..`. One
+/// `/` at the end marks a directory, so `/a` and `/a/` are two paths; `/` is one too.
+#[derive(Debug, Drop)]
+pub struct Path {
+    bytes: Vec<u8>,
+}
+
+impl Model for Path {
+    ghost use Rattle.std.specs.Prelude.{◌≡◌, true, List, ℕ};
+    ghost use Rattle.br_model.specs.Name.{is_path};
+
+    ghost Value = { List ℕ };
+
+    ghost view = { λ p. p.bytes.items };
+
+    ghost invariant = { λ p. is_path p.bytes.items ≡ true };
+}
+
+impl Path {
+    /// The path with these bytes; `BadPath` where they are none.
+    #[tactic(auto, unfolding(br_model::specs::Name::checked_path))]
+    pub fn new(alloc: Global, bytes: &[u8]) -> Result<Path, NameFault>
+        ensures { Answers (λ path. path) cause result (checked_path bytes.now) }
+    {
+        if !is_path_of(bytes) {
+            return Err(NameFault::BadPath);
+        }
+        Ok(Path {
+            bytes: Vec::from_slice(alloc, bytes)?,
+        })
+    }
+
+    /// The bytes of the path.
+    pub fn bytes(&self) -> &[u8]
+        ensures same { result.now ≡ self.now }
+        ensures valid { is_path self.now ≡ true }
+    {
+        &self.bytes
+    }
+
+    /// An equal path.
+    pub fn copy(&self, alloc: Global) -> Result<Path, AllocError>
+        ensures { IfOk result (λ path. path ≡ self.now) }
+    {
+        Ok(Path {
+            bytes: Vec::from_slice(alloc, &self.bytes)?,
+        })
+    }
+}
