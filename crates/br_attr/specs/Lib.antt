@@ -1,0 +1,4 @@
+pub mod Fault
+pub mod Digits
+pub mod Path
+pub mod Numbers

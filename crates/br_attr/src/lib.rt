@@ -1,0 +1,16 @@
+//! The numbers and attribute records of files, as backups carry them: base 64 numbers, the 14 numbers of a file, and the
+//! record that names a file and its numbers.
+#![tactic(auto)]
+
+mod attr;
+mod fault;
+mod number;
+mod stat;
+
+pub use attr::Attr;
+pub use fault::AttrFault;
+pub use number::read_number;
+pub use stat::Stat;
+
+#[cfg(test)]
+mod tests;

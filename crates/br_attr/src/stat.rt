@@ -1,0 +1,220 @@
+ghost use Rattle.std.specs.Prelude.{◌≡◌, ◌≤◌, IfOk, ℕ, pos, take, length, slice_index_or};
+ghost use Rattle.br_model.specs.Answer.{AnswersAlways};
+ghost use Rattle.br_model.specs.Attribute.{read_numbers, read_stat, stat_from};
+ghost use Rattle.br_model.specs.Text.{words};
+ghost use Rattle.br_attr.specs.Fault.{fault_number};
+
+use crate::fault::AttrFault;
+use crate::number::read_number;
+use std::marker::Model;
+
+/// How many numbers a file has.
+const COUNT: usize = 14;
+
+/// How many of them a record needs.
+const NEEDED: usize = 13;
+
+/// The numbers of a file as the system that was backed up had them: the fields of `stat`, and of a hard link the index of the
+/// file that it names.
+#[derive(Clone, Copy, Debug, PartialEq, Eq)]
+pub struct Stat {
+    dev: i64,
+    ino: i64,
+    mode: i64,
+    nlink: i64,
+    uid: i64,
+    gid: i64,
+    rdev: i64,
+    size: i64,
+    blksize: i64,
+    blocks: i64,
+    atime: i64,
+    mtime: i64,
+    ctime: i64,
+    link_index: i64,
+}
+
+impl Model for Stat {
+    ghost use Rattle.br_model.specs.Attribute as model;
+
+    ghost Value = { model.Stat };
+
+    ghost view = { λ s. record { dev = s.dev; ino = s.ino; mode = s.mode; nlink = s.nlink; uid = s.uid; gid = s.gid; rdev = s.rdev; size = s.size; blksize = s.blksize; blocks = s.blocks; atime = s.atime; mtime = s.mtime; ctime = s.ctime; link_index = s.link_index } };
+
+    ghost inverse = { λ s. record { dev = s.dev; ino = s.ino; mode = s.mode; nlink = s.nlink; uid = s.uid; gid = s.gid; rdev = s.rdev; size = s.size; blksize = s.blksize; blocks = s.blocks; atime = s.atime; mtime = s.mtime; ctime = s.ctime; link_index = s.link_index } };
+}
+
+/// The first 14 numbers of a text, and how many there are; behind them are zeros.
+fn numbers_in(text: &[u8]) -> Result<([i64; COUNT], usize), AttrFault>
+    ensures read { AnswersAlways (λ found. take found.1 found.0) fault_number result (read_numbers (take 14 (words text.now))) }
+    ensures within { IfOk result (λ found. found.1 ≤ length found.0) }
+    ensures zeros { IfOk result (λ found. (k : ℕ) → found.1 ≤ k → slice_index_or found.0 k (pos 0) ≡ pos 0) }
+{
+    let mut numbers = [0_i64; COUNT];
+    let mut count = 0;
+    for word in text
+        .split(|byte| *byte == b' ')
+        .filter(|word| !word.is_empty())
+        .take(COUNT)
+    {
+        numbers[count] = read_number(word)?;
+        count += 1;
+    }
+    Ok((numbers, count))
+}
+
+impl Stat {
+    /// The numbers by their places.
+    #[tactic(auto, unfolding(br_model::specs::Attribute::stat_from))]
+    fn from_numbers(numbers: [i64; COUNT]) -> Stat
+        ensures { result ≡ stat_from numbers }
+    {
+        let [
+            dev,
+            ino,
+            mode,
+            nlink,
+            uid,
+            gid,
+            rdev,
+            size,
+            blksize,
+            blocks,
+            atime,
+            mtime,
+            ctime,
+            link_index,
+        ] = numbers;
+        Stat {
+            dev,
+            ino,
+            mode,
+            nlink,
+            uid,
+            gid,
+            rdev,
+            size,
+            blksize,
+            blocks,
+            atime,
+            mtime,
+            ctime,
+            link_index,
+        }
+    }
+
+    /// The numbers that a text holds: base 64 numbers with one or more spaces between two, which may stand at its ends too. Their
+    /// order is dev, ino, mode, nlink, uid, gid, rdev, size, blksize, blocks, atime, mtime, ctime, LinkFI, as Bacula's
+    /// Developer's Guide has it ("Storage Media Output Format"). A missing LinkFI is 0, and what follows the fourteenth number is
+    /// not read.
+    ///
+    /// `BadNumber` at the first word that is no number, and where all are, `MissingField` with fewer than 13.
+    #[tactic(auto, unfolding(br_model::specs::Attribute::read_stat))]
+    pub fn read(text: &[u8]) -> Result<Stat, AttrFault>
+        ensures { AnswersAlways (λ s. s) fault_number result (read_stat text.now) }
+    {
+        let (numbers, count) = numbers_in(text)?;
+        if count < NEEDED {
+            return Err(AttrFault::MissingField);
+        }
+        Ok(Stat::from_numbers(numbers))
+    }
+
+    /// The device on which the file lay.
+    pub fn dev(&self) -> i64
+        ensures { result ≡ self.now.dev }
+    {
+        self.dev
+    }
+
+    /// The number of the file's inode.
+    pub fn ino(&self) -> i64
+        ensures { result ≡ self.now.ino }
+    {
+        self.ino
+    }
+
+    /// The type and the permissions, as `stat` has them.
+    pub fn mode(&self) -> i64
+        ensures { result ≡ self.now.mode }
+    {
+        self.mode
+    }
+
+    /// How many names the file had.
+    pub fn nlink(&self) -> i64
+        ensures { result ≡ self.now.nlink }
+    {
+        self.nlink
+    }
+
+    /// The number of the owner.
+    pub fn uid(&self) -> i64
+        ensures { result ≡ self.now.uid }
+    {
+        self.uid
+    }
+
+    /// The number of the group.
+    pub fn gid(&self) -> i64
+        ensures { result ≡ self.now.gid }
+    {
+        self.gid
+    }
+
+    /// The device that a device file stands for.
+    pub fn rdev(&self) -> i64
+        ensures { result ≡ self.now.rdev }
+    {
+        self.rdev
+    }
+
+    /// The size in bytes.
+    pub fn size(&self) -> i64
+        ensures { result ≡ self.now.size }
+    {
+        self.size
+    }
+
+    /// The size of a block of the file system, in bytes.
+    pub fn blksize(&self) -> i64
+        ensures { result ≡ self.now.blksize }
+    {
+        self.blksize
+    }
+
+    /// How many blocks of 512 bytes the file took.
+    pub fn blocks(&self) -> i64
+        ensures { result ≡ self.now.blocks }
+    {
+        self.blocks
+    }
+
+    /// When the file was last read, in seconds since 1970.
+    pub fn atime(&self) -> i64
+        ensures { result ≡ self.now.atime }
+    {
+        self.atime
+    }
+
+    /// When the file was last written, in seconds since 1970.
+    pub fn mtime(&self) -> i64
+        ensures { result ≡ self.now.mtime }
+    {
+        self.mtime
+    }
+
+    /// When the inode last changed, in seconds since 1970.
+    pub fn ctime(&self) -> i64
+        ensures { result ≡ self.now.ctime }
+    {
+        self.ctime
+    }
+
+    /// LinkFI: the index of the file that a hard link names, else 0.
+    pub fn link_index(&self) -> i64
+        ensures { result ≡ self.now.link_index }
+    {
+        self.link_index
+    }
+}

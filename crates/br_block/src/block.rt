@@ -1,0 +1,81 @@
+ghost use Rattle.std.specs.Prelude.{◌≡◌, ◌+◌, ◌*◌, ◌≤◌, Ok, length};
+ghost use Rattle.br_model.specs.Answer.{AnswersAlways};
+ghost use Rattle.br_model.specs.Block.{read_header, read_block, fragments_of, AreFragments};
+ghost use Rattle.br_model.specs.Text.{AreBytes};
+ghost use Rattle.br_block.specs.Fault.{fault_number};
+
+use crate::fault::BlockFault;
+use crate::fragments::Fragments;
+use crate::head::{BlockHead, HEADER_LEN};
+use br_model::fragments_are_exact;
+use std::marker::Model;
+
+/// A whole block: its header, and behind it its records, as they stand in the bytes that it was read from.
+#[derive(Clone, Debug, Drop)]
+pub struct Block<'a> {
+    head: BlockHead,
+    bytes: &'a [u8],
+}
+
+impl<'a> Model for Block<'a> {
+    ghost use Rattle.std.specs.Prelude.{◌≡◌, Ok, List, ℕ, length};
+    ghost use Rattle.br_model.specs.Text.{AreBytes};
+    ghost use Rattle.br_model.specs.Block.{read_header};
+
+    ghost Value = { List ℕ };
+
+    ghost view = { λ b. b.bytes.now };
+
+    ghost invariant = { λ b. (read_header b.bytes.now ≡ Ok b.head) × (length b.bytes.now ≡ b.head.size) × AreBytes b.bytes.now };
+}
+
+impl<'a> Block<'a> {
+    /// The block at the front of the bytes; what stands behind it is not looked at. The faults are those of
+    /// `BlockHead::read`, and then `Truncated` where fewer bytes are there than the header names.
+    #[tactic(auto, unfolding(br_model::specs::Block::read_block))]
+    pub fn read(bytes: &'a [u8]) -> Result<Block<'a>, BlockFault>
+        ensures { AnswersAlways (λ block. block) fault_number result (read_block bytes.now) }
+    {
+        let head = BlockHead::read(bytes)?;
+        let size = head.size as usize;
+        if bytes.len() < size {
+            return Err(BlockFault::Truncated);
+        }
+        Ok(Block {
+            head,
+            bytes: &bytes[..size],
+        })
+    }
+
+    /// The header.
+    pub fn head(&self) -> BlockHead
+        ensures header { read_header self.now ≡ Ok result }
+        ensures whole { length self.now ≡ result.size }
+        ensures least { 24 ≤ result.size }
+        ensures most { result.size ≤ 4194304 }
+    {
+        self.head
+    }
+
+    /// The bytes of the block, the header among them.
+    pub fn bytes(&self) -> &'a [u8]
+        ensures same { result.now ≡ self.now }
+        ensures bytes { AreBytes self.now }
+    {
+        self.bytes
+    }
+
+    /// The fragments of the block, in order: its header, these and a rest of fewer than 12 bytes are the block.
+    pub fn fragments(&self) -> Fragments<'a>
+        ensures read { result ≡ fragments_of self.now }
+        ensures exact { AreFragments self.now result }
+        ensures few { 24 + 12 * length result ≤ length self.now }
+        ensures most { length self.now ≤ 4194304 }
+    {
+        fragments_are_exact();
+        let head = self.head();
+        let bytes = self.bytes();
+        let (_, rest) = bytes.split_at(HEADER_LEN);
+        Fragments::new(head.session, rest)
+    }
+}

@@ -1,0 +1,74 @@
+ghost use Rattle.std.specs.Prelude.{◌≤◌, IfOk};
+ghost use Rattle.br_model.specs.Answer.{AnswersAlways};
+ghost use Rattle.br_model.specs.Block.{read_header};
+ghost use Rattle.br_block.specs.Fault.{fault_number};
+
+use crate::fault::BlockFault;
+use crate::numbers::u32_from;
+use br_types::SessionKey;
+use std::marker::Model;
+
+/// The bytes of a block's header.
+pub(crate) const HEADER_LEN: usize = 24;
+
+/// The fewest bytes that a block has.
+const MIN_SIZE: u32 = 24;
+
+/// The most bytes that a block has.
+const MAX_SIZE: u32 = 4_194_304;
+
+/// The header of a block: 24 bytes, namely CheckSum, BlockSize, BlockNumber, the letters `BB02`, VolSessionId and
+/// VolSessionTime, four bytes each.
+#[derive(Clone, Copy, Debug, PartialEq, Eq)]
+pub struct BlockHead {
+    /// The checksum as it stands there: it is not verified.
+    pub checksum: u32,
+    /// The bytes of the whole block, the header among them.
+    pub size: u32,
+    /// The number of the block in its session.
+    pub number: u32,
+    /// The session that all records of the block belong to.
+    pub session: SessionKey,
+}
+
+impl Model for BlockHead {
+    ghost use Rattle.br_model.specs.Block as model;
+
+    ghost Value = { model.Header };
+
+    ghost view = { λ h. record { checksum = h.checksum; size = h.size; number = h.number; session = h.session } };
+
+    ghost inverse = { λ h. record { checksum = h.checksum; size = h.size; number = h.number; session = h.session } };
+}
+
+impl BlockHead {
+    /// The header at the front of the bytes. The first fault of these is answered: `Truncated` where there are fewer than 24
+    /// bytes, `BadId` for other letters than `BB02`, `BadBlockSize` for a size outside 24 to 4,194,304. Whether the block is
+    /// there whole is not looked at.
+    #[tactic(auto, unfolding(br_model::specs::Block::read_header))]
+    pub fn read(bytes: &[u8]) -> Result<BlockHead, BlockFault>
+        ensures exact { AnswersAlways (λ head. head) fault_number result (read_header bytes.now) }
+        ensures least { IfOk result (λ head. 24 ≤ head.size) }
+        ensures most { IfOk result (λ head. head.size ≤ 4194304) }
+    {
+        if bytes.len() < HEADER_LEN {
+            return Err(BlockFault::Truncated);
+        }
+        if &bytes[12..16] != b"BB02".as_slice() {
+            return Err(BlockFault::BadId);
+        }
+        let size = u32_from(bytes, 4);
+        if size < MIN_SIZE || size > MAX_SIZE {
+            return Err(BlockFault::BadBlockSize);
+        }
+        Ok(BlockHead {
+            checksum: u32_from(bytes, 0),
+            size,
+            number: u32_from(bytes, 8),
+            session: SessionKey {
+                id: u32_from(bytes, 16),
+                time: u32_from(bytes, 20),
+            },
+        })
+    }
+}

@@ -1,0 +1,19 @@
+//! Bacula's BB02 blocks: the header of a block, and the fragments of records in it, which borrow from the block.
+//!
+//! The format is the one of Bacula's Developer's Guide, "Storage Media Output Format". All numbers are in network byte order.
+//! Contracts see a header as its record of the model, a block as the list of its bytes, a fragment as the model's fragment,
+//! and `Fragments` as the list of the fragments that are left. No call takes memory.
+#![tactic(auto)]
+
+mod block;
+mod fault;
+mod fragments;
+mod head;
+mod numbers;
+#[cfg(test)]
+mod tests;
+
+pub use block::Block;
+pub use fault::BlockFault;
+pub use fragments::{Fragment, Fragments};
+pub use head::BlockHead;

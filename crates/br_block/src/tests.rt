@@ -1,0 +1,146 @@
+use crate::{Block, BlockFault, BlockHead};
+use std::alloc::Global;
+use std::test::Fail;
+
+/// A block of two whole records: attributes of 38 bytes and data of 5 bytes.
+const BLOCK: &[u8; 91] =
+    b"\0\0\0\0\0\0\0\x5b\0\0\0\0BB02\0\0\0\x01\0\0\0\x64\0\0\0\x01\0\0\0\x01\0\0\0\x261 3 /a\0A A IGk B A A A F A A A A A A\0\0\0\0\0\x01\0\0\0\x02\0\0\0\x05hello";
+
+const ATTRIBUTES: &[u8] = b"1 3 /a\0A A IGk B A A A F A A A A A A\0\0";
+
+fn refusal(bytes: &[u8]) -> Option<u32> {
+    Block::read(bytes).err().map(|fault| fault.number())
+}
+
+/// Whether the bytes are a block of session 1, 100 with just these fragments: index, stream, size and data.
+fn has_fragments(bytes: &[u8], wanted: &[(i32, i32, u32, &[u8])]) -> bool {
+    let Ok(block) = Block::read(bytes) else {
+        return false;
+    };
+    if block.fragments().count() != wanted.len() {
+        return false;
+    }
+    for (fragment, (index, stream, size, data)) in block.fragments().zip(wanted) {
+        if fragment.session.id != 1 || fragment.session.time != 100 {
+            return false;
+        }
+        if fragment.index != *index || fragment.stream != *stream || fragment.size != *size {
+            return false;
+        }
+        if fragment.bytes != *data {
+            return false;
+        }
+    }
+    true
+}
+
+#[test]
+fn a_block_is_read(rt: HostRuntime) -> Result<(), Fail> {
+    let block = Block::read(BLOCK).ok().ok_or("the bytes are a block")?;
+    let head = block.head();
+    assert_eq!(rt; head.checksum, 0);
+    assert_eq!(rt; head.size, 91);
+    assert_eq!(rt; head.number, 0);
+    assert_eq!(rt; head.session.id, 1);
+    assert_eq!(rt; head.session.time, 100);
+    assert_eq!(rt; BlockHead::read(BLOCK), Ok(head));
+    assert_eq!(rt; block.bytes(), BLOCK.as_slice());
+    assert!(rt; has_fragments(BLOCK, &[(1, 1, 38, ATTRIBUTES), (1, 2, 5, b"hello")]));
+    Ok(())
+}
+
+#[test]
+fn clones_are_equal(rt: HostRuntime) -> Result<(), Fail> {
+    let block = Block::read(BLOCK).ok().ok_or("the bytes are a block")?;
+    assert_eq!(rt; block.clone()?.bytes(), BLOCK.as_slice());
+    let mut fragments = block.fragments();
+    let first = fragments.next().ok_or("the block has a fragment")?;
+    assert_eq!(rt; first.clone()?.bytes, ATTRIBUTES);
+    assert_eq!(rt; fragments.clone()?.count(), 1);
+    assert_eq!(rt; fragments.count(), 1);
+    Ok(())
+}
+
+#[test]
+fn bytes_that_are_cut_off_are_refused(rt: HostRuntime) {
+    for len in 0..BLOCK.len() {
+        assert_eq!(rt; refusal(&BLOCK[..len]), Some(12), "of {len} bytes");
+    }
+    assert_eq!(rt; refusal(BLOCK), None);
+}
+
+#[test]
+fn the_first_fault_is_answered(rt: HostRuntime) {
+    let mut bytes = *BLOCK;
+    bytes[15] = b'1';
+    assert_eq!(rt; refusal(&bytes), Some(10));
+    assert_eq!(rt; refusal(&bytes[..23]), Some(12));
+    bytes[7] = 23;
+    assert_eq!(rt; refusal(&bytes), Some(10));
+    bytes[15] = b'2';
+    assert_eq!(rt; refusal(&bytes), Some(11));
+    // 4,194,305 and 4,194,304.
+    bytes[5] = 0x40;
+    bytes[7] = 1;
+    assert_eq!(rt; refusal(&bytes), Some(11));
+    bytes[7] = 0;
+    assert_eq!(rt; refusal(&bytes), Some(12));
+    assert!(rt; BlockHead::read(&bytes).is_ok_and(|head| head.size == 4_194_304));
+}
+
+#[test]
+fn fragments_end_with_the_block(rt: HostRuntime) {
+    let mut bytes = *BLOCK;
+    bytes[7] = 24;
+    assert!(rt; has_fragments(&bytes, &[]));
+    // A header of which one byte is missing is no fragment.
+    bytes[7] = 85;
+    assert!(rt; has_fragments(&bytes, &[(1, 1, 38, ATTRIBUTES)]));
+    bytes[7] = 86;
+    assert!(rt; has_fragments(&bytes, &[(1, 1, 38, ATTRIBUTES), (1, 2, 5, b"")]));
+    // The record goes on in another block.
+    bytes[7] = 91;
+    bytes[85] = 9;
+    assert!(rt; has_fragments(&bytes, &[(1, 1, 38, ATTRIBUTES), (1, 2, 9, b"hello")]));
+    bytes[35] = 56;
+    assert!(rt; has_fragments(&bytes, &[(1, 1, 56, &bytes[36..])]));
+}
+
+#[test]
+fn signs_are_kept(rt: HostRuntime) {
+    let mut bytes = *BLOCK;
+    bytes[24..28].copy_from_slice(&[0xff, 0xff, 0xff, 0xfc]);
+    bytes[78..82].copy_from_slice(&[0xff, 0xff, 0xff, 0xfe]);
+    assert!(rt; has_fragments(&bytes, &[(-4, 1, 38, ATTRIBUTES), (1, -2, 5, b"hello")]));
+}
+
+#[test]
+fn what_stands_behind_a_block_is_not_read(rt: HostRuntime) {
+    let mut bytes = [7u8; 182];
+    bytes[..91].copy_from_slice(BLOCK);
+    assert!(rt; has_fragments(&bytes, &[(1, 1, 38, ATTRIBUTES), (1, 2, 5, b"hello")]));
+    bytes[91..].copy_from_slice(BLOCK);
+    assert!(rt; has_fragments(&bytes, &[(1, 1, 38, ATTRIBUTES), (1, 2, 5, b"hello")]));
+    assert!(rt; has_fragments(&bytes[91..], &[(1, 1, 38, ATTRIBUTES), (1, 2, 5, b"hello")]));
+}
+
+fn message(alloc: Global, fault: BlockFault) -> Result<String, Fail> {
+    Ok(format!(in alloc; "{fault}")?)
+}
+
+#[test]
+fn faults_say_what_is_wrong(rt: HostRuntime) -> Result<(), Fail> {
+    assert_eq!(rt;
+        message(rt.alloc(), BlockFault::BadId)?.as_str(),
+        "not a block: the letters BB02 do not stand at byte 12 of its header"
+    );
+    assert_eq!(rt;
+        message(rt.alloc(), BlockFault::BadBlockSize)?.as_str(),
+        "not a block: its header gives a size outside 24 to 4194304 bytes"
+    );
+    assert_eq!(rt;
+        message(rt.alloc(), BlockFault::Truncated)?.as_str(),
+        "the block is cut off: the bytes end before its header does, or before the size that its header gives"
+    );
+    Ok(())
+}
