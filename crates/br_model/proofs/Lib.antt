@@ -60,3 +60,25 @@ pub mod WrittenVolumeLaws
 pub mod WrittenSpanLaws
 pub mod WrittenFileLaws
 pub mod WrittenSessionLaws
+mod AnswerExamples
+mod TextExamples
+mod OrderExamples
+mod BlockExamples
+mod VolumeExamples
+mod RecordExamples
+mod ContentExamples
+mod MeaningExamples
+mod HitExamples
+mod RestoredExamples
+mod ManifestExamples
+mod LineExamples
+mod RefusedLineExamples
+mod GrammarExamples
+mod JobExamples
+mod ViewExamples
+mod CommandExamples
+mod ApplyExamples
+mod StoredExamples
+mod PackingExamples
+mod WrittenExamples
+mod PlanMeaningExamples

@@ -32,6 +32,7 @@ pub record Group : Type 0 where
   pub indexes : List Range
   pub streams : List Range
 
+-- the group on a volume that asks for nothing else
 abbrev pub group_on : List ℕ → Group
 group_on volume = record {
   volume = volume;
@@ -82,6 +83,7 @@ range_text r = if r.low == r.high then decimal r.low else decimal r.low ++ 45 �
 abbrev pub range_lines : List ℕ → List Range → List ℕ
 range_lines keyword rs = flat_map (λ r. line (keyword ++ 61 ∷ range_text r)) rs
 
+-- the volume's line, and behind it the lines of each criterion, in this order of the criteria
 abbrev pub group_text : Group → List ℕ
 group_text g =
     line (codes "Volume=\"" ++ g.volume ++ codes "\"") ++ range_lines (codes "VolSessionId") g.session_ids

@@ -34,12 +34,13 @@ unfoldable pub keyword_of : List ℕ → Option Keyword
 keyword_of word =
     option_map (λ (k : List ℕ × Keyword). k.1) (find (λ (k : List ℕ × Keyword). bytes_eq (str_to_ascii_lowercase word) k.0) keywords)
 
--- the numbers that a criterion may be given
+-- the least number that a criterion may be given
 abbrev pub least : Criterion → ℕ
 least FileIndex = 1
 least Stream = 1
 least _ = 0
 
+-- the greatest number that a criterion may be given
 abbrev pub greatest : Criterion → ℕ
 greatest FileIndex = 2 ^ 31 - 1
 greatest Stream = 2 ^ 31 - 1
@@ -63,12 +64,13 @@ pub data Statement : Type 0 where
   OnVolume : List ℕ → Statement
   Admits : Criterion → List Range → Statement
 
--- the groups after a statement: ranges go to the last group
+-- the groups with the last one changed
 abbrev pub change_last : (Group → Group) → List Group → List Group
 change_last f [] = []
 change_last f (g ∷ []) = f g ∷ []
 change_last f (g ∷ h ∷ more) = g ∷ change_last f (h ∷ more)
 
+-- the groups after a statement: a volume begins a new group behind the others, and ranges go to the last group
 abbrev pub with_statement : List Group → Statement → List Group
 with_statement groups Nothing = groups
 with_statement groups (OnVolume name) = groups ++ group_on name ∷ []
@@ -76,6 +78,7 @@ with_statement groups (Admits c rs) = change_last (with_ranges c rs) groups
 
 -- ---- the grammar
 
+-- the text is blanks alone, or nothing
 abbrev pub AreBlanks : List ℕ → Type 0
 AreBlanks text = list_all is_blank text ≡ true
 
@@ -121,6 +124,7 @@ IsVolumeValue text name =
 abbrev pub has_closed_quotes : List ℕ → Bool
 has_closed_quotes text = count_by (λ c. c == 34) text % 2 == 0
 
+-- what a value states: a volume its name, a criterion its items, and what is passed over nothing; what is not supported has no value
 abbrev pub IsValue : Keyword → List ℕ → Statement → Type 0
 IsValue NamesVolume text (OnVolume name) = IsVolumeValue text name
 IsValue (Asks c) text (Admits d rs) = (c ≡ d) × AreItems c text rs
@@ -179,32 +183,40 @@ unfoldable pub before_comment : Bool → List ℕ → List ℕ
 before_comment quoted [] = []
 before_comment quoted (c ∷ cs) = if c == 35 && not quoted then [] else c ∷ before_comment (if c == 34 then not quoted else quoted) cs
 
+-- the text without the blanks at its two ends
 abbrev pub trimmed : List ℕ → List ℕ
 trimmed text = trim_by is_blank text
 
+-- a dash is 45
 abbrev pub is_dash : ℕ → Bool
 is_dash c = c == 45
 
+-- a comma is 44
 abbrev pub is_comma : ℕ → Bool
 is_comma c = c == 44
 
+-- an equals sign is 61
 abbrev pub is_equals : ℕ → Bool
 is_equals c = c == 61
 
+-- the number of 1 to 20 decimal digits, or 33
 unfoldable pub read_digits : List ℕ → Result ℕ ℕ
 read_digits text = if nat_le (length text) 20 then some_or (decimal_value text) 33 else Err 33
 
+-- the two numbers round the first dash, without blanks at their ends, or the one number where there is no dash; or 33
 unfoldable pub read_ends : List ℕ → Result Range ℕ
 read_ends text = do
   low ← read_digits (trimmed (before_first is_dash text))
   high ← (if list_any is_dash text then read_digits (trimmed (after_first is_dash text)) else Ok low)
   Ok (record { low = low; high = high })
 
+-- the range of an item, or 33 where it is none that the criterion may be given
 unfoldable pub read_item : Criterion → List ℕ → Result Range ℕ
 read_item c text = do
   r ← read_ends (trimmed text)
   if is_range c r then Ok r else Err 33
 
+-- the ranges of some items in order, or the first refusal
 unfoldable pub read_items : Criterion → List (List ℕ) → Result (List Range) ℕ
 read_items c [] = Ok []
 read_items c (item ∷ items) = do
@@ -216,12 +228,14 @@ read_items c (item ∷ items) = do
 abbrev pub inside : List ℕ → List ℕ
 inside text = drop 1 (take (length text - 1) text)
 
+-- the name of a volume, without quotes where it has no space, or in quotes; else 33
 unfoldable pub read_volume : List ℕ → Result (List ℕ) ℕ
 read_volume text =
     if is_volume_name text && not (list_any is_space text) then Ok text
     else if is_volume_name (inside text) && bytes_eq text (34 ∷ inside text ++ 34 ∷ []) then Ok (inside text)
     else Err 33
 
+-- what a value states, or its refusal: 32 what is not supported, 33 any other
 unfoldable pub read_value : Keyword → List ℕ → Result Statement ℕ
 read_value NamesVolume text = do
   name ← read_volume text
@@ -237,6 +251,7 @@ abbrev pub needs_volume : Keyword → Bool
 needs_volume (Asks c) = true
 needs_volume _ = false
 
+-- whether a keyword is one that is not supported
 abbrev pub is_unsupported : Keyword → Bool
 is_unsupported Unsupported = true
 is_unsupported _ = false

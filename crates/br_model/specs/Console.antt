@@ -9,6 +9,7 @@ use Rattle.br_model.specs.View.{Entry, view_paths}
 
 -- ---- commands
 
+-- what may be asked of the console
 pub data Command : Type 0 where
   Cd : List ℕ → Command
   Pwd : Command
@@ -24,17 +25,19 @@ pub data Command : Type 0 where
   Done : Command
   Quit : Command
 
--- what a word makes of the text behind it, which may be missing
+-- a word with nothing behind it, else 55
 abbrev pub alone : Command → List ℕ → Result Command ℕ
 alone c text = if is_empty text then Ok c else Err 55
 
+-- a word with a text behind it, else 55
 abbrev pub with_text : (List ℕ → Command) → List ℕ → Result Command ℕ
 with_text c text = if is_empty text then Err 55 else Ok (c text)
 
+-- a word with a text behind it or none
 abbrev pub maybe_text : (Option (List ℕ) → Command) → List ℕ → Result Command ℕ
 maybe_text c text = Ok (c (if is_empty text then None else Some text))
 
--- a command word and the rest of the line without the blanks at its ends; 55 where it is none, or longer than 4096 bytes
+-- the command of a word and of the text behind it; 55 where the word is none of these, or its text is missing or too much
 unfoldable pub read_words : List ℕ → List ℕ → Result Command ℕ
 read_words word text =
     if bytes_eq word (codes "cd") then with_text Cd text
@@ -52,6 +55,7 @@ read_words word text =
     else if bytes_eq word (codes "quit") then alone Quit text
     else Err 55
 
+-- the command of a line of at most 4096 bytes: its first word, and the rest without the blanks at its ends; else 55
 unfoldable pub read_command : List ℕ → Result Command ℕ
 read_command text = do
   _ ← refuse_if (nat_lt 4096 (length text)) 55
@@ -90,13 +94,15 @@ is_below directory path = begins_with path directory && not (bytes_eq path direc
 unfoldable pub children : List (List ℕ) → List ℕ → List (List ℕ)
 children paths directory = in_order (λ name. name) (map (child_of directory) (filter (is_below directory) paths))
 
+-- the names in a directory that match the pattern, without the slash at their end
 unfoldable pub matching : List (List ℕ) → List ℕ → List ℕ → List (List ℕ)
 matching paths directory pattern = filter (λ name. matches pattern (bare name)) (children paths directory)
 
--- the root is a directory, and each front of a path that ends in a slash
+-- the root is a slash
 abbrev pub root : List ℕ
 root = 47 ∷ []
 
+-- the root is a directory, and so is each front of a path that ends in a slash
 abbrev pub is_directory_of : List (List ℕ) → List ℕ → Bool
 is_directory_of paths directory = bytes_eq directory root || list_any (λ path. begins_with path directory) paths
 
@@ -118,6 +124,7 @@ step directory component =
     else if bytes_eq component dot_dot then Ok (parent directory)
     else Ok (directory ++ component ++ root)
 
+-- the directory after some steps, or the first refusal
 unfoldable pub walk : List ℕ → List (List ℕ) → Result (List ℕ) ℕ
 walk directory [] = Ok directory
 walk directory (component ∷ more) = do
@@ -143,6 +150,7 @@ pub record IsConsole (view : List Entry) (c : Console) : Type 0 where
   pub ordered : in_order (λ path. path) c.marked ≡ c.marked
   pub in_view : AllPass (is_among (view_paths view)) c.marked
 
+-- the console stands at the root, and nothing is marked
 abbrev pub at_start : Console
 at_start = record { directory = root; marked = [] }
 
@@ -157,6 +165,7 @@ abbrev pub is_meant : List ℕ → List (List ℕ) → List ℕ → Bool
 is_meant directory names path =
     list_any (λ name. bytes_eq path (directory ++ name) || (is_directory name && begins_with path (directory ++ name))) names
 
+-- the line that says where the console stands
 abbrev pub cwd_line : List ℕ → List ℕ
 cwd_line directory = line (codes "cwd is: " ++ escaped directory)
 
@@ -171,6 +180,7 @@ sign marked path =
     else if is_directory path && list_any (is_below path) marked then 43
     else 32
 
+-- * a marked path, a space any other
 abbrev pub mark_sign : List (List ℕ) → List ℕ → ℕ
 mark_sign marked path = if is_among marked path then 42 else 32
 
@@ -208,9 +218,11 @@ meant_directories paths directory None = some_of (filter (bytes_eq directory) pa
 meant_directories paths directory (Some pattern) =
     some_of (filter (is_among (map (λ name. directory ++ name) (filter is_directory (matching paths directory pattern)))) paths)
 
+-- the line of a name in the directory, behind its sign
 abbrev pub child_line : Console → List ℕ → List ℕ
 child_line c name = line (sign c.marked (c.directory ++ name) ∷ escaped name)
 
+-- the line of a path that was found, behind its sign
 abbrev pub found_line : Console → List ℕ → List ℕ
 found_line c path = line (mark_sign c.marked path ∷ escaped path)
 
@@ -264,6 +276,7 @@ abbrev pub after_answer : Console → Result (Console × Answer) ℕ → Console
 after_answer c (Ok r) = r.0
 after_answer c (Err n) = c
 
+-- the answer alone, or the refusal
 abbrev pub answer_of : Result (Console × Answer) ℕ → Result Answer ℕ
 answer_of (Ok r) = Ok r.1
 answer_of (Err n) = Err n
@@ -280,6 +293,7 @@ answers view c (command ∷ more) = answer_of (apply view c command) ∷ answers
 
 -- ---- a dialogue of lines, up to done or quit
 
+-- the parts without the last one where that is empty
 abbrev pub without_empty_end : List (List ℕ) → List (List ℕ)
 without_empty_end [] = []
 without_empty_end (x ∷ []) = if is_empty x then [] else x ∷ []
@@ -302,12 +316,14 @@ written (Ok EndsDone) = []
 written (Ok EndsQuit) = []
 written (Err n) = refused_line n
 
+-- done and quit end a dialogue
 abbrev pub ends : Result Answer ℕ → Bool
 ends (Ok (Text text)) = false
 ends (Ok EndsDone) = true
 ends (Ok EndsQuit) = true
 ends (Err n) = false
 
+-- done alone ends it with the marks
 abbrev pub ends_done : Result Answer ℕ → Bool
 ends_done (Ok (Text text)) = false
 ends_done (Ok EndsDone) = true

@@ -25,6 +25,7 @@ pub record Fault : Type 0 where
 abbrev pub Outcome : Type 0
 Outcome = Result Item Fault
 
+-- a fault with this number and no stream
 abbrev pub fault : ℕ → Fault
 fault number = record { number = number; stream = 0 }
 
@@ -32,12 +33,15 @@ fault number = record { number = number; stream = 0 }
 abbrev pub is_stream : ℕ → Record → Bool
 is_stream stream r = r.stream == stream
 
+-- data is plain in stream 2, or sparse in stream 6
 abbrev pub is_data : Record → Bool
 is_data r = is_stream 2 r || is_stream 6 r
 
+-- a record of stream 10, or of 1000 to 1999, is passed over
 abbrev pub is_passed_over : Record → Bool
 is_passed_over r = is_stream 10 r || is_in_range 1000 1999 r.stream
 
+-- attributes, data, digests and what is passed over are supported
 abbrev pub is_supported : Record → Bool
 is_supported r = is_stream 1 r || is_data r || is_stream 3 r || is_passed_over r
 
@@ -63,6 +67,7 @@ pub record Extent : Type 0 where
   pub start : ℕ
   pub bytes : List ℕ
 
+-- the address behind the last byte of an extent
 abbrev pub extent_end : Extent → ℕ
 extent_end e = e.start + length e.bytes
 

@@ -22,6 +22,7 @@ pub record Spot : Type 0 where
   pub address : ℕ
   pub ordinal : ℕ
 
+-- places are ordered by group, then by address, then by place in the block
 abbrev pub spot_rank : Spot → List ℕ
 spot_rank s = s.group ∷ s.address ∷ s.ordinal ∷ []
 
@@ -31,6 +32,7 @@ pub record Hit : Type 0 where
   pub spot : Spot
   pub fragment : Fragment
 
+-- the file of a fragment: its session, and its index without a sign
 abbrev pub key_of : Fragment → FileKey
 key_of f = record { session = f.session; index = nat_abs f.index }
 
@@ -40,6 +42,7 @@ key_of f = record { session = f.session; index = nat_abs f.index }
 abbrev pub hit_rank : FileKey × Spot → List ℕ
 hit_rank k = key_rank k.0 ++ spot_rank k.1
 
+-- hits are ordered by file, then by place
 abbrev pub hit_cmp : FileKey × Spot → FileKey × Spot → Ordering
 hit_cmp j k = slice_cmp nat_cmp (hit_rank j) (hit_rank k)
 
@@ -47,6 +50,7 @@ hit_cmp j k = slice_cmp nat_cmp (hit_rank j) (hit_rank k)
 abbrev pub Hits : Type 0
 Hits = FinMap hit_cmp Fragment
 
+-- a hit as an entry of a set: its file and place, and its fragment
 abbrev pub hit_entry : Hit → (FileKey × Spot) × Fragment
 hit_entry h = ((h.key, h.spot), h.fragment)
 
@@ -86,6 +90,7 @@ bound_of groups =
     if list_any (λ (g : Group). is_empty g.addresses) groups then None
     else Some (fold (λ n g. max n (last_address g)) 0 groups)
 
+-- whether one of the groups covers the address
 abbrev pub is_covered : List Group → ℕ → Bool
 is_covered groups address = list_any (λ g. covers g address) groups
 
@@ -95,6 +100,7 @@ is_covered groups address = list_any (λ g. covers g address) groups
 unfoldable pub groups_on : List Group → List ℕ → List (ℕ × Group)
 groups_on groups volume = filter (λ (g : ℕ × Group). bytes_eq g.1.volume volume) (enumerate_from 0 groups)
 
+-- the groups without their numbers
 abbrev pub just_groups : List (ℕ × Group) → List Group
 just_groups numbered = map (λ (g : ℕ × Group). g.1) numbered
 
@@ -158,6 +164,7 @@ pub record IsReached (groups : List Group) (volumes : List Volume) (hit : Hit) :
 
 -- ---- hits, as a list
 
+-- the hit of a fragment at its place in a block, for the group of this number
 abbrev pub hit_at : LaidBlock → ℕ × Fragment → ℕ → Hit
 hit_at block f group = record {
   key = key_of f.1;

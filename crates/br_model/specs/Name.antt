@@ -16,19 +16,23 @@ pub record FileKey : Type 0 where
   pub session : SessionKey
   pub index : ℕ
 
+-- files are ranked by the session's number, then by its time, then by index
 abbrev pub key_rank : FileKey → List ℕ
 key_rank k = k.session.id ∷ k.session.time ∷ k.index ∷ []
 
--- keys in their order: by the session's number, then by its time, then by index
+-- sessions are ordered by number, then by time
 abbrev pub session_cmp : SessionKey → SessionKey → Ordering
 session_cmp a b = ordering_then (nat_cmp a.id b.id) (nat_cmp a.time b.time)
 
+-- files are ordered by session, then by index
 abbrev pub key_cmp : FileKey → FileKey → Ordering
 key_cmp a b = ordering_then (session_cmp a.session b.session) (nat_cmp a.index b.index)
 
+-- whether number and time of two sessions are equal
 abbrev pub same_session : SessionKey → SessionKey → Bool
 same_session a b = a.id == b.id && a.time == b.time
 
+-- whether session and index of two files are equal
 abbrev pub same_key : FileKey → FileKey → Bool
 same_key a b = same_session a.session b.session && a.index == b.index
 
@@ -44,9 +48,11 @@ is_name_byte c = is_letter c || is_in_range 48 57 c || c == 45 || c == 95 || c =
 unfoldable pub is_name : List ℕ → Bool
 is_name bytes = nat_le 1 (length bytes) && nat_le (length bytes) 127 && list_all is_name_byte bytes
 
+-- the name of one dot
 abbrev pub dot : List ℕ
 dot = 46 ∷ []
 
+-- the name of two dots
 abbrev pub dot_dot : List ℕ
 dot_dot = 46 ∷ 46 ∷ []
 
@@ -54,6 +60,7 @@ dot_dot = 46 ∷ 46 ∷ []
 unfoldable pub is_volume_name : List ℕ → Bool
 is_volume_name bytes = is_name bytes && not (bytes_eq bytes dot) && not (bytes_eq bytes dot_dot)
 
+-- a slash is 47
 abbrev pub is_slash : ℕ → Bool
 is_slash c = c == 47
 

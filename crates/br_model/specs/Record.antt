@@ -53,10 +53,11 @@ with_fragment (Some b) f =
     else if not (f.size == b.left) then Err 62
     else Ok (record { index = b.index; stream = b.stream; bytes = b.bytes ++ f.bytes; left = f.size - length f.bytes })
 
--- a record is open while bytes are still to come, and is given out when they have come
+-- a record is open while bytes are still to come
 abbrev pub still_open : Begun → Option Begun
 still_open b = if b.left == 0 then None else Some b
 
+-- the record where all its bytes have come, else none
 abbrev pub given_out : Begun → List Record
 given_out b = if b.left == 0 then record { index = b.index; stream = b.stream; bytes = b.bytes } ∷ [] else []
 
@@ -69,6 +70,7 @@ join_from begun (f ∷ fs) = do
   records ← join_from (still_open b) fs
   Ok (given_out b ++ records)
 
+-- the records of one file's fragments, or the first fault
 unfoldable pub join : List Fragment → Result (List Record) ℕ
 join fragments = join_from None fragments
 
@@ -109,6 +111,7 @@ IsFaultNumber index front f number =
     ⊎ ((number ≡ 61) × ((is_negative f.stream ≡ false) ⊎ ((¬ IsWholeCut front) × (¬ HasOpenStream index front f))))
     ⊎ ((number ≡ 62) × (is_negative f.stream ≡ true) × (¬ IsWholeCut front) × HasOpenStream index front f)
 
+-- the fault behind a front: 61 where nothing comes and a record stays open, else why the next fragment does not go on
 abbrev pub IsFaultBehind : ℕ → List Fragment → List Fragment → ℕ → Type 0
 IsFaultBehind index front [] number = (number ≡ 61) × (¬ IsWholeCut front)
 IsFaultBehind index front (f ∷ fs) number = (¬ BeginsCut index (front ++ f ∷ [])) × IsFaultNumber index front f number

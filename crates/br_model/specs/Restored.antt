@@ -61,6 +61,7 @@ files_planned listed names =
     map (λ (p : Planned). record { key = p.key; outcome = under_name p.path (outcome_of p.key (fragments_for p.key listed)) })
     (in_order (λ (p : Planned). key_rank p.key) names)
 
+-- the files of the hits, the planned ones where there is a plan, else those that were found
 unfoldable pub files_listed : HitList → Option (List Planned) → List Restored
 files_listed listed None = files_found listed
 files_listed listed (Some names) = files_planned listed names

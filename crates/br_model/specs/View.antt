@@ -17,6 +17,7 @@ pub record Entry : Type 0 where
   pub size : ℤ
   pub link_index : ℤ
 
+-- whether the row is of the path
 abbrev pub is_row_of : List ℕ → FileRow → Bool
 is_row_of path f = bytes_eq f.path path
 
@@ -32,6 +33,7 @@ newest_row j path = last_or None (in_order (λ (f : FileRow). f.index ∷ []) (f
 abbrev pub row_stat : FileRow → Stat
 row_stat f = result_unwrap_or (read_stat f.lstat) (stat_from [])
 
+-- the entry of a row of a job
 abbrev pub entry_from : JobRows → FileRow → Entry
 entry_from j f = record {
   path = f.path;
@@ -46,6 +48,7 @@ entry_from j f = record {
 abbrev pub unless_deleted : JobRows → FileRow → Option Entry
 unless_deleted j f = if f.index == 0 then None else Some (entry_from j f)
 
+-- the newest copy of a path, if there is one: the last job with a row for it says
 unfoldable pub entry_of : List JobRows → List ℕ → Option Entry
 entry_of jobs path = option_and_then (λ j. option_and_then (unless_deleted j) (newest_row j path)) (newest_job jobs path)
 
@@ -61,6 +64,7 @@ view_of jobs = filter_map (entry_of jobs) (paths_of jobs)
 unfoldable pub entry_at : List Entry → List ℕ → Option Entry
 entry_at view path = find (λ (e : Entry). bytes_eq e.path path) view
 
+-- the paths of the entries
 abbrev pub view_paths : List Entry → List (List ℕ)
 view_paths view = map (λ (e : Entry). e.path) view
 
