@@ -1,0 +1,7 @@
+
+pub mod ScanLaws
+pub mod ItemLaws
+pub mod KeywordLaws
+pub mod VolumeLaws
+pub mod LineLaws
+pub mod ValidLaws

@@ -1,0 +1,4 @@
+pub mod Fault
+pub mod Statement
+pub mod Keyword
+pub mod Line

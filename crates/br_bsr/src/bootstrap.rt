@@ -1,0 +1,67 @@
+ghost use Rattle.std.specs.Prelude.{◌≡◌, ◌<◌, ◌^◌, ◌↔◌, true, length, IsSome, IfSome};
+ghost use Rattle.std.specs.List.{list_all};
+ghost use Rattle.br_model.specs.BootstrapText.{is_group};
+
+use crate::group::Group;
+use std::marker::Model;
+
+/// The most groups of a bootstrap: 2^32 - 1.
+pub const MAX_GROUPS: usize = 4_294_967_295;
+
+/// Which records of which volumes are to be restored: those that one of its groups hits. It has fewer than 2^32 groups, each
+/// of which a text can state.
+#[derive(Debug, Drop)]
+pub struct Bootstrap {
+    groups: Vec<Group>,
+}
+
+impl Model for Bootstrap {
+    ghost use Rattle.std.specs.Prelude.{◌≡◌, ◌<◌, ◌^◌, true, List, length};
+    ghost use Rattle.std.specs.List.{list_all};
+    ghost use Rattle.br_model.specs.Bootstrap as model;
+    ghost use Rattle.br_model.specs.BootstrapText.{is_group};
+
+    ghost Value = { List model.Group };
+
+    ghost view = { λ b. b.groups.items };
+
+    ghost invariant = { λ b. (length b.groups.items < 2 ^ 32) × (list_all is_group b.groups.items ≡ true) };
+}
+
+fn are_valid(groups: &[Group]) -> bool
+    ensures { result ≡ list_all is_group groups.now }
+{
+    groups.iter().all(|group| group.is_valid())
+}
+
+impl Bootstrap {
+    /// The bootstrap of these groups, in their order; none where they are 2^32 or more, or where one of them is not valid.
+    pub fn new(groups: Vec<Group>) -> Option<Bootstrap>
+        ensures valid { IsSome result ↔ ((length groups.items < 2 ^ 32) × (list_all is_group groups.items ≡ true)) }
+        ensures value { IfSome result (λ bootstrap. bootstrap ≡ groups.items) }
+    {
+        if groups.len() <= MAX_GROUPS && are_valid(&groups) {
+            Some(Bootstrap::from_valid(groups))
+        } else {
+            None
+        }
+    }
+
+    /// The bootstrap of these groups, which are known to be fewer than 2^32 and valid, in their order.
+    pub fn from_valid(groups: Vec<Group>) -> Bootstrap
+        requires few { length groups.items < 2 ^ 32 }
+        requires valid { list_all is_group groups.items ≡ true }
+        ensures { result ≡ groups.items }
+    {
+        Bootstrap { groups }
+    }
+
+    /// The groups, in order.
+    pub fn groups(&self) -> &[Group]
+        ensures same { result.now ≡ self.now }
+        ensures few { length self.now < 2 ^ 32 }
+        ensures valid { list_all is_group self.now ≡ true }
+    {
+        &self.groups
+    }
+}

@@ -1,0 +1,177 @@
+ghost use Rattle.std.specs.Prelude.{◌≡◌, ◌||◌, max, fold, nat_abs, IfOk, OnOk, Some, None, if◌then◌else◌};
+ghost use Rattle.std.specs.Int.{is_in_range, is_positive};
+ghost use Rattle.std.specs.List.{list_any};
+ghost use Rattle.br_model.specs.Bootstrap.{admits, hits_by, group_on, with_ranges};
+ghost use Rattle.br_model.specs.BootstrapText.{is_group};
+ghost use Rattle.br_model.specs.Meaning.{covers, last_address};
+ghost use Rattle.br_model.specs.Text.{is_empty};
+ghost use Rattle.br_bsr.specs.Statement.{criterion_of};
+
+use crate::criterion::Criterion;
+use crate::range::Range;
+use br_types::{SessionKey, VolName};
+use std::alloc::{AllocError, Global};
+use std::marker::Model;
+
+/// The bytes of a volume that one VolFile counts: 2^32.
+const FILE_BYTES: u64 = 4_294_967_296;
+
+fn contains_any(ranges: &[Range], number: u64) -> bool
+    ensures { result ≡ list_any (λ r. is_in_range r.low r.high number) ranges.now }
+{
+    ranges.iter().any(|range| range.contains(number))
+}
+
+fn admits_number(ranges: &[Range], number: u64) -> bool
+    ensures { result ≡ admits ranges.now number }
+{
+    ranges.is_empty() || contains_any(ranges, number)
+}
+
+fn is_of_file(index: i32) -> bool
+    ensures { result ≡ is_positive index }
+{
+    index > 0
+}
+
+fn magnitude(number: i32) -> u64
+    ensures { result ≡ nat_abs number }
+{
+    u64::from(number.unsigned_abs())
+}
+
+fn greatest_end(ranges: &[Range]) -> u64
+    ensures { result ≡ fold (λ n r. max n r.high) 0 ranges.now }
+{
+    ranges
+        .iter()
+        .fold(0, |greatest, range| range.high.max(greatest))
+}
+
+/// What a bootstrap asks of one volume: the records that meet each criterion. A criterion is met by a number in one of its
+/// ranges, and one without ranges by every number.
+#[derive(Debug, Drop)]
+pub struct Group {
+    /// The volume.
+    pub vol: VolName,
+    /// VolSessionId: the number of the session.
+    pub session_ids: Vec<Range>,
+    /// VolSessionTime: the time of the session.
+    pub session_times: Vec<Range>,
+    /// VolFile: the address of the block divided by 2^32.
+    pub files: Vec<Range>,
+    /// VolBlock: the address of the block modulo 2^32.
+    pub blocks: Vec<Range>,
+    /// VolAddr: the address of the block, in bytes from the start of the volume.
+    pub addrs: Vec<Range>,
+    /// FileIndex: the number of the file in its session.
+    pub indexes: Vec<Range>,
+    /// Stream: the kind of the record, without the sign that marks a continuation.
+    pub streams: Vec<Range>,
+}
+
+impl Model for Group {
+    ghost use Rattle.br_model.specs.Bootstrap as model;
+
+    ghost Value = { model.Group };
+
+    ghost view = { λ g. record { volume = g.vol; session_ids = g.session_ids.items; session_times = g.session_times.items; files = g.files.items; blocks = g.blocks.items; addresses = g.addrs.items; indexes = g.indexes.items; streams = g.streams.items } };
+}
+
+impl Group {
+    /// The group that asks for every record of a volume.
+    pub fn on(alloc: Global, vol: VolName) -> Group
+        ensures { result ≡ group_on vol }
+    {
+        Group {
+            vol,
+            session_ids: Vec::new(alloc),
+            session_times: Vec::new(alloc),
+            files: Vec::new(alloc),
+            blocks: Vec::new(alloc),
+            addrs: Vec::new(alloc),
+            indexes: Vec::new(alloc),
+            streams: Vec::new(alloc),
+        }
+    }
+
+    /// Whether the group hits a record in a block at the address `addr` of its volume: a record of this session, with this
+    /// file index and this stream. A record of no file, with an index below 1, is never hit.
+    pub fn hits(&self, addr: u64, session: SessionKey, index: i32, stream: i32) -> bool
+        ensures { result ≡ hits_by self.now addr session index stream }
+    {
+        is_of_file(index)
+            && admits_number(&self.session_ids, u64::from(session.id))
+            && admits_number(&self.session_times, u64::from(session.time))
+            && admits_number(&self.files, addr / FILE_BYTES)
+            && admits_number(&self.blocks, addr % FILE_BYTES)
+            && admits_number(&self.addrs, addr)
+            && admits_number(&self.indexes, magnitude(index))
+            && admits_number(&self.streams, magnitude(stream))
+    }
+
+    /// Whether the group asks for records of the block at the address `addr`.
+    pub fn covers(&self, addr: u64) -> bool
+        ensures { result ≡ covers self.now addr }
+    {
+        admits_number(&self.addrs, addr)
+    }
+
+    /// The last address at which the group asks for records; none where it asks for them at every address.
+    pub fn last_address(&self) -> Option<u64>
+        ensures { result ≡ if is_empty self.now.addresses then None else Some (last_address self.now) }
+    {
+        if self.addrs.is_empty() {
+            None
+        } else {
+            Some(greatest_end(&self.addrs))
+        }
+    }
+
+    /// An equal group.
+    pub fn copy(&self, alloc: Global) -> Result<Group, AllocError>
+        ensures { IfOk result (λ g. g ≡ self.now) }
+    {
+        Ok(Group {
+            vol: self.vol.copy(alloc)?,
+            session_ids: Vec::from_slice(alloc, &self.session_ids)?,
+            session_times: Vec::from_slice(alloc, &self.session_times)?,
+            files: Vec::from_slice(alloc, &self.files)?,
+            blocks: Vec::from_slice(alloc, &self.blocks)?,
+            addrs: Vec::from_slice(alloc, &self.addrs)?,
+            indexes: Vec::from_slice(alloc, &self.indexes)?,
+            streams: Vec::from_slice(alloc, &self.streams)?,
+        })
+    }
+
+    /// Whether a text can state the group: each range has a low end that is at most its high one, both of them numbers
+    /// that the criterion may be given.
+    #[tactic(auto, unfolding(br_model::specs::BootstrapText::is_group))]
+    pub fn is_valid(&self) -> bool
+        ensures { result ≡ is_group self.now }
+    {
+        let _ = self.vol.bytes();
+        Criterion::SessionId.takes_all(&self.session_ids)
+            && Criterion::SessionTime.takes_all(&self.session_times)
+            && Criterion::VolFile.takes_all(&self.files)
+            && Criterion::VolBlock.takes_all(&self.blocks)
+            && Criterion::VolAddr.takes_all(&self.addrs)
+            && Criterion::FileIndex.takes_all(&self.indexes)
+            && Criterion::Stream.takes_all(&self.streams)
+    }
+
+    /// Adds ranges of a criterion behind those that the group has.
+    pub(crate) fn admit(&mut self, criterion: Criterion, ranges: &[Range]) -> Result<(), AllocError>
+        ensures { OnOk result (self.new ≡ with_ranges (criterion_of criterion) ranges.now self.old) }
+    {
+        match criterion {
+            Criterion::SessionId => self.session_ids.extend_from_slice(ranges),
+            Criterion::SessionTime => self.session_times.extend_from_slice(ranges),
+            Criterion::VolFile => self.files.extend_from_slice(ranges),
+            Criterion::VolBlock => self.blocks.extend_from_slice(ranges),
+            Criterion::VolAddr => self.addrs.extend_from_slice(ranges),
+            Criterion::FileIndex => self.indexes.extend_from_slice(ranges),
+            Criterion::Stream => self.streams.extend_from_slice(ranges),
+        }
+    }
+}

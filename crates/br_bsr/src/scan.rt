@@ -1,0 +1,85 @@
+ghost use Rattle.std.specs.Prelude.{◌≡◌, ◌==◌, ◌<◌, true, false, length, count_by, position, MatchOption};
+ghost use Rattle.std.specs.List.{before_first, after_first, list_any};
+ghost use Rattle.br_model.specs.Text.{is_blank, trim_front};
+ghost use Rattle.br_model.specs.BootstrapText.{trimmed, before_comment, has_closed_quotes};
+
+fn is_blank_byte(byte: u8) -> bool
+    ensures { result ≡ is_blank byte }
+{
+    byte == b' ' || byte == b'\t'
+}
+
+fn trimmed_front(text: &[u8]) -> &[u8]
+    ensures { result.now ≡ trim_front is_blank text.now }
+{
+    let mut rest = text;
+    while let [first, behind @ ..] = rest {
+        if !is_blank_byte(*first) {
+            break;
+        }
+        rest = behind;
+    }
+    rest
+}
+
+/// The text without the blanks at its two ends.
+pub fn trimmed_of(text: &[u8]) -> &[u8]
+    ensures { result.now ≡ trimmed text.now }
+{
+    let mut rest = trimmed_front(text);
+    while let [before @ .., last] = rest {
+        if !is_blank_byte(*last) {
+            break;
+        }
+        rest = before;
+    }
+    rest
+}
+
+fn place_of(text: &[u8], end: u8) -> Option<usize>
+    ensures { result ≡ position (λ c. c == end) text.now }
+{
+    text.iter().position(|byte| *byte == end)
+}
+
+/// What stands before the first byte `end`, and what behind it; none where there is no such byte.
+pub fn cut(text: &[u8], end: u8) -> Option<(&[u8], &[u8])>
+    ensures { MatchOption result
+        ((list_any (λ c. c == end) text.now ≡ false) × (before_first (λ c. c == end) text.now ≡ text.now))
+        (λ x. (list_any (λ c. c == end) text.now ≡ true) × (x.0.now ≡ before_first (λ c. c == end) text.now)
+        × (x.1.now ≡ after_first (λ c. c == end) text.now) × (length x.1.now < length text.now)) }
+{
+    match place_of(text, end) {
+        Some(i) => Some((&text[..i], &text[i + 1..])),
+        None => None,
+    }
+}
+
+/// What stands before the comment: before the first `#` outside quotes.
+pub fn without_comment(text: &[u8]) -> &[u8]
+    ensures { result.now ≡ before_comment false text.now }
+{
+    let mut is_quoted = false;
+    for (i, byte) in text.iter().enumerate() {
+        if *byte == b'#' && !is_quoted {
+            return &text[..i];
+        }
+        if *byte == b'"' {
+            is_quoted = !is_quoted;
+        }
+    }
+    text
+}
+
+fn count_quotes(text: &[u8]) -> usize
+    ensures { result ≡ count_by (λ c. c == 34) text.now }
+{
+    text.iter().filter(|byte| **byte == b'"').count()
+}
+
+/// Whether each quote that is opened is closed.
+pub fn are_quotes_closed(text: &[u8]) -> bool
+    ensures { result ≡ has_closed_quotes text.now }
+{
+    count_quotes(text) % 2 == 0
+}

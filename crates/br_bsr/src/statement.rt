@@ -1,0 +1,127 @@
+ghost use Rattle.std.specs.Prelude.{◌≡◌};
+ghost use Rattle.br_model.specs.Answer.{Answers, AnswersAlways, refused_as};
+ghost use Rattle.br_model.specs.Name.{checked_volume_name};
+ghost use Rattle.br_model.specs.BootstrapText.{read_volume, read_value, read_assignment, read_line};
+ghost use Rattle.br_bsr.specs.Fault.{refusal_cause, refusal_number};
+ghost use Rattle.br_bsr.specs.Keyword.{keyword_view};
+ghost use Rattle.br_bsr.specs.Line.{has_quotes, statement_view, check_keyword};
+
+use crate::criterion::Criterion;
+use crate::fault::Refusal;
+use crate::item::ranges_of;
+use crate::keyword::Keyword;
+use crate::range::Range;
+use crate::scan::{are_quotes_closed, cut, trimmed_of, without_comment};
+use br_types::{NameFault, VolName};
+use std::alloc::Global;
+
+/// The most bytes that a line has, without its end.
+const MAX_LINE: usize = 4096;
+
+/// What a line says: nothing that matters, the volume of a new group, or ranges of a criterion.
+#[derive(Debug, Drop)]
+pub enum Statement {
+    Nothing,
+    OnVolume(VolName),
+    Admits(Criterion, Vec<Range>),
+}
+
+fn named(alloc: Global, bytes: &[u8]) -> Result<VolName, Refusal>
+    ensures { Answers (λ name. name) refusal_cause result (refused_as (λ _. 33) (checked_volume_name bytes.now)) }
+{
+    match VolName::new(alloc, bytes) {
+        Ok(name) => Ok(name),
+        Err(NameFault::Memory) => Err(Refusal::Memory),
+        Err(NameFault::BadName | NameFault::BadPath) => Err(Refusal::BadValue),
+    }
+}
+
+fn is_quoted(text: &[u8]) -> bool
+    ensures { result ≡ has_quotes text.now }
+{
+    text.len() >= 2 && text[0] == b'"' && text[text.len() - 1] == b'"'
+}
+
+/// The name of a volume, in quotes or without a space.
+fn volume_of(alloc: Global, text: &[u8]) -> Result<VolName, Refusal>
+    ensures { Answers (λ name. name) refusal_cause result (read_volume text.now) }
+{
+    if is_quoted(text) {
+        return named(alloc, &text[1..text.len() - 1]);
+    }
+    if text.contains(&b' ') {
+        return Err(Refusal::BadValue);
+    }
+    named(alloc, text)
+}
+
+/// What a keyword and its value say.
+#[tactic(auto, unfolding(br_model::specs::BootstrapText::read_value))]
+fn value_of(alloc: Global, keyword: Keyword, text: &[u8]) -> Result<Statement, Refusal>
+    ensures { Answers statement_view refusal_cause result (read_value (keyword_view keyword) text.now) }
+{
+    match keyword {
+        Keyword::Volume => Ok(Statement::OnVolume(volume_of(alloc, text)?)),
+        Keyword::Asks(criterion) => {
+            let ranges = ranges_of(alloc, criterion, text)?;
+            Ok(Statement::Admits(criterion, ranges))
+        }
+        Keyword::PassedOver => {
+            if are_quotes_closed(text) {
+                Ok(Statement::Nothing)
+            } else {
+                Err(Refusal::BadValue)
+            }
+        }
+        Keyword::Unsupported => Err(Refusal::UnsupportedKeyword),
+    }
+}
+
+/// The keyword that a word is, if it is one that may stand behind a volume or, where there is none, before the first.
+#[tactic(auto, unfolding(crate::specs::Line::check_keyword))]
+fn checked_keyword(has_volume: bool, word: &[u8]) -> Result<Keyword, Refusal>
+    ensures { AnswersAlways keyword_view refusal_number result (check_keyword has_volume word.now) }
+{
+    let Some(keyword) = Keyword::from_word(trimmed_of(word)) else {
+        return Err(Refusal::UnknownKeyword);
+    };
+    if keyword.is_unsupported() {
+        return Err(Refusal::UnsupportedKeyword);
+    }
+    if keyword.needs_volume() && !has_volume {
+        return Err(Refusal::VolumeFirst);
+    }
+    Ok(keyword)
+}
+
+/// What an assignment says, behind a volume or not.
+#[tactic(auto, unfolding(br_model::specs::BootstrapText::read_assignment, crate::specs::Line::check_keyword))]
+fn assignment_of(alloc: Global, has_volume: bool, text: &[u8]) -> Result<Statement, Refusal>
+    ensures { Answers statement_view refusal_cause result (read_assignment has_volume text.now) }
+{
+    match cut(text, b'=') {
+        Some((word, value)) => {
+            let keyword = checked_keyword(has_volume, word)?;
+            value_of(alloc, keyword, trimmed_of(value))
+        }
+        None => {
+            checked_keyword(has_volume, text)?;
+            Err(Refusal::BadValue)
+        }
+    }
+}
+
+/// What a line says, behind a volume or not.
+#[tactic(auto, unfolding(br_model::specs::BootstrapText::read_line))]
+pub fn statement_of(alloc: Global, has_volume: bool, line: &[u8]) -> Result<Statement, Refusal>
+    ensures { Answers statement_view refusal_cause result (read_line has_volume line.now) }
+{
+    if line.len() > MAX_LINE {
+        return Err(Refusal::TooLong);
+    }
+    let stated = trimmed_of(without_comment(line));
+    if stated.is_empty() {
+        return Ok(Statement::Nothing);
+    }
+    assignment_of(alloc, has_volume, stated)
+}

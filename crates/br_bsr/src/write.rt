@@ -1,0 +1,86 @@
+ghost use Rattle.std.specs.Prelude.{◌≡◌, ◌∷◌, ◌++◌, decimal, codes, IfOk, OnOk};
+ghost use Rattle.br_model.specs.Bootstrap.{range_text, range_lines, group_text, canonical};
+ghost use Rattle.br_model.specs.Text.{line};
+
+use crate::bootstrap::Bootstrap;
+use crate::group::Group;
+use crate::range::Range;
+use itoa::Buffer;
+use std::alloc::{AllocError, Global};
+
+fn push_number(text: &mut Vec<u8>, number: u64) -> Result<(), AllocError>
+    ensures { OnOk result (text.new.items ≡ text.old.items ++ decimal number) }
+{
+    let mut buffer = Buffer::new();
+    text.extend_from_slice(buffer.format(number).as_bytes())
+}
+
+/// Writes one number, or two with a dash between them.
+fn push_range(text: &mut Vec<u8>, range: Range) -> Result<(), AllocError>
+    ensures { OnOk result (text.new.items ≡ text.old.items ++ range_text range) }
+{
+    push_number(text, range.low)?;
+    if range.low != range.high {
+        text.push(b'-')?;
+        push_number(text, range.high)?;
+    }
+    Ok(())
+}
+
+/// Writes a line `keyword=range`.
+fn push_range_line(text: &mut Vec<u8>, keyword: &[u8], range: Range) -> Result<(), AllocError>
+    ensures { OnOk result (text.new.items ≡ text.old.items ++ line (keyword.now ++ 61 ∷ range_text range)) }
+{
+    text.extend_from_slice(keyword)?;
+    text.push(b'=')?;
+    push_range(text, range)?;
+    text.push(b'\n')?;
+    Ok(())
+}
+
+/// Writes a line for each range.
+fn push_ranges(text: &mut Vec<u8>, keyword: &[u8], ranges: &[Range]) -> Result<(), AllocError>
+    ensures { OnOk result (text.new.items ≡ text.old.items ++ range_lines keyword.now ranges.now) }
+{
+    for range in ranges {
+        push_range_line(text, keyword, *range)?;
+    }
+    Ok(())
+}
+
+fn push_volume(text: &mut Vec<u8>, name: &[u8]) -> Result<(), AllocError>
+    ensures { OnOk result (text.new.items ≡ text.old.items ++ line (codes "Volume=\"" ++ name.now ++ codes "\"")) }
+{
+    text.extend_from_slice(b"Volume=\"")?;
+    text.extend_from_slice(name)?;
+    text.extend_from_slice(b"\"\n")?;
+    Ok(())
+}
+
+fn push_group(text: &mut Vec<u8>, group: &Group) -> Result<(), AllocError>
+    ensures { OnOk result (text.new.items ≡ text.old.items ++ group_text group.now) }
+{
+    push_volume(text, group.vol.bytes())?;
+    push_ranges(text, b"VolSessionId", &group.session_ids)?;
+    push_ranges(text, b"VolSessionTime", &group.session_times)?;
+    push_ranges(text, b"VolFile", &group.files)?;
+    push_ranges(text, b"VolBlock", &group.blocks)?;
+    push_ranges(text, b"VolAddr", &group.addrs)?;
+    push_ranges(text, b"FileIndex", &group.indexes)?;
+    push_ranges(text, b"Stream", &group.streams)?;
+    Ok(())
+}
+
+/// The one text of a bootstrap: for each group a line `Volume="name"`, then a line for each range, as `Keyword=a-b` or, where
+/// both ends are equal, `Keyword=a`, in the order VolSessionId, VolSessionTime, VolFile, VolBlock, VolAddr, FileIndex, Stream.
+/// There are no blanks, and each line ends with LF. Reading the text gives the same groups.
+#[tactic(auto, unfolding(br_model::specs::Bootstrap::canonical))]
+pub fn write_bootstrap(alloc: Global, bootstrap: &Bootstrap) -> Result<Vec<u8>, AllocError>
+    ensures { IfOk result (λ text. text.items ≡ canonical bootstrap.now) }
+{
+    let mut text = Vec::new(alloc);
+    for group in bootstrap.groups() {
+        push_group(&mut text, group)?;
+    }
+    Ok(text)
+}

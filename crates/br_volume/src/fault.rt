@@ -1,0 +1,38 @@
+ghost use Rattle.std.specs.Prelude.{◌≡◌};
+ghost use Rattle.br_volume.specs.Fault.{fault_number};
+ghost use Rattle.br_volume.specs.declared.fault.DriveFault.TheVariants.{Memory};
+
+use std::alloc::AllocError;
+use thiserror::Error;
+
+/// Why a drive gave no bytes.
+#[derive(Clone, Copy, Debug, PartialEq, Eq, Error)]
+pub enum DriveFault {
+    #[error("out of memory")]
+    Memory,
+    #[error("the drive failed to read a volume")]
+    Fault,
+    #[error("the drive has no volume of this name")]
+    UnknownVolume,
+}
+
+impl DriveFault {
+    /// The number of the refusal: 1 want of memory, 13 a drive that failed, 14 a volume that is not there.
+    pub fn number(self) -> u32
+        ensures { result ≡ fault_number self }
+    {
+        match self {
+            DriveFault::Memory => 1,
+            DriveFault::Fault => 13,
+            DriveFault::UnknownVolume => 14,
+        }
+    }
+}
+
+impl From<AllocError> for DriveFault {
+    ghost from_gives = { λ _ e. e ≡ Memory };
+
+    fn from(_e: AllocError) -> DriveFault {
+        DriveFault::Memory
+    }
+}

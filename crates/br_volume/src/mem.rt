@@ -1,0 +1,160 @@
+ghost use Rattle.std.specs.Prelude.{◌≡◌, ℕ, ◌+◌, ◌-◌, ◌^◌, ◌<◌, ◌≤◌, List, map, length, Option, option_map, bytes_eq, find, Ok, Err, IfOk, true, vec_capacity};
+ghost use Rattle.std.specs.Option.{option_copied};
+ghost use Rattle.br_model.specs.Answer.{Answers};
+ghost use Rattle.br_model.specs.Volume.{Volume, volume_bytes};
+ghost use Rattle.br_volume.specs.Drive.{AnswersOver, OnlyGrows, IsSized, bytes_got, bytes_from, bytes_shown};
+ghost use Rattle.br_volume.specs.Fault.{cause, failing_cause};
+ghost use Rattle.br_volume.specs.declared.fault.DriveFault.TheVariants.{Memory, Fault};
+ghost use Rattle.br_volume.specs.Memory.{Held, volumes_of, bytes_held, after_call, is_out};
+
+use crate::count::Count;
+use crate::drive::{Drive, Got};
+use crate::fault::DriveFault;
+use br_types::VolName;
+use std::marker::Model;
+
+/// A drive over memory. Its volumes never change.
+#[derive(Debug, Drop)]
+pub struct MemDrive {
+    volumes: Vec<(VolName, Vec<u8>)>,
+    calls_left: Option<u64>,
+    failures: Count,
+}
+
+impl Model for MemDrive {
+    ghost use Rattle.br_volume.specs.Memory.{Held, volumes_of};
+
+    ghost Value = { Held };
+
+    ghost view = { λ d. record {
+      volumes = volumes_of d.volumes.items;
+      calls_left = d.calls_left;
+      failures = d.failures.number;
+    } };
+}
+
+impl MemDrive {
+    /// A drive that shows these volumes, of two of one name the first, and never fails.
+    pub fn new(volumes: Vec<(VolName, Vec<u8>)>) -> MemDrive
+        ensures { result ≡ record { volumes = volumes_of volumes.items; calls_left = None; failures = 0 } }
+    {
+        MemDrive {
+            volumes,
+            calls_left: None,
+            failures: Count::zero(),
+        }
+    }
+
+    /// A drive that shows these volumes, and whose calls fail from the k-th on, counted from 1: the first `k - 1` answer, and
+    /// for `k` of 0 none.
+    pub fn failing_from(volumes: Vec<(VolName, Vec<u8>)>, k: u64) -> MemDrive
+        ensures { result ≡ record { volumes = volumes_of volumes.items; calls_left = Some (k - 1); failures = 0 } }
+    {
+        MemDrive {
+            volumes,
+            calls_left: Some(k.saturating_sub(1)),
+            failures: Count::zero(),
+        }
+    }
+
+    /// Whether no call is left before it fails.
+    fn is_out(&self) -> bool
+        ensures { result ≡ is_out self.now.calls_left }
+    {
+        self.calls_left == Some(0)
+    }
+}
+
+/// The first volume of this name, if there is one.
+fn volume_of<'a>(volumes: &'a [(VolName, Vec<u8>)], vol: &VolName) -> Option<&'a (VolName, Vec<u8>)>
+    ensures { option_copied result ≡ find (λ v. bytes_eq v.0 vol.now) volumes.now }
+{
+    volumes.iter().find(|v| v.0.bytes() == vol.bytes())
+}
+
+/// The bytes of the volume of this name, if there is one.
+fn bytes_of<'a>(volumes: &'a [(VolName, Vec<u8>)], vol: &VolName) -> Option<&'a Vec<u8>>
+    ensures { option_map (λ b. b.now.items) result ≡ volume_bytes (volumes_of volumes.now) vol.now }
+{
+    match volume_of(volumes, vol) {
+        None => None,
+        Some(volume) => Some(&volume.1),
+    }
+}
+
+/// Makes the buffer the bytes from an address on, so many or all that are left.
+fn copy_from(bytes: &[u8], addr: u64, size: u32, buf: &mut Vec<u8>) -> Result<Got, DriveFault>
+    ensures copied { Answers (bytes_got buf.new.items) cause result (Ok (bytes_from bytes.now addr size)) }
+    ensures sized { length bytes.now < 2 ^ 63 → IfOk result (IsSized addr size buf.new.items) }
+    ensures never { result ≡ Err Fault → ⊥ }
+    ensures keeps_room { vec_capacity buf.old ≤ vec_capacity buf.new }
+    ensures has_room { size ≤ vec_capacity buf.old → result ≡ Err Memory → ⊥ }
+{
+    buf.clear();
+    let rest = match bytes.get(addr as usize..) {
+        None | Some([]) => return Ok(Got::End),
+        Some(rest) => rest,
+    };
+    let block = match rest.get(..size as usize) {
+        None => rest,
+        Some(block) => block,
+    };
+    buf.extend_from_slice(block)?;
+    Ok(Got::Block(block.len() as u32))
+}
+
+/// Makes the buffer the next bytes of a volume.
+#[tactic(auto, unfolding(crate::specs::Drive::bytes_shown))]
+fn read_from(
+    volumes: &[(VolName, Vec<u8>)],
+    vol: &VolName,
+    addr: u64,
+    size: u32,
+    buf: &mut Vec<u8>,
+) -> Result<Got, DriveFault>
+    ensures read { Answers (bytes_got buf.new.items) cause result (bytes_shown (volumes_of volumes.now) vol.now addr size) }
+    ensures sized { IfOk result (IsSized addr size buf.new.items) }
+    ensures never { result ≡ Err Fault → ⊥ }
+    ensures keeps_room { vec_capacity buf.old ≤ vec_capacity buf.new }
+    ensures has_room { size ≤ vec_capacity buf.old → result ≡ Err Memory → ⊥ }
+{
+    match bytes_of(volumes, vol) {
+        None => Err(DriveFault::UnknownVolume),
+        Some(bytes) => copy_from(bytes, addr, size, buf),
+    }
+}
+
+impl Drive for MemDrive {
+    ghost use Rattle.std.specs.Prelude.{Some};
+
+    ghost shows = { λ d. Some d.volumes };
+
+    ghost failures = { λ d. d.failures };
+
+    /// Answers while calls are left, and fails from then on. `buf` keeps its room, and no memory is taken where that is enough.
+    fn block_at(
+        &mut self,
+        vol: &VolName,
+        addr: u64,
+        size: u32,
+        buf: &mut Vec<u8>,
+    ) -> Result<Got, DriveFault>
+        ensures answers { AnswersOver (Some self.new.volumes) vol.now addr size buf.new.items result }
+        ensures sized { IfOk result (IsSized addr size buf.new.items) }
+        ensures grows { OnlyGrows (Some self.old.volumes) (Some self.new.volumes) }
+        ensures counted { self.old.failures ≤ self.new.failures }
+        ensures failed { result ≡ Err Fault → self.old.failures < self.new.failures }
+        ensures exact { Answers (bytes_got buf.new.items) failing_cause result (bytes_held self.old vol.now addr size) }
+        ensures out { is_out self.old.calls_left ≡ true → result ≡ Err Fault }
+        ensures after { self.new ≡ after_call self.old }
+        ensures keeps_room { vec_capacity buf.old ≤ vec_capacity buf.new }
+        ensures has_room { size ≤ vec_capacity buf.old → result ≡ Err Memory → ⊥ }
+    {
+        if self.is_out() {
+            self.failures = self.failures.next();
+            return Err(DriveFault::Fault);
+        }
+        self.calls_left = self.calls_left.map(|n| n.saturating_sub(1));
+        read_from(&self.volumes, vol, addr, size, buf)
+    }
+}
