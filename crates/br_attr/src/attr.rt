@@ -113,10 +113,10 @@ impl Attr {
     /// path or the numbers, fewer than 13 numbers. `BadNumber`: an index or a type that is not decimal from 1 to 2^31 - 1, or a
     /// number of the file that is none. `IndexDiffers`: another index. `BadName`: no path.
     #[tactic(auto, unfolding(br_model::specs::Attribute::read_attributes, crate::specs::Path::path_or_fault))]
-    pub fn read(alloc: Global, data: &[u8], index: FileIndex) -> Result<Attr, AttrFault>
-        ensures { Answers (λ a. a) cause result (model.read_attributes data.now index) }
+    pub fn read(alloc: Global, bytes: &[u8], index: FileIndex) -> Result<Attr, AttrFault>
+        ensures { Answers (λ a. a) cause result (model.read_attributes bytes.now index) }
     {
-        let (index_text, rest) = field(b' ', data)?;
+        let (index_text, rest) = field(b' ', bytes)?;
         if read_positive(index_text)? != index.get() {
             return Err(AttrFault::IndexDiffers);
         }

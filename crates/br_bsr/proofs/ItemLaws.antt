@@ -9,6 +9,7 @@ use Rattle.br_model.specs.Bootstrap as model
 use Rattle.br_model.specs.BootstrapText.{is_comma, read_item, read_items}
 use Rattle.br_bsr.specs.Statement.{behind}
 use Rattle.br_bsr.proofs.ScanLaws.{any_is_place}
+
 within : (n m : ℕ) → ltb n m ≡ true → n < m
 within n m e = grind (arith, nat_tests)
 

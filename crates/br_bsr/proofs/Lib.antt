@@ -1,4 +1,3 @@
-
 pub mod ScanLaws
 pub mod ItemLaws
 pub mod KeywordLaws

@@ -10,6 +10,7 @@ use Rattle.br_model.specs.Bootstrap.{Group}
 use Rattle.br_model.specs.BootstrapText.{Statement, change_last, with_statement, read_line, read_lines}
 use Rattle.br_bsr.specs.Fault.{at_line}
 use Rattle.br_bsr.proofs.ItemLaws.{split_at_first, split_nowhere}
+
 -- ---- the first line
 
 abbrev is_end : ℕ → Bool

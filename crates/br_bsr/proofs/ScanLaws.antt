@@ -9,6 +9,7 @@ use Rattle.std.proofs.Math.Seq.{take-suc}
 use Rattle.br_model.specs.Text.{is_blank, trim_front}
 use Rattle.br_model.specs.BootstrapText.{before_comment}
 use Rattle.br_model.proofs.AnswerLaws.{chosen}
+
 any_cond : (b : Bool) (n m : ℕ) (t : Bool) → t ≡ ltb n m → (b || t) ≡ ltb (cond (not b) (1 + n) 0) (suc m)
 any_cond true n m t e = grind (arith, nat_tests)
 any_cond false n m t e = grind (arith, nat_tests)

@@ -9,6 +9,7 @@ use Rattle.br_model.specs.Name.{is_volume_name}
 use Rattle.br_model.specs.Bootstrap.{Range, Criterion, SessionId, SessionTime, VolFile, VolBlock, VolAddr, FileIndex, Stream, Group, group_on, with_ranges}
 use Rattle.br_model.specs.BootstrapText.{Keyword, NamesVolume, Asks, PassedOver, Unsupported, Statement, Nothing, OnVolume, Admits, is_range, is_group, is_comma, is_equals, inside, trimmed, has_closed_quotes, keyword_of, needs_volume, is_unsupported, change_last, with_statement, read_ends, read_item, read_items, read_volume, read_value, read_assignment, read_line, before_comment}
 use Rattle.br_model.proofs.AnswerLaws.{bind_ok, refuse_ok, ok_is, chosen}
+
 -- ---- what a line says
 
 abbrev pub IsValid : Statement → Type 0

@@ -13,6 +13,7 @@ use Rattle.br_model.specs.Name.{dot, dot_dot, is_name, is_volume_name, checked_v
 use Rattle.br_model.specs.BootstrapText.{inside, read_volume}
 use Rattle.br_bsr.specs.Line.{has_quotes}
 use Rattle.br_bsr.proofs.ScanLaws.{last_apart}
+
 -- ---- what stands in quotes
 
 first_apart : (xs : List ℕ) → 1 ≤ length xs → xs ≡ get_or xs 0 0 ∷ drop 1 xs

@@ -43,11 +43,28 @@ fn a_volume_is_not_named_like_a_folder(rt: HostRuntime) -> Result<(), Fail> {
 
 #[test]
 fn paths_are_absolute_and_plain(rt: HostRuntime) -> Result<(), Fail> {
-    for good in [b"/".as_slice(), b"/a", b"/a/", b"/a/b", b"/...", b"/a b\xff"] {
+    for good in [
+        b"/".as_slice(),
+        b"/a",
+        b"/a/",
+        b"/a/b",
+        b"/...",
+        b"/a b\xff",
+    ] {
         let path = Path::new(rt.alloc(), good)?;
         assert_eq!(rt; path.copy(rt.alloc())?.bytes(), good);
     }
-    for bad in [b"".as_slice(), b"a", b"//", b"/a//b", b"/a//", b"/.", b"/../a", b"/a/.", b"/a\0"] {
+    for bad in [
+        b"".as_slice(),
+        b"a",
+        b"//",
+        b"/a//b",
+        b"/a//",
+        b"/.",
+        b"/../a",
+        b"/a/.",
+        b"/a\0",
+    ] {
         let fault = Path::new(rt.alloc(), bad).err().ok_or("no path")?;
         assert_eq!(rt; fault.number(), 3, "{bad:?}");
     }
@@ -58,7 +75,10 @@ fn paths_are_absolute_and_plain(rt: HostRuntime) -> Result<(), Fail> {
 fn paths_have_at_most_4096_bytes(rt: HostRuntime) -> Result<(), Fail> {
     let mut bytes = letters(&rt, 4096)?;
     bytes.insert(0, b'/')?;
-    assert_eq!(rt; Path::new(rt.alloc(), &bytes).err(), Some(NameFault::BadPath));
+    assert_eq!(rt;
+        Path::new(rt.alloc(), &bytes).err(),
+        Some(NameFault::BadPath)
+    );
     let _ = bytes.pop();
     assert!(rt; Path::new(rt.alloc(), &bytes).is_ok());
     Ok(())
@@ -68,12 +88,27 @@ fn paths_have_at_most_4096_bytes(rt: HostRuntime) -> Result<(), Fail> {
 fn numbers_have_their_ranges(rt: HostRuntime) {
     assert_eq!(rt; FileIndex::new(0), None);
     assert_eq!(rt; FileIndex::new(1).map(|index| index.get()), Some(1));
-    assert_eq!(rt; FileIndex::new(2_147_483_647).map(|index| index.get()), Some(2_147_483_647));
+    assert_eq!(rt;
+        FileIndex::new(2_147_483_647).map(|index| index.get()),
+        Some(2_147_483_647)
+    );
     assert_eq!(rt; FileIndex::new(2_147_483_648), None);
     assert_eq!(rt; JobId::new(0), None);
-    assert_eq!(rt; JobId::new(4_294_967_295).map(|id| id.get()), Some(4_294_967_295));
-    for (byte, valid) in [(b'A', true), (b'z', true), (b'@', false), (b'[', false), (b'0', false)] {
-        assert_eq!(rt; Letter::new(byte).map(|letter| letter.get()), valid.then_some(byte));
+    assert_eq!(rt;
+        JobId::new(4_294_967_295).map(|id| id.get()),
+        Some(4_294_967_295)
+    );
+    for (byte, valid) in [
+        (b'A', true),
+        (b'z', true),
+        (b'@', false),
+        (b'[', false),
+        (b'0', false),
+    ] {
+        assert_eq!(rt;
+            Letter::new(byte).map(|letter| letter.get()),
+            valid.then_some(byte)
+        );
     }
 }
 
@@ -87,9 +122,19 @@ fn names_are_a_map(rt: HostRuntime) -> Result<(), Fail> {
     let first = key(1, 100, 2).ok_or("a key")?;
     let other = key(1, 200, 1).ok_or("a key")?;
     let mut names = Names::new(rt.alloc());
-    assert!(rt; names.insert(other, Path::new(rt.alloc(), b"/b")?)?.is_none());
-    assert!(rt; names.insert(first, Path::new(rt.alloc(), b"/a")?)?.is_none());
-    let before = names.insert(first, Path::new(rt.alloc(), b"/c")?)?.ok_or("a path before")?;
+    assert!(rt;
+        names
+            .insert(other, Path::new(rt.alloc(), b"/b")?)?
+            .is_none()
+    );
+    assert!(rt;
+        names
+            .insert(first, Path::new(rt.alloc(), b"/a")?)?
+            .is_none()
+    );
+    let before = names
+        .insert(first, Path::new(rt.alloc(), b"/c")?)?
+        .ok_or("a path before")?;
     assert_eq!(rt; before.bytes(), b"/a".as_slice());
     let copy = names.copy(rt.alloc())?;
     for names in [&names, &copy] {

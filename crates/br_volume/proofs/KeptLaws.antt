@@ -5,6 +5,7 @@ use Rattle.std.specs.Prelude.{bytes_eq}
 use Rattle.std.specs.List.{find}
 use Rattle.br_model.specs.Volume.{Volume, volume_bytes}
 use Rattle.br_volume.specs.Memory.{volumes_of}
+
 first_kept : {X : Type 0} (bytes : X → List ℕ) (b : Bool) (x : X) (v : Volume) (found : Option Volume) (kept : Option X) → v.bytes ≡ bytes x
     → option_map (λ (w : Volume). w.bytes) found ≡ option_map bytes kept
     → option_map (λ (w : Volume). w.bytes) (cond b (Some v) found) ≡ option_map bytes (cond b (Some x) kept)

@@ -4,6 +4,7 @@ use Rattle.br_model.specs.BootstrapText.{is_comma, read_items}
 use Rattle.br_bsr.specs.Statement.{criterion_of, behind}
 use Rattle.br_bsr.proofs.ItemLaws.{one_more, refused_here, last_item, last_refused}
 use Rattle.br_bsr.proofs.item.ranges_of.Goals as goal
+
 pub loop-item-preserved : goal.loop-item-preserved
 loop-item-preserved c =
     c.loop-item.invariant

@@ -6,6 +6,7 @@ use Rattle.br_bsr.specs.Statement.{criterion_of}
 use Rattle.br_bsr.proofs.LineLaws.{last_changed, none_changed}
 use Rattle.br_bsr.proofs.read.put.Goals as goal
 use Rattle.br_bsr.proofs.read.put.Goals.{in-Some+in_ok-admit-in-Admits, in_default}
+
 pub returns-after-last_mut-clause-groups : goal.returns-after-last_mut-clause-groups
 returns-after-last_mut-clause-groups c =
     elim c.match-last_mut.branch [

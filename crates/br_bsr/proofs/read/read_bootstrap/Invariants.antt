@@ -3,6 +3,7 @@ use Rattle.std.specs.List.{list_all}
 use Rattle.std.specs.Str.Lines.{lines}
 use Rattle.br_model.specs.BootstrapText.{is_group, read_lines}
 use Rattle.br_bsr.proofs.read.read_bootstrap.Given as goal
+
 abbrev pub invariant-loop-rest : goal.invariant-loop-rest
 invariant-loop-rest l = record {
   reads : read_lines 1 [] (lines l.text) ≡ read_lines (l.number + 1) l.groups.items (lines l.rest);

@@ -2,6 +2,7 @@ use Rattle.std.proofs.Common.{◌≡◌, ◌+◌, ◌-◌, ◌<◌, ◌==◌, �
 use Rattle.std.proofs.lemmas.Grind.{common_steps}
 use Rattle.br_bsr.proofs.ScanLaws.{place_found, place_none}
 use Rattle.br_bsr.proofs.scan.cut.Goals as goal
+
 rest_is : (text : List ℕ) (i n : ℕ) → i < length text → n ≡ i → take (length text - (i + 1)) (drop (i + 1) text) ≡ drop (n + 1) text
 rest_is text i n below e = rw e (grind (arith, common_steps))
 

@@ -1,6 +1,7 @@
 use Rattle.std.proofs.Common.{sym, ◌∙◌}
 use Rattle.br_bsr.proofs.ScanLaws.{front_falls, front_ends, front_done}
 use Rattle.br_bsr.proofs.scan.trimmed_front.Goals as goal
+
 pub loop-rest-preserved : goal.loop-rest-preserved
 loop-rest-preserved c =
     front_falls c.loop-rest.rest.now c.in-len1-up.len_at_least (sym c.is_blank_byte.ensures ∙ c.if-not-is_blank_byte.false) ∙ c.loop-rest.invariant

@@ -2,6 +2,7 @@ use Rattle.std.proofs.Common.{List, ℕ, reverse, sym, ap, ◌∙◌}
 use Rattle.br_model.specs.Text.{is_blank, trim_front, trim_by}
 use Rattle.br_bsr.proofs.ScanLaws.{back_falls, back_ends, back_done}
 use Rattle.br_bsr.proofs.scan.trimmed_of.Goals as goal
+
 pub loop-rest-init : goal.loop-rest-init
 unfolding trim_by
 loop-rest-init c = ap (λ (rest : List ℕ). reverse (trim_front is_blank (reverse rest))) c.trimmed_front-rest.ensures

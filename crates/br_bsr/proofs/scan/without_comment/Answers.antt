@@ -5,6 +5,7 @@ use Rattle.br_model.specs.BootstrapText.{before_comment}
 use Rattle.br_bsr.proofs.ScanLaws.{comment_ends, comment_not_yet, comment_done}
 use Rattle.br_bsr.proofs.scan.without_comment.Goals as goal
 use Rattle.br_bsr.proofs.scan.without_comment.Goals.{then-byte-eq34, else-byte-eq34, else-byte-eq35-via-then-byte-eq35+else-not-is_quoted, else-byte-eq35-via-else-byte-eq35}
+
 pub returns-then-not-is_quoted : goal.returns-then-not-is_quoted
 returns-then-not-is_quoted c =
     sym (c.loop-i.invariant

@@ -4,6 +4,7 @@ use Rattle.br_model.specs.Name.{checked_volume_name}
 use Rattle.br_model.specs.BootstrapText.{read_volume}
 use Rattle.br_bsr.proofs.VolumeLaws.{inside_is, volume_quoted, volume_plain, volume_spaced}
 use Rattle.br_bsr.proofs.statement.volume_of.Goals as goal
+
 pub returns-then-is_quoted : goal.returns-then-is_quoted
 returns-then-is_quoted c =
     let is : read_volume c.args.text.now ≡ refused_as (λ (n : ℕ). 33) (checked_volume_name (take (length c.args.text.now - 1 - 1) (drop 1 c.args.text.now))) =

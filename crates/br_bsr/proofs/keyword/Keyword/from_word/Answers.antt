@@ -1,6 +1,7 @@
 use Rattle.std.proofs.Common.{true, false, sym, ◌∙◌}
 use Rattle.br_bsr.proofs.KeywordLaws.{volume_word, criterion_word, passed_word, other_word}
 use Rattle.br_bsr.proofs.keyword.Keyword.from_word.Goals as goal
+
 pub returns-then-is_word : goal.returns-then-is_word
 returns-then-is_word c = sym (volume_word c.args.word.now (sym c.is_word.ensures ∙ c.if-is_word.true))
 

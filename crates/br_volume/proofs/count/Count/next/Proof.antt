@@ -31,6 +31,7 @@ use Rattle.br_volume.specs.contracts.count.Count.next as f
 use Rattle.br_volume.proofs.count.Count.next.Statement as stated
 use Rattle.br_volume.proofs.count.Count.next.Code as code
 use Rattle.br_volume.specs.contracts.count.Count as count
+
 abbrev stayed : Stays (f.ended).signature.params (f.ended).kept
 stayed = (stay_none_ref (0 ∷ []) tt (plain (λ _. count.the_row)) yes, tt)
 

@@ -25,6 +25,7 @@ use Rattle.br_volume.specs.contracts.count.Count.zero as f
 use Rattle.br_volume.proofs.count.Count.zero.Statement as stated
 use Rattle.br_volume.proofs.count.Count.zero.Code as code
 use Rattle.br_volume.specs.contracts.count.Count as made
+
 abbrev stayed : Stays (f.ended).signature.params (f.ended).kept
 stayed = tt
 
