@@ -1,4 +1,4 @@
-ghost use Rattle.std.specs.Prelude.{◌≡◌, ◌<◌, ◌^◌, ◌∷◌, length, OnOk};
+ghost use Rattle.std.specs.Prelude.{◌≡◌, ◌<◌, ◌^◌, ◌∷◌, length, IfOk, OnOk};
 ghost use Rattle.std.specs.Str.Lines.{lines, strip_carriage_return};
 ghost use Rattle.br_model.specs.Answer.{Answers};
 ghost use Rattle.br_model.specs.BootstrapText as model;
@@ -10,6 +10,7 @@ use crate::fault::BsrFault;
 use crate::group::Group;
 use crate::scan::cut;
 use crate::statement::{Statement, statement_of};
+use br_model::reading_is_the_grammar;
 use std::alloc::{AllocError, Global};
 
 fn without_return(line: &[u8]) -> &[u8]
@@ -57,19 +58,8 @@ fn put(alloc: Global, groups: &mut Vec<Group>, statement: Statement) -> Result<(
     Ok(())
 }
 
-/// The bootstrap that a text states, or the fault of its first line that is refused.
-///
-/// A text is a sequence of lines that end with LF or CR LF; the last end may be missing. A line is empty, or says
-/// `keyword = value`, with a comment from `#` on; blanks are free round each part, and letters of either case are equal in a
-/// keyword. `Volume` begins a group, and is followed by a name, in quotes or without a blank. VolSessionId, VolSessionTime,
-/// VolFile, VolBlock, VolAddr, FileIndex and Stream take numbers and ranges `a-b`, with commas between them; several lines of
-/// one keyword are one list. Storage, MediaType, Device, Slot and Count are passed over, as is what this program does not
-/// need. The format is described in "The Bootstrap File" of Bacula's main manual.
-///
-/// The tests of a line come in this order: `TooLong` more than 4,096 bytes, `UnknownKeyword`, `UnsupportedKeyword` (Client,
-/// Job, JobId, JobType, JobLevel or FileRegex), `VolumeFirst` a criterion before the first volume, `BadValue` no `=`, an
-/// unclosed quote, or a value that is malformed or outside the keyword's range. 2^32 groups are want of memory.
-pub fn read_bootstrap(alloc: Global, text: &[u8]) -> Result<Bootstrap, BsrFault>
+/// What the lines of a text state, one after the other.
+fn stated_by(alloc: Global, text: &[u8]) -> Result<Bootstrap, BsrFault>
     ensures { Answers (λ bootstrap. bootstrap) cause result (model.read_bootstrap text.now) }
 {
     let mut groups = Vec::new(alloc);
@@ -86,4 +76,24 @@ pub fn read_bootstrap(alloc: Global, text: &[u8]) -> Result<Bootstrap, BsrFault>
         rest = behind;
     }
     Ok(Bootstrap::from_valid(groups))
+}
+
+/// The bootstrap that a text states, or the fault of its first line that is refused.
+///
+/// A text is a sequence of lines that end with LF or CR LF; the last end may be missing. A line is empty, or says
+/// `keyword = value`, with a comment from `#` on; blanks are free round each part, and letters of either case are equal in a
+/// keyword. `Volume` begins a group, and is followed by a name, in quotes or without a blank. VolSessionId, VolSessionTime,
+/// VolFile, VolBlock, VolAddr, FileIndex and Stream take numbers and ranges `a-b`, with commas between them; several lines of
+/// one keyword are one list. Storage, MediaType, Device, Slot and Count are passed over, as is what this program does not
+/// need. The format is described in "The Bootstrap File" of Bacula's main manual.
+///
+/// The tests of a line come in this order: `TooLong` more than 4,096 bytes, `UnknownKeyword`, `UnsupportedKeyword` (Client,
+/// Job, JobId, JobType, JobLevel or FileRegex), `VolumeFirst` a criterion before the first volume, `BadValue` no `=`, an
+/// unclosed quote, or a value that is malformed or outside the keyword's range. 2^32 groups are want of memory.
+pub fn read_bootstrap(alloc: Global, text: &[u8]) -> Result<Bootstrap, BsrFault>
+    ensures exact { Answers (λ bootstrap. bootstrap) cause result (model.read_bootstrap text.now) }
+    ensures stated { IfOk result (λ bootstrap. model.IsBootstrapText text.now bootstrap) }
+{
+    reading_is_the_grammar();
+    stated_by(alloc, text)
 }

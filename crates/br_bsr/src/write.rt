@@ -1,10 +1,12 @@
-ghost use Rattle.std.specs.Prelude.{◌≡◌, ◌∷◌, ◌++◌, decimal, codes, IfOk, OnOk};
+ghost use Rattle.std.specs.Prelude.{◌≡◌, ◌∷◌, ◌++◌, decimal, codes, Ok, IfOk, OnOk};
 ghost use Rattle.br_model.specs.Bootstrap.{range_text, range_lines, group_text, canonical};
+ghost use Rattle.br_model.specs.BootstrapText.{read_bootstrap};
 ghost use Rattle.br_model.specs.Text.{line};
 
 use crate::bootstrap::Bootstrap;
 use crate::group::Group;
 use crate::range::Range;
+use br_model::canonical_reads_back;
 use itoa::Buffer;
 use std::alloc::{AllocError, Global};
 
@@ -71,16 +73,26 @@ fn push_group(text: &mut Vec<u8>, group: &Group) -> Result<(), AllocError>
     Ok(())
 }
 
-/// The one text of a bootstrap: for each group a line `Volume="name"`, then a line for each range, as `Keyword=a-b` or, where
-/// both ends are equal, `Keyword=a`, in the order VolSessionId, VolSessionTime, VolFile, VolBlock, VolAddr, FileIndex, Stream.
-/// There are no blanks, and each line ends with LF. Reading the text gives the same groups.
+/// The lines of the groups.
 #[tactic(auto, unfolding(br_model::specs::Bootstrap::canonical))]
-pub fn write_bootstrap(alloc: Global, bootstrap: &Bootstrap) -> Result<Vec<u8>, AllocError>
-    ensures { IfOk result (λ text. text.items ≡ canonical bootstrap.now) }
+fn text_of(alloc: Global, groups: &[Group]) -> Result<Vec<u8>, AllocError>
+    ensures { IfOk result (λ text. text.items ≡ canonical groups.now) }
 {
     let mut text = Vec::new(alloc);
-    for group in bootstrap.groups() {
+    for group in groups {
         push_group(&mut text, group)?;
     }
     Ok(text)
+}
+
+/// The one text of a bootstrap: for each group a line `Volume="name"`, then a line for each range, as `Keyword=a-b` or, where
+/// both ends are equal, `Keyword=a`, in the order VolSessionId, VolSessionTime, VolFile, VolBlock, VolAddr, FileIndex, Stream.
+/// There are no blanks, and each line ends with LF. Reading the text gives the same groups.
+pub fn write_bootstrap(alloc: Global, bootstrap: &Bootstrap) -> Result<Vec<u8>, AllocError>
+    ensures canonical { IfOk result (λ text. text.items ≡ canonical bootstrap.now) }
+    ensures reads_back { IfOk result (λ text. read_bootstrap text.items ≡ Ok bootstrap.now) }
+{
+    canonical_reads_back();
+    let groups = bootstrap.groups();
+    text_of(alloc, groups)
 }

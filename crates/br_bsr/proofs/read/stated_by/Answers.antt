@@ -7,7 +7,7 @@ use Rattle.br_bsr.specs.Fault.{refusal_cause}
 use Rattle.br_bsr.specs.Line.{statement_view}
 use Rattle.br_bsr.proofs.LineLaws.{line_said, lines_refused, lines_over}
 use Rattle.br_bsr.proofs.ValidLaws.{line_valid, statement_valid}
-use Rattle.br_bsr.proofs.read.read_bootstrap.Goals as goal
+use Rattle.br_bsr.proofs.read.stated_by.Goals as goal
 
 pub returns : goal.returns
 unfolding read_bootstrap
