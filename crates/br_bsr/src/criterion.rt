@@ -6,7 +6,7 @@ ghost use Rattle.br_bsr.specs.Statement.{criterion_of, range_between};
 use crate::range::Range;
 
 /// What a group may ask of a record.
-#[derive(Clone, Copy, Debug, PartialEq, Eq)]
+#[derive(Clone, Copy, Debug)]
 pub enum Criterion {
     SessionId,
     SessionTime,

@@ -63,7 +63,7 @@ impl From<AllocError> for BsrFault {
 }
 
 /// Why a line was refused.
-#[derive(Clone, Copy, Debug, PartialEq, Eq)]
+#[derive(Clone, Copy, Debug)]
 pub enum Refusal {
     Memory,
     VolumeFirst,

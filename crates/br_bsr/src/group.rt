@@ -150,6 +150,7 @@ impl Group {
     pub fn is_valid(&self) -> bool
         ensures { result ≡ is_group self.now }
     {
+        // The name is valid by its type.
         let _ = self.vol.bytes();
         Criterion::SessionId.takes_all(&self.session_ids)
             && Criterion::SessionTime.takes_all(&self.session_times)

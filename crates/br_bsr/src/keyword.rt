@@ -7,7 +7,7 @@ ghost use Rattle.br_bsr.specs.Keyword.{keyword_view, criterion_named, passed_ove
 use crate::criterion::Criterion;
 
 /// What a keyword asks for: a volume, ranges, nothing that is read, or what is not supported.
-#[derive(Clone, Copy, Debug, PartialEq, Eq)]
+#[derive(Clone, Copy, Debug)]
 pub enum Keyword {
     Volume,
     Asks(Criterion),

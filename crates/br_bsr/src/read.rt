@@ -80,12 +80,12 @@ fn stated_by(alloc: Global, text: &[u8]) -> Result<Bootstrap, BsrFault>
 
 /// The bootstrap that a text states, or the fault of its first line that is refused.
 ///
-/// A text is a sequence of lines that end with LF or CR LF; the last end may be missing. A line is empty, or says
-/// `keyword = value`, with a comment from `#` on; blanks are free round each part, and letters of either case are equal in a
-/// keyword. `Volume` begins a group, and is followed by a name, in quotes or without a blank. VolSessionId, VolSessionTime,
-/// VolFile, VolBlock, VolAddr, FileIndex and Stream take numbers and ranges `a-b`, with commas between them; several lines of
-/// one keyword are one list. Storage, MediaType, Device, Slot and Count are passed over, as is what this program does not
-/// need. The format is described in "The Bootstrap File" of Bacula's main manual.
+/// A text is a sequence of lines that end with LF or CR LF; the last LF may be missing. A line is blank or says
+/// `keyword = value`, and has a comment from the first `#` outside quotes on. Spaces and tabs are free round each part, and
+/// keywords match without regard to case. `Volume` begins a group and takes a name, in quotes or without a space. The
+/// criteria VolSessionId, VolSessionTime, VolFile, VolBlock, VolAddr, FileIndex and Stream take numbers of 1 to 20 digits and
+/// ranges `a-b`, with commas between them; several lines of one criterion are one list. Storage, MediaType, Device, Slot and
+/// Count may stand anywhere and filter nothing. The format is that of "The Bootstrap File" in Bacula's main manual.
 ///
 /// The tests of a line come in this order: `TooLong` more than 4,096 bytes, `UnknownKeyword`, `UnsupportedKeyword` (Client,
 /// Job, JobId, JobType, JobLevel or FileRegex), `VolumeFirst` a criterion before the first volume, `BadValue` no `=`, an

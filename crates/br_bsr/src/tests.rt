@@ -173,6 +173,12 @@ fn reads_what_bacula_wrote(rt: HostRuntime) -> Result<(), Fail> {
         assert_eq!(rt; full.hits(addr, first, index, 2), is_hit, "{addr} {index}");
     }
     assert!(rt; !incremental.hits(1656, first, 1, 2));
+    let written = write_bootstrap(rt.alloc(), &bootstrap)?;
+    let canonical =
+        b"Volume=\"Vol-0001\"\nVolSessionId=1\nVolSessionTime=1795302931\nVolAddr=206-1172\nFileIndex=1-2\nFileIndex=4-5\nVolume=\"Vol-0001\"\nVolSessionId=1\nVolSessionTime=1795302940\nVolAddr=1656-2149\nFileIndex=1\n";
+    assert!(rt; written.as_slice() == canonical.as_slice());
+    let again = canonical_of(rt.alloc(), &written)?;
+    assert!(rt; again == written);
     let fault = BsrFault::UnsupportedKeyword { line: 4 };
     assert_eq!(rt; fault_of(rt.alloc(), WITH_REGEX.as_bytes()), Some(fault));
     Ok(())

@@ -50,7 +50,7 @@ impl FileIndex {
 /// The number of a job, from 1.
 #[derive(Clone, Copy, Debug, PartialEq, Eq, PartialOrd, Ord)]
 pub struct JobId {
-    number: u32,
+    id: u32,
 }
 
 impl Model for JobId {
@@ -58,24 +58,20 @@ impl Model for JobId {
 
     ghost Value = { ℕ };
 
-    ghost view = { λ j. j.number };
+    ghost view = { λ j. j.id };
 
-    ghost invariant = { λ j. 1 ≤ j.number };
+    ghost invariant = { λ j. 1 ≤ j.id };
 
-    ghost inverse = { λ n. record { number = n } };
+    ghost inverse = { λ n. record { id = n } };
 }
 
 impl JobId {
     /// The job's number, if it is one.
-    pub fn new(number: u32) -> Option<JobId>
-        ensures valid { IsSome result ↔ (1 ≤ number) }
-        ensures value { IfSome result (λ id. id ≡ number) }
+    pub fn new(id: u32) -> Option<JobId>
+        ensures valid { IsSome result ↔ (1 ≤ id) }
+        ensures value { IfSome result (λ job. job ≡ id) }
     {
-        if 1 <= number {
-            Some(JobId { number })
-        } else {
-            None
-        }
+        if 1 <= id { Some(JobId { id }) } else { None }
     }
 
     /// The number.
@@ -83,7 +79,7 @@ impl JobId {
         ensures same { result ≡ self }
         ensures from_one { 1 ≤ self }
     {
-        self.number
+        self.id
     }
 }
 
