@@ -1,9 +1,9 @@
 -- Numbers that digits spell, if they fit.
-use Rattle.std.specs.Prelude.{ℕ, ◌+◌, ◌-◌, ◌*◌, ◌^◌, Bool, ◌&&◌, nat_lt, nat_le, ◌==◌, if◌then◌else◌, List, Option, Some, None, is_some, unwrap_or, fold, Result, Ok, Err, ℤ}
+use Rattle.std.specs.Prelude.{ℕ, zero, suc, [], ◌∷◌, ◌+◌, ◌-◌, ◌*◌, ◌^◌, Bool, ◌&&◌, nat_lt, nat_le, ◌==◌, if◌then◌else◌, List, Option, Some, None, is_some, unwrap_or, fold, Result, Ok, Err, ℤ}
 use Rattle.std.specs.List.{list_all}
 use Rattle.std.specs.Int.{is_in_range}
 use Rattle.std.specs.Char.{is_ascii_digit}
-use Rattle.br_model.specs.Number.{digit64, are_digits64, magnitude, fits64, with_sign}
+use Rattle.br_model.specs.Number.{digit64, digit_at, are_digits64, magnitude, fits64, with_sign}
 
 -- what a digit of base 64 stands for, by the range in which it lies
 abbrev pub digit_in_range : ℕ → Option ℕ
@@ -42,3 +42,8 @@ integer64 minus digits = if are_digits64 digits && fits64 minus (magnitude digit
 abbrev pub positive_or_fault : Option ℕ → Result ℕ ℕ
 positive_or_fault None = Err 20
 positive_or_fault (Some n) = if nat_le 1 n && nat_lt n (2 ^ 31) then Ok n else Err 20
+
+-- the last digits of a number, so many of them
+abbrev pub last_digits : ℕ → ℕ → List ℕ
+last_digits n zero = []
+last_digits n (suc k) = digit_at n k ∷ last_digits n k

@@ -1,4 +1,4 @@
-ghost use Rattle.std.specs.Prelude.{◌≡◌, ◌==◌, ◌^◌, ◌<◌, ◌≤◌, true, not, position, IfOk};
+ghost use Rattle.std.specs.Prelude.{◌≡◌, ◌==◌, ◌^◌, ◌<◌, ◌≤◌, ◌++◌, ◌∷◌, [], true, not, decimal, position, Ok, IfOk, OnOk};
 ghost use Rattle.std.specs.List.{before_first, list_all};
 ghost use Rattle.br_model.specs.Answer.{Answers, AnswersAlways};
 ghost use Rattle.br_model.specs.Attribute as model;
@@ -8,8 +8,10 @@ ghost use Rattle.br_attr.specs.Path.{path_or_fault};
 
 use crate::fault::AttrFault;
 use crate::stat::Stat;
+use br_model::attributes_read_back;
 use br_types::{FileIndex, Path};
-use std::alloc::Global;
+use itoa::Buffer;
+use std::alloc::{AllocError, Global};
 use std::marker::Model;
 
 /// The greatest index and the greatest type: 2^31 - 1.
@@ -79,6 +81,25 @@ fn path_of(alloc: Global, bytes: &[u8]) -> Result<Path, AttrFault>
     Ok(Path::new(alloc, bytes)?)
 }
 
+/// Writes a decimal number and a byte.
+fn push_number(text: &mut Vec<u8>, number: u32, end: u8) -> Result<(), AllocError>
+    ensures { OnOk result (text.new.items ≡ text.old.items ++ decimal number ++ end ∷ []) }
+{
+    let mut buffer = Buffer::new();
+    text.extend_from_slice(buffer.format(number).as_bytes())?;
+    text.push(end)?;
+    Ok(())
+}
+
+/// Writes bytes and a NUL.
+fn push_text(text: &mut Vec<u8>, bytes: &[u8]) -> Result<(), AllocError>
+    ensures { OnOk result (text.new.items ≡ text.old.items ++ bytes.now ++ 0 ∷ []) }
+{
+    text.extend_from_slice(bytes)?;
+    text.push(0)?;
+    Ok(())
+}
+
 /// The attributes of a file: which file of its session it is, its type, path and numbers, and the text of its link.
 ///
 /// Types are Bacula's: 1 a hard link to a saved file, 2 an empty file, 3 a file, 4 a symbolic link, 5 a directory, and others
@@ -134,6 +155,43 @@ impl Attr {
             stat,
             link,
         })
+    }
+
+    /// Attributes of this type can be written, and read again.
+    fn can_be_written(&self)
+        ensures { model.CanBeWritten self.now }
+    {
+        let _ = self.index.get();
+        let _ = self.path.bytes();
+        let stat = &self.stat;
+        stat.has_64_bits();
+    }
+
+    /// The text of the attributes.
+    #[tactic(auto, unfolding(br_model::specs::Attribute::write_attributes))]
+    fn text(&self, alloc: Global) -> Result<Vec<u8>, AllocError>
+        ensures { IfOk result (λ text. text.items ≡ model.write_attributes self.now) }
+    {
+        let stat = &self.stat;
+        let mut text = Vec::new(alloc);
+        push_number(&mut text, self.index.get(), b' ')?;
+        push_number(&mut text, self.kind, b' ')?;
+        push_text(&mut text, self.path.bytes())?;
+        stat.push(&mut text)?;
+        text.push(0)?;
+        push_text(&mut text, &self.link)?;
+        Ok(text)
+    }
+
+    /// The one text that is written for the attributes: `INDEX TYPE PATH NUL NUMBERS NUL LINK NUL` with index and type in decimal
+    /// without zeros in front, and the numbers as `Stat::write` has them. Reading the text gives the same attributes.
+    pub fn write(&self, alloc: Global) -> Result<Vec<u8>, AllocError>
+        ensures text { IfOk result (λ text. text.items ≡ model.write_attributes self.now) }
+        ensures reads_back { IfOk result (λ text. model.read_attributes text.items self.now.index ≡ Ok self.now) }
+    {
+        attributes_read_back();
+        self.can_be_written();
+        self.text(alloc)
     }
 
     /// Which file of its session it is.

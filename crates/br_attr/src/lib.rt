@@ -9,7 +9,7 @@ mod stat;
 
 pub use attr::Attr;
 pub use fault::AttrFault;
-pub use number::read_number;
+pub use number::{read_number, write_number};
 pub use stat::Stat;
 
 #[cfg(test)]

@@ -1,10 +1,18 @@
-ghost use Rattle.std.specs.Prelude.{◌≡◌};
+ghost use Rattle.std.specs.Prelude.{◌≡◌, ◌+◌, ◌++◌, ◌≤◌, Ok, OnOk};
 ghost use Rattle.br_model.specs.Answer.{AnswersAlways};
-ghost use Rattle.br_model.specs.Number.{digit64, read_number};
-ghost use Rattle.br_attr.specs.Digits.{integer64, signed64, spelled64};
+ghost use Rattle.br_model.specs.Number.{digit64, digit_at, read_number, write_magnitude, write_number};
+ghost use Rattle.br_attr.specs.Digits.{integer64, last_digits, signed64, spelled64};
 ghost use Rattle.br_attr.specs.Fault.{fault_number};
 
 use crate::fault::AttrFault;
+use br_model::numbers_read_back;
+use std::alloc::AllocError;
+
+/// The digits for 0 to 63.
+const DIGITS: [u8; 64] = *b"ABCDEFGHIJKLMNOPQRSTUVWXYZabcdefghijklmnopqrstuvwxyz0123456789+/";
+
+/// The place of the greatest digit that 64 bits can have.
+const GREATEST_PLACE: u32 = 10;
 
 /// What a digit stands for.
 #[tactic(auto, using(crate::proofs::DigitLaws::digit_rules))]
@@ -68,4 +76,54 @@ pub fn read_number(text: &[u8]) -> Result<i64, AttrFault>
         _ => integer_of(false, text),
     };
     integer.ok_or(AttrFault::BadNumber)
+}
+
+/// The digit at a place, from the right.
+fn digit_in(magnitude: u64, place: u32) -> u8
+    requires { place ≤ 10 }
+    ensures { result ≡ digit_at magnitude place }
+{
+    DIGITS[(magnitude / 64_u64.pow(place) % 64) as usize]
+}
+
+/// The place of the first digit that is not 0, or of the last digit.
+fn first_place(magnitude: u64) -> u32
+    ensures within { result ≤ 10 }
+    ensures shortest { last_digits magnitude (result + 1) ≡ write_magnitude magnitude }
+{
+    let mut place = GREATEST_PLACE;
+    while place > 0 && digit_in(magnitude, place) == b'A' {
+        place -= 1;
+    }
+    place
+}
+
+/// Writes the last digits, so many of them.
+fn push_digits(text: &mut Vec<u8>, magnitude: u64, count: u32) -> Result<(), AllocError>
+    requires { count ≤ 11 }
+    ensures { OnOk result (text.new.items ≡ text.old.items ++ last_digits magnitude count) }
+{
+    let mut left = count;
+    while left > 0 {
+        left -= 1;
+        text.push(digit_in(magnitude, left))?;
+    }
+    Ok(())
+}
+
+/// Writes an integer behind a text, as the shortest text that is read as it: `-` in front of a negative one, and then digits of
+/// base 64, the most significant first, `A-Z a-z 0-9 + /` for 0 to 63, without zeros in front. 0 is `A`.
+///
+/// An error is want of memory; the text may then hold a part of the digits.
+#[tactic(auto, unfolding(br_model::specs::Number::write_number))]
+pub fn write_number(number: i64, text: &mut Vec<u8>) -> Result<(), AllocError>
+    ensures ok { OnOk result (text.new.items ≡ text.old.items ++ write_number number) }
+    ensures reads_back { OnOk result (read_number (write_number number) ≡ Ok number) }
+{
+    numbers_read_back();
+    if number < 0 {
+        text.push(b'-')?;
+    }
+    let magnitude = number.unsigned_abs();
+    push_digits(text, magnitude, first_place(magnitude) + 1)
 }

@@ -1,11 +1,14 @@
-ghost use Rattle.std.specs.Prelude.{◌≡◌, ◌≤◌, IfOk, ℕ, pos, take, length, slice_index_or};
+ghost use Rattle.std.specs.Prelude.{◌≡◌, true, ◌≤◌, ◌∷◌, ◌++◌, IfOk, OnOk, ℕ, pos, take, length, slice_index_or, flat_map};
+ghost use Rattle.std.specs.List.{AllByRecursion};
 ghost use Rattle.br_model.specs.Answer.{AnswersAlways};
-ghost use Rattle.br_model.specs.Attribute.{read_numbers, read_stat, stat_from};
+ghost use Rattle.br_model.specs.Attribute.{read_numbers, read_stat, stat_from, stat_numbers, write_stat};
+ghost use Rattle.br_model.specs.Number as number;
 ghost use Rattle.br_model.specs.Text.{words};
 ghost use Rattle.br_attr.specs.Fault.{fault_number};
 
 use crate::fault::AttrFault;
-use crate::number::read_number;
+use crate::number::{read_number, write_number};
+use std::alloc::{AllocError, Global};
 use std::marker::Model;
 
 /// How many numbers a file has.
@@ -63,6 +66,17 @@ fn numbers_in(text: &[u8]) -> Result<([i64; COUNT], usize), AttrFault>
     Ok((numbers, count))
 }
 
+/// Writes numbers with a space in front of each.
+fn push_numbers(text: &mut Vec<u8>, numbers: &[i64]) -> Result<(), AllocError>
+    ensures { OnOk result (text.new.items ≡ text.old.items ++ flat_map (λ n. 32 ∷ number.write_number n) numbers.now) }
+{
+    for number in numbers {
+        text.push(b' ')?;
+        write_number(*number, text)?;
+    }
+    Ok(())
+}
+
 impl Stat {
     /// The numbers by their places.
     #[tactic(auto, unfolding(br_model::specs::Attribute::stat_from))]
@@ -118,6 +132,58 @@ impl Stat {
             return Err(AttrFault::MissingField);
         }
         Ok(Stat::from_numbers(numbers))
+    }
+
+    /// The numbers in their order.
+    fn numbers(&self) -> [i64; COUNT]
+        ensures { result ≡ stat_numbers self.now }
+    {
+        let Stat {
+            dev,
+            ino,
+            mode,
+            nlink,
+            uid,
+            gid,
+            rdev,
+            size,
+            blksize,
+            blocks,
+            atime,
+            mtime,
+            ctime,
+            link_index,
+        } = *self;
+        [
+            dev, ino, mode, nlink, uid, gid, rdev, size, blksize, blocks, atime, mtime, ctime,
+            link_index,
+        ]
+    }
+
+    /// Each number has 64 bits.
+    pub(crate) fn has_64_bits(&self)
+        ensures { AllByRecursion (λ z. number.is_64_bits z ≡ true) (stat_numbers self.now) }
+    {
+        let _ = self.numbers();
+    }
+
+    /// Writes the numbers behind a text.
+    pub(crate) fn push(&self, text: &mut Vec<u8>) -> Result<(), AllocError>
+        ensures { OnOk result (text.new.items ≡ text.old.items ++ write_stat self.now) }
+    {
+        let numbers = self.numbers();
+        write_number(numbers[0], text)?;
+        push_numbers(text, &numbers[1..])
+    }
+
+    /// The one text that is written for the numbers: all 14 in the order that `read` has them, each the shortest text of its
+    /// number, with one space between two.
+    pub fn write(&self, alloc: Global) -> Result<Vec<u8>, AllocError>
+        ensures { IfOk result (λ text. text.items ≡ write_stat self.now) }
+    {
+        let mut text = Vec::new(alloc);
+        self.push(&mut text)?;
+        Ok(text)
     }
 
     /// The device on which the file lay.

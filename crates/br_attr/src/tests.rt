@@ -6,6 +6,12 @@ use std::test::Fail;
 /// A record with sixteen numbers, of which two are not read.
 const RECORD: &[u8] = b"1 3 /a\0P0A CF2vg IGk B Po Po A 3Y BAA I BHqbnC BHqbnC BHqbnC A A C\0\0";
 
+/// The same record as it is written.
+const WRITTEN: &[u8] = b"1 3 /a\0P0A CF2vg IGk B Po Po A 3Y BAA I BHqbnC BHqbnC BHqbnC A\0\0";
+
+/// Its numbers.
+const NUMBERS: &[u8] = b"P0A CF2vg IGk B Po Po A 3Y BAA I BHqbnC BHqbnC BHqbnC A";
+
 fn index(number: u32) -> Result<FileIndex, Fail> {
     Ok(FileIndex::new(number).ok_or("an index")?)
 }
@@ -54,6 +60,16 @@ fn reads_a_record(rt: HostRuntime) -> Result<(), Fail> {
         Attr::read(rt.alloc(), RECORD, index(2)?).map(|_| ()),
         Err(AttrFault::IndexDiffers)
     );
+    Ok(())
+}
+
+#[test]
+fn writes_a_record(rt: HostRuntime) -> Result<(), Fail> {
+    let attr = Attr::read(rt.alloc(), RECORD, index(1)?)?;
+    let record = attr.write(rt.alloc())?;
+    assert_eq!(rt; record.as_slice(), WRITTEN);
+    let numbers = attr.stat().write(rt.alloc())?;
+    assert_eq!(rt; numbers.as_slice(), NUMBERS);
     Ok(())
 }
 
@@ -107,6 +123,23 @@ fn reads_numbers(rt: HostRuntime) -> Result<(), Fail> {
     }
     let zeros = long(rt.alloc(), b'A')?;
     assert_eq!(rt; read_number(&zeros), Ok(1));
+    Ok(())
+}
+
+#[test]
+fn writes_numbers(rt: HostRuntime) -> Result<(), Fail> {
+    let numbers = [
+        (0, b"A".as_slice()),
+        (64, b"BA".as_slice()),
+        (-1, b"-B".as_slice()),
+        (i64::MIN, b"-IAAAAAAAAAA".as_slice()),
+        (i64::MAX, b"H//////////".as_slice()),
+    ];
+    for (number, written) in numbers {
+        let mut text = Vec::new(rt.alloc());
+        write_number(number, &mut text)?;
+        assert_eq!(rt; text.as_slice(), written, "at {number}");
+    }
     Ok(())
 }
 

@@ -1,0 +1,2 @@
+pub mod SplitLaws
+pub mod PlaceLaws
