@@ -100,6 +100,29 @@ fn push_text(text: &mut Vec<u8>, bytes: &[u8]) -> Result<(), AllocError>
     Ok(())
 }
 
+/// The text of the record of a file with this index, type, path, numbers and link text, as `Attr::write` has it. It is read
+/// again as these where the type is from 1 to 2^31 - 1 and the link text has no NUL.
+#[tactic(auto, unfolding(br_model::specs::Attribute::write_attributes))]
+pub fn write_attributes(
+    alloc: Global,
+    index: FileIndex,
+    kind: u32,
+    path: &Path,
+    stat: &Stat,
+    link: &[u8],
+) -> Result<Vec<u8>, AllocError>
+    ensures { IfOk result (λ text. text.items ≡ model.write_attributes (record { index = index; kind = kind; path = path.now; stat = stat.now; link = link.now })) }
+{
+    let mut text = Vec::new(alloc);
+    push_number(&mut text, index.get(), b' ')?;
+    push_number(&mut text, kind, b' ')?;
+    push_text(&mut text, path.bytes())?;
+    stat.push(&mut text)?;
+    text.push(0)?;
+    push_text(&mut text, link)?;
+    Ok(text)
+}
+
 /// The attributes of a file: which file of its session it is, its type, path and numbers, and the text of its link.
 ///
 /// Types are Bacula's: 1 a hard link to a saved file, 2 an empty file, 3 a file, 4 a symbolic link, 5 a directory, and others
@@ -167,22 +190,6 @@ impl Attr {
         stat.has_64_bits();
     }
 
-    /// The text of the attributes.
-    #[tactic(auto, unfolding(br_model::specs::Attribute::write_attributes))]
-    fn text(&self, alloc: Global) -> Result<Vec<u8>, AllocError>
-        ensures { IfOk result (λ text. text.items ≡ model.write_attributes self.now) }
-    {
-        let stat = &self.stat;
-        let mut text = Vec::new(alloc);
-        push_number(&mut text, self.index.get(), b' ')?;
-        push_number(&mut text, self.kind, b' ')?;
-        push_text(&mut text, self.path.bytes())?;
-        stat.push(&mut text)?;
-        text.push(0)?;
-        push_text(&mut text, &self.link)?;
-        Ok(text)
-    }
-
     /// The one text that is written for the attributes: `INDEX TYPE PATH NUL NUMBERS NUL LINK NUL` with index and type in decimal
     /// without zeros in front, and the numbers as `Stat::write` has them. Reading the text gives the same attributes.
     pub fn write(&self, alloc: Global) -> Result<Vec<u8>, AllocError>
@@ -191,7 +198,9 @@ impl Attr {
     {
         attributes_read_back();
         self.can_be_written();
-        self.text(alloc)
+        write_attributes(
+            alloc, self.index, self.kind, &self.path, &self.stat, &self.link,
+        )
     }
 
     /// Which file of its session it is.
@@ -230,5 +239,22 @@ impl Attr {
         ensures no_nul { list_all (λ c. not (c == 0)) self.now.link ≡ true }
     {
         &self.link
+    }
+
+    /// The type, the path, the numbers and the text of the link, without a copy.
+    pub fn into_parts(self) -> (u32, Path, Stat, Vec<u8>)
+        ensures kind { result.0 ≡ self.kind }
+        ensures path { result.1 ≡ self.path }
+        ensures stat { result.2 ≡ self.stat }
+        ensures link { result.3.items ≡ self.link }
+    {
+        let Attr {
+            index: _,
+            kind,
+            path,
+            stat,
+            link,
+        } = self;
+        (kind, path, stat, link)
     }
 }

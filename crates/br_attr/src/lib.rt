@@ -7,7 +7,7 @@ mod fault;
 mod number;
 mod stat;
 
-pub use attr::Attr;
+pub use attr::{Attr, write_attributes};
 pub use fault::AttrFault;
 pub use number::{read_number, write_number};
 pub use stat::Stat;

@@ -160,8 +160,8 @@ impl Stat {
         ]
     }
 
-    /// Each number has 64 bits.
-    pub(crate) fn has_64_bits(&self)
+    /// Each number has 64 bits. The call does nothing; its clause is a fact that other contracts need.
+    pub fn has_64_bits(&self)
         ensures { AllByRecursion (λ z. number.is_64_bits z ≡ true) (stat_numbers self.now) }
     {
         let _ = self.numbers();

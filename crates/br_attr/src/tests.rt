@@ -12,6 +12,9 @@ const WRITTEN: &[u8] = b"1 3 /a\0P0A CF2vg IGk B Po Po A 3Y BAA I BHqbnC BHqbnC 
 /// Its numbers.
 const NUMBERS: &[u8] = b"P0A CF2vg IGk B Po Po A 3Y BAA I BHqbnC BHqbnC BHqbnC A";
 
+/// A symbolic link of size 5 to `to`.
+const LINK: &[u8] = b"1 4 /l\0A A IGk B A A A F A A A A A A\0to\0";
+
 fn index(number: u32) -> Result<FileIndex, Fail> {
     Ok(FileIndex::new(number).ok_or("an index")?)
 }
@@ -64,9 +67,21 @@ fn reads_a_record(rt: HostRuntime) -> Result<(), Fail> {
 }
 
 #[test]
+fn a_record_comes_apart(rt: HostRuntime) -> Result<(), Fail> {
+    let (kind, path, stat, link) = Attr::read(rt.alloc(), LINK, index(1)?)?.into_parts();
+    assert_eq!(rt; kind, 4);
+    assert_eq!(rt; path.bytes(), b"/l".as_slice());
+    assert_eq!(rt; stat.size(), 5);
+    assert_eq!(rt; link.as_slice(), b"to".as_slice());
+    Ok(())
+}
+
+#[test]
 fn writes_a_record(rt: HostRuntime) -> Result<(), Fail> {
     let attr = Attr::read(rt.alloc(), RECORD, index(1)?)?;
     let record = attr.write(rt.alloc())?;
+    assert_eq!(rt; record.as_slice(), WRITTEN);
+    let record = write_attributes(rt.alloc(), index(1)?, 3, attr.path(), &attr.stat(), b"")?;
     assert_eq!(rt; record.as_slice(), WRITTEN);
     let numbers = attr.stat().write(rt.alloc())?;
     assert_eq!(rt; numbers.as_slice(), NUMBERS);

@@ -1,2 +1,3 @@
 mod HeaderLaws
 mod FragmentLaws
+mod BuildingLaws

@@ -7,7 +7,7 @@ use br_types::SessionKey;
 use std::marker::Model;
 
 /// The bytes of a record's header.
-const RECORD_HEADER_LEN: usize = 12;
+pub(crate) const RECORD_HEADER_LEN: usize = 12;
 
 /// A record in a block, or the part of it that stands there: the record's header is FileIndex, Stream and DataSize, four
 /// bytes each, and its data stands behind it.

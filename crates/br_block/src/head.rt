@@ -1,6 +1,6 @@
-ghost use Rattle.std.specs.Prelude.{◌≤◌, IfOk};
+ghost use Rattle.std.specs.Prelude.{◌≡◌, ◌≤◌, IfOk, Ok};
 ghost use Rattle.br_model.specs.Answer.{AnswersAlways};
-ghost use Rattle.br_model.specs.Block.{read_header};
+ghost use Rattle.br_model.specs.Block.{header_bytes, read_header};
 ghost use Rattle.br_block.specs.Fault.{fault_number};
 
 use crate::fault::BlockFault;
@@ -70,5 +70,28 @@ impl BlockHead {
                 time: u32_from(bytes, 20),
             },
         })
+    }
+
+    /// Writes the 24 bytes of the header. Where its size is from 24 to 4,194,304, `read` gives it back.
+    #[tactic(auto, unfolding(br_model::specs::Block::header_bytes))]
+    pub fn write(&self, bytes: &mut [u8; 24])
+        ensures text { bytes.new ≡ header_bytes self.now }
+        ensures reads_back { 24 ≤ self.now.size → self.now.size ≤ 4194304 → read_header bytes.new ≡ Ok self.now }
+    {
+        let BlockHead {
+            checksum,
+            size,
+            number,
+            session: SessionKey { id, time },
+        } = *self;
+        let [c0, c1, c2, c3] = checksum.to_be_bytes();
+        let [s0, s1, s2, s3] = size.to_be_bytes();
+        let [n0, n1, n2, n3] = number.to_be_bytes();
+        let [i0, i1, i2, i3] = id.to_be_bytes();
+        let [t0, t1, t2, t3] = time.to_be_bytes();
+        *bytes = [
+            c0, c1, c2, c3, s0, s1, s2, s3, n0, n1, n2, n3, b'B', b'B', b'0', b'2', i0, i1, i2, i3,
+            t0, t1, t2, t3,
+        ];
     }
 }

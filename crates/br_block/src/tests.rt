@@ -1,10 +1,15 @@
-use crate::{Block, BlockFault, BlockHead};
+ghost use Rattle.std.specs.Prelude.{◌≡◌};
+
+use crate::{Block, BlockBuilder, BlockFault, BlockHead, Fragment};
+use br_types::SessionKey;
 use std::alloc::Global;
 use std::test::Fail;
 
 /// A block of two whole records: attributes of 38 bytes and data of 5 bytes.
 const BLOCK: &[u8; 91] =
     b"\0\0\0\0\0\0\0\x5b\0\0\0\0BB02\0\0\0\x01\0\0\0\x64\0\0\0\x01\0\0\0\x01\0\0\0\x261 3 /a\0A A IGk B A A A F A A A A A A\0\0\0\0\0\x01\0\0\0\x02\0\0\0\x05hello";
+
+const SESSION: SessionKey = SessionKey { id: 1, time: 100 };
 
 const ATTRIBUTES: &[u8] = b"1 3 /a\0A A IGk B A A A F A A A A A A\0\0";
 
@@ -141,6 +146,74 @@ fn faults_say_what_is_wrong(rt: HostRuntime) -> Result<(), Fail> {
     assert_eq!(rt;
         message(rt.alloc(), BlockFault::Truncated)?.as_str(),
         "the block is cut off: the bytes end before its header does, or before the size that its header gives"
+    );
+    Ok(())
+}
+
+#[test]
+fn a_header_is_written(rt: HostRuntime) {
+    let head = BlockHead {
+        checksum: 0x0102_0304,
+        size: 91,
+        number: 0xffff_fffe,
+        session: SESSION,
+    };
+    let mut bytes = [7; 24];
+    head.write(&mut bytes);
+    assert_eq!(rt;
+        bytes.as_slice(),
+        b"\x01\x02\x03\x04\0\0\0\x5b\xff\xff\xff\xfeBB02\0\0\0\x01\0\0\0\x64".as_slice()
+    );
+    assert_eq!(rt; BlockHead::read(&bytes), Ok(head));
+}
+
+fn fragment(session: SessionKey, stream: i32, size: u32, bytes: &[u8]) -> Fragment<'_>
+    ensures session { result.session ≡ session }
+    ensures size { result.size ≡ size }
+    ensures bytes { result.bytes ≡ bytes.now }
+{
+    Fragment {
+        session,
+        index: 1,
+        stream,
+        size,
+        bytes,
+    }
+}
+
+#[test]
+fn a_block_is_built(rt: HostRuntime) -> Result<(), Fail> {
+    let mut block = BlockBuilder::new(rt.alloc(), SESSION, 91, 0)?;
+    assert_eq!(rt; block.room(), 67);
+    block.add(&fragment(SESSION, 1, 38, ATTRIBUTES))?;
+    assert_eq!(rt; block.room(), 17);
+    block.add(&fragment(SESSION, 2, 5, b"hello"))?;
+    assert_eq!(rt; block.room(), 0);
+    assert_eq!(rt; block.close().as_slice(), BLOCK.as_slice());
+    Ok(())
+}
+
+#[test]
+fn a_record_that_goes_on_is_built(rt: HostRuntime) -> Result<(), Fail> {
+    let mut block = BlockBuilder::new(rt.alloc(), SESSION, 64, 3)?;
+    block.add(&fragment(SESSION, -2, 72, &[b'x'; 27]))?;
+    assert_eq!(rt; block.room(), 1);
+    let bytes = block.close();
+    assert_eq!(rt;
+        bytes.as_slice(),
+        b"\0\0\0\0\0\0\0\x3f\0\0\0\x03BB02\0\0\0\x01\0\0\0\x64\0\0\0\x01\xff\xff\xff\xfe\0\0\0\x48xxxxxxxxxxxxxxxxxxxxxxxxxxx".as_slice()
+    );
+    assert!(rt; has_fragments(&bytes, &[(1, -2, 72, &[b'x'; 27])]));
+    Ok(())
+}
+
+#[test]
+fn a_block_without_fragments_is_a_header(rt: HostRuntime) -> Result<(), Fail> {
+    let block = BlockBuilder::new(rt.alloc(), SESSION, 64, 4_294_967_295)?;
+    assert_eq!(rt; block.room(), 40);
+    assert_eq!(rt;
+        block.close().as_slice(),
+        b"\0\0\0\0\0\0\0\x18\xff\xff\xff\xffBB02\0\0\0\x01\0\0\0\x64".as_slice()
     );
     Ok(())
 }

@@ -79,13 +79,13 @@ cut_is_sound (r ∷ rs) fs can cut =
 -- ---- the header
 
 -- a header of a valid size, whose numbers have four bytes each
-record IsHeader (h : Header) : Type 0 where
-  checksum_to : h.checksum < 2 ^ 32
-  size_from : 24 ≤ h.size
-  size_to : h.size ≤ 4194304
-  number_to : h.number < 2 ^ 32
-  id_to : h.session.id < 2 ^ 32
-  time_to : h.session.time < 2 ^ 32
+pub record IsHeader (h : Header) : Type 0 where
+  pub checksum_to : h.checksum < 2 ^ 32
+  pub size_from : 24 ≤ h.size
+  pub size_to : h.size ≤ 4194304
+  pub number_to : h.number < 2 ^ 32
+  pub id_to : h.session.id < 2 ^ 32
+  pub time_to : h.session.time < 2 ^ 32
 
 -- a header is known by its five numbers
 same_header : (h : Header) (a b c d e : ℕ) → a ≡ h.checksum → b ≡ h.size → c ≡ h.number → d ≡ h.session.id → e ≡ h.session.time
@@ -113,7 +113,7 @@ unfolding header_bytes
 letters_are_there h more = refl
 
 -- a header that is valid is read, whatever stands behind it
-header_is_read : (h : Header) (more : List ℕ) → IsHeader h → read_header (header_bytes h ++ more) ≡ Ok h
+pub header_is_read : (h : Header) (more : List ℕ) → IsHeader h → read_header (header_bytes h ++ more) ≡ Ok h
 unfolding read_header
 header_is_read h more is =
     let n = numbers_are_read h more is in
@@ -149,7 +149,7 @@ pub written_header : (key : SessionKey) (block : ℕ × List Fragment) → IsKey
 written_header key block is to = header_is_read (header_of key block) (flat_map fragment_bytes block.1) (written_is_header key block is to)
 
 -- the length of fragments, as the size of a block counts it
-length-fragments : (fs : List Fragment) → length (flat_map fragment_bytes fs) ≡ sum_by (λ (f : Fragment). 12 + length f.bytes) fs
+pub length-fragments : (fs : List Fragment) → length (flat_map fragment_bytes fs) ≡ sum_by (λ (f : Fragment). 12 + length f.bytes) fs
 length-fragments [] = refl
 length-fragments (f ∷ fs) =
     length-fragment_bytes f (flat_map fragment_bytes fs) ∙ ap (λ n. 12 + length f.bytes + n) (length-fragments fs) ∙ sym (sum_by-cons (λ (g : Fragment). 12 + length g.bytes) f fs)
@@ -162,7 +162,7 @@ length-written_block key block =
 -- ---- the fragments
 
 -- what is behind the header of a block
-behind_header : (h : Header) (more : List ℕ) → drop 24 (header_bytes h ++ more) ≡ more
+pub behind_header : (h : Header) (more : List ℕ) → drop 24 (header_bytes h ++ more) ≡ more
 unfolding header_bytes
 behind_header h more = refl
 

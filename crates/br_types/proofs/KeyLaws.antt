@@ -7,7 +7,9 @@ use Rattle.std.specs.Map.{lookup, keys_of}
 use Rattle.std.specs.BTreeMap.{is_at, insert_entry}
 use Rattle.std.specs.List.{AllByRecursion}
 use Rattle.std.specs.List.Sorted.{IsStrictlySortedBy}
-use Rattle.std.specs.FinMap.{find, get, insert, from_entries, get-from_entries, get-insert, same_map}
+use Rattle.std.specs.FinMap.{find, get, insert, put, entries, from_entries, get-from_entries, get-insert, entries-insert, len-entries, len-empty, same_map}
+use Rattle.std.specs.declared.cmp.Ordering.{Ordering}
+use Rattle.std.proofs.lemmas.List.{nil_from_length}
 use Rattle.std.proofs.lemmas.Cmp.{on_total, then_total}
 use Rattle.std.specs.Cmp.{nat_cmp_total}
 use Rattle.std.proofs.lemmas.Map.Lookups.{CmpEqualImpliesEq, exact_pairs, exact_unsigned}
@@ -76,3 +78,16 @@ copied_more {X} es left rest all new k v w joined next sorted same put =
     put ∙ ap (λ x. insert_entry key_cmp es k x) same
     ∙ insert_last es rest (k, v) (subst (λ (fs : List (FileKey × X)). IsStrictlySortedBy key_cmp (keys_of fs)) (sym whole) sorted) in
     ap (λ (fs : List (FileKey × X)). fs ++ rest) at_end ∙ append_assoc es ((k, v) ∷ []) rest ∙ whole
+
+-- ---- sorted entries
+
+-- entries in order of key are those of the map that is made of them
+pub entries_of_sorted : {K X : Type 0} {R : K → K → Ordering} → IsTotalOrder R → (es : List (K × X)) → IsStrictlySortedBy R (keys_of es) → entries (from_entries {R = R} es) ≡ es
+unfolding IsStrictlySortedBy
+entries_of_sorted {K} {X} {R} total [] h = nil_from_length (entries (from_entries {X = X} {R = R} [])) (sym (len-entries (from_entries {X = X} {R = R} [])) ∙ len-empty R X)
+entries_of_sorted {K} {X} {R} total (e ∷ es) h =
+    entries-insert total (from_entries {R = R} es) e.0 e.1 ∙ ap (put R e.0 e.1) (entries_of_sorted total es h.1) ∙ front es h.0
+  where
+    front : (fs : List (K × X)) → AllByRecursion (λ k. R e.0 k ≡ Less) (keys_of fs) → put R e.0 e.1 fs ≡ e ∷ fs
+    front [] all = refl
+    front (f ∷ fs) all = rw all.0

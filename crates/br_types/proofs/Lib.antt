@@ -1,2 +1,3 @@
+mod EscapeLaws
 pub mod KeyLaws
 pub mod PathLaws

@@ -1,6 +1,7 @@
 ghost use Rattle.std.specs.Prelude.{◌≡◌};
 ghost use Rattle.br_types.specs.Fault.{fault_number};
 ghost use Rattle.br_types.specs.declared.fault.NameFault.TheVariants.{Memory};
+ghost use Rattle.br_types.specs.declared.fault.EscapeFault.TheVariants as escape;
 
 use std::alloc::AllocError;
 use thiserror::Error;
@@ -34,5 +35,22 @@ impl From<AllocError> for NameFault {
 
     fn from(_e: AllocError) -> NameFault {
         NameFault::Memory
+    }
+}
+
+/// Why an escaped text was refused.
+#[derive(Clone, Copy, Debug, PartialEq, Eq, Error)]
+pub enum EscapeFault {
+    #[error("out of memory")]
+    Memory,
+    #[error("a bad escape: a backslash is followed by x and two digits of 0 to 9 or a to f")]
+    BadEscape,
+}
+
+impl From<AllocError> for EscapeFault {
+    ghost from_gives = { λ _ e. e ≡ escape.Memory };
+
+    fn from(_e: AllocError) -> EscapeFault {
+        EscapeFault::Memory
     }
 }

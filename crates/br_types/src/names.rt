@@ -6,6 +6,7 @@ use crate::key::FileKey;
 use crate::path::Path;
 use std::alloc::{AllocError, Global};
 use std::collections::BTreeMap;
+use std::collections::btree_map::Iter;
 use std::marker::Model;
 
 /// Under which path each file of a restore was planned: a finite map from keys to paths.
@@ -65,6 +66,13 @@ impl Names {
         ensures { option_copied result ≡ map.get self.now key }
     {
         self.paths.get(&key)
+    }
+
+    /// The files with their paths, in order of key.
+    pub fn iter(&self) -> Iter<'_, FileKey, Path>
+        ensures { result ≡ map.entries self.now }
+    {
+        self.paths.iter()
     }
 
     /// Equal names.

@@ -146,6 +146,23 @@ fn names_are_a_map(rt: HostRuntime) -> Result<(), Fail> {
 }
 
 #[test]
+fn names_come_in_order_of_key(rt: HostRuntime) -> Result<(), Fail> {
+    let first = key(1, 100, 2).ok_or("a key")?;
+    let other = key(1, 200, 1).ok_or("a key")?;
+    let mut names = Names::new(rt.alloc());
+    names.insert(other, Path::new(rt.alloc(), b"/b")?)?;
+    names.insert(first, Path::new(rt.alloc(), b"/a")?)?;
+    let mut entries = names.iter();
+    for (wanted, bytes) in [(first, b"/a".as_slice()), (other, b"/b".as_slice())] {
+        let (key, path) = entries.next().ok_or("an entry")?;
+        assert_eq!(rt; *key, wanted);
+        assert_eq!(rt; path.bytes(), bytes);
+    }
+    assert!(rt; entries.next().is_none());
+    Ok(())
+}
+
+#[test]
 fn keys_are_ordered_by_session_then_time_then_index(rt: HostRuntime) -> Result<(), Fail> {
     let keys = [key(1, 9, 9), key(2, 1, 9), key(2, 2, 1), key(2, 2, 2)];
     for pair in keys.windows(2) {
@@ -153,4 +170,65 @@ fn keys_are_ordered_by_session_then_time_then_index(rt: HostRuntime) -> Result<(
         assert!(rt; pair[0] < pair[1]);
     }
     Ok(())
+}
+
+/// A text with `name` behind it as it is printed.
+fn printed(rt: &HostRuntime, text: &[u8], name: &[u8]) -> Result<Vec<u8>, Fail> {
+    let mut printed = Vec::from_slice(rt.alloc(), text)?;
+    push_escaped(&mut printed, name)?;
+    Ok(printed)
+}
+
+#[test]
+fn names_are_printed_with_escapes(rt: HostRuntime) -> Result<(), Fail> {
+    for (name, wanted) in [
+        (b"".as_slice(), b"=".as_slice()),
+        (b"/a", b"=/a"),
+        (b"/a b\\c", b"=/a\\x20b\\x5cc"),
+        (b"\xff\x00\n\x7f\x80", b"=\\xff\\x00\\x0a\\x7f\\x80"),
+        (b"!~\"AZ", b"=!~\"AZ"),
+    ] {
+        let text = printed(&rt, b"=", name)?;
+        assert_eq!(rt; text.as_slice(), wanted);
+    }
+    Ok(())
+}
+
+#[test]
+fn escapes_are_read(rt: HostRuntime) -> Result<(), Fail> {
+    for (text, wanted) in [
+        (b"".as_slice(), b"".as_slice()),
+        (b"/a", b"/a"),
+        (b"/a\\x20b\\x5cc", b"/a b\\c"),
+        (b"\\xff\\x00\\x61", b"\xff\x00a"),
+        (b"\xff \t", b"\xff \t"),
+        (b"x20\\x5cx20", b"x20\\x20"),
+    ] {
+        let bytes = unescape(rt.alloc(), text)?;
+        assert_eq!(rt; bytes.as_slice(), wanted);
+    }
+    Ok(())
+}
+
+#[test]
+fn other_backslashes_are_bad_escapes(rt: HostRuntime) {
+    for text in [
+        b"\\".as_slice(),
+        b"a\\x",
+        b"\\x2",
+        b"\\n",
+        b"\\\\",
+        b"\\X20",
+        b"\\x2G",
+        b"\\x5C",
+        b"\\x:0",
+        b"\\x2 0",
+        b"\\x20\\x",
+    ] {
+        assert_eq!(rt;
+            unescape(rt.alloc(), text).err(),
+            Some(EscapeFault::BadEscape),
+            "{text:?}"
+        );
+    }
 }

@@ -57,6 +57,13 @@ impl MemDrive {
         }
     }
 
+    /// Its volumes, in their order.
+    pub fn into_volumes(self) -> Vec<(VolName, Vec<u8>)>
+        ensures { volumes_of result.items ≡ self.volumes }
+    {
+        self.volumes
+    }
+
     /// Whether no call is left before it fails.
     fn is_out(&self) -> bool
         ensures { result ≡ is_out self.now.calls_left }

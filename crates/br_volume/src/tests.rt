@@ -131,3 +131,14 @@ fn a_failing_drive_fails_from_its_kth_call_for_ever(rt: HostRuntime) -> Result<(
     }
     Ok(())
 }
+
+#[test]
+fn a_drive_gives_its_volumes_back(rt: HostRuntime) -> Result<(), Fail> {
+    let volumes = MemDrive::new(volumes(&rt)?).into_volumes();
+    assert_eq!(rt; volumes.len(), 3);
+    for ((name, bytes), (wanted, len)) in volumes.iter().zip([(b"V", 172), (b"E", 0), (b"V", 3)]) {
+        assert_eq!(rt; name.bytes(), wanted.as_slice());
+        assert_eq!(rt; bytes.len(), len);
+    }
+    Ok(())
+}

@@ -1,0 +1,4 @@
+pub mod GrowthLaws
+pub mod ReadyLaws
+pub mod JoinLaws
+pub mod ExtractLaws

@@ -1,0 +1,3 @@
+pub mod Restoring
+pub mod Fault
+pub mod Extracting

@@ -1,0 +1,105 @@
+ghost use Rattle.std.specs.Prelude.{◌≡◌, is_ok, ◌<◌, ◌≤◌, None, Some, map, IfOk, IfErr, IfSome};
+ghost use Rattle.std.specs.List.{list_all};
+ghost use Rattle.br_volume.specs.Drive.{OnlyGrows};
+ghost use Rattle.br_join.specs.Outcome.{restored, shown};
+ghost use Rattle.br_engine.specs.Fault.{IsFree, fault_number};
+ghost use Rattle.br_engine.specs.Extracting.{are_files, ExtractsOver, RunsOver, WritesNothing};
+
+use crate::fault::ExtractFault;
+use crate::restoring::restore;
+use br_bsr::{Bootstrap, read_bootstrap};
+use br_join::Outcome;
+use br_sink::manifest;
+use br_types::FileKey;
+use br_volume::Drive;
+use std::alloc::Global;
+use std::io::{Error, ErrorKind, Read, Write};
+
+/// How often an input is read before its end has to come.
+const MAX_TURNS: u64 = 1 << 40;
+
+fn is_file(outcome: &Outcome) -> bool
+    ensures { result ≡ is_ok (shown outcome.now) }
+{
+    matches!(outcome, Outcome::File(_))
+}
+
+fn all_outcomes(outcomes: &[(FileKey, Outcome)]) -> bool
+    ensures { result ≡ list_all (λ o. is_ok (shown o.1)) outcomes.now }
+{
+    outcomes.iter().all(|outcome| is_file(&outcome.1))
+}
+
+/// Whether each outcome is a file.
+fn all_files(outcomes: &[(FileKey, Outcome)]) -> bool
+    ensures { result ≡ are_files (map restored outcomes.now) }
+{
+    all_outcomes(outcomes)
+}
+
+/// All that a reader has left.
+fn read_text<R: Read>(alloc: Global, reader: &mut R) -> Result<Vec<u8>, ExtractFault>
+    ensures text { IfOk result (λ text. IfSome (R.remaining reader.old) (λ bytes. text.items ≡ bytes)) }
+    ensures free { IfErr result IsFree }
+{
+    let mut text = Vec::new(alloc);
+    let mut buffer = [0u8; 8192];
+    for _ in 0..MAX_TURNS {
+        match reader.read(&mut buffer) {
+            Ok(0) => return Ok(text),
+            Ok(n) => {
+                text.extend_from_slice(&buffer[..n])?;
+            }
+            Err(e) => {
+                if e.kind() != ErrorKind::Interrupted {
+                    return Err(ExtractFault::Io(e));
+                }
+            }
+        }
+    }
+    Err(ExtractFault::Io(Error::new(ErrorKind::TimedOut, "the input has no end")))
+}
+
+/// Restores by a bootstrap and writes the manifest of what came of it. The answer is whether each outcome is a file.
+///
+/// Refused as `restore`, with `Piece`; then nothing is written. `Memory` also where the manifest wants memory. `Io` where the
+/// writer failed, which may have taken a part of the manifest. The writer is not flushed.
+pub fn extract<D: Drive, W: Write>(
+    alloc: Global,
+    bootstrap: &Bootstrap,
+    drive: &mut D,
+    writer: &mut W,
+) -> Result<bool, ExtractFault>
+    ensures extracts { ExtractsOver (D.shows drive.old) (D.shows drive.new) (W.contents writer.old) (W.contents writer.new) bootstrap.now result }
+    ensures nothing { IfErr result (WritesNothing (W.contents writer.old) (W.contents writer.new)) }
+    ensures grows { OnlyGrows (D.shows drive.old) (D.shows drive.new) }
+    ensures counted { D.failures drive.old ≤ D.failures drive.new }
+    ensures failed { IfErr result (λ fault. fault_number fault ≡ Some 13 → D.failures drive.old < D.failures drive.new) }
+{
+    let outcomes = restore(alloc, bootstrap, drive)?;
+    let text = manifest(alloc, &outcomes)?;
+    writer.write_all(&text)?;
+    Ok(all_files(&outcomes))
+}
+
+/// Reads the text of a bootstrap to the end of the reader, restores by it, and writes the manifest. The answer is whether each
+/// outcome is a file.
+///
+/// `Bootstrap` for a refused line, then refused as `extract`. `Io` also where the reader failed, or has not come to its end after
+/// 2^40 reads.
+pub fn run_extract<R: Read + Drop, D: Drive, W: Write + Drop>(
+    alloc: Global,
+    reader: &mut R,
+    drive: &mut D,
+    writer: &mut W,
+) -> Result<bool, ExtractFault>
+    ensures runs { RunsOver (R.remaining reader.old) (D.shows drive.old) (D.shows drive.new) (W.contents writer.old) (W.contents writer.new) result }
+    ensures nothing { IfErr result (WritesNothing (W.contents writer.old) (W.contents writer.new)) }
+    ensures grows { OnlyGrows (D.shows drive.old) (D.shows drive.new) }
+    ensures counted { D.failures drive.old ≤ D.failures drive.new }
+    ensures failed { IfErr result (λ fault. fault_number fault ≡ Some 13 → D.failures drive.old < D.failures drive.new) }
+{
+    let text = read_text(alloc, reader)?;
+    let bootstrap = read_bootstrap(alloc, &text)?;
+    extract(alloc, &bootstrap, drive, writer)
+}

@@ -1,0 +1,156 @@
+ghost use Rattle.std.specs.Prelude.{◌≡◌, ◌++◌, ◌∷◌, ℕ, List, decimal, codes, OnOk};
+ghost use Rattle.br_model.specs.Text.{line, refused_line, escaped};
+ghost use Rattle.br_model.specs.Refusal.{line_fault, piece_fault};
+ghost use Rattle.br_bsr.specs.Fault.{cause};
+ghost use Rattle.br_engine.specs.declared.fault.ExtractFault.TheVariants.{Memory, Bootstrap, Piece, Io};
+ghost use Rattle.br_engine.specs.Fault.{fault_number, fault_text, bootstrap_text, piece_text};
+
+use br_bsr::BsrFault;
+use br_match::PieceFault;
+use br_types::push_escaped;
+use itoa::Buffer;
+use std::alloc::AllocError;
+use std::io;
+use thiserror::Error;
+
+/// Why a run gave no manifest, or not the whole of it.
+#[derive(Debug, Drop, Error)]
+pub enum ExtractFault {
+    #[error("out of memory")]
+    Memory,
+    /// A line of the bootstrap was refused.
+    #[error("{0}")]
+    Bootstrap(BsrFault),
+    /// A volume could not be read.
+    #[error("{0}")]
+    Piece(PieceFault),
+    /// Reading the bootstrap or writing the manifest failed.
+    #[error("{0}")]
+    Io(io::Error),
+}
+
+impl From<AllocError> for ExtractFault {
+    ghost from_gives = { λ _ e. e ≡ Memory };
+
+    fn from(_e: AllocError) -> ExtractFault {
+        ExtractFault::Memory
+    }
+}
+
+impl From<BsrFault> for ExtractFault {
+    ghost from_gives = { λ fault e. e ≡ Bootstrap fault };
+
+    fn from(fault: BsrFault) -> ExtractFault {
+        ExtractFault::Bootstrap(fault)
+    }
+}
+
+impl From<PieceFault> for ExtractFault {
+    ghost from_gives = { λ fault e. e ≡ Piece fault };
+
+    fn from(fault: PieceFault) -> ExtractFault {
+        ExtractFault::Piece(fault)
+    }
+}
+
+impl From<io::Error> for ExtractFault {
+    ghost from_gives = { λ fault e. e ≡ Io fault };
+
+    fn from(fault: io::Error) -> ExtractFault {
+        ExtractFault::Io(fault)
+    }
+}
+
+fn push_number(text: &mut Vec<u8>, number: u64) -> Result<(), AllocError>
+    ensures { OnOk result (text.new.items ≡ text.old.items ++ decimal number) }
+{
+    let mut buffer = Buffer::new();
+    text.extend_from_slice(buffer.format(number).as_bytes())
+}
+
+fn push_refused(text: &mut Vec<u8>, number: u32) -> Result<(), AllocError>
+    ensures { OnOk result (text.new.items ≡ text.old.items ++ (codes "refused " ++ decimal number)) }
+{
+    text.extend_from_slice(b"refused ")?;
+    push_number(text, u64::from(number))
+}
+
+/// Writes `refused N`.
+fn push_refused_line(text: &mut Vec<u8>, number: u32) -> Result<(), AllocError>
+    ensures { OnOk result (text.new.items ≡ text.old.items ++ refused_line number) }
+{
+    push_refused(text, number)?;
+    text.push(b'\n')?;
+    Ok(())
+}
+
+/// Writes `refused N line K`, or `refused 1` for want of memory.
+fn push_bootstrap_line(text: &mut Vec<u8>, fault: BsrFault) -> Result<(), AllocError>
+    ensures { OnOk result (text.new.items ≡ text.old.items ++ bootstrap_text (cause fault)) }
+{
+    match fault.line() {
+        None => push_refused_line(text, 1),
+        Some(line) => {
+            push_refused(text, fault.number())?;
+            text.extend_from_slice(b" line ")?;
+            push_number(text, line)?;
+            text.push(b'\n')?;
+            Ok(())
+        }
+    }
+}
+
+/// Writes `refused N VOLUME ADDRESS`.
+fn push_block_line(text: &mut Vec<u8>, number: u32, vol: &[u8], addr: u64) -> Result<(), AllocError>
+    ensures { OnOk result (text.new.items ≡ text.old.items ++ piece_fault (record { number = number; volume = vol.now; address = addr })) }
+{
+    push_refused(text, number)?;
+    text.push(b' ')?;
+    push_escaped(text, vol)?;
+    text.push(b' ')?;
+    push_number(text, addr)?;
+    text.push(b'\n')?;
+    Ok(())
+}
+
+/// Writes `refused N VOLUME ADDRESS`, or `refused 1` for want of memory.
+fn push_piece_line(text: &mut Vec<u8>, fault: &PieceFault) -> Result<(), AllocError>
+    ensures { OnOk result (text.new.items ≡ text.old.items ++ piece_text fault.now) }
+{
+    match fault {
+        PieceFault::Memory => push_refused_line(text, 1),
+        PieceFault::Block { cause, vol, addr } => {
+            push_block_line(text, cause.number(), vol.bytes(), *addr)
+        }
+    }
+}
+
+impl ExtractFault {
+    /// The number of the refusal: 1 want of memory, 10 to 14 a volume, 30 to 34 a line of the bootstrap. A fault of reading or
+    /// writing is no refusal.
+    pub fn number(&self) -> Option<u32>
+        ensures { result ≡ fault_number self.now }
+    {
+        match self {
+            ExtractFault::Memory => Some(1),
+            ExtractFault::Bootstrap(fault) => Some(fault.number()),
+            ExtractFault::Piece(fault) => Some(fault.number()),
+            ExtractFault::Io(_) => None,
+        }
+    }
+
+    /// Writes the line of the refusal: `refused N line K` for a line of the bootstrap, counted from 1; `refused N VOLUME ADDRESS`
+    /// for 10 to 14, with the volume escaped; `refused 1` for want of memory. Nothing for a fault of reading or writing.
+    ///
+    /// Where memory is short, a part of the line may stand there.
+    pub fn push_line(&self, text: &mut Vec<u8>) -> Result<(), AllocError>
+        ensures { OnOk result (text.new.items ≡ text.old.items ++ fault_text self.now) }
+    {
+        match self {
+            ExtractFault::Memory => push_refused_line(text, 1),
+            ExtractFault::Bootstrap(fault) => push_bootstrap_line(text, *fault),
+            ExtractFault::Piece(fault) => push_piece_line(text, fault),
+            ExtractFault::Io(_) => Ok(()),
+        }
+    }
+}

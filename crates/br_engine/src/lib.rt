@@ -1,0 +1,12 @@
+//! The engine of a restore: from a bootstrap and the volumes of a drive to the files, and to their manifest.
+#![tactic(auto)]
+
+mod extracting;
+mod fault;
+mod restoring;
+#[cfg(test)]
+mod tests;
+
+pub use extracting::{extract, run_extract};
+pub use fault::ExtractFault;
+pub use restoring::restore;

@@ -1,0 +1,163 @@
+use super::*;
+use br_bsr::{Bootstrap, BsrFault, read_bootstrap};
+use br_join::Outcome;
+use br_match::{PieceCause, PieceFault};
+use br_types::VolName;
+use br_volume::MemDrive;
+use std::io::{self, Error, ErrorKind, Read, Write};
+use std::test::Fail;
+
+/// A block of 91 bytes, with `hello` as file 1 of session 1, 100.
+const BLOCK: &[u8] = b"\0\0\0\0\0\0\0\x5b\0\0\0\0BB02\0\0\0\x01\0\0\0\x64\
+    \0\0\0\x01\0\0\0\x01\0\0\0\x261 3 /a\0A A IGk B A A A F A A A A A A\0\0\
+    \0\0\0\x01\0\0\0\x02\0\0\0\x05hello";
+
+const MANIFEST: &[u8] =
+    b"F 1 100 1 3 /a 0,0,33188,1,0,0,0,5,0,0,0,0,0,0 = 5 5d41402abc4b2a76b9719d911017c592\ntotal 1 0 0\n";
+
+/// A drive over a volume V1 of one block.
+fn drive(rt: &HostRuntime) -> Result<MemDrive, Fail> {
+    let mut volumes = Vec::new(rt.alloc());
+    let block = Vec::from_slice(rt.alloc(), BLOCK)?;
+    volumes.push((VolName::new(rt.alloc(), b"V1")?, block))?;
+    Ok(MemDrive::new(volumes))
+}
+
+fn bootstrap(rt: &HostRuntime, text: &[u8]) -> Result<Bootstrap, Fail> {
+    Ok(read_bootstrap(rt.alloc(), text)?)
+}
+
+#[test]
+fn a_file_is_restored(rt: HostRuntime) -> Result<(), Fail> {
+    let bootstrap = bootstrap(&rt, b"Volume=V1\nFileIndex=1\n")?;
+    let outcomes = restore(rt.alloc(), &bootstrap, &mut drive(&rt)?)?;
+    assert_eq!(rt; outcomes.len(), 1);
+    let (key, outcome) = &outcomes[0];
+    assert_eq!(rt;
+        (key.session.id, key.session.time, key.index.get()),
+        (1, 100, 1)
+    );
+    match outcome {
+        Outcome::File(item) => {
+            assert_eq!(rt; item.path.bytes(), b"/a".as_slice());
+            assert_eq!(rt; item.bytes.bytes(), b"hello".as_slice());
+        }
+        Outcome::Fault { number, .. } => assert_eq!(rt; *number, 0),
+    }
+    Ok(())
+}
+
+#[test]
+fn a_restore_stops_at_the_first_piece_that_is_refused(rt: HostRuntime) -> Result<(), Fail> {
+    let bootstrap = bootstrap(&rt, b"Volume=V1\nVolume=Q\nVolume=P\n")?;
+    let fault = restore(rt.alloc(), &bootstrap, &mut drive(&rt)?)
+        .err()
+        .ok_or("a refusal")?;
+    let mut line = Vec::new(rt.alloc());
+    ExtractFault::Piece(fault).push_line(&mut line)?;
+    assert_eq!(rt; line.as_slice(), b"refused 14 Q 0\n".as_slice());
+    Ok(())
+}
+
+#[test]
+fn the_manifest_goes_behind_what_was_written(rt: HostRuntime) -> Result<(), Fail> {
+    let mut text = b"Volume=V1\n".as_slice();
+    let mut written = Vec::from_slice(rt.alloc(), b"before\n")?;
+    let all = run_extract(rt.alloc(), &mut text, &mut drive(&rt)?, &mut written)?;
+    assert!(rt; all);
+    let behind = written.get(7..).ok_or("too short")?;
+    assert_eq!(rt; behind, MANIFEST);
+
+    let bootstrap = bootstrap(&rt, b"Volume=V1\nStream=2\n")?;
+    let mut written = Vec::new(rt.alloc());
+    let all = extract(rt.alloc(), &bootstrap, &mut drive(&rt)?, &mut written)?;
+    assert!(rt; !all);
+    assert_eq!(rt;
+        written.as_slice(),
+        b"X 1 100 1 63\ntotal 0 1 0\n".as_slice()
+    );
+    Ok(())
+}
+
+#[test]
+fn each_fault_has_its_number_and_line(rt: HostRuntime) -> Result<(), Fail> {
+    let at = |cause: PieceCause, name: &[u8], addr: u64| -> Result<ExtractFault, Fail> {
+        let vol = VolName::new(rt.alloc(), name)?;
+        Ok(ExtractFault::Piece(PieceFault::Block { cause, vol, addr }))
+    };
+    let error = Error::new(ErrorKind::BrokenPipe, "broken");
+    for (fault, number, line) in [
+        (ExtractFault::Memory, Some(1), b"refused 1\n".as_slice()),
+        (
+            ExtractFault::Bootstrap(BsrFault::Memory),
+            Some(1),
+            b"refused 1\n",
+        ),
+        (
+            ExtractFault::Bootstrap(BsrFault::BadValue { line: 7 }),
+            Some(33),
+            b"refused 33 line 7\n",
+        ),
+        (
+            ExtractFault::Piece(PieceFault::Memory),
+            Some(1),
+            b"refused 1\n",
+        ),
+        (
+            at(PieceCause::UnknownVolume, b"V 1", 0)?,
+            Some(14),
+            b"refused 14 V\\x201 0\n",
+        ),
+        (
+            at(PieceCause::Truncated, b"V1", u64::MAX)?,
+            Some(12),
+            b"refused 12 V1 18446744073709551615\n",
+        ),
+        (
+            at(PieceCause::DriveFault, b"V1", 24)?,
+            Some(13),
+            b"refused 13 V1 24\n",
+        ),
+        (ExtractFault::Io(error), None, b""),
+    ] {
+        assert_eq!(rt; fault.number(), number);
+        let mut text = Vec::new(rt.alloc());
+        fault.push_line(&mut text)?;
+        assert_eq!(rt; text.as_slice(), line);
+    }
+    Ok(())
+}
+
+/// What can be neither read nor written.
+#[derive(Drop)]
+struct Broken;
+
+impl Read for Broken {
+    fn read(&mut self, _buf: &mut [u8]) -> io::Result<usize> {
+        Err(Error::new(ErrorKind::BrokenPipe, "broken"))
+    }
+}
+
+impl Write for Broken {
+    fn write(&mut self, _buf: &[u8]) -> io::Result<usize> {
+        Err(Error::new(ErrorKind::BrokenPipe, "broken"))
+    }
+
+    fn flush(&mut self) -> io::Result<()> {
+        Ok(())
+    }
+}
+
+#[test]
+fn reading_or_writing_fails(rt: HostRuntime) -> Result<(), Fail> {
+    let mut written = Vec::new(rt.alloc());
+    let mut text = b"Volume=V1\n".as_slice().chain(Broken);
+    let run = run_extract(rt.alloc(), &mut text, &mut drive(&rt)?, &mut written);
+    assert!(rt; matches!(&run, Err(ExtractFault::Io(_))));
+    assert!(rt; written.is_empty());
+
+    let mut text = b"Volume=V1\n".as_slice();
+    let run = run_extract(rt.alloc(), &mut text, &mut drive(&rt)?, &mut Broken);
+    assert!(rt; matches!(&run, Err(ExtractFault::Io(_))));
+    Ok(())
+}

@@ -1,0 +1,4 @@
+pub mod BoolLaws
+pub mod ClashLaws
+pub mod RowLaws
+pub mod HistoryLaws

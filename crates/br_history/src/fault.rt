@@ -1,0 +1,42 @@
+ghost use Rattle.std.specs.Prelude.{◌≡◌};
+ghost use Rattle.br_history.specs.Fault.{fault_number};
+ghost use Rattle.br_history.specs.declared.fault.HistoryFault.TheVariants.{Memory};
+
+use std::alloc::AllocError;
+use thiserror::Error;
+
+/// Why the rows of a job, or a job of a history, were refused.
+#[derive(Clone, Copy, Debug, PartialEq, Eq, Error)]
+pub enum HistoryFault {
+    #[error("out of memory")]
+    Memory,
+    #[error("a job of this number is in the history already")]
+    DuplicateJob,
+    #[error("a job of this session is in the history already")]
+    DuplicateSession,
+    #[error("the rows of the job cannot stand together")]
+    BadRow,
+}
+
+impl HistoryFault {
+    /// The number of the refusal: 1 want of memory, 40 a job's number that is there, 41 a session that is there, 42 rows that
+    /// cannot stand together.
+    pub fn number(self) -> u32
+        ensures { result ≡ fault_number self }
+    {
+        match self {
+            HistoryFault::Memory => 1,
+            HistoryFault::DuplicateJob => 40,
+            HistoryFault::DuplicateSession => 41,
+            HistoryFault::BadRow => 42,
+        }
+    }
+}
+
+impl From<AllocError> for HistoryFault {
+    ghost from_gives = { λ _ e. e ≡ Memory };
+
+    fn from(_e: AllocError) -> HistoryFault {
+        HistoryFault::Memory
+    }
+}

@@ -1,0 +1,17 @@
+//! Jobs as the catalogue has them, and histories of jobs: all that a restore knows of the backups before it.
+//!
+//! Contracts see a job's row, a file's row and a job's rows as the records of the model, and a `History` as the list of the
+//! rows of its jobs. The columns are those of Bacula's Developer's Guide, "Catalog Services".
+#![tactic(auto)]
+
+mod fault;
+mod history;
+mod row;
+mod rows;
+#[cfg(test)]
+mod tests;
+
+pub use fault::HistoryFault;
+pub use history::History;
+pub use row::{FileRow, JobRow};
+pub use rows::JobRows;

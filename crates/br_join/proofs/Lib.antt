@@ -1,0 +1,9 @@
+mod ChoiceLaws
+mod DataLaws
+mod JoinLaws
+mod PartLaws
+pub mod TakingLaws
+pub mod FilesLaws
+pub mod PieceLaws
+pub mod RunLaws
+pub mod SortLaws

@@ -1,0 +1,7 @@
+use Rattle.std.proofs.Common.{◌≡◌, [], drop, filter}
+use Rattle.br_model.specs.File.{is_data}
+use Rattle.br_join.specs.Data.{laid_from}
+use Rattle.br_join.proofs.data.data_of.Given as goal
+
+abbrev pub invariant-loop-record : goal.invariant-loop-record
+invariant-loop-record l = laid_from [] (filter is_data l.records) ≡ laid_from l.bytes.items (filter is_data (drop l.record-index l.records))

@@ -1,0 +1,37 @@
+-- A joiner: which pieces it waits for, under which names files were planned, and the set of the hits that it took.
+use Rattle.std.specs.Prelude.{ℕ, Bool, true, false, List, map, Option}
+use Rattle.std.specs.List.{list_all}
+use Rattle.std.specs.Ordering.{nat_cmp}
+use Rattle.std.specs.FinMap.{FinMap, insert, entries, from_entries, empty}
+use Rattle.br_model.specs.Meaning.{Piece, Hit, Hits, with_hits}
+use Rattle.br_model.specs.Restored.{Names}
+
+-- pieces by number, each closed or not; the planned names, if there is a plan; the hits
+pub record Joining : Type 0 where
+  pub pieces : FinMap nat_cmp Bool
+  pub names : Option Names
+  pub hits : Hits
+
+-- a joiner of these pieces that took nothing yet
+abbrev pub begun : List Piece → Option Names → Joining
+begun pieces names = record {
+  pieces = from_entries (map (λ (p : Piece). (p.number, false)) pieces);
+  names = names;
+  hits = empty;
+}
+
+-- the joiner with more hits, and their piece closed
+abbrev pub taken : Joining → ℕ → List Hit → Joining
+taken j piece found = record { pieces = insert j.pieces piece true; names = j.names; hits = with_hits j.hits found }
+
+-- whether all pieces are closed
+abbrev pub is_ready : Joining → Bool
+is_ready j = list_all (λ (p : ℕ × Bool). p.1) (entries j.pieces)
+
+-- the joiner without hits, its pieces open
+abbrev pub emptied : Joining → Joining
+emptied j = record {
+  pieces = from_entries (map (λ (p : ℕ × Bool). (p.0, false)) (entries j.pieces));
+  names = j.names;
+  hits = empty;
+}

@@ -1,0 +1,10 @@
+pub mod Code
+pub mod Data
+pub mod Fault
+pub mod Joining
+pub mod Making
+pub mod Opening
+pub mod Outcome
+pub mod Pieces
+pub mod Records
+pub mod Runs

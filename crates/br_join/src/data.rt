@@ -1,0 +1,134 @@
+ghost use Rattle.std.specs.Prelude.{◌≡◌, ◌+◌, ◌-◌, ◌^◌, ◌<◌, ◌≤◌, length, drop, take, filter, IfOk, []};
+ghost use Rattle.std.specs.Int.{w64, from_be_bytes};
+ghost use Rattle.br_model.specs.Answer.{Answers, AnswersAlways, refused_as};
+ghost use Rattle.br_model.specs.File as model;
+ghost use Rattle.br_join.specs.Data.{fitting, laid, laid_from, length_from, shown_extent};
+ghost use Rattle.br_join.specs.Making.{cause};
+
+use crate::making_fault::{FileFault, MakingFault};
+use crate::records::Record;
+use crate::streams::{DATA, has_bytes};
+use std::alloc::Global;
+
+/// The greatest length of a file.
+const GREATEST_LEN: u64 = 1_073_741_824;
+
+/// The bytes of an address in front of sparse data.
+const ADDRESS_LEN: usize = 8;
+
+/// Where the data of a record stands in its file: the bytes without the first `skip`, from `start` on to before `end`.
+#[derive(Clone, Copy, Debug)]
+struct Extent {
+    start: usize,
+    skip: usize,
+    end: usize,
+}
+
+impl Record<'_> {
+    /// The address in front of sparse data, of eight bytes, the highest first.
+    fn address(&self) -> u64
+        ensures { result ≡ from_be_bytes w64 (take 8 self.now.bytes) }
+    {
+        u64::from_be_bytes([
+            self.byte(0),
+            self.byte(1),
+            self.byte(2),
+            self.byte(3),
+            self.byte(4),
+            self.byte(5),
+            self.byte(6),
+            self.byte(7),
+        ])
+    }
+
+    /// The extent of its bytes without the first ones, from an address on; 68 where the file would be too large.
+    fn extent_at(&self, start: u64, skip: usize) -> Result<Extent, FileFault>
+        requires { skip ≤ 8 }
+        ensures same { AnswersAlways (shown_extent self.now.bytes) (λ f. f) result (fitting start (drop skip self.now.bytes)) }
+        ensures ends { IfOk result (λ e. e.end ≡ e.start + (length self.now.bytes - e.skip)) }
+        ensures begins { IfOk result (λ e. e.start ≡ start) }
+    {
+        let len = self.len().saturating_sub(skip as u64);
+        let end = start.saturating_add(len);
+        if end > GREATEST_LEN {
+            return Err(FileFault::new(68));
+        }
+        Ok(Extent {
+            start: start as usize,
+            skip,
+            end: end as usize,
+        })
+    }
+
+    /// The extent of its data behind an end: 67 where an address is missing or goes back, 68 where the file would be too large.
+    #[tactic(auto, unfolding(br_model::specs::File::extent_of))]
+    fn extent_behind(&self, end: usize) -> Result<Extent, FileFault>
+        ensures same { AnswersAlways (shown_extent self.now.bytes) (λ f. f) result (refused_as model.fault (model.extent_of end self.now)) }
+        ensures ends { IfOk result (λ e. e.end ≡ e.start + (length self.now.bytes - e.skip)) }
+        ensures rises { IfOk result (λ e. end ≤ e.start) }
+    {
+        if self.is_stream(DATA) {
+            return self.extent_at(end as u64, 0);
+        }
+        if self.len() < ADDRESS_LEN as u64 {
+            return Err(FileFault::new(67));
+        }
+        let address = self.address();
+        if address < end as u64 {
+            return Err(FileFault::new(67));
+        }
+        self.extent_at(address, ADDRESS_LEN)
+    }
+
+    /// Puts its data behind that of the earlier ones, with zeros in front of it up to where it stands. It refuses what
+    /// `extent_behind` does.
+    fn push_data(&self, bytes: &mut Vec<u8>) -> Result<(), MakingFault>
+        ensures { Answers (λ _. bytes.new.items) cause result (refused_as model.fault (laid bytes.old.items self.now)) }
+    {
+        let extent = self.extent_behind(bytes.len())?;
+        bytes.resize(extent.start, 0)?;
+        self.push_behind(bytes, extent.skip)?;
+        Ok(())
+    }
+}
+
+/// How long the data of some records is, before any of it is built: 67 and 68 at the first record that does not fit.
+fn length_of(records: &[Record<'_>]) -> Result<usize, FileFault>
+    ensures { AnswersAlways (λ n. n) (λ f. f) result (refused_as model.fault (length_from 0 (filter model.is_data records.now))) }
+{
+    let mut end = 0;
+    for record in records {
+        if record.is_data() {
+            end = record.extent_behind(end)?.end;
+        }
+    }
+    Ok(end)
+}
+
+/// The data of some records. Memory for all of it is taken at once, when each record is known to fit.
+fn data_of(alloc: Global, records: &[Record<'_>]) -> Result<Vec<u8>, MakingFault>
+    ensures { Answers (λ bytes. bytes.items) cause result (refused_as model.fault (laid_from [] (filter model.is_data records.now))) }
+{
+    let mut bytes = Vec::with_capacity(alloc, length_of(records)?)?;
+    for record in records {
+        if record.is_data() {
+            record.push_data(&mut bytes)?;
+        }
+    }
+    Ok(bytes)
+}
+
+/// The bytes of a file of this type: none but for types 2 and 3.
+#[tactic(auto, unfolding(br_model::specs::File::file_bytes))]
+pub(crate) fn file_bytes(
+    alloc: Global,
+    kind: u32,
+    records: &[Record<'_>],
+) -> Result<Vec<u8>, MakingFault>
+    ensures { Answers (λ bytes. bytes.items) cause result (refused_as model.fault (model.file_bytes kind records.now)) }
+{
+    if !has_bytes(kind) {
+        return Ok(Vec::new(alloc));
+    }
+    data_of(alloc, records)
+}

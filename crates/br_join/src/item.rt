@@ -1,0 +1,85 @@
+ghost use Rattle.std.specs.Prelude.{◌≡◌};
+ghost use Rattle.md5.specs.Md5.{md5};
+
+use br_attr::Stat;
+use br_types::Path;
+use md5::{Digest, Md5};
+use std::marker::Model;
+
+/// The bytes of a restored file, beside their MD5 digest, so that it is computed once.
+#[derive(Debug, Drop)]
+pub struct FileBytes {
+    bytes: Vec<u8>,
+    digest: [u8; 16],
+}
+
+impl Model for FileBytes {
+    ghost use Rattle.std.specs.Prelude.{◌≡◌, ℕ, List};
+    ghost use Rattle.md5.specs.Md5.{md5};
+
+    ghost Value = { List ℕ };
+
+    ghost view = { λ b. b.bytes.items };
+
+    ghost invariant = { λ b. b.digest ≡ md5 b.bytes.items };
+}
+
+impl FileBytes {
+    /// These bytes, of which it computes the digest.
+    pub fn new(bytes: Vec<u8>) -> FileBytes
+        ensures { result ≡ bytes.items }
+    {
+        let digest = Md5::digest(bytes.as_slice());
+        FileBytes { bytes, digest }
+    }
+
+    /// The bytes.
+    pub fn bytes(&self) -> &[u8]
+        ensures { result.now ≡ self.now }
+    {
+        &self.bytes
+    }
+
+    /// Their MD5 digest.
+    pub fn digest(&self) -> [u8; 16]
+        ensures { result ≡ md5 self.now }
+    {
+        self.digest
+    }
+}
+
+/// A restored file.
+#[derive(Debug, Drop)]
+pub struct Item {
+    /// The path under which it was saved.
+    pub path: Path,
+    /// Its type: 1 a hard link, 2 an empty file, 3 a file, 4 a symbolic link, 5 a directory, and others.
+    pub kind: u32,
+    /// Its numbers.
+    pub stat: Stat,
+    /// What a link names.
+    pub link: Vec<u8>,
+    /// The bytes of a file of type 2 or 3, else none.
+    pub bytes: FileBytes,
+    /// How many of its records were passed over.
+    pub skipped: u64,
+}
+
+impl Model for Item {
+    ghost use Rattle.br_model.specs.File as model;
+
+    ghost Value = { model.Item };
+
+    ghost view = { λ i. record { path = i.path; kind = i.kind; stat = i.stat; link = i.link.items; bytes = i.bytes; skipped = i.skipped } };
+}
+
+/// What a restore gives for one file.
+#[derive(Debug, Drop)]
+pub enum Outcome {
+    /// The file.
+    File(Item),
+    /// Why there is no file: 60 a continuation of no record, 61 a torn record, 62 a continuation of another size, 63 no
+    /// attributes, 64 bad attributes, 65 a stream that is not supported, 66 another digest, 67 sparse data that goes back, 68 a
+    /// file that is too large, 69 another path than the planned one. `stream` is that of 65, else 0.
+    Fault { number: u32, stream: u32 },
+}

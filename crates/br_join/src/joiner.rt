@@ -1,0 +1,169 @@
+ghost use Rattle.std.specs.Prelude.{◌≡◌, ◌≢◌, ◌++◌, ℕ, Bool, true, false, None, map, option_map, IfOk, OnOk, OnErr, IfErr, IsErr};
+ghost use Rattle.std.specs.List.{list_all};
+ghost use Rattle.std.specs.BTreeMap.{values, IsOrdered};
+ghost use Rattle.std.specs.Ordering.{nat_cmp};
+ghost use Rattle.std.specs.FinMap as finite;
+ghost use Rattle.br_model.specs.Restored.{files, planned_in};
+ghost use Rattle.br_join.specs.Outcome.{restored};
+ghost use Rattle.br_join.specs.Joining.{begun, taken, is_ready, emptied};
+ghost use Rattle.br_join.specs.Pieces.{as_map, opens};
+ghost use Rattle.br_join.specs.declared.fault.JoinFault.TheVariants.{StrangerPiece};
+
+use crate::fault::{JoinFault, Refused};
+use crate::item::Outcome;
+use crate::runs::{files_of, settle};
+use br_match::{Found, Hit};
+use br_piece::Piece;
+use br_types::{FileKey, Names};
+use std::alloc::{AllocError, Global};
+use std::collections::BTreeMap;
+use std::marker::Model;
+
+#[cfg(test)]
+mod tests;
+
+/// Gathers what was found of the pieces of a bootstrap, and makes files of it. Of hits at one place of one file it keeps the
+/// first that was taken.
+#[derive(Debug, Drop)]
+pub struct Joiner {
+    /// Of each piece whether it is closed.
+    pieces: BTreeMap<u32, bool>,
+    /// Under which path each file was planned, if there is a plan.
+    names: Option<Names>,
+    /// In order of arrival, repeats among them.
+    hits: Vec<Hit>,
+}
+
+impl Model for Joiner {
+    ghost use Rattle.br_model.specs.Meaning as model;
+    ghost use Rattle.br_join.specs.Joining.{Joining};
+    ghost use Rattle.br_join.specs.Pieces.{as_map};
+    ghost use Rattle.br_join.specs.Code.{coded_joining};
+
+    ghost Value = { Joining };
+
+    ghost coded = { coded_joining };
+
+    ghost view = { λ j. record { pieces = as_map j.pieces; names = j.names; hits = model.hits_of j.hits.items } };
+}
+
+/// The numbers of the pieces, each of them open.
+fn opened(alloc: Global, pieces: &[Piece]) -> Result<BTreeMap<u32, bool>, AllocError>
+    ensures { IfOk result (λ numbers. as_map numbers ≡ finite.from_entries (opens pieces.now)) }
+{
+    let mut numbers = BTreeMap::new(alloc);
+    for piece in pieces {
+        numbers.insert(piece.number, false)?;
+    }
+    Ok(numbers)
+}
+
+/// Closes a piece.
+fn close(pieces: &mut BTreeMap<u32, bool>, piece: u32)
+    requires { finite.get (as_map pieces.old) piece ≢ None }
+    ensures { as_map pieces.new ≡ finite.insert (as_map pieces.old) piece true }
+{
+    if let Some(closed) = pieces.get_mut(&piece) {
+        *closed = true;
+    }
+}
+
+/// Opens each piece again.
+fn open_again(pieces: &mut BTreeMap<u32, bool>)
+    ensures { as_map pieces.new ≡ finite.from_entries (map (λ (p : ℕ × Bool). (p.0, false)) (finite.entries (as_map pieces.old))) }
+{
+    pieces.retain(|_, closed| {
+        *closed = false;
+        true
+    });
+}
+
+/// Puts what was found behind the hits, without a copy of it. Where there is no room for it, it is handed back.
+fn gather(hits: &mut Vec<Hit>, found: Found) -> Result<(), Found>
+    ensures ok { OnOk result (hits.new.items ≡ hits.old.items ++ found.hits.items) }
+    ensures err { OnErr result (hits.new.items ≡ hits.old.items) }
+    ensures back { IfErr result (λ value. value ≡ found) }
+{
+    if hits.reserve(found.hits.len()).is_err() {
+        return Err(found);
+    }
+    let mut more = found.hits;
+    // The room is there.
+    let _ = hits.append(&mut more);
+    Ok(())
+}
+
+/// Whether each piece is closed.
+fn all_closed(pieces: &BTreeMap<u32, bool>) -> bool
+    ensures all { result ≡ list_all (λ (closed : Bool). closed) (values pieces.now) }
+    ensures ordered { IsOrdered nat_cmp pieces.now }
+{
+    pieces.values().all(|closed| *closed)
+}
+
+impl Joiner {
+    /// A joiner of these pieces, each of them open. With names it restores the planned files and no others, else all that
+    /// are found. It keeps the allocator. `AllocError` where memory is short.
+    pub fn new(alloc: Global, pieces: &[Piece], names: Option<Names>) -> Result<Joiner, AllocError>
+        ensures { IfOk result (λ joiner. joiner ≡ begun pieces.now names) }
+    {
+        Ok(Joiner {
+            pieces: opened(alloc, pieces)?,
+            names,
+            hits: Vec::new(alloc),
+        })
+    }
+
+    /// Takes what was found of a piece, and closes the piece. A hit at a place of a file that was taken already changes
+    /// nothing. Where nothing is taken the joiner is unchanged, and what was found is handed back: `StrangerPiece` where the
+    /// number is not that of one of the pieces, else `Memory`. The hits are moved, and their bytes are not copied.
+    pub fn take(&mut self, found: Found) -> Result<(), Refused<Found>>
+        ensures ok { OnOk result (self.new ≡ taken self.old found.piece found.hits.items) }
+        ensures err { OnErr result (self.new ≡ self.old) }
+        ensures back { IfErr result (λ refused. refused.value ≡ found) }
+        ensures stranger { finite.get self.old.pieces found.piece ≡ None → IfErr result (λ refused. refused.fault ≡ StrangerPiece) }
+        ensures known { IfErr result (λ refused. refused.fault ≡ StrangerPiece → finite.get self.old.pieces found.piece ≡ None) }
+        ensures refused { finite.get self.old.pieces found.piece ≡ None → IsErr result }
+    {
+        if !self.pieces.contains_key(&found.piece) {
+            return Err(Refused {
+                value: found,
+                fault: JoinFault::StrangerPiece,
+            });
+        }
+        let piece = found.piece;
+        if let Err(value) = gather(&mut self.hits, found) {
+            return Err(Refused {
+                value,
+                fault: JoinFault::Memory,
+            });
+        }
+        close(&mut self.pieces, piece);
+        Ok(())
+    }
+
+    /// Whether each piece is closed, so that all was taken.
+    pub fn ready(&self) -> bool
+        ensures { result ≡ is_ready self.now }
+    {
+        all_closed(&self.pieces)
+    }
+
+    /// The files of what was taken, in order of key, each with its outcome: the planned ones where there are names, and 63 for
+    /// one of which nothing was found. The joiner keeps its names, and is empty again, its pieces open.
+    ///
+    /// `AllocError` where memory is short: the joiner is unchanged. The time is n log n in the number of hits and names.
+    pub fn finish(&mut self) -> Result<Vec<(FileKey, Outcome)>, AllocError>
+        requires { is_ready self.old ≡ true }
+        ensures ok { OnOk result (self.new ≡ emptied self.old) }
+        ensures err { OnErr result (self.new ≡ self.old) }
+        ensures files { IfOk result (λ outcomes. map restored outcomes.items ≡ files self.old.hits (option_map planned_in self.old.names)) }
+    {
+        settle(&mut self.hits)?;
+        let alloc = *self.hits.allocator();
+        let outcomes = files_of(alloc, self.hits.as_slice(), self.names.as_ref())?;
+        self.hits.clear();
+        open_again(&mut self.pieces);
+        Ok(outcomes)
+    }
+}

@@ -1,0 +1,19 @@
+//! Joining: from the fragments that were found to the files that they make.
+#![tactic(auto)]
+
+mod data;
+mod fault;
+mod item;
+mod joiner;
+mod making;
+mod making_fault;
+#[cfg(test)]
+mod making_tests;
+mod parts;
+mod records;
+mod runs;
+mod streams;
+
+pub use fault::{JoinFault, Refused};
+pub use item::{FileBytes, Item, Outcome};
+pub use joiner::Joiner;

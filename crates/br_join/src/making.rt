@@ -1,0 +1,148 @@
+ghost use Rattle.std.specs.Prelude.{◌≡◌, List, ℕ, filter, map, All, IfOk, IsErr, MatchOption, Err};
+ghost use Rattle.br_model.specs.Answer.{Answers, refused_as};
+ghost use Rattle.br_model.specs.Attribute.{read_attributes};
+ghost use Rattle.br_model.specs.File as file;
+ghost use Rattle.br_model.specs.Meaning as meaning;
+ghost use Rattle.br_model.specs.Restored as model;
+ghost use Rattle.br_join.specs.Making.{cause, read_or_64};
+ghost use Rattle.br_join.specs.Outcome.{shown};
+
+use crate::data::file_bytes;
+use crate::item::{FileBytes, Item, Outcome};
+use crate::making_fault::{FileFault, MakingFault};
+use crate::records::{Record, records_of};
+use crate::streams::{
+    ATTRIBUTES, DIGEST, checks_digest, count_in, first_in, refuse_unsupported, skipped_in,
+};
+use br_attr::{Attr, AttrFault};
+use br_match::Hit;
+use br_types::{FileIndex, FileKey, Path};
+use std::alloc::{AllocError, Global};
+
+/// The attributes in a record's bytes; 64 where they cannot be read.
+fn attributes_in(alloc: Global, index: FileIndex, bytes: &[u8]) -> Result<Attr, MakingFault>
+    ensures { Answers (λ attr. attr) cause result (read_or_64 bytes.now index) }
+{
+    match Attr::read(alloc, bytes, index) {
+        Ok(attr) => Ok(attr),
+        Err(AttrFault::Memory) => Err(MakingFault::Memory),
+        Err(_) => Err(MakingFault::File(FileFault::new(64))),
+    }
+}
+
+/// The attributes that a record holds; its bytes are copied only where they are in more than one piece.
+fn attributes_of_record(
+    alloc: Global,
+    index: FileIndex,
+    found: &Record<'_>,
+) -> Result<Attr, MakingFault>
+    ensures { Answers (λ attr. attr) cause result (read_or_64 found.now.bytes index) }
+{
+    if let Some(bytes) = found.in_one_piece() {
+        return attributes_in(alloc, index, bytes);
+    }
+    let mut bytes = Vec::new(alloc);
+    found.push_behind(&mut bytes, 0)?;
+    attributes_in(alloc, index, &bytes)
+}
+
+/// The attributes of a file: 63 where no record has them, 64 where two do or they cannot be read.
+#[tactic(auto, unfolding(br_model::specs::File::attributes_of))]
+fn attributes_of(
+    alloc: Global,
+    index: FileIndex,
+    records: &[Record<'_>],
+) -> Result<Attr, MakingFault>
+    ensures { Answers (λ attr. attr) cause result (refused_as file.fault (file.attributes_of index (filter (file.is_stream 1) records.now))) }
+{
+    match first_in(ATTRIBUTES, records) {
+        None => Err(MakingFault::File(FileFault::new(63))),
+        Some(found) if count_in(ATTRIBUTES, records) == 1 => {
+            attributes_of_record(alloc, index, found)
+        }
+        Some(_) => Err(MakingFault::File(FileFault::new(64))),
+    }
+}
+
+/// Whether there is no digest, or the one that there is is that of the bytes.
+#[tactic(auto, unfolding(br_model::specs::File::digest_fits))]
+fn digest_fits(records: &[Record<'_>], bytes: &FileBytes) -> bool
+    ensures { result ≡ file.digest_fits (filter (file.is_stream 3) records.now) bytes.now }
+{
+    match first_in(DIGEST, records) {
+        None => true,
+        Some(found) => count_in(DIGEST, records) == 1 && found.has_bytes(&bytes.digest()),
+    }
+}
+
+/// What the records of a file make: 63 and 64 for its attributes, then 65 for its streams, 67 and 68 for its data, 66 for its
+/// digest.
+#[tactic(auto, unfolding(br_model::specs::File::content))]
+fn content(alloc: Global, index: FileIndex, records: &[Record<'_>]) -> Result<Item, MakingFault>
+    ensures { Answers (λ item. item) cause result (file.content index records.now) }
+{
+    let attr = attributes_of(alloc, index, records)?;
+    refuse_unsupported(records)?;
+    let (kind, path, stat, link) = attr.into_parts();
+    let bytes = FileBytes::new(file_bytes(alloc, kind, records)?);
+    let checked = checks_digest(kind, records);
+    if checked && !digest_fits(records, &bytes) {
+        return Err(MakingFault::File(FileFault::new(66)));
+    }
+    Ok(Item {
+        path,
+        kind,
+        stat,
+        link,
+        bytes,
+        skipped: skipped_in(kind, checked, records),
+    })
+}
+
+/// The file that fragments make, given in order of place.
+#[tactic(auto, unfolding(br_model::specs::Restored::outcome_of))]
+fn file_of(alloc: Global, key: FileKey, hits: &[Hit]) -> Result<Item, MakingFault>
+    requires { All (λ (h : meaning.Hit). h.key ≡ key) hits.now }
+    ensures { Answers (λ item. item) cause result (model.outcome_of key (map (λ (h : meaning.Hit). h.fragment) hits.now)) }
+{
+    let records = records_of(alloc, key.index, hits)?;
+    content(alloc, key.index, &records)
+}
+
+/// The outcome that there is no file, unless memory ran out.
+fn no_file(why: MakingFault) -> Result<Outcome, AllocError>
+    ensures { MatchOption (cause why) (IsErr result) (λ fault. IfOk result (λ outcome. shown outcome ≡ Err fault)) }
+{
+    match why {
+        MakingFault::Memory => Err(AllocError),
+        MakingFault::File(fault) => Ok(Outcome::Fault {
+            number: fault.number,
+            stream: fault.stream,
+        }),
+    }
+}
+
+/// What the fragments of a file make, given in order of place.
+pub(crate) fn outcome_of(alloc: Global, key: FileKey, hits: &[Hit]) -> Result<Outcome, AllocError>
+    requires { All (λ (h : meaning.Hit). h.key ≡ key) hits.now }
+    ensures { IfOk result (λ outcome. shown outcome ≡ model.outcome_of key (map (λ (h : meaning.Hit). h.fragment) hits.now)) }
+{
+    match file_of(alloc, key, hits) {
+        Ok(item) => Ok(Outcome::File(item)),
+        Err(why) => no_file(why),
+    }
+}
+
+/// 69 where the file has another path than the planned one.
+#[tactic(auto, unfolding(br_model::specs::Restored::under_name))]
+pub(crate) fn under_name(path: &Path, outcome: Outcome) -> Outcome
+    ensures { shown result ≡ model.under_name path.now (shown outcome) }
+{
+    match outcome {
+        Outcome::File(item) if item.path.bytes() != path.bytes() => Outcome::Fault {
+            number: 69,
+            stream: 0,
+        },
+        other => other,
+    }
+}

@@ -1,0 +1,72 @@
+ghost use Rattle.std.specs.Prelude.{◌≡◌, ◌++◌, ◌-◌, ◌^◌, drop, length, min, bytes_eq, slice_index, IfSome, OnOk};
+ghost use Rattle.br_join.specs.Records.{bytes_in};
+
+use br_match::Hit;
+use std::alloc::AllocError;
+
+/// The data of a fragment.
+pub(crate) fn bytes_of(part: &Hit) -> &[u8]
+    ensures { result.now ≡ part.now.fragment.bytes }
+{
+    &part.bytes
+}
+
+/// How many bytes the parts have together, at most 2^64 - 1.
+pub(crate) fn length_of(parts: &[Hit]) -> u64
+    ensures { result ≡ min (length (bytes_in parts.now)) (2 ^ 64 - 1) }
+{
+    let mut len: u64 = 0;
+    for part in parts {
+        len = len.saturating_add(bytes_of(part).len() as u64);
+    }
+    len
+}
+
+/// The byte at a place of what the parts have together, 0 behind the last.
+pub(crate) fn byte_at(parts: &[Hit], place: usize) -> u8
+    ensures { result ≡ slice_index (bytes_in parts.now) place }
+{
+    let mut left = place;
+    for part in parts {
+        let held = bytes_of(part);
+        if left < held.len() {
+            return held[left];
+        }
+        left -= held.len();
+    }
+    0
+}
+
+/// Puts the bytes of the parts behind others, without the first ones, as many as `skip` says.
+pub(crate) fn push_behind(bytes: &mut Vec<u8>, skip: usize, parts: &[Hit]) -> Result<(), AllocError>
+    ensures { OnOk result (bytes.new.items ≡ bytes.old.items ++ drop skip (bytes_in parts.now)) }
+{
+    let mut left = skip;
+    for part in parts {
+        let held = bytes_of(part);
+        let skipped = left.min(held.len());
+        let (_, behind) = held.split_at(skipped);
+        bytes.extend_from_slice(behind)?;
+        left -= skipped;
+    }
+    Ok(())
+}
+
+/// Whether the parts together have these bytes.
+pub(crate) fn are_bytes(parts: &[Hit], bytes: &[u8]) -> bool
+    ensures { result ≡ bytes_eq (bytes_in parts.now) bytes.now }
+{
+    let mut rest = bytes;
+    for part in parts {
+        let held = bytes_of(part);
+        if rest.len() < held.len() {
+            return false;
+        }
+        let (front, behind) = rest.split_at(held.len());
+        if held != front {
+            return false;
+        }
+        rest = behind;
+    }
+    rest.is_empty()
+}

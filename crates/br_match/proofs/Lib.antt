@@ -1,0 +1,6 @@
+pub mod StepLaws
+pub mod SeenLaws
+pub mod GroupLaws
+pub mod OverLaws
+pub mod FoundLaws
+pub mod RangeLaws

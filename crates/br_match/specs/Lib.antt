@@ -1,0 +1,4 @@
+pub mod Fault
+pub mod Matching
+pub mod Walk
+pub mod Groups

@@ -1,0 +1,98 @@
+ghost use Rattle.std.specs.Prelude.{◌≡◌, ◌≤◌, ◌<◌, ℕ, IfOk, IsPermutation, length};
+ghost use Rattle.std.specs.List.Sorted.{IsNonDecreasingBy, IsPartitionPoint};
+ghost use Rattle.br_model.specs.Bootstrap.{admits};
+ghost use Rattle.br_match.specs.Groups.{IsRising};
+
+use br_bsr::Range;
+use std::alloc::{AllocError, Global};
+use std::marker::Model;
+
+/// The numbers that a criterion admits, made ready for many look-ups.
+#[derive(Debug, Drop)]
+pub(crate) struct Admitted {
+    /// In order of their low ends. Each has as its high end the greatest so far.
+    ranges: Vec<Range>,
+}
+
+impl Model for Admitted {
+    ghost use Rattle.std.specs.Prelude.{List};
+    ghost use Rattle.br_model.specs.Bootstrap as model;
+    ghost use Rattle.br_match.specs.Groups.{IsRising};
+
+    ghost Value = { List model.Range };
+
+    ghost view = { λ a. a.ranges.items };
+
+    ghost invariant = { λ a. IsRising a.ranges.items };
+}
+
+/// The ranges in order of their low ends.
+fn by_low(alloc: Global, ranges: &[Range]) -> Result<Vec<Range>, AllocError>
+    ensures rising { IfOk result (λ v. IsNonDecreasingBy (λ r. r.low) v.items) }
+    ensures same { IfOk result (λ v. IsPermutation ranges.now v.items) }
+{
+    let mut sorted = Vec::from_slice(alloc, ranges)?;
+    sorted.sort_by_key(|range| range.low)?;
+    Ok(sorted)
+}
+
+/// The ranges, of which each goes on to the greatest high end so far.
+fn widened(alloc: Global, sorted: &[Range]) -> Result<Vec<Range>, AllocError>
+    requires { IsNonDecreasingBy (λ r. r.low) sorted.now }
+    ensures rising { IfOk result (λ v. IsRising v.items) }
+    ensures same { IfOk result (λ v. (n : ℕ) → admits v.items n ≡ admits sorted.now n) }
+{
+    let mut greatest = 0;
+    let mut widened = Vec::new(alloc);
+    for range in sorted {
+        greatest = range.high.max(greatest);
+        widened.push(Range {
+            low: range.low,
+            high: greatest,
+        })?;
+    }
+    Ok(widened)
+}
+
+/// How many of the ranges begin at a number or before it.
+fn begun(ranges: &[Range], number: u64) -> usize
+    requires { IsRising ranges.now }
+    ensures bound { result ≤ length ranges.now }
+    ensures point { IsPartitionPoint (λ r. r.low ≤ number) (λ r. number < r.low) ranges.now result }
+{
+    ranges.partition_point(|range| range.low <= number)
+}
+
+fn admits_number(ranges: &[Range], number: u64) -> bool
+    requires { IsRising ranges.now }
+    ensures { result ≡ admits ranges.now number }
+{
+    if ranges.is_empty() {
+        return true;
+    }
+    let count = begun(ranges, number);
+    if count == 0 {
+        return false;
+    }
+    let last = ranges[count - 1];
+    number <= last.high
+}
+
+impl Admitted {
+    /// The numbers in the ranges, or all where there are none.
+    pub(crate) fn new(alloc: Global, ranges: &[Range]) -> Result<Admitted, AllocError>
+        ensures { IfOk result (λ a. (n : ℕ) → admits a n ≡ admits ranges.now n) }
+    {
+        let sorted = by_low(alloc, ranges)?;
+        Ok(Admitted {
+            ranges: widened(alloc, &sorted)?,
+        })
+    }
+
+    /// Whether the number is admitted. It takes a time of log n in the number of ranges.
+    pub(crate) fn contains(&self, number: u64) -> bool
+        ensures { result ≡ admits self.now number }
+    {
+        admits_number(&self.ranges, number)
+    }
+}

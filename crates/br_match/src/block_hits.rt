@@ -1,0 +1,89 @@
+ghost use Rattle.std.specs.Prelude.{◌≡◌, ◌<◌, ◌^◌, ◌++◌, [], length, IfOk, OnOk, Some, None, if◌then◌else◌, nat_abs, map, option_map};
+ghost use Rattle.std.specs.Int.{is_positive};
+ghost use Rattle.br_model.specs.Meaning.{hits_in, hit_at};
+ghost use Rattle.br_match.specs.Groups.{first_admitting, hits_of_fragments};
+
+use crate::hit::{Hit, Spot};
+use crate::matcher::{Matcher, first_admitting, near};
+use br_block::{Block, Fragment, Fragments};
+use br_types::{FileIndex, FileKey};
+use std::alloc::{AllocError, Global};
+
+/// The file that the fragment is of; none for a label.
+fn file_index(fragment: &Fragment<'_>) -> Option<FileIndex>
+    ensures { result ≡ if is_positive fragment.now.index then Some (nat_abs fragment.now.index) else None }
+{
+    if fragment.index > 0 {
+        FileIndex::new(fragment.index.unsigned_abs())
+    } else {
+        None
+    }
+}
+
+/// The hit that a fragment of the block at this address is, if one of the groups hits it.
+fn hit_of(
+    alloc: Global,
+    near: &[&Matcher],
+    addr: u64,
+    ordinal: u32,
+    fragment: &Fragment<'_>,
+) -> Result<Option<Hit>, AllocError>
+    ensures { IfOk result (λ hit. hit ≡ option_map (hit_at (record { address = addr; bytes = [] }) (ordinal, fragment.now)) (first_admitting fragment.now.index fragment.now.stream (map (λ m. m.now) near.now))) }
+{
+    let Some(index) = file_index(fragment) else {
+        return Ok(None);
+    };
+    let Some(group) = first_admitting(near, fragment.index, fragment.stream) else {
+        return Ok(None);
+    };
+    Ok(Some(Hit {
+        key: FileKey {
+            session: fragment.session,
+            index,
+        },
+        place: Spot {
+            group,
+            addr,
+            ordinal,
+        },
+        stream: fragment.stream,
+        size: fragment.size,
+        bytes: Vec::from_slice(alloc, fragment.bytes)?,
+    }))
+}
+
+/// Puts the hits among the fragments of the block at this address behind those that were found before it, in order. The
+/// groups are those that may hit a record in the block.
+fn push_hits_of(
+    alloc: Global,
+    near: &[&Matcher],
+    addr: u64,
+    fragments: Fragments<'_>,
+    hits: &mut Vec<Hit>,
+) -> Result<(), AllocError>
+    requires few { length fragments < 2 ^ 32 }
+    ensures { OnOk result (hits.new.items ≡ hits.old.items ++ hits_of_fragments (λ f. first_admitting f.index f.stream (map (λ m. m.now) near.now)) addr 0 fragments.entry) }
+{
+    let mut ordinal: u32 = 0;
+    for fragment in fragments {
+        if let Some(hit) = hit_of(alloc, near, addr, ordinal, &fragment)? {
+            hits.push(hit)?;
+        }
+        ordinal += 1;
+    }
+    Ok(())
+}
+
+/// Puts the hits in a block behind those that were found before it, in order.
+pub(crate) fn push_hits(
+    alloc: Global,
+    matchers: &[Matcher],
+    addr: u64,
+    block: &Block<'_>,
+    hits: &mut Vec<Hit>,
+) -> Result<(), AllocError>
+    ensures { OnOk result (hits.new.items ≡ hits.old.items ++ hits_in matchers.now (record { address = addr; bytes = block.now })) }
+{
+    let near = near(alloc, matchers, addr, block.head().session)?;
+    push_hits_of(alloc, &near, addr, block.fragments(), hits)
+}

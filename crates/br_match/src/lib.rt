@@ -1,0 +1,18 @@
+//! Matching: what a drive finds on one volume of the records that a bootstrap asks for.
+//!
+//! `match_piece` walks the volume of a piece and gives the hits. The volumes of the drive may grow meanwhile.
+#![tactic(auto)]
+
+mod admitted;
+mod block_hits;
+mod fault;
+mod hit;
+mod matcher;
+mod matching;
+#[cfg(test)]
+mod tests;
+mod walk;
+
+pub use fault::{PieceCause, PieceFault};
+pub use hit::{Found, Hit, Spot};
+pub use matching::match_piece;

@@ -1,0 +1,132 @@
+ghost use Rattle.std.specs.Prelude.{◌≡◌, IfOk, map, filter};
+ghost use Rattle.std.specs.List.{AllZip, list_any};
+ghost use Rattle.br_model.specs.Meaning.{covers};
+ghost use Rattle.br_match.specs.Groups.{AreAlike, admits_block, admits_record, first_admitting};
+
+use crate::admitted::Admitted;
+use br_bsr::Group;
+use br_types::SessionKey;
+use std::alloc::{AllocError, Global};
+use std::marker::Model;
+
+/// The bytes of a volume that one VolFile counts: 2^32.
+const FILE_BYTES: u64 = 4_294_967_296;
+
+/// A group of a piece, made ready for many look-ups.
+#[derive(Drop)]
+pub(crate) struct Matcher {
+    /// The number of the group in the bootstrap.
+    number: u32,
+    session_ids: Admitted,
+    session_times: Admitted,
+    files: Admitted,
+    blocks: Admitted,
+    addrs: Admitted,
+    indexes: Admitted,
+    streams: Admitted,
+}
+
+impl Model for Matcher {
+    ghost use Rattle.std.specs.Prelude.{ℕ, []};
+    ghost use Rattle.br_model.specs.Bootstrap as model;
+
+    ghost Value = { ℕ × model.Group };
+
+    ghost view = { λ m. (m.number, record { volume = []; session_ids = m.session_ids; session_times = m.session_times; files = m.files; blocks = m.blocks; addresses = m.addrs; indexes = m.indexes; streams = m.streams }) };
+}
+
+impl Matcher {
+    /// The group of this number.
+    fn new(alloc: Global, number: u32, group: &Group) -> Result<Matcher, AllocError>
+        ensures { IfOk result (λ m. AreAlike m (number, group.now)) }
+    {
+        Ok(Matcher {
+            number,
+            session_ids: Admitted::new(alloc, &group.session_ids)?,
+            session_times: Admitted::new(alloc, &group.session_times)?,
+            files: Admitted::new(alloc, &group.files)?,
+            blocks: Admitted::new(alloc, &group.blocks)?,
+            addrs: Admitted::new(alloc, &group.addrs)?,
+            indexes: Admitted::new(alloc, &group.indexes)?,
+            streams: Admitted::new(alloc, &group.streams)?,
+        })
+    }
+
+    /// Whether the group asks for records of the block at this address.
+    fn covers(&self, addr: u64) -> bool
+        ensures { result ≡ covers self.now.1 addr }
+    {
+        self.addrs.contains(addr)
+    }
+
+    /// Whether the group may hit a record in a block of this session at this address.
+    fn admits_block(&self, addr: u64, session: SessionKey) -> bool
+        ensures { result ≡ admits_block self.now.1 addr session }
+    {
+        self.session_ids.contains(u64::from(session.id))
+            && self.session_times.contains(u64::from(session.time))
+            && self.files.contains(addr / FILE_BYTES)
+            && self.blocks.contains(addr % FILE_BYTES)
+            && self.addrs.contains(addr)
+    }
+
+    /// Whether the group hits a record of this index and this stream in a block whose records it may hit.
+    fn admits_record(&self, index: i32, stream: i32) -> bool
+        ensures { result ≡ admits_record self.now.1 index stream }
+    {
+        index > 0
+            && self.indexes.contains(u64::from(index.unsigned_abs()))
+            && self.streams.contains(u64::from(stream.unsigned_abs()))
+    }
+}
+
+/// The groups made ready, in their order.
+pub(crate) fn matchers_for(
+    alloc: Global,
+    groups: &[(u32, Group)],
+) -> Result<Vec<Matcher>, AllocError>
+    ensures { IfOk result (λ ms. AllZip AreAlike ms.items groups.now) }
+{
+    let mut matchers = Vec::new(alloc);
+    for (number, group) in groups {
+        matchers.push(Matcher::new(alloc, *number, group)?)?;
+    }
+    Ok(matchers)
+}
+
+/// Whether one of the groups asks for records of the block at this address.
+pub(crate) fn covers_any(matchers: &[Matcher], addr: u64) -> bool
+    ensures { result ≡ list_any (λ m. covers m.1 addr) matchers.now }
+{
+    matchers.iter().any(|matcher| matcher.covers(addr))
+}
+
+/// The groups that may hit a record in a block of this session at this address.
+pub(crate) fn near<'m>(
+    alloc: Global,
+    matchers: &'m [Matcher],
+    addr: u64,
+    session: SessionKey,
+) -> Result<Vec<&'m Matcher>, AllocError>
+    ensures { IfOk result (λ v. map (λ m. m.now) v.items ≡ filter (λ m. admits_block m.1 addr session) matchers.now) }
+{
+    let mut near = Vec::new(alloc);
+    for matcher in matchers {
+        if matcher.admits_block(addr, session) {
+            near.push(matcher)?;
+        }
+    }
+    Ok(near)
+}
+
+/// The number of the first of these groups that hits a record of this index and this stream.
+pub(crate) fn first_admitting(near: &[&Matcher], index: i32, stream: i32) -> Option<u32>
+    ensures { result ≡ first_admitting index stream (map (λ m. m.now) near.now) }
+{
+    for matcher in near {
+        if matcher.admits_record(index, stream) {
+            return Some(matcher.number);
+        }
+    }
+    None
+}

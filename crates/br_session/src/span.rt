@@ -1,0 +1,27 @@
+use br_types::VolName;
+use std::marker::Model;
+
+/// A visit of a job to a volume: the bytes that it wrote there, and the files that have a part in them.
+#[derive(Debug, Drop)]
+pub struct Span {
+    /// The volume.
+    pub vol: VolName,
+    /// The least index of a file that has a part in it.
+    pub first: u32,
+    /// The greatest index of a file that has a part in it.
+    pub last: u32,
+    /// The address of its first byte on the volume.
+    pub start: u64,
+    /// The address of its last byte on the volume.
+    pub end: u64,
+    /// How many visits of the job end before this one does, and one: 1, 2, 3 and on.
+    pub vol_index: u32,
+}
+
+impl Model for Span {
+    ghost use Rattle.br_model.specs.Job as model;
+
+    ghost Value = { model.Span };
+
+    ghost view = { λ s. record { volume = s.vol; first = s.first; last = s.last; start = s.start; end = s.end; vol_index = s.vol_index } };
+}

@@ -1,0 +1,50 @@
+ghost use Rattle.std.specs.Prelude.{◌≡◌, ◌++◌, map, flat_map, IfOk, OnOk};
+ghost use Rattle.br_model.specs.Manifest as model;
+ghost use Rattle.br_join.specs.Outcome.{restored};
+
+use crate::line::push_line;
+use crate::report::{Report, totals};
+use crate::text::{push_field, push_wide};
+use br_join::Outcome;
+use br_types::FileKey;
+use std::alloc::{AllocError, Global};
+
+/// Writes a line for each file.
+fn push_lines(text: &mut Vec<u8>, outcomes: &[(FileKey, Outcome)]) -> Result<(), AllocError>
+    ensures { OnOk result (text.new.items ≡ text.old.items ++ flat_map model.file_line (map restored outcomes.now)) }
+{
+    for (key, outcome) in outcomes {
+        push_line(text, *key, outcome)?;
+    }
+    Ok(())
+}
+
+/// Writes the line of the totals.
+fn push_totals(text: &mut Vec<u8>, report: Report) -> Result<(), AllocError>
+    ensures { OnOk result (text.new.items ≡ text.old.items ++ model.total_line report) }
+{
+    text.extend_from_slice(b"total")?;
+    push_field(text, report.files)?;
+    push_field(text, report.faults)?;
+    text.push(b' ')?;
+    push_wide(text, report.skipped)?;
+    text.push(b'\n')?;
+    Ok(())
+}
+
+/// The text that says what a restore gave: a line for each outcome in their order, and one for the totals. Fields have one space
+/// between two, and each line ends with LF.
+///
+/// The line of a file is `F`, session number, session time, index, type, path, the 14 numbers in decimal with commas between
+/// them, `=` with the link text, the length of the bytes, and their MD5 digest in hexadecimal. The line of a fault is `X`, the
+/// same three fields, and its number, behind 65 with the stream. The last line is `total`, the number of files, that of faults,
+/// and how many records were passed over in the files. Path and link text are escaped as `br_types::push_escaped` does it.
+#[tactic(auto, unfolding(br_model::specs::Manifest::manifest))]
+pub fn manifest(alloc: Global, outcomes: &[(FileKey, Outcome)]) -> Result<Vec<u8>, AllocError>
+    ensures { IfOk result (λ text. text.items ≡ model.manifest (map restored outcomes.now)) }
+{
+    let mut text = Vec::new(alloc);
+    push_lines(&mut text, outcomes)?;
+    push_totals(&mut text, totals(outcomes))?;
+    Ok(text)
+}

@@ -1,0 +1,117 @@
+use std::io::{self, BufRead, Error, ErrorKind};
+
+/// How often an input is read before its end has to come.
+pub(crate) const MAX_TURNS: u64 = 1 << 40;
+
+/// What came of reading a line.
+#[derive(Clone, Copy, Debug, PartialEq, Eq)]
+pub(crate) enum Reading {
+    /// A line, which now stands in the buffer.
+    Line,
+    /// There was no memory for the line. It is passed over.
+    NoMemory,
+    /// The input has come to its end.
+    End,
+}
+
+impl Reading {
+    /// The same of a line of which something was read.
+    fn begun(self) -> Reading {
+        match self {
+            Reading::End => Reading::Line,
+            _ => self,
+        }
+    }
+}
+
+pub(crate) fn no_end() -> Error {
+    Error::new(ErrorKind::TimedOut, "the input has no end")
+}
+
+/// What came of one turn of reading.
+enum Part {
+    /// The turn was interrupted.
+    Nothing,
+    /// Bytes of a line that goes on.
+    More,
+    /// The last bytes of a line, and its LF.
+    LineEnd,
+    InputEnd,
+}
+
+/// The lines of an input. A line ends at LF alone, which the last may lack.
+#[derive(Drop)]
+pub(crate) struct Lines<R> {
+    reader: R,
+    turns_left: u64,
+    number: u64,
+}
+
+/// Puts bytes behind a line, as far as it has at most `most` then. Whether there was memory for them.
+fn keep(line: &mut Vec<u8>, part: &[u8], most: usize) -> bool {
+    let room = most.saturating_sub(line.len()).min(part.len());
+    line.extend_from_slice(&part[..room]).is_ok()
+}
+
+impl<R: BufRead> Lines<R> {
+    pub(crate) fn new(reader: R) -> Lines<R> {
+        Lines {
+            reader,
+            turns_left: MAX_TURNS,
+            number: 0,
+        }
+    }
+
+    /// The number of the line that was read last, from 1.
+    pub(crate) fn number(&self) -> u64 {
+        self.number
+    }
+
+    /// One turn of reading: what the reader has at hand of a line goes behind `line`, as far as that has at most `most` bytes then.
+    /// Also whether there was memory for it.
+    fn read_part(&mut self, line: &mut Vec<u8>, most: usize) -> io::Result<(Part, bool)> {
+        if self.turns_left == 0 {
+            return Err(no_end());
+        }
+        self.turns_left -= 1;
+        let available = match self.reader.fill_buf() {
+            Ok(available) => available,
+            Err(e) if e.kind() == ErrorKind::Interrupted => return Ok((Part::Nothing, true)),
+            Err(e) => return Err(e),
+        };
+        let (part, used, is_kept) = match available.iter().position(|byte| *byte == b'\n') {
+            Some(at) => (Part::LineEnd, at + 1, keep(line, &available[..at], most)),
+            None if available.is_empty() => (Part::InputEnd, 0, true),
+            None => (Part::More, available.len(), keep(line, available, most)),
+        };
+        self.reader.consume(used);
+        Ok((part, is_kept))
+    }
+
+    /// Makes `line` the next line, without its LF. Of a longer line than `most` bytes only so many are kept.
+    pub(crate) fn read(&mut self, line: &mut Vec<u8>, most: usize) -> io::Result<Reading> {
+        line.clear();
+        let (mut most, mut reading) = (most, Reading::End);
+        for _ in 0..MAX_TURNS {
+            let (part, is_kept) = self.read_part(line, most)?;
+            if !is_kept {
+                (most, reading) = (0, Reading::NoMemory);
+            }
+            match part {
+                Part::Nothing => {}
+                Part::More => reading = reading.begun(),
+                Part::LineEnd => return Ok(self.counted(reading.begun())),
+                Part::InputEnd => return Ok(self.counted(reading)),
+            }
+        }
+        Err(no_end())
+    }
+
+    /// Counts the line that was read, if there was one.
+    fn counted(&mut self, reading: Reading) -> Reading {
+        if reading != Reading::End {
+            self.number = self.number.saturating_add(1);
+        }
+        reading
+    }
+}
