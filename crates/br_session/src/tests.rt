@@ -83,6 +83,23 @@ fn files_have_their_parts(rt: HostRuntime) -> Result<(), Fail> {
     Ok(())
 }
 
+/// The number of the refusal of a file of this type with 2^30 + 1 bytes, 0 where it can be saved.
+fn refusal_of_large(alloc: Global, kind: u32) -> Result<u32, Fail> {
+    let mut bytes = Vec::new(alloc);
+    bytes.resize(1_073_741_825, 0)?;
+    let path = Path::new(alloc, b"/a")?;
+    let stat = Stat::read(NUMBERS)?;
+    let file = SavedFile::new(path, kind, stat, Vec::new(alloc), bytes, false);
+    Ok(file.err().map_or(0, |fault| fault.number()))
+}
+
+#[test]
+fn large_files_are_refused_before_their_type_is_tested(rt: HostRuntime) -> Result<(), Fail> {
+    assert_eq!(rt; refusal_of_large(rt.alloc(), 3)?, 15);
+    assert_eq!(rt; refusal_of_large(rt.alloc(), 6)?, 15);
+    Ok(())
+}
+
 #[test]
 fn files_that_cannot_be_saved_are_refused(rt: HostRuntime) -> Result<(), Fail> {
     let long = many(rt.alloc(), b'a', 4096)?;

@@ -1,9 +1,11 @@
-ghost use Rattle.std.specs.Prelude.{◌≡◌, ◌∷◌, ◌++◌, codes, IfOk};
-ghost use Rattle.brestore.specs.Line.{HasWords, Says};
+ghost use Rattle.std.specs.Prelude.{◌≡◌};
+ghost use Rattle.br_model.specs.Answer.{Answers};
+ghost use Rattle.brestore.specs.Line.{line_cause, line_said, of_escape_fault, of_name_fault, said, volume_said};
+ghost use Rattle.brestore.specs.declared.line.LineFault.TheVariants.{Memory};
 
 use crate::fields::{cut, read_bytes};
 use br_types::{EscapeFault, NameFault, VolName, unescape};
-use std::alloc::{AllocError, AllocFailed, Global};
+use std::alloc::{AllocError, Global};
 
 /// The most bytes of a line of a script, without its LF.
 pub(crate) const MAX_LINE: usize = 4096;
@@ -17,18 +19,16 @@ pub(crate) enum LineFault {
 }
 
 impl From<AllocError> for LineFault {
+    ghost from_gives = { λ _ e. e ≡ Memory };
+
     fn from(_e: AllocError) -> LineFault {
         LineFault::Memory
     }
 }
 
-impl<T: Drop> From<AllocFailed<T>> for LineFault {
-    fn from(_e: AllocFailed<T>) -> LineFault {
-        LineFault::Memory
-    }
-}
-
 impl From<EscapeFault> for LineFault {
+    ghost from_gives = { λ f e. e ≡ of_escape_fault f };
+
     fn from(fault: EscapeFault) -> LineFault {
         match fault {
             EscapeFault::Memory => LineFault::Memory,
@@ -38,6 +38,8 @@ impl From<EscapeFault> for LineFault {
 }
 
 impl From<NameFault> for LineFault {
+    ghost from_gives = { λ f e. e ≡ of_name_fault f };
+
     fn from(fault: NameFault) -> LineFault {
         match fault {
             NameFault::Memory => LineFault::Memory,
@@ -58,8 +60,9 @@ pub(crate) enum ScriptLine {
 }
 
 /// `NAME HEX`.
+#[tactic(auto, unfolding(crate::specs::Line::volume_said))]
 fn read_volume(alloc: Global, fields: &[u8]) -> Result<ScriptLine, LineFault>
-    ensures { IfOk result (HasWords (codes "volume " ++ fields.now)) }
+    ensures { Answers said line_cause result (volume_said fields.now) }
 {
     let (name, behind) = cut(fields);
     let Some(bytes) = behind else {
@@ -76,8 +79,9 @@ fn read_volume(alloc: Global, fields: &[u8]) -> Result<ScriptLine, LineFault>
 /// escaped, and bytes are pairs of small hexadecimal digits, with `-` for none.
 ///
 /// `BadScript` for any other line, and for one of more than 4,096 bytes.
+#[tactic(auto, unfolding(crate::specs::Line::line_said))]
 pub(crate) fn read_line(alloc: Global, line: &[u8]) -> Result<ScriptLine, LineFault>
-    ensures { IfOk result (Says line.now) }
+    ensures { Answers said line_cause result (line_said line.now) }
 {
     if line.len() > MAX_LINE {
         return Err(LineFault::BadScript);

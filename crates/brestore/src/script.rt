@@ -1,4 +1,6 @@
-ghost use Rattle.std.specs.Prelude.{◌≡◌, bytes_eq, position};
+ghost use Rattle.std.specs.Prelude.{◌≡◌, bytes_eq, position, OnOk, OnErr};
+ghost use Rattle.br_volume.specs.Memory.{volumes_of};
+ghost use Rattle.brestore.specs.Store.{with_bytes};
 
 use crate::input::{Lines, MAX_TURNS, Reading, no_end};
 use crate::line::{LineFault, MAX_LINE, ScriptLine, read_line};
@@ -76,7 +78,10 @@ fn append(
     volumes: &mut Vec<(VolName, Vec<u8>)>,
     name: VolName,
     bytes: &[u8],
-) -> Result<(), AllocError> {
+) -> Result<(), AllocError>
+    ensures ok { OnOk result (volumes_of volumes.new.items ≡ with_bytes (volumes_of volumes.old.items) name bytes.now) }
+    ensures err { OnErr result (volumes_of volumes.new.items ≡ volumes_of volumes.old.items) }
+{
     match place_of(volumes, &name) {
         Some(place) => volumes[place].1.extend_from_slice(bytes),
         None => {
