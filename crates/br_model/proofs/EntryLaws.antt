@@ -2,17 +2,20 @@
 use Rattle.std.proofs.Common.{◌≡◌, ℕ, ◌<◌, Bool, true, false, not, ◌&&◌, cond, eqb, List, [], ◌∷◌, ◌++◌, filter, Option, Some, None, Ok, refl, sym, ap, subst, ◌∙◌, arith}
 use Rattle.std.proofs.lemmas.Bool.{eqb-false}
 use Rattle.std.proofs.lemmas.Slice.Eq.{bytes_eq-Decides}
-use Rattle.std.specs.Prelude.{Contains, option_and_then, option_to_list, unwrap_or, nat_lt}
+use Rattle.std.specs.Prelude.{Contains, option_and_then, option_to_list, slice_index, unwrap_or, nat_lt}
 use Rattle.std.specs.List.{AllByRecursion, list_any}
 use Rattle.br_model.specs.Answer.{some_or}
 use Rattle.br_model.specs.Order.{in_order, is_among}
-use Rattle.br_model.specs.Job.{FileRow, JobRows, Job}
+use Rattle.br_model.specs.Name.{key_rank}
+use Rattle.br_model.specs.Job.{FileRow, JobRows, Job, is_history}
 use Rattle.br_model.specs.Choice.{Request, job_rank, is_after, is_good, is_of_client, is_of_fileset, candidates, at_level, last_job, chosen_of, choose}
 use Rattle.br_model.specs.View.{Entry, is_row_of, newest_job, newest_row, entry_from, unless_deleted, entry_of, paths_of, view_of}
-use Rattle.br_model.specs.Plan.{wanted, selection}
+use Rattle.br_model.specs.Plan.{wanted, selection, planned_entry}
 use Rattle.br_model.specs.PlanMeaning.{rows_of_jobs}
 use Rattle.br_model.proofs.AnswerLaws.{some_or_ok, bind_ok, refuse_ok, ok_is, from_next}
 use Rattle.br_model.proofs.EntryFileLaws.{IsEntryOf}
+use Rattle.br_model.proofs.FileLaws.{row_is_alone}
+use Rattle.br_model.proofs.GroupLaws.{history_rows, one_job_of_session}
 use Rattle.br_model.proofs.ListLaws.{of_option, all_append, all_weaker, from_given, from_image, from_kept, from_last, kept_passes, of_each, to_each}
 use Rattle.br_model.proofs.OrderLaws.{in_order_from}
 
@@ -69,6 +72,22 @@ entry_is_of_row jobs path e is =
 pub view_is_of_rows : (jobs : List JobRows) (e : Entry) → Contains (view_of jobs) e → IsRowIn jobs e
 unfolding view_of
 view_is_of_rows jobs e inside = let path = from_given (entry_of jobs) (paths_of jobs) e inside in (entry_is_of_row jobs path.0 e path.2).0
+
+-- of a history's entries two with one key are one
+pub one_entry_of_key : (jobs : List JobRows) (d e : Entry) → is_history jobs ≡ true → IsRowIn jobs d → IsRowIn jobs e
+    → key_rank (planned_entry d).key ≡ key_rank (planned_entry e).key → d ≡ e
+one_entry_of_key jobs d e history p q same =
+    let id_is : d.session.id ≡ e.session.id = ap (λ (l : List ℕ). slice_index l 0) same in
+    let time_is : d.session.time ≡ e.session.time = ap (λ (l : List ℕ). slice_index l 1) same in
+    let index_is : d.index ≡ e.index = ap (λ (l : List ℕ). slice_index l 2) same in
+    let session_is : d.session ≡ e.session = λ i. record { id = id_is i; time = time_is i } in
+    let job_is : p.job ≡ q.job =
+    one_job_of_session jobs p.job q.job history p.among q.among (sym (ap (λ (g : Entry). g.session) p.entry_is) ∙ session_is ∙ ap (λ (g : Entry). g.session) q.entry_is) in
+    let number_is : q.row.index ≡ p.row.index = sym (ap (λ (g : Entry). g.index) q.entry_is) ∙ sym index_is ∙ ap (λ (g : Entry). g.index) p.entry_is in
+    let alone = row_is_alone q.job.files q.row (history_rows jobs q.job history q.among).files_apart q.some q.row_among in
+    let row_is : p.row ≡ q.row =
+    of_each (λ (f : FileRow). q.row.index ≡ f.index → f ≡ q.row) q.job.files p.row alone (subst (λ (j : JobRows). Contains j.files p.row) job_is p.row_among) number_is in
+    p.entry_is ∙ ap (λ (j : JobRows). entry_from j p.row) job_is ∙ ap (entry_from q.job) row_is ∙ sym q.entry_is
 
 -- ---- chosen jobs
 

@@ -2,8 +2,10 @@
 use Rattle.std.proofs.Common.{◌≡◌, ℕ, zero, suc, Bool, true, false, cond, List, [], ◌∷◌, map, filter, Some, refl, sym, ap, subst, ◌∙◌, inl, inr, ◌⊎◌, arith}
 use Rattle.std.proofs.lemmas.Bool.{and_parts, and_from}
 use Rattle.std.proofs.lemmas.List.{nil_from_length, map-id}
+use Rattle.std.proofs.lemmas.List.Sorted.{IsPermutation-refl, IsPermutation-trans, IsPermutation-cons, IsPermutation-middle}
 use Rattle.std.specs.Prelude.{Contains, T, slice_index}
 use Rattle.std.specs.List.{AllByRecursion}
+use Rattle.std.specs.List.Sorted.{IsPermutation}
 use Rattle.std.specs.FinMap.{FinMap, IsAntisymmetric, put, find, is_sorted, entries, entries_sorted, from_entries, entries-insert, same_map, get, len-entries, len-empty, slice_cmp-IsAntisymmetric, nat_cmp-IsAntisymmetric}
 use Rattle.std.specs.FinMap.Entries.{by_order, below_all}
 use Rattle.std.specs.Cmp.{IsTotalOrder, tied_itself}
@@ -263,6 +265,36 @@ kept_stays {X} rank p xs e =
     rising_stays rank (filter p xs)
     (pairs_filter (λ (x y : X). rank_cmp (rank x) (rank y) ≡ Less) p xs
     (subst (λ (ys : List X). EachPair (λ (x y : X). rank_cmp (rank x) (rank y) ≡ Less) ys) e (in_order_rises rank xs)))
+
+-- ---- elements whose ranks differ
+
+-- a new entry whose rank no other has stands among the others, and all of these stay
+put_permutes : {X : Type 0} (k : List ℕ) (v : X) (es : List (List ℕ × X)) → AllByRecursion (λ (e : List ℕ × X). k ≡ e.0 → ⊥) es
+    → IsPermutation (v ∷ map (λ (e : List ℕ × X). e.1) es) (map (λ (e : List ℕ × X). e.1) (put rank_cmp k v es))
+put_permutes k v [] apart = IsPermutation-refl (v ∷ [])
+put_permutes {X} k v (e ∷ es) apart = go (rank_cmp k e.0) refl (put_permutes k v es apart.1)
+  where
+    values : List (List ℕ × X) → List X
+    values ds = map (λ (d : List ℕ × X). d.1) ds
+
+    go : (r : Ordering) → rank_cmp k e.0 ≡ r → IsPermutation (v ∷ values es) (values (put rank_cmp k v es))
+        → IsPermutation (v ∷ e.1 ∷ values es) (values (by_order r ((k, v) ∷ e ∷ es) ((e.0, v) ∷ es) (e ∷ put rank_cmp k v es)))
+    go Less is rest = IsPermutation-refl (v ∷ e.1 ∷ values es)
+    go Equal is rest = absurd (apart.0 (same_rank k e.0 is))
+    go Greater is rest =
+        IsPermutation-trans (v ∷ e.1 ∷ values es) (e.1 ∷ v ∷ values es) (e.1 ∷ values (put rank_cmp k v es)) (IsPermutation-middle (v ∷ []) e.1 (values es))
+        (IsPermutation-cons e.1 (v ∷ values es) (values (put rank_cmp k v es)) rest)
+
+-- elements whose ranks are each another are all in the list in order, each once
+pub in_order_permutes : {X : Type 0} (rank : X → List ℕ) (xs : List X) → EachPair (λ (x y : X). rank x ≡ rank y → ⊥) xs → IsPermutation xs (in_order rank xs)
+unfolding in_order ranked put_all
+in_order_permutes rank [] apart = IsPermutation-refl []
+in_order_permutes {X} rank (x ∷ xs) apart =
+    let others : AllByRecursion (λ (e : List ℕ × X). rank x ≡ e.0 → ⊥) (ranked rank xs) =
+    all_weaker (IsEntryOf rank xs) (λ (e : List ℕ × X). rank x ≡ e.0 → ⊥)
+    (λ e of same. of_each (λ (y : X). rank x ≡ rank y → ⊥) xs e.1 apart.0 of.1 (same ∙ of.0)) (ranked rank xs) (ranked_among rank xs) in
+    IsPermutation-trans (x ∷ xs) (x ∷ in_order rank xs) (in_order rank (x ∷ xs)) (IsPermutation-cons x xs (in_order rank xs) (in_order_permutes rank xs apart.1))
+    (put_permutes (rank x) x (ranked rank xs) others)
 
 -- ---- ordering images
 

@@ -1,17 +1,20 @@
 -- A plan's files are the copies of the selected entries.
-use Rattle.std.proofs.Common.{◌≡◌, Bool, true, false, cond, List, Result, Ok, Err, Some, ℕ, sym, ap, subst, ◌∙◌}
+use Rattle.std.proofs.Common.{◌≡◌, Bool, true, false, cond, List, filter, Result, Ok, Err, Some, ℕ, sym, ap, subst, ◌∙◌}
 use Rattle.std.specs.Prelude.{Contains}
 use Rattle.std.specs.List.{AllByRecursion, AllZip}
+use Rattle.std.specs.List.Sorted.{IsPermutation}
 use Rattle.std.specs.FinMap.{entries}
 use Rattle.br_model.specs.Answer.{◌>>=◌}
+use Rattle.br_model.specs.Order.{is_among}
 use Rattle.br_model.specs.Text.{is_empty}
+use Rattle.br_model.specs.Name.{key_rank}
 use Rattle.br_model.specs.Volume.{Volume, Extends}
 use Rattle.br_model.specs.Meaning.{Hits, hits_of, meaning}
 use Rattle.br_model.specs.Restored.{files}
 use Rattle.br_model.specs.Job.{JobRows, Job, IsJob, is_history}
 use Rattle.br_model.specs.Choice.{Request, choose}
 use Rattle.br_model.specs.View.{Entry, view_of}
-use Rattle.br_model.specs.Plan.{Plan, selection, plan_groups, plan_names, plan_of}
+use Rattle.br_model.specs.Plan.{Plan, wanted, selection, planned_entry, plan_groups, plan_names, plan_of}
 use Rattle.br_model.specs.PlanMeaning.{IsCopy, by_key, rows_of_jobs}
 use Rattle.br_model.specs.Stored.{Holds}
 use Rattle.br_model.proofs.EntryFileLaws.{IsHitWhole, files_of_selection, planned_have_all}
@@ -19,6 +22,9 @@ use Rattle.br_model.proofs.EntryLaws.{chosen_are_jobs, selected_is_of_job}
 use Rattle.br_model.proofs.PlanVolumeLaws.{IsJobLaid, chosen_are_laid, plan_has_meaning}
 use Rattle.br_model.proofs.PlanFoundLaws.{plan_found, planned_fragments}
 use Rattle.br_model.proofs.ListLaws.{of_each}
+use Rattle.br_model.proofs.OrderLaws.{in_order_permutes}
+use Rattle.br_model.proofs.PairLaws.{pairs_filter}
+use Rattle.br_model.proofs.ViewLaws.{KeysDiffer, view_has_keys}
 
 -- the plan of a selection
 abbrev pub plan_from : List JobRows → List (List ℕ) → Plan
@@ -37,8 +43,15 @@ plan_is history chosen q marks plan is_chosen e =
     made true h = absurd cc
     made false h = cc
 
+-- the entries that are selected of a history's view are all there in order of key, each once
+pub selected_by_key : (jobs : List JobRows) (marks : List (List ℕ)) → is_history jobs ≡ true → IsPermutation (selection (view_of jobs) marks) (by_key (selection (view_of jobs) marks))
+unfolding selection
+selected_by_key jobs marks history =
+    in_order_permutes (λ (e : Entry). key_rank (planned_entry e).key) (filter (λ (e : Entry). is_among (wanted (view_of jobs) marks) e.path) (view_of jobs))
+    (pairs_filter KeysDiffer (λ (e : Entry). is_among (wanted (view_of jobs) marks) e.path) (view_of jobs) (view_has_keys jobs history))
+
 -- Where the chosen jobs of a history stand on volumes, and are a history themselves, the plan has a meaning over all volumes
--- that extend these, and its files are, in order of key, the selected entries' copies.
+-- that extend these, and its files are, in order of key, the selected entries' copies: of each entry one.
 pub plan_means_selection_of : (jobs : List Job) (q : Request) (marks : List (List ℕ)) (chosen : List JobRows) (plan : Plan) (volumes later : List Volume)
     → is_history chosen ≡ true → AllByRecursion IsJob jobs
     → choose (rows_of_jobs jobs) q ≡ Ok chosen → plan_of (rows_of_jobs jobs) q marks ≡ Ok plan
@@ -46,6 +59,7 @@ pub plan_means_selection_of : (jobs : List Job) (q : Request) (marks : List (Lis
     → Extends later volumes
     → (hits : Hits) × (meaning plan.groups later ≡ Ok hits)
     × AllZip (IsCopy jobs) (by_key (selection (view_of chosen) marks)) (files hits (Some plan.names))
+    × IsPermutation (selection (view_of chosen) marks) (by_key (selection (view_of chosen) marks))
 plan_means_selection_of jobs q marks chosen plan volumes later history are_jobs is_chosen is_plan stand extends =
     let selected = selection (view_of chosen) marks in
     let laid : AllByRecursion (IsJobLaid volumes) chosen =
@@ -70,6 +84,6 @@ plan_means_selection_of jobs q marks chosen plan volumes later history are_jobs 
           })
           ∙ sym (planned_have_all volumes of.job holds selected e inside (sym of.job_is));
     } in
-    subst (λ (p : Plan). (hits : Hits) × (meaning p.groups later ≡ Ok hits) × AllZip (IsCopy jobs) (by_key selected) (files hits (Some p.names)))
+    subst (λ (p : Plan). (hits : Hits) × (meaning p.groups later ≡ Ok hits) × AllZip (IsCopy jobs) (by_key selected) (files hits (Some p.names)) × IsPermutation selected (by_key selected))
     (plan_is (rows_of_jobs jobs) chosen q marks plan is_chosen is_plan)
-    (set, plan_has_meaning volumes later selected chosen extends laid, files_of_selection volumes jobs set selected whole)
+    (set, plan_has_meaning volumes later selected chosen extends laid, files_of_selection volumes jobs set selected whole, selected_by_key chosen marks history)

@@ -1,6 +1,8 @@
 -- Copies of selected files, by example.
-use Rattle.std.proofs.Common.{◌≡◌, ℕ, List, [], ◌∷◌, Ok, Err, refl, ap, arith, lit≤}
+use Rattle.std.proofs.Common.{◌≡◌, ℕ, List, [], ◌∷◌, length, Ok, Err, refl, ap, arith, lit≤}
+use Rattle.std.proofs.lemmas.List.Sorted.{length_permutation}
 use Rattle.std.specs.Prelude.{codes, pos}
+use Rattle.std.specs.List.Sorted.{IsPermutation}
 use Rattle.br_model.specs.Name.{FileKey}
 use Rattle.br_model.specs.Attribute.{stat_from}
 use Rattle.br_model.specs.File.{Item, Outcome, fault}
@@ -67,6 +69,25 @@ a_file_of_another_index_is_no_copy c = let h : ◌≡◌ {A = ℕ} 1 2 = ap (λ 
 entries_in_order_of_key : by_key (entry 7 1 (codes "/a") ∷ entry 3 2 (codes "/b") ∷ entry 3 1 (codes "/c") ∷ []) ≡ entry 3 1 (codes "/c") ∷ entry 3 2 (codes "/b") ∷ entry 7 1 (codes "/a") ∷ []
 unfolding entry choosing
 entries_in_order_of_key = refl
+
+-- of entries of three keys none is lost: the first and the third change places
+keys_that_differ_stay :
+    IsPermutation (entry 7 1 (codes "/a") ∷ entry 3 2 (codes "/b") ∷ entry 3 1 (codes "/c") ∷ []) (by_key (entry 7 1 (codes "/a") ∷ entry 3 2 (codes "/b") ∷ entry 3 1 (codes "/c") ∷ []))
+unfolding entry choosing
+keys_that_differ_stay = record { moves = (0, 2) ∷ []; below = (lit≤ tt, lit≤ tt, tt); is = refl }
+
+-- of two entries of one key the first stays
+one_key_stays_once : by_key (entry 7 1 (codes "/a") ∷ entry 7 1 (codes "/b") ∷ []) ≡ entry 7 1 (codes "/a") ∷ []
+unfolding entry choosing
+one_key_stays_once = refl
+
+-- and the other is lost
+one_key_loses : IsPermutation (entry 7 1 (codes "/a") ∷ entry 7 1 (codes "/b") ∷ []) (by_key (entry 7 1 (codes "/a") ∷ entry 7 1 (codes "/b") ∷ [])) → ⊥
+one_key_loses p =
+    let both = entry 7 1 (codes "/a") ∷ entry 7 1 (codes "/b") ∷ [] in
+    let long : length (by_key both) ≡ 2 = length_permutation both (by_key both) p in
+    let short : length (by_key both) ≡ 1 = ap length one_key_stays_once in
+    omega (arith, long, short)
 
 no_entries : by_key [] ≡ []
 unfolding choosing

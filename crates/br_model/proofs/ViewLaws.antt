@@ -5,12 +5,14 @@ use Rattle.std.proofs.lemmas.Slice.Eq.{bytes_eq-Decides}
 use Rattle.std.specs.Prelude.{Contains, bytes_eq, filter_map, find, flat_map}
 use Rattle.std.specs.List.{cons_option}
 use Rattle.std.specs.declared.cmp.Ordering.TheVariants.{Less}
-use Rattle.br_model.specs.Job.{FileRow, JobRows}
+use Rattle.br_model.specs.Name.{key_rank}
+use Rattle.br_model.specs.Job.{FileRow, JobRows, is_history}
 use Rattle.br_model.specs.View.{Entry, entry_of, paths_of, view_of, entry_at, ViewIsInOrder, ViewIsLookups}
-use Rattle.br_model.proofs.PairLaws.{pairs_given}
-use Rattle.br_model.proofs.EntryLaws.{entry_is_of_row}
-use Rattle.br_model.proofs.ListLaws.{contains_flat_map, contains_map, first_or_later, none_in}
-use Rattle.br_model.proofs.OrderLaws.{in_order_has_each, in_order_rises, rank_cmp, rising_stays}
+use Rattle.br_model.specs.Plan.{planned_entry}
+use Rattle.br_model.proofs.PairLaws.{EachPair, pairs_given, pairs_with}
+use Rattle.br_model.proofs.EntryLaws.{IsRowIn, entry_is_of_row, view_is_of_rows, one_entry_of_key}
+use Rattle.br_model.proofs.ListLaws.{contains_flat_map, contains_map, first_or_later, none_in, to_each}
+use Rattle.br_model.proofs.OrderLaws.{not_below_itself, in_order_has_each, in_order_rises, rank_cmp, rising_stays}
 
 -- ---- entries
 
@@ -29,16 +31,30 @@ entry_is_listed jobs path e is =
 
 -- ---- the view
 
--- the view of jobs is in order
-pub view_is_in_order_lem : ViewIsInOrder
+-- in the view of jobs the paths rise
+pub view_rises : (jobs : List JobRows) → EachPair (λ (d e : Entry). rank_cmp d.path e.path ≡ Less) (view_of jobs)
 unfolding view_of paths_of
-view_is_in_order_lem jobs =
-    rising_stays (λ (e : Entry). e.path) (filter_map (entry_of jobs) (paths_of jobs))
-    (pairs_given (λ (p q : List ℕ). rank_cmp p q ≡ Less) (λ (d e : Entry). rank_cmp d.path e.path ≡ Less) (entry_of jobs) step (paths_of jobs)
-    (in_order_rises (λ p. p) (flat_map (λ (j : JobRows). map (λ (f : FileRow). f.path) j.files) jobs)))
+view_rises jobs =
+    pairs_given (λ (p q : List ℕ). rank_cmp p q ≡ Less) (λ (d e : Entry). rank_cmp d.path e.path ≡ Less) (entry_of jobs) step (paths_of jobs)
+    (in_order_rises (λ p. p) (flat_map (λ (j : JobRows). map (λ (f : FileRow). f.path) j.files) jobs))
   where
     step : (p q : List ℕ) (d e : Entry) → entry_of jobs p ≡ Some d → entry_of jobs q ≡ Some e → rank_cmp p q ≡ Less → rank_cmp d.path e.path ≡ Less
     step p q d e of_p of_q less = rw (entry_has_path jobs p d of_p, entry_has_path jobs q e of_q) less
+
+-- the view of jobs is in order
+pub view_is_in_order_lem : ViewIsInOrder
+view_is_in_order_lem jobs = rising_stays (λ (e : Entry). e.path) (view_of jobs) (view_rises jobs)
+
+-- two entries with two keys
+abbrev pub KeysDiffer : Entry → Entry → Type 0
+KeysDiffer d e = key_rank (planned_entry d).key ≡ key_rank (planned_entry e).key → ⊥
+
+-- no two entries of a history's view have one key
+pub view_has_keys : (jobs : List JobRows) → is_history jobs ≡ true → EachPair KeysDiffer (view_of jobs)
+view_has_keys jobs history =
+    pairs_with (IsRowIn jobs) (λ (d e : Entry). rank_cmp d.path e.path ≡ Less) KeysDiffer
+    (λ d e p q less same. not_below_itself d.path (ap (λ (g : Entry). rank_cmp d.path g.path) (one_entry_of_key jobs d e history p q same) ∙ less))
+    (view_of jobs) (to_each (IsRowIn jobs) (view_of jobs) (λ e inside. view_is_of_rows jobs e inside)) (view_rises jobs)
 
 -- Where whatever a path gives has this path, the first thing with a path among what some paths give is what this path gives,
 -- if it is one of them or gives nothing.
