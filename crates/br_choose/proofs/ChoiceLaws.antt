@@ -1,6 +1,6 @@
 -- The model's choice, by one test of each job of a history.
 use Rattle.std.proofs.Common.{◌≡◌, ℕ, Bool, true, false, ◌&&◌, eqb, List, [], ◌∷◌, ◌++◌, filter, Option, Some, None, Ok, Err, refl, sym, ap, ◌∙◌}
-use Rattle.std.proofs.lemmas.Bool.{and_parts, eq-eqb, both_ways, or_left, false_from_ne_true}
+use Rattle.std.proofs.lemmas.Bool.{and_parts, eq-eqb, both_ways, or_left, or_parts, false_from_ne_true}
 use Rattle.std.specs.Prelude.{option_to_list, unwrap_or, slice_index}
 use Rattle.std.specs.Borrow.{Bor}
 use Rattle.std.specs.Option.{option_copied}
@@ -12,10 +12,11 @@ use Rattle.br_model.specs.Order.{in_order}
 use Rattle.br_model.specs.Name.{same_session}
 use Rattle.br_model.specs.Job.{JobRows, are_rows, no_pair, clash, is_history}
 use Rattle.br_model.specs.Choice.{Request, job_rank, is_after, is_of_client, is_of_fileset, candidates, at_level, last_job, chosen_of, choose}
+use Rattle.br_model.proofs.ChosenPlanLaws.{chosen_is_history}
 use Rattle.br_model.proofs.GroupLaws.{one_job_of_id}
 use Rattle.br_model.proofs.ListLaws.{filter_twice, from_kept}
 use Rattle.br_model.proofs.OrderLaws.{rank_cmp, same_rank}
-use Rattle.br_model.proofs.PairLaws.{EachPair, no_pair_clashes, pairs_filter, pairs_weaker}
+use Rattle.br_model.proofs.PairLaws.{EachPair, no_pair_clashes, no_pair_from, pairs_filter, pairs_weaker}
 use Rattle.br_choose.specs.Wanted.{is_candidate, is_wanted, later}
 use Rattle.br_choose.proofs.RankLaws.{HasEachRankOnce, ties, reduced_is_last}
 
@@ -129,3 +130,17 @@ chosen_is history q full differential incrementals is some both of_full of_diffe
 pub last_by_reference : (o : Option (Bor JobRows)) (full last : Bor JobRows) → last ≡ unwrap_or o full → last.now ≡ unwrap_or (option_copied o) full.now
 last_by_reference None full last e = ap (λ (b : Bor JobRows). b.now) e
 last_by_reference (Some b) full last e = ap (λ (b : Bor JobRows). b.now) e
+
+-- ---- their numbers
+
+-- two jobs of one number
+abbrev pub one_number : JobRows → JobRows → Bool
+one_number j k = eqb j.row.id k.row.id
+
+-- of a history each job is chosen at most once
+pub chosen_once : (history chosen : List JobRows) (q : Request) → is_history history ≡ true → choose history q ≡ Ok chosen → no_pair one_number chosen ≡ true
+chosen_once history chosen q is e =
+    let parts = and_parts (list_all are_rows chosen) (no_pair clash chosen) (chosen_is_history history chosen q is e) in
+    no_pair_from one_number chosen
+    (pairs_weaker (λ j k. clash j k ≡ false) (λ j k. one_number j k ≡ false) (λ j k none. (or_parts (one_number j k) (same_session j.row.session k.row.session) none).0) chosen
+    (no_pair_clashes clash chosen parts.1))

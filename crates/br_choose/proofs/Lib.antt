@@ -1,3 +1,4 @@
+pub mod InOrderLaws
 pub mod ChainLaws
 pub mod RankLaws
 pub mod ChoiceLaws

@@ -1,5 +1,5 @@
 -- Jobs in the order of their ranks: the last of some, and those that are sorted.
-use Rattle.std.proofs.Common.{◌≡◌, ℕ, suc, ◌<◌, Bool, true, false, cond, List, [], ◌∷◌, length, get_or, map, Option, Some, None, refl, sym, ap, subst, ◌∙◌, inl, inr, ◌⊎◌, arith}
+use Rattle.std.proofs.Common.{◌≡◌, ℕ, suc, ◌<◌, Bool, true, false, cond, List, [], ◌∷◌, length, get_or, map, Some, refl, sym, ap, subst, ◌∙◌, inl, inr, ◌⊎◌, arith}
 use Rattle.std.proofs.lemmas.Bool.{both_ways}
 use Rattle.std.proofs.lemmas.Cmp.{on_total, then_total}
 use Rattle.std.proofs.lemmas.List.Elements.{recursion_from_All}
@@ -7,7 +7,7 @@ use Rattle.std.proofs.lemmas.List.Sorted.{ranks_by, sorted_far, IsPermutation-sy
 use Rattle.std.proofs.lemmas.Map.Keys.{IsDistinct-IsPermutation}
 use Rattle.std.specs.Prelude.{Contains}
 use Rattle.std.specs.Borrow.{Bor}
-use Rattle.std.specs.List.{AllByRecursion, IsDistinct, fold, last_or, reduce}
+use Rattle.std.specs.List.{AllByRecursion, IsDistinct, fold, reduce}
 use Rattle.std.specs.List.Sorted.{IsPermutation, IsSortedBy, IsSortedByKey}
 use Rattle.std.specs.Cmp.{IsTotalOrder, IsStrictWeakOrder, nat_cmp_total}
 use Rattle.std.specs.Cmp.Lexicographic.{nat_list_cmp_total}
@@ -17,10 +17,11 @@ use Rattle.std.specs.declared.cmp.Ordering.TheVariants.{Less, Equal, Greater}
 use Rattle.br_model.specs.Order.{in_order, ranked, put_all}
 use Rattle.br_model.specs.Job.{JobRows}
 use Rattle.br_model.specs.Choice.{job_rank, is_after, last_job}
-use Rattle.br_model.proofs.ListLaws.{first_in, later_in, first_or_later, none_in, of_each, from_last}
-use Rattle.br_model.proofs.OrderLaws.{rank_cmp, not_below_itself, in_order_from, in_order_has_each, in_order_rises}
+use Rattle.br_model.proofs.ListLaws.{first_in, later_in}
+use Rattle.br_model.proofs.OrderLaws.{rank_cmp, in_order_from, in_order_has_each, in_order_rises}
 use Rattle.br_model.proofs.PairLaws.{EachPair, pairs_map, pairs_weaker}
 use Rattle.br_choose.specs.Wanted.{later}
+use Rattle.br_choose.proofs.InOrderLaws.{never_itself, below_one_way, last_like, same_rising}
 
 -- ---- pairs of numbers
 
@@ -50,62 +51,24 @@ pairs_total = then_total (on_total (λ (p : ℕ × ℕ). p.0) nat_cmp_total) (on
 abbrev pub HasEachRankOnce : List JobRows → Type 0
 HasEachRankOnce jobs = (j k : JobRows) → Contains jobs j → Contains jobs k → job_rank j ≡ job_rank k → j ≡ k
 
--- of a list in which a relation holds of each pair, each element is the last one or related to it
-behind_last : {X : Type 0} (R : X → X → Type 0) (x : X) (xs : List X) (z y : X) → AllByRecursion (R x) xs → EachPair R xs → last_or (Some x) xs ≡ Some z → (x ≡ y) ⊎ Contains xs y
-    → (y ≡ z) ⊎ R y z
-behind_last R x [] z y all pairs e (inl same) = let last : x ≡ z = cc in inl (sym same ∙ last)
-behind_last R x [] z y all pairs e (inr inside) = absurd (none_in y inside)
-behind_last R x (w ∷ ws) z y all pairs e (inl same) = inr (subst (λ t. R t z) same (of_each (R x) (w ∷ ws) z all (from_last (w ∷ ws) z e)))
-behind_last R x (w ∷ ws) z y all pairs e (inr inside) = behind_last R w ws z y pairs.0 pairs.1 e (first_or_later w ws y inside)
-
-last_of_pairs : {X : Type 0} (R : X → X → Type 0) (xs : List X) (z y : X) → EachPair R xs → last_or None xs ≡ Some z → Contains xs y → (y ≡ z) ⊎ R y z
-last_of_pairs R [] z y pairs e inside = absurd (none_in y inside)
-last_of_pairs R (x ∷ xs) z y pairs e inside = behind_last R x xs z y pairs.0 pairs.1 e (first_or_later x xs y inside)
-
-last_is_some : {X : Type 0} (x : X) (xs : List X) → last_or (Some x) xs ≡ None → ⊥
-last_is_some x [] e = absurd cc
-last_is_some x (y ∷ ys) e = last_is_some y ys e
-
-last_of_some : {X : Type 0} (xs : List X) (y : X) → Contains xs y → last_or None xs ≡ None → ⊥
-last_of_some [] y inside e = none_in y inside
-last_of_some (x ∷ xs) y inside e = last_is_some x xs e
-
 -- a job after which none comes is the last one
 pub last_is : (jobs : List JobRows) (j : JobRows) → HasEachRankOnce jobs → Contains jobs j → AllByRecursion (λ k. is_after j k ≡ false) jobs → last_job jobs ≡ Some j
 unfolding last_job
-last_is jobs j once inside none = go (last_or None (in_order job_rank jobs)) refl
-  where
-    here : Contains (in_order job_rank jobs) j
-    here = in_order_has_each job_rank jobs once j inside
-
-    go : (o : Option JobRows) → last_or None (in_order job_rank jobs) ≡ o → last_or None (in_order job_rank jobs) ≡ Some j
-    go None is = absurd (last_of_some (in_order job_rank jobs) j here is)
-    go (Some k) is =
-        elim (last_of_pairs (λ a b. rank_cmp (job_rank a) (job_rank b) ≡ Less) (in_order job_rank jobs) k j (in_order_rises job_rank jobs) is here) [
-          | inl same ↦ is ∙ ap Some (sym same)
-          | inr less ↦
-              let among : Contains jobs k = in_order_from job_rank jobs k (from_last (in_order job_rank jobs) k is) in
-              absurd (both_ways (is_after j k) (of_each (λ i. is_after j i ≡ false) jobs k none among) (ap is_lt less))
-        ]
+last_is jobs j once inside none =
+    let last = last_like job_rank jobs j inside none in
+    last.last ∙ ap Some (once last.element j last.among inside last.same)
 
 -- which of two jobs comes after the other is a strict order
 pub after_order : IsStrictWeakOrder is_after
 after_order = ranks_by nat_list_cmp_total job_rank
-
-never_after_itself : (j : JobRows) → is_after j j ≡ false
-never_after_itself j = go (is_after j j) refl
-  where
-    go : (b : Bool) → is_after j j ≡ b → is_after j j ≡ false
-    go true is = after_order.one_way j j is
-    go false is = is
 
 -- neither of two jobs comes after the later one
 later_is_last : (j k : JobRows) → (is_after (later j k) j ≡ false) × (is_after (later j k) k ≡ false)
 later_is_last j k = go (is_after j k) refl
   where
     go : (b : Bool) → is_after j k ≡ b → (is_after (cond b k j) j ≡ false) × (is_after (cond b k j) k ≡ false)
-    go true is = (after_order.one_way j k is, never_after_itself k)
-    go false is = (never_after_itself j, is)
+    go true is = (after_order.one_way j k is, never_itself is_after after_order k)
+    go false is = (never_itself is_after after_order j, is)
 
 later_is_one : (j k : JobRows) → (later j k ≡ j) ⊎ (later j k ≡ k)
 later_is_one j k = go (is_after j k)
@@ -121,7 +84,7 @@ record IsLatest (first : JobRows) (jobs : List JobRows) (last : JobRows) : Type 
   behind_all : AllByRecursion (λ k. is_after last k ≡ false) jobs
 
 latest : (first : JobRows) (jobs : List JobRows) → IsLatest first jobs (fold later first jobs)
-latest first [] = record { among = inl refl; behind_first = never_after_itself first; behind_all = tt }
+latest first [] = record { among = inl refl; behind_first = never_itself is_after after_order first; behind_all = tt }
 latest first (j ∷ jobs) =
     let rest = latest (later first j) jobs in
     let last = fold later (later first j) jobs in
@@ -149,33 +112,6 @@ reduced_is_last (j ∷ jobs) once =
     sym (last_is (j ∷ jobs) last once inside (r.behind_first, r.behind_all))
 
 -- ---- sorted jobs
-
--- two lists of the same elements in which an order holds of each pair are one
-same_rising : {X : Type 0} (R : X → X → Type 0) → ((x y : X) → R x y → R y x → ⊥) → (xs ys : List X) → EachPair R xs → EachPair R ys
-    → ((z : X) → Contains xs z → Contains ys z) → ((z : X) → Contains ys z → Contains xs z) → xs ≡ ys
-same_rising R apart [] [] p q f g = refl
-same_rising R apart [] (y ∷ ys) p q f g = absurd (none_in y (g y (first_in y ys y refl)))
-same_rising R apart (x ∷ xs) [] p q f g = absurd (none_in x (f x (first_in x xs x refl)))
-same_rising {X} R apart (x ∷ xs) (y ∷ ys) p q f g =
-    let same : x ≡ y =
-    elim (first_or_later y ys x (f x (first_in x xs x refl))) [
-      | inl e ↦ sym e
-      | inr there ↦ elim (first_or_later x xs y (g y (first_in y ys y refl))) [
-        | inl e ↦ e
-        | inr here ↦ absurd (apart x y (of_each (R x) xs y p.0 here) (of_each (R y) ys x q.0 there))
-      ]
-    ] in
-    let into : (z : X) → Contains xs z → Contains ys z = λ z inside.
-    elim (first_or_later y ys z (f z (later_in x xs z inside))) [
-      | inl e ↦ let loop : R x x = subst (R x) (sym e ∙ sym same) (of_each (R x) xs z p.0 inside) in absurd (apart x x loop loop)
-      | inr there ↦ there
-    ] in
-    let back : (z : X) → Contains ys z → Contains xs z = λ z inside.
-    elim (first_or_later x xs z (g z (later_in y ys z inside))) [
-      | inl e ↦ let loop : R y y = subst (R y) (sym e ∙ same) (of_each (R y) ys z q.0 inside) in absurd (apart y y loop loop)
-      | inr here ↦ here
-    ] in
-    ap (λ z. z ∷ xs) same ∙ ap (λ zs. y ∷ zs) (same_rising R apart xs ys p.1 q.1 into back)
 
 -- in a sorted list no later element is below an earlier one
 pairs_of_places : {X : Type 0} (R : X → X → Type 0) (xs : List X) → ((i j : ℕ) (d : X) → i < j → j < length xs → R (get_or xs i d) (get_or xs j d)) → EachPair R xs
@@ -217,14 +153,11 @@ rising (j ∷ jobs) sorted distinct = (each jobs sorted.0 distinct.0, rising job
     each [] a b = tt
     each (k ∷ ks) a b = (strictly j k a.0 b.0, each ks a.1 b.1)
 
-below_one_way : (j k : JobRows) → rank_cmp (job_rank j) (job_rank k) ≡ Less → rank_cmp (job_rank k) (job_rank j) ≡ Less → ⊥
-below_one_way j k a b = not_below_itself (job_rank j) (nat_list_cmp_total.trans (job_rank j) (job_rank k) (job_rank j) a b)
-
 -- jobs that were sorted by rank are those in order of rank
 pub sorted_is_in_order : (jobs sorted : List JobRows) → IsPermutation jobs sorted → EachPair (λ j k. is_after k j ≡ false) sorted → IsDistinct ties jobs → HasEachRankOnce jobs
     → sorted ≡ in_order job_rank jobs
 sorted_is_in_order jobs sorted moved by_rank distinct once =
-    same_rising (λ j k. rank_cmp (job_rank j) (job_rank k) ≡ Less) below_one_way sorted (in_order job_rank jobs)
+    same_rising (λ j k. rank_cmp (job_rank j) (job_rank k) ≡ Less) (λ j k. below_one_way (job_rank j) (job_rank k)) sorted (in_order job_rank jobs)
     (rising sorted by_rank (IsDistinct-IsPermutation ties ties_both_ways jobs sorted moved distinct)) (in_order_rises job_rank jobs)
     (λ j inside. in_order_has_each job_rank jobs once j (Contains-permutation sorted jobs j (IsPermutation-sym jobs sorted moved) inside))
     (λ j inside. Contains-permutation jobs sorted j moved (in_order_from job_rank jobs j inside))

@@ -1,9 +1,9 @@
-ghost use Rattle.std.specs.Prelude.{◌≡◌, true, ◌&&◌, ◌∷◌, ◌++◌, filter, map, option_to_list, IfOk};
+ghost use Rattle.std.specs.Prelude.{◌≡◌, true, ◌&&◌, ◌==◌, ◌∷◌, ◌++◌, filter, map, option_to_list, IfOk};
 ghost use Rattle.std.specs.Option.{option_copied};
 ghost use Rattle.std.specs.List.{list_any, reduce};
 ghost use Rattle.br_model.specs.Answer.{Answers};
 ghost use Rattle.br_model.specs.Order.{in_order};
-ghost use Rattle.br_model.specs.Job.{is_history};
+ghost use Rattle.br_model.specs.Job.{is_history, no_pair};
 ghost use Rattle.br_model.specs.Choice as model;
 ghost use Rattle.br_choose.specs.Fault.{cause};
 ghost use Rattle.br_choose.specs.Wanted.{is_wanted, later};
@@ -80,7 +80,7 @@ fn joined<'h>(
 /// The jobs from which the state of a file set of a client before a moment (in seconds since 1970) is restored. Of the good
 /// jobs, which are of type `B` with the status `T` or `W`, of the client and the file set that started before the moment, these
 /// are the last Full, then the last Differential after it, if there is one, and then every Incremental after the later of these.
-/// The order is by start time, and of equal ones by number.
+/// The order is by start time, and of equal ones by number; no two of them have one number.
 ///
 /// `UnknownClient` where no job names the client, else `UnknownFileSet` where none of its jobs names the file set; these count
 /// each job, good or not, at any time. `NoFull` where no good Full started before the moment.
@@ -91,7 +91,8 @@ pub fn choose<'h>(
     fileset: &Name,
     moment: u64,
 ) -> Result<Vec<&'h JobRows>, ChooseFault>
-    ensures { Answers (λ jobs. map (λ j. j.now) jobs.items) cause result (model.choose history.now (record { client = client.now; fileset = fileset.now; moment = moment })) }
+    ensures answers { Answers (λ jobs. map (λ j. j.now) jobs.items) cause result (model.choose history.now (record { client = client.now; fileset = fileset.now; moment = moment })) }
+    ensures distinct { IfOk result (λ jobs. no_pair (λ j k. j.row.id == k.row.id) (map (λ j. j.now) jobs.items) ≡ true) }
 {
     let jobs = history.jobs();
     let request = Request {

@@ -1,0 +1,5 @@
+pub mod RowLaws
+pub mod NewestLaws
+pub mod CopyLaws
+pub mod ViewLaws
+pub mod FindLaws

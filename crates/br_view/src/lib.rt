@@ -1,0 +1,13 @@
+//! The view of some jobs: the newest copy of each path that they have.
+//!
+//! Contracts see a `View` as the model's list of entries, each with its path.
+#![tactic(auto)]
+
+mod entry;
+mod newest;
+#[cfg(test)]
+mod tests;
+mod view;
+
+pub use entry::Entry;
+pub use view::View;
