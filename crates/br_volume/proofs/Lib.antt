@@ -1,2 +1,4 @@
 pub mod DriveLaws
 pub mod KeptLaws
+pub mod AppendLaws
+pub mod PlaceLaws

@@ -1,3 +1,6 @@
 pub mod Fault
 pub mod Drive
 pub mod Memory
+pub mod Store
+pub mod MemStore
+pub mod Folder

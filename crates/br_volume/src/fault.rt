@@ -36,3 +36,21 @@ impl From<AllocError> for DriveFault {
         DriveFault::Memory
     }
 }
+
+/// Why a store of volumes did not append, or told no length.
+#[derive(Clone, Copy, Debug, PartialEq, Eq, Error)]
+pub enum StoreFault {
+    #[error("the store failed to append to a volume, or to tell its length")]
+    VolumeFault,
+}
+
+impl StoreFault {
+    /// The number of the refusal: 44.
+    pub fn number(self) -> u32
+        ensures { result ≡ 44 }
+    {
+        match self {
+            StoreFault::VolumeFault => 44,
+        }
+    }
+}

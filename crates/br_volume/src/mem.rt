@@ -80,7 +80,7 @@ fn volume_of<'a>(volumes: &'a [(VolName, Vec<u8>)], vol: &VolName) -> Option<&'a
 }
 
 /// The bytes of the volume of this name, if there is one.
-fn bytes_of<'a>(volumes: &'a [(VolName, Vec<u8>)], vol: &VolName) -> Option<&'a Vec<u8>>
+pub(crate) fn bytes_of<'a>(volumes: &'a [(VolName, Vec<u8>)], vol: &VolName) -> Option<&'a Vec<u8>>
     ensures { option_map (λ b. b.now.items) result ≡ volume_bytes (volumes_of volumes.now) vol.now }
 {
     match volume_of(volumes, vol) {

@@ -1,0 +1,11 @@
+-- Volumes in a folder.
+use Rattle.std.specs.Prelude.{ℕ, List, ◌∷◌, ◌++◌}
+
+-- what reads from a folder or appends to it: the folder's path, and how often it has failed
+pub record InFolder : Type 0 where
+  pub path : List ℕ
+  pub failures : ℕ
+
+-- the path of a volume's file: the folder's, a slash, and the volume's name
+abbrev pub file_path : List ℕ → List ℕ → List ℕ
+file_path folder volume = folder ++ 47 ∷ volume

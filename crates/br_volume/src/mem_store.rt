@@ -1,0 +1,125 @@
+ghost use Rattle.std.specs.Prelude.{◌≡◌, ℕ, ◌+◌, ◌<◌, ◌≤◌, List, [], length, Option, OnOk, OnErr, IfOk, bytes_eq, position};
+ghost use Rattle.br_model.specs.Volume.{Volume, volume_bytes};
+ghost use Rattle.br_model.specs.SessionHolds.{bytes_of_volume};
+ghost use Rattle.br_volume.specs.Memory.{volumes_of};
+ghost use Rattle.br_volume.specs.MemStore.{Stored, with_appended};
+ghost use Rattle.br_volume.specs.Store.{AppendsTo, AppendsInPartTo, IsLengthIn};
+
+use crate::count::Count;
+use crate::fault::StoreFault;
+use crate::mem::bytes_of;
+use crate::store::VolumeStore;
+use br_types::VolName;
+use std::alloc::{AllocError, Global};
+use std::marker::Model;
+
+/// A store over memory. It fails where memory is short, and then nothing is changed.
+#[derive(Debug, Drop)]
+pub struct MemStore {
+    alloc: Global,
+    volumes: Vec<(VolName, Vec<u8>)>,
+    failures: Count,
+}
+
+impl Model for MemStore {
+    ghost use Rattle.br_volume.specs.Memory.{volumes_of};
+    ghost use Rattle.br_volume.specs.MemStore.{Stored};
+
+    ghost Value = { Stored };
+
+    ghost view = { λ s. record { volumes = volumes_of s.volumes.items; failures = s.failures.number } };
+}
+
+impl MemStore {
+    /// A store without volumes. It keeps the allocator, by which it grows.
+    pub fn new(alloc: Global) -> MemStore
+        ensures { result ≡ record { volumes = []; failures = 0 } }
+    {
+        MemStore {
+            alloc,
+            volumes: Vec::new(alloc),
+            failures: Count::zero(),
+        }
+    }
+
+    /// Its volumes, in the order in which they were made.
+    pub fn volumes(&self) -> &[(VolName, Vec<u8>)]
+        ensures { volumes_of result.now ≡ self.now.volumes }
+    {
+        &self.volumes
+    }
+
+    /// Its volumes, in the order in which they were made.
+    pub fn into_volumes(self) -> Vec<(VolName, Vec<u8>)>
+        ensures { volumes_of result.items ≡ self.volumes }
+    {
+        self.volumes
+    }
+}
+
+/// Where the first volume of this name stands, if there is one.
+fn position_of(volumes: &[(VolName, Vec<u8>)], vol: &VolName) -> Option<usize>
+    ensures { result ≡ position (λ v. bytes_eq v.0 vol.now) volumes.now }
+{
+    volumes.iter().position(|v| v.0.bytes() == vol.bytes())
+}
+
+/// Puts bytes behind those of the volume, or makes it of them. What is refused changes nothing.
+fn append_to(
+    alloc: Global,
+    volumes: &mut Vec<(VolName, Vec<u8>)>,
+    vol: &VolName,
+    bytes: &[u8],
+) -> Result<(), AllocError>
+    ensures ok { OnOk result (volumes_of volumes.new.items ≡ with_appended vol.now bytes.now (volumes_of volumes.old.items)) }
+    ensures err { OnErr result (volumes_of volumes.new.items ≡ volumes_of volumes.old.items) }
+{
+    match position_of(volumes, vol) {
+        Some(at) => volumes[at].1.extend_from_slice(bytes),
+        None => {
+            let volume = (vol.copy(alloc)?, Vec::from_slice(alloc, bytes)?);
+            volumes.push(volume)?;
+            Ok(())
+        }
+    }
+}
+
+impl VolumeStore for MemStore {
+    ghost use Rattle.std.specs.Prelude.{Some};
+
+    ghost holds = { λ s. Some s.volumes };
+
+    ghost failures = { λ s. s.failures };
+
+    /// A volume that is made stands behind the others.
+    fn append(&mut self, vol: &VolName, bytes: &[u8]) -> Result<(), StoreFault>
+        ensures appended { OnOk result (AppendsTo vol.now bytes.now (Some self.old.volumes) (Some self.new.volumes)) }
+        ensures refused { OnErr result (AppendsInPartTo vol.now bytes.now (Some self.old.volumes) (Some self.new.volumes)) }
+        ensures counted { self.old.failures ≤ self.new.failures }
+        ensures failed { OnErr result (self.old.failures < self.new.failures) }
+        ensures exact { OnOk result (self.new ≡ record { volumes = with_appended vol.now bytes.now self.old.volumes; failures = self.old.failures }) }
+        ensures kept { OnErr result (self.new ≡ record { volumes = self.old.volumes; failures = self.old.failures + 1 }) }
+    {
+        match append_to(self.alloc, &mut self.volumes, vol, bytes) {
+            Ok(()) => Ok(()),
+            Err(AllocError) => {
+                self.failures = self.failures.next();
+                Err(StoreFault::VolumeFault)
+            }
+        }
+    }
+
+    /// Never refused.
+    fn length(&mut self, vol: &VolName) -> Result<u64, StoreFault>
+        ensures told { IfOk result (λ n. IsLengthIn (Some self.old.volumes) vol.now n) }
+        ensures same { self.new ≡ self.old }
+        ensures counted { self.old.failures ≤ self.new.failures }
+        ensures failed { OnErr result (self.old.failures < self.new.failures) }
+        ensures exact { result ≡ Ok (length (bytes_of_volume self.old.volumes vol.now)) }
+    {
+        match bytes_of(&self.volumes, vol) {
+            None => Ok(0),
+            Some(bytes) => Ok(bytes.len() as u64),
+        }
+    }
+}
