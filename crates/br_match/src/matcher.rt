@@ -63,11 +63,12 @@ impl Matcher {
     fn admits_block(&self, addr: u64, session: SessionKey) -> bool
         ensures { result ≡ admits_block self.now.1 addr session }
     {
-        self.session_ids.contains(u64::from(session.id))
+        // Where a volume has many groups, the address tells most of them apart.
+        self.addrs.contains(addr)
+            && self.session_ids.contains(u64::from(session.id))
             && self.session_times.contains(u64::from(session.time))
             && self.files.contains(addr / FILE_BYTES)
             && self.blocks.contains(addr % FILE_BYTES)
-            && self.addrs.contains(addr)
     }
 
     /// Whether the group hits a record of this index and this stream in a block whose records it may hit.

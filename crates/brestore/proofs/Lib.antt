@@ -1,2 +1,3 @@
 pub mod SpellingLaws
 pub mod StoreLaws
+pub mod WordsLaws

@@ -1,3 +1,5 @@
 pub mod Spelling
 pub mod Line
 pub mod Store
+pub mod Words
+pub mod Ending

@@ -1,58 +1,92 @@
 //! The restoring half of a Bacula Director, with the volume reading that a restore needs.
 //!
-//! Without a command it reads a script from standard input and works it off over volumes in memory.
+//! `extract` runs a bootstrap over the volumes of a folder. Without a command the program reads a script from standard input and
+//! works it off over volumes in memory.
 #![tactic(auto)]
 
+mod extract;
 mod fields;
 mod input;
 mod line;
 mod script;
 #[cfg(test)]
 mod tests;
+mod words;
 
+use crate::extract::{BAD_STREAM, CLEAN, REFUSED, extract_files};
 use crate::script::run_script;
+use crate::words::{Request, read_words};
 use std::io::{self, BufReader, BufWriter, ErrorKind, Write};
+use std::os::unix::fs::FileExt;
 use std::process::ExitCode;
-use std::rt::Env;
+use std::rt::{Env, Files};
 
-/// The status of a fault of the command line.
+/// The exit status for a fault of the command line.
 const BAD_COMMAND: u8 = 2;
 
-/// The status of a fault of the program's own streams.
-const BAD_STREAM: u8 = 3;
-
-/// Whether the program was given an argument.
-fn has_argument<R: Env + AllocGlobal>(rt: &R) -> io::Result<bool> {
-    let mut args = std::env::args(rt)?;
-    let _name = args.next();
-    Ok(args.next().is_some())
+/// The words of the command line, with the program's name first; none where one of them is no UTF-8 text.
+fn words_of<R: Env + AllocGlobal>(rt: &R) -> io::Result<Option<Vec<String>>> {
+    match std::env::args(rt) {
+        Ok(words) => Ok(Some(words.collect(rt.alloc())?)),
+        Err(e) if e.kind() == ErrorKind::InvalidData => Ok(None),
+        Err(e) => Err(e),
+    }
 }
 
-/// Works off the script of standard input, and writes the answers to standard output.
-fn run<R: Env + Input + Print + Eprint + AllocGlobal>(rt: &R) -> io::Result<ExitCode> {
-    if has_argument(rt)? {
-        eprintln!(rt; "brestore takes no argument: it reads a script from standard input")?;
-        return Ok(ExitCode::from(BAD_COMMAND));
-    }
+/// Works off the script of standard input, and writes the answers to standard output. The exit status.
+fn work_off<R: Input + Print + AllocGlobal>(rt: &R) -> io::Result<u8> {
     let mut reader = BufReader::new(rt.alloc(), rt.reader())?;
     let mut writer = BufWriter::new(rt.alloc(), io::writer(rt))?;
     let clean = run_script(rt.alloc(), &mut reader, &mut writer);
     writer.flush()?;
-    if clean? {
-        Ok(ExitCode::SUCCESS)
-    } else {
-        Ok(ExitCode::FAILURE)
+    Ok(if clean? { CLEAN } else { REFUSED })
+}
+
+/// The same, where want of memory is a refusal of the script.
+fn serve<R: Input + Print + AllocGlobal>(rt: &R) -> io::Result<u8> {
+    match work_off(rt) {
+        Err(e) if e.kind() == ErrorKind::OutOfMemory => {
+            println!(rt; "refused 1")?;
+            Ok(REFUSED)
+        }
+        status => status,
     }
 }
 
-/// The status is 0 where nothing was refused and every outcome is a file, else 1; 2 for a fault of the command line, and 3 where
-/// reading or writing failed.
+/// Carries out what the command line asks for. The exit status.
+fn run<R: Env + Files + Input + Print + Eprint + AllocGlobal>(rt: &R) -> io::Result<u8>
+where
+    R::File: FileExt,
+{
+    let Some(words) = words_of(rt)? else {
+        eprintln!(rt; "brestore: an argument is not UTF-8")?;
+        return Ok(BAD_COMMAND);
+    };
+    match read_words(rt.alloc(), &words) {
+        Ok(Request::Serve) => serve(rt),
+        Ok(Request::Extract { bsr, volumes }) => extract_files(rt, bsr, volumes),
+        Err(fault) if fault.kind() == clap::error::ErrorKind::OutOfMemory => {
+            Err(ErrorKind::OutOfMemory.into())
+        }
+        Err(fault) => {
+            fault.print(rt)?;
+            Ok(if fault.use_stderr() {
+                BAD_COMMAND
+            } else {
+                CLEAN
+            })
+        }
+    }
+}
+
+/// The exit status is 0 where nothing was refused and every outcome is a file, else 1; 2 for a fault of the command line, and 3
+/// where the program's own files or streams failed.
 fn main(rt: HostRuntime) -> ExitCode {
     match run(&rt) {
-        Ok(status) => status,
+        Ok(status) => ExitCode::from(status),
         Err(e) if e.kind() == ErrorKind::OutOfMemory => {
-            let _ = println!(rt; "refused 1");
-            ExitCode::FAILURE
+            let _ = eprintln!(rt; "refused 1");
+            ExitCode::from(REFUSED)
         }
         Err(e) => {
             let _ = eprintln!(rt; "brestore: {e}");

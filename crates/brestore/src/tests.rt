@@ -1,3 +1,6 @@
+mod bacula;
+mod words;
+
 use crate::script::run_script;
 use std::io::{self, BufReader, Error, ErrorKind, Read, Write};
 use std::process::Abort;
@@ -158,6 +161,15 @@ fn a_torn_record_is_told(rt: HostRuntime) -> Result<(), Fail> {
     let digits = block(&rt, b"0000005b", b"00000002", b"ffffffff")?;
     let script = script_of(&rt, &digits, ALL_OF_V1)?;
     answers(&rt, &script, b"X 1 100 1 61\ntotal 0 1 0\n", false)
+}
+
+#[test]
+fn a_record_that_goes_on_from_nothing_is_told(rt: HostRuntime) -> Result<(), Fail> {
+    let digits = b"000000000000002900000000424230320000000100000064\
+        00000001fffffffe0000000568656c6c6f";
+    let bootstrap = b"Volume=\"V1\"\nVolSessionId=1\n";
+    let script = script_of(&rt, digits, bootstrap)?;
+    answers(&rt, &script, b"X 1 100 1 60\ntotal 0 1 0\n", false)
 }
 
 #[test]

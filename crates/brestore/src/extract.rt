@@ -1,0 +1,107 @@
+//! The command `extract`.
+ghost use Rattle.std.specs.Prelude.{◌≡◌, Some, IfOk, IfErr};
+ghost use Rattle.br_engine.specs.Extracting.{RunsOver, WritesNothing};
+ghost use Rattle.brestore.specs.Ending.{run_refusal, run_status};
+
+use br_engine::{ExtractFault, run_extract};
+use br_volume::{Drive, FolderDrive};
+use std::alloc::{AllocError, Global};
+use std::fs;
+use std::io::{self, BufWriter, Error, ErrorKind, Write};
+use std::os::unix::fs::FileExt;
+use std::rt::Files;
+
+/// The exit status where all was carried out.
+pub(crate) const CLEAN: u8 = 0;
+
+/// The exit status where something was refused, or some outcome is not a file.
+pub(crate) const REFUSED: u8 = 1;
+
+/// The exit status for a fault of the program's own files and streams.
+pub(crate) const BAD_STREAM: u8 = 3;
+
+/// How a run ended.
+#[derive(Debug, Drop)]
+pub(crate) struct Ending {
+    pub(crate) status: u8,
+    /// The line of the refusal, empty where nothing was refused.
+    pub(crate) refusal: Vec<u8>,
+}
+
+/// How a run ended that gave this answer.
+pub(crate) fn ending_of(
+    alloc: Global,
+    run: &Result<bool, ExtractFault>,
+) -> Result<Ending, AllocError>
+    ensures status { IfOk result (λ ending. ending.status ≡ run_status run.now) }
+    ensures refusal { IfOk result (λ ending. ending.refusal.items ≡ run_refusal run.now) }
+{
+    let mut refusal = Vec::new(alloc);
+    let status = match run {
+        Ok(true) => CLEAN,
+        Ok(false) => REFUSED,
+        Err(ExtractFault::Io(_)) => BAD_STREAM,
+        Err(fault) => {
+            fault.push_line(&mut refusal)?;
+            REFUSED
+        }
+    };
+    Ok(Ending { status, refusal })
+}
+
+/// Runs the text of a bootstrap over a drive, and writes the manifest through.
+pub(crate) fn run_through<D: Drive, W: Write + Drop>(
+    alloc: Global,
+    text: &[u8],
+    drive: &mut D,
+    writer: &mut W,
+) -> Result<bool, ExtractFault>
+    ensures runs { RunsOver (Some text.now) (D.shows drive.old) (D.shows drive.new) (W.contents writer.old) (W.contents writer.new) result }
+    ensures nothing { IfErr result (WritesNothing (W.contents writer.old) (W.contents writer.new)) }
+{
+    let mut reader = text;
+    let are_files = run_extract(alloc, &mut reader, drive, writer)?;
+    writer.flush()?;
+    Ok(are_files)
+}
+
+/// Tells the operator how a run ended, on standard error. The exit status.
+fn report<R: Eprint + AllocGlobal>(rt: &R, run: Result<bool, ExtractFault>) -> io::Result<u8> {
+    let ending = ending_of(rt.alloc(), &run)?;
+    if let Err(ExtractFault::Io(e)) = run {
+        if e.kind() == ErrorKind::OutOfMemory {
+            return Err(e);
+        }
+        eprintln!(rt; "brestore: standard output: {e}")?;
+    }
+    let refusal = String::from_utf8_lossy(rt.alloc(), &ending.refusal)?;
+    eprint!(rt; "{refusal}")?;
+    Ok(ending.status)
+}
+
+/// Runs the bootstrap in the file `bsr` over the volumes in the folder `volumes`. The manifest goes to standard output, and what is
+/// refused to standard error. The exit status: 0 where nothing was refused and each outcome is a file, 1 where something was
+/// refused or some outcome is not a file, 3 where the bootstrap could not be read or the manifest not be written.
+///
+/// An error for want of memory, or where standard error failed.
+pub(crate) fn extract_files<R: Files + Print + Eprint + AllocGlobal>(
+    rt: &R,
+    bsr: &str,
+    volumes: &str,
+) -> io::Result<u8>
+where
+    R::File: FileExt,
+{
+    let text = match fs::read(rt, bsr) {
+        Ok(text) => text,
+        Err(e) if e.kind() == ErrorKind::OutOfMemory => return Err(e),
+        Err(e) => {
+            eprintln!(rt; "brestore: {bsr}: {e}")?;
+            return Ok(BAD_STREAM);
+        }
+    };
+    let mut drive = FolderDrive::new(rt.alloc(), rt, volumes)?;
+    let mut writer = BufWriter::new(rt.alloc(), io::writer(rt))?;
+    let run = run_through(rt.alloc(), &text, &mut drive, &mut writer);
+    report(rt, run)
+}
