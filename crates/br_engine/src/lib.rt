@@ -5,6 +5,8 @@ mod extracting;
 mod fault;
 mod restoring;
 #[cfg(test)]
+mod session_tests;
+#[cfg(test)]
 mod tests;
 
 pub use extracting::{extract, run_extract};

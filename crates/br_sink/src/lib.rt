@@ -1,13 +1,30 @@
-//! What a restore hands out: the manifest of its files, and their totals.
+//! What a restore hands out: its files, put into a sink, the manifest of them, and their totals.
+//!
+//! `Sink` is the trait of what takes files, `MemSink` a sink over memory and `FolderSink` one over a folder. `deliver` puts the
+//! files of a restore into a sink in their order, and stops at the first of which the path and one put before are in each
+//! other's way.
 #![tactic(auto)]
 
+mod delivery;
+mod fault;
+mod folder_sink;
 mod line;
+mod mem_sink;
 mod report;
+mod sink;
+#[cfg(test)]
+mod sink_tests;
 #[cfg(test)]
 mod tests;
 mod text;
+mod ways;
 mod writing;
 
 pub use br_join::Item;
+pub use delivery::deliver;
+pub use fault::{FolderFault, SinkFault, SinkStop};
+pub use folder_sink::FolderSink;
+pub use mem_sink::MemSink;
 pub use report::{Report, totals};
+pub use sink::Sink;
 pub use writing::manifest;

@@ -5,14 +5,14 @@ use br_types::{FileIndex, FileKey, Path, SessionKey};
 use std::test::Fail;
 
 /// The key of a file of the session with number 1 and time 100.
-fn key(index: u32) -> Result<FileKey, Fail> {
+pub(crate) fn key(index: u32) -> Result<FileKey, Fail> {
     let session = SessionKey { id: 1, time: 100 };
     let index = FileIndex::new(index).ok_or("an index")?;
     Ok(FileKey { session, index })
 }
 
 /// A file without link text and without bytes.
-fn item(rt: &HostRuntime, path: &[u8], kind: u32, stat: &[u8]) -> Result<Item, Fail> {
+pub(crate) fn item(rt: &HostRuntime, path: &[u8], kind: u32, stat: &[u8]) -> Result<Item, Fail> {
     Ok(Item {
         path: Path::new(rt.alloc(), path)?,
         kind,
@@ -23,7 +23,7 @@ fn item(rt: &HostRuntime, path: &[u8], kind: u32, stat: &[u8]) -> Result<Item, F
     })
 }
 
-fn fault(number: u32, stream: u32) -> Outcome {
+pub(crate) fn fault(number: u32, stream: u32) -> Outcome {
     Outcome::Fault { number, stream }
 }
 

@@ -19,14 +19,14 @@ unsafe impl Send for Count {}
 
 impl Count {
     /// Never so far.
-    pub(crate) fn zero() -> Count
+    pub fn zero() -> Count
         ensures { result.number ≡ 0 }
     {
         Count {}
     }
 
     /// Once more.
-    pub(crate) fn next(&self) -> Count
+    pub fn next(&self) -> Count
         ensures { result.number ≡ self.now.number + 1 }
     {
         Count {}

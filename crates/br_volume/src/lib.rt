@@ -14,6 +14,7 @@ mod mem;
 mod mem_store;
 mod store;
 
+pub use count::Count;
 pub use drive::{Drive, Got};
 pub use fault::{DriveFault, StoreFault};
 pub use folder::FolderDrive;

@@ -1,0 +1,98 @@
+//! Sessions that were written are restored, whatever the order in which their pieces are read.
+use br_attr::Stat;
+use br_bsr::read_bootstrap;
+use br_join::Joiner;
+use br_match::match_piece;
+use br_piece::{Piece, split};
+use br_session::{Place, SavedFile, write_session};
+use br_sink::manifest;
+use br_types::{Path, SessionKey, VolName};
+use br_volume::{MemDrive, MemStore, VolumeStore};
+use std::alloc::Global;
+use std::test::Fail;
+
+/// A session of `message digest` under a path, in blocks of at most 64 bytes: one on the first volume, the others on the second.
+fn write(
+    alloc: Global,
+    store: &mut MemStore,
+    session: SessionKey,
+    path: &[u8],
+    volumes: [(&[u8], u64); 2],
+) -> Result<(), Fail> {
+    let file = SavedFile::new(
+        Path::new(alloc, path)?,
+        3,
+        Stat::read(b"A A IGk B A A A O A A A A A A")?,
+        Vec::new(alloc),
+        Vec::from_slice(alloc, b"message digest")?,
+        false,
+    )?;
+    let [(first, first_start), (last, last_start)] = volumes;
+    let places = [
+        Place {
+            vol: VolName::new(alloc, first)?,
+            blocks: 1,
+        },
+        Place {
+            vol: VolName::new(alloc, last)?,
+            blocks: 0,
+        },
+    ];
+    let starts = [
+        (VolName::new(alloc, first)?, first_start),
+        (VolName::new(alloc, last)?, last_start),
+    ];
+    let written = write_session(alloc, &[file], session, 64, &places, &starts)?;
+    for (vol, block) in &written.blocks {
+        store.append(vol, block)?;
+    }
+    Ok(())
+}
+
+/// The volumes A and B of two sessions that both go over them.
+fn drive(alloc: Global) -> Result<MemDrive, Fail> {
+    let mut store = MemStore::new(alloc);
+    let first = SessionKey { id: 1, time: 100 };
+    write(alloc, &mut store, first, b"/a", [(b"A", 0), (b"B", 0)])?;
+    let second = SessionKey { id: 2, time: 200 };
+    write(alloc, &mut store, second, b"/b", [(b"B", 108), (b"A", 64)])?;
+    Ok(MemDrive::new(store.into_volumes()))
+}
+
+/// The manifest of the pieces, taken in this order.
+fn restored(alloc: Global, pieces: &[Piece], order: &[usize]) -> Result<Vec<u8>, Fail> {
+    let mut drive = drive(alloc)?;
+    let mut joiner = Joiner::new(alloc, pieces, None)?;
+    for place in order {
+        let piece = pieces.get(*place).ok_or("a piece")?;
+        let found = match_piece(alloc, piece, &mut drive)?;
+        if joiner.take(found).is_err() {
+            return Err(Fail::new("a refused piece"));
+        }
+    }
+    if !joiner.ready() {
+        return Err(Fail::new("an open piece"));
+    }
+    let outcomes = joiner.finish()?;
+    Ok(manifest(alloc, &outcomes)?)
+}
+
+const TEXT: &[u8] =
+    b"Volume=A\nVolSessionId=1\nVolume=B\nVolSessionId=1\nVolume=B\nVolSessionId=2\nVolume=A\nVolSessionId=2\n";
+
+const MANIFEST: &[u8] =
+    b"F 1 100 1 3 /a 0,0,33188,1,0,0,0,14,0,0,0,0,0,0 = 14 f96b697d7cb7938d525a2f31aaf161d0\n\
+    F 2 200 1 3 /b 0,0,33188,1,0,0,0,14,0,0,0,0,0,0 = 14 f96b697d7cb7938d525a2f31aaf161d0\ntotal 2 0 0\n";
+
+#[test]
+fn pieces_are_taken_in_any_order(rt: HostRuntime) -> Result<(), Fail> {
+    let alloc = rt.alloc();
+    let bootstrap = read_bootstrap(alloc, TEXT)?;
+    let pieces = split(alloc, &bootstrap)?;
+    assert_eq!(rt; pieces.len(), 2);
+    let text = restored(alloc, &pieces, &[1, 0])?;
+    assert_eq!(rt; text.as_slice(), MANIFEST);
+    let text = restored(alloc, &pieces, &[0, 1, 0])?;
+    assert_eq!(rt; text.as_slice(), MANIFEST);
+    Ok(())
+}

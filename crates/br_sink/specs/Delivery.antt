@@ -1,0 +1,39 @@
+-- What a delivery puts into a sink, and where it stops.
+use Rattle.std.specs.Prelude.{◌≡◌, ◌+◌, ◌<◌, ◌⊎◌, Bool, true, false, ◌==◌, if◌then◌else◌, List, [], length, map, take, filter_map, Option, Some, None, Result, Ok, Err}
+use Rattle.br_model.specs.Name.{FileKey}
+use Rattle.br_model.specs.File as model
+use Rattle.br_model.specs.Delivery.{Stop, item_of, put_behind}
+use Rattle.br_join.specs.Outcome.{restored}
+use Rattle.br_join.specs.declared.item.Outcome.{Outcome}
+use Rattle.br_sink.specs.declared.fault.StopCause.{StopCause}
+use Rattle.br_sink.specs.declared.fault.StopCause.TheVariants.{InTheWay}
+
+-- the files among the outcomes, in their order
+abbrev pub items_in : List (FileKey × Outcome) → List model.Item
+items_in outcomes = filter_map item_of (map restored outcomes)
+
+-- no path of these files is in the way of another
+abbrev pub AreApart : List model.Item → Type 0
+AreApart items = put_behind [] items ≡ Ok tt
+
+-- the stop that the files decide, nothing where memory ran out or the sink failed
+abbrev pub stop_cause : Stop → Option Stop
+stop_cause stop = if stop.number == 81 then Some stop else None
+
+-- whether one file was refused since its path is in the way
+abbrev pub is_in_the_way : Result (Unit {0}) StopCause → Bool
+is_in_the_way (Err InTheWay) = true
+is_in_the_way _ = false
+
+-- the files that are put: all, or those before the stop
+abbrev pub items_put : {A : Type 0} → Result A Stop → List model.Item → List model.Item
+items_put (Ok a) items = items
+items_put (Err stop) items = take stop.done items
+
+-- A stop is at one of the files: for want of memory (1), for a sink that failed (80), or for a path in the way (81). No path
+-- of the files before it is in the way of another, nor is that of the file itself unless the stop is for it.
+pub record IsStopIn (items : List model.Item) (stop : Stop) : Type 0 where
+  pub number : (stop.number ≡ 1) ⊎ (stop.number ≡ 80) ⊎ (stop.number ≡ 81)
+  pub within : stop.done < length items
+  pub before : AreApart (take stop.done items)
+  pub at_it : (stop.number ≡ 81 → ⊥) → AreApart (take (stop.done + 1) items)

@@ -1,0 +1,33 @@
+-- The paths that were put, as two sets: of files, and of the folders on the way of a path.
+use Rattle.std.specs.Prelude.{◌≡◌, ℕ, ◌<◌, Bool, false, not, ◌&&◌, ◌==◌, List, [], ◌∷◌, ◌++◌, take, length, slice_index, bytes_eq}
+use Rattle.std.specs.List.{list_any, starts_with}
+use Rattle.std.specs.BTreeSet.{BTreeSet, contains_by}
+use Rattle.std.specs.Cmp.Lexicographic.{slice_cmp}
+use Rattle.std.specs.Ordering.{nat_cmp}
+use Rattle.br_model.specs.Name.{is_directory}
+use Rattle.br_sink.specs.declared.ways.Ways.{Ways}
+
+-- whether a set has this path, where `bytes` reads a key
+abbrev pub has_path : {K : Type 0} → (K → List ℕ) → BTreeSet K → List ℕ → Bool
+has_path bytes set path = contains_by (λ k. slice_cmp nat_cmp path (bytes k)) set
+
+-- the second path goes on with a slash behind the first
+abbrev pub goes_on_behind : List ℕ → List ℕ → Bool
+goes_on_behind a b = starts_with (λ x y. x == y) b (a ++ 47 ∷ [])
+
+-- the second path is that of a file, and equal to the first
+abbrev pub is_file : List ℕ → List ℕ → Bool
+is_file a b = bytes_eq b a && not (is_directory b)
+
+-- The one set has the paths that are no directories, the other the folders on the way of the paths.
+pub record AreNoted (files : List ℕ → Bool) (folders : List ℕ → Bool) (paths : List (List ℕ)) : Type 0 where
+  pub of_files : (path : List ℕ) → files path ≡ list_any (is_file path) paths
+  pub of_folders : (path : List ℕ) → folders path ≡ list_any (goes_on_behind path) paths
+
+-- the same of the two sets of paths that were put
+abbrev pub Noted : Ways → List (List ℕ) → Type 0
+Noted ways paths = AreNoted (has_path (λ k. k.now) ways.files) (has_path (λ k. k.now) ways.folders) paths
+
+-- none of the paths is in the set in front of a slash of this path
+abbrev pub HasNoFront : (List ℕ → Bool) → List ℕ → Type 0
+HasNoFront files path = (i : ℕ) → i < length path → slice_index path i ≡ 47 → files (take i path) ≡ false
