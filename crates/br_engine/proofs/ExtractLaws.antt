@@ -20,20 +20,20 @@ use Rattle.br_engine.specs.Extracting.{extracted, are_files, ExtractsOver, RunsO
 use Rattle.br_engine.specs.declared.fault.ExtractFault.{ExtractFault}
 use Rattle.br_engine.specs.declared.fault.ExtractFault.TheVariants.{Bootstrap, Piece}
 
-pub extracts_files : (earlier later : Option (List Volume)) (before after : Option (List ℕ)) (groups : List Group) (os : Outcomes) (whole : Bool) → RestoredOver earlier later groups (Ok os)
+pub extracts_files : (earlier later : Option (List Volume)) (before after : Option (List ℕ)) (groups : List Group) (os : Outcomes) (whole : Bool) → RestoredOver earlier later groups None (Ok os)
     → whole ≡ are_files (map restored os.items) → Appends before after (manifest (map restored os.items)) → ExtractsOver earlier later before after groups (Ok whole)
 extracts_files None later before after groups os whole given are written = tt
 extracts_files (Some a) None before after groups os whole given are written = tt
 extracts_files (Some a) (Some b) before after groups os whole given are written = λ volumes stands.
     (map restored os.items, ap (refused_as OfPiece) (given volumes stands), are, written)
 
-pub extracts_refused : (earlier later : Option (List Volume)) (before after : Option (List ℕ)) (groups : List Group) (fault : PieceFault) → RestoredOver earlier later groups (Err fault)
+pub extracts_refused : (earlier later : Option (List Volume)) (before after : Option (List ℕ)) (groups : List Group) (fault : PieceFault) → RestoredOver earlier later groups None (Err fault)
     → ExtractsOver earlier later before after groups (Err (Piece fault))
 extracts_refused None later before after groups fault given = tt
 extracts_refused (Some a) None before after groups fault given = tt
 extracts_refused (Some a) (Some b) before after groups fault given = λ volumes stands. go volumes (piece.cause fault) (given volumes stands)
   where
-    go : (volumes : List Volume) (r : Option model.PieceFault) → IsRefusal r (restored_files groups volumes) → IsRefusal (option_map OfPiece r) (refused_as OfPiece (restored_files groups volumes))
+    go : (volumes : List Volume) (r : Option model.PieceFault) → IsRefusal r (restored_files groups None volumes) → IsRefusal (option_map OfPiece r) (refused_as OfPiece (restored_files groups None volumes))
     go volumes None h = tt
     go volumes (Some e) h = rw h refl
 

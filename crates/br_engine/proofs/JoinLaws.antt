@@ -6,7 +6,7 @@ use Rattle.br_model.specs.Volume.{Volume, Extends}
 use Rattle.br_model.specs.Meaning as model
 use Rattle.br_model.specs.Meaning.{Spot, Piece, Hit, Hits, hit_cmp, hit_entry, hits_of, with_hits, hits_on, hits_on_each, pieces_of, meaning}
 use Rattle.br_model.specs.Bootstrap.{Group}
-use Rattle.br_model.specs.Restored.{files}
+use Rattle.br_model.specs.Restored.{Planned, files}
 use Rattle.br_volume.specs.Drive.{OnlyGrows}
 use Rattle.br_match.specs.Fault.{cause}
 use Rattle.br_match.specs.Matching.{IsEnclosed, StandsFor, FoundOver}
@@ -106,25 +106,25 @@ parted_at xs i x lt at =
 
 -- ---- the files of what is joined
 
-pub restored_from : (earlier later : Option (List Volume)) (groups : List Group) (pieces : List Piece) (j : Joining) (os : Outcomes) → pieces ≡ pieces_of groups
-    → JoinedOver earlier later pieces (Ok j) → map restored os.items ≡ files j.hits None → RestoredOver earlier later groups (Ok os)
+pub restored_from : (earlier later : Option (List Volume)) (groups : List Group) (names : Option (List Planned)) (pieces : List Piece) (j : Joining) (os : Outcomes) → pieces ≡ pieces_of groups
+    → JoinedOver earlier later pieces (Ok j) → map restored os.items ≡ files j.hits names → RestoredOver earlier later groups names (Ok os)
 unfolding meaning restored_files
-restored_from None later groups pieces j os are joined e = tt
-restored_from (Some a) None groups pieces j os are joined e = tt
-restored_from (Some a) (Some b) groups pieces j os are joined e = λ volumes stands.
+restored_from None later groups names pieces j os are joined e = tt
+restored_from (Some a) None groups names pieces j os are joined e = tt
+restored_from (Some a) (Some b) groups names pieces j os are joined e = λ volumes stands.
     let set : set_of_each volumes (pieces_of groups) ≡ Ok j.hits =
     subst (λ (ps : List Piece). set_of_each volumes ps ≡ Ok j.hits) are (joined volumes (subst (λ (ps : List Piece). StandsForEach a b ps volumes) (sym are) stands)) in
     rw set (ap Ok (sym e))
 
-pub restored_refused : (earlier later : Option (List Volume)) (groups : List Group) (pieces : List Piece) (fault : PieceFault) → pieces ≡ pieces_of groups
-    → JoinedOver earlier later pieces (Err fault) → RestoredOver earlier later groups (Err fault)
+pub restored_refused : (earlier later : Option (List Volume)) (groups : List Group) (names : Option (List Planned)) (pieces : List Piece) (fault : PieceFault) → pieces ≡ pieces_of groups
+    → JoinedOver earlier later pieces (Err fault) → RestoredOver earlier later groups names (Err fault)
 unfolding meaning restored_files
-restored_refused None later groups pieces fault are joined = tt
-restored_refused (Some a) None groups pieces fault are joined = tt
-restored_refused (Some a) (Some b) groups pieces fault are joined = λ volumes stands.
+restored_refused None later groups names pieces fault are joined = tt
+restored_refused (Some a) None groups names pieces fault are joined = tt
+restored_refused (Some a) (Some b) groups names pieces fault are joined = λ volumes stands.
     is_refused volumes (cause fault)
     (subst (λ (ps : List Piece). IsRefusal (cause fault) (set_of_each volumes ps)) are (joined volumes (subst (λ (ps : List Piece). StandsForEach a b ps volumes) (sym are) stands)))
   where
-    is_refused : (volumes : List Volume) (r : Option model.PieceFault) → IsRefusal r (set_of_each volumes (pieces_of groups)) → IsRefusal r (restored_files groups volumes)
+    is_refused : (volumes : List Volume) (r : Option model.PieceFault) → IsRefusal r (set_of_each volumes (pieces_of groups)) → IsRefusal r (restored_files groups names volumes)
     is_refused volumes None h = tt
     is_refused volumes (Some r) h = rw h refl

@@ -18,7 +18,7 @@ use Rattle.br_engine.specs.declared.fault.ExtractFault.TheVariants.{Memory, Boot
 unfoldable pub extracted : List ℕ → List Volume → Result (List Restored) Refusal
 extracted text volumes = do
   groups ← refused_as OfLine (read_bootstrap text)
-  refused_as OfPiece (restored_files groups volumes)
+  refused_as OfPiece (restored_files groups None volumes)
 
 -- whether each outcome is a file
 abbrev pub are_files : List Restored → Bool
@@ -41,7 +41,7 @@ WritesNothing before after (Io fault) = ⊤
 abbrev pub ExtractsOver : Option (List Volume) → Option (List Volume) → Option (List ℕ) → Option (List ℕ) → List Group → Result Bool ExtractFault → Type 0
 ExtractsOver (Some earlier) (Some later) before after groups result =
     (volumes : List Volume) → StandsForEach earlier later (pieces_of groups) volumes
-    → Extracts before after result (refused_as OfPiece (restored_files groups volumes))
+    → Extracts before after result (refused_as OfPiece (restored_files groups None volumes))
 ExtractsOver None later before after groups result = ⊤
 ExtractsOver (Some earlier) None before after groups result = ⊤
 

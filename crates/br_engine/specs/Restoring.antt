@@ -8,7 +8,7 @@ use Rattle.br_model.specs.Volume.{Volume, Extends}
 use Rattle.br_model.specs.Bootstrap.{Group}
 use Rattle.br_model.specs.Meaning as model
 use Rattle.br_model.specs.Meaning.{Piece, Hits, hits_on_each, hits_of, pieces_of, meaning}
-use Rattle.br_model.specs.Restored.{Restored, files}
+use Rattle.br_model.specs.Restored.{Planned, Restored, files}
 use Rattle.br_match.specs.Fault.{cause}
 use Rattle.br_match.specs.Matching.{IsEnclosed}
 use Rattle.br_match.specs.declared.fault.PieceFault.{PieceFault}
@@ -36,11 +36,11 @@ JoinedOver (Some earlier) (Some later) pieces result =
 JoinedOver None later pieces result = ⊤
 JoinedOver (Some earlier) None pieces result = ⊤
 
--- the files that a bootstrap gives over volumes, or the first fault of a piece
-unfoldable pub restored_files : List Group → List Volume → Result (List Restored) model.PieceFault
-restored_files groups volumes = do
+-- the files that a bootstrap gives over volumes, the planned ones where there is a plan; or the first fault of a piece
+unfoldable pub restored_files : List Group → Option (List Planned) → List Volume → Result (List Restored) model.PieceFault
+restored_files groups names volumes = do
   set ← meaning groups volumes
-  Ok (files set None)
+  Ok (files set names)
 
 -- the outcomes of a restore, each beside its key
 abbrev pub Outcomes : Type 0
@@ -48,9 +48,9 @@ Outcomes = Vec (FileKey × Outcome) Global
 
 -- where the drive tells its volumes, the outcomes are the files that the bootstrap gives over all volumes that it may be taken
 -- to show, or the refusal is the first fault; a drive may fail, and memory run out, at any time
-abbrev pub RestoredOver : Option (List Volume) → Option (List Volume) → List Group → Result Outcomes PieceFault → Type 0
-RestoredOver (Some earlier) (Some later) groups result =
+abbrev pub RestoredOver : Option (List Volume) → Option (List Volume) → List Group → Option (List Planned) → Result Outcomes PieceFault → Type 0
+RestoredOver (Some earlier) (Some later) groups names result =
     (volumes : List Volume) → StandsForEach earlier later (pieces_of groups) volumes
-    → Answers (λ (os : Outcomes). map restored os.items) cause result (restored_files groups volumes)
-RestoredOver None later groups result = ⊤
-RestoredOver (Some earlier) None groups result = ⊤
+    → Answers (λ (os : Outcomes). map restored os.items) cause result (restored_files groups names volumes)
+RestoredOver None later groups names result = ⊤
+RestoredOver (Some earlier) None groups names result = ⊤

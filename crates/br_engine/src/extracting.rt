@@ -31,7 +31,7 @@ fn all_outcomes(outcomes: &[(FileKey, Outcome)]) -> bool
 }
 
 /// Whether each outcome is a file.
-fn all_files(outcomes: &[(FileKey, Outcome)]) -> bool
+pub fn all_files(outcomes: &[(FileKey, Outcome)]) -> bool
     ensures { result ≡ are_files (map restored outcomes.now) }
 {
     all_outcomes(outcomes)
@@ -76,7 +76,7 @@ pub fn extract<D: Drive, W: Write>(
     ensures counted { D.failures drive.old ≤ D.failures drive.new }
     ensures failed { IfErr result (λ fault. fault_number fault ≡ Some 13 → D.failures drive.old < D.failures drive.new) }
 {
-    let outcomes = restore(alloc, bootstrap, drive)?;
+    let outcomes = restore(alloc, bootstrap, None, drive)?;
     let text = manifest(alloc, &outcomes)?;
     writer.write_all(&text)?;
     Ok(all_files(&outcomes))

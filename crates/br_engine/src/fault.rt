@@ -75,8 +75,10 @@ fn push_refused(text: &mut Vec<u8>, number: u32) -> Result<(), AllocError>
     push_number(text, u64::from(number))
 }
 
-/// Writes `refused N`.
-fn push_refused_line(text: &mut Vec<u8>, number: u32) -> Result<(), AllocError>
+/// Writes the line `refused N`.
+///
+/// Where memory is short, a part of the line may stand there.
+pub fn push_refused_line(text: &mut Vec<u8>, number: u32) -> Result<(), AllocError>
     ensures { OnOk result (text.new.items ≡ text.old.items ++ refused_line number) }
 {
     push_refused(text, number)?;
@@ -113,8 +115,11 @@ fn push_block_line(text: &mut Vec<u8>, number: u32, vol: &[u8], addr: u64) -> Re
     Ok(())
 }
 
-/// Writes `refused N VOLUME ADDRESS`, or `refused 1` for want of memory.
-fn push_piece_line(text: &mut Vec<u8>, fault: &PieceFault) -> Result<(), AllocError>
+/// Writes the line of a piece that was refused: `refused N VOLUME ADDRESS` with the volume escaped, or `refused 1` for want of
+/// memory.
+///
+/// Where memory is short, a part of the line may stand there.
+pub fn push_piece_line(text: &mut Vec<u8>, fault: &PieceFault) -> Result<(), AllocError>
     ensures { OnOk result (text.new.items ≡ text.old.items ++ piece_text fault.now) }
 {
     match fault {

@@ -9,6 +9,6 @@ mod session_tests;
 #[cfg(test)]
 mod tests;
 
-pub use extracting::{extract, run_extract};
-pub use fault::ExtractFault;
+pub use extracting::{all_files, extract, run_extract};
+pub use fault::{ExtractFault, push_piece_line, push_refused_line};
 pub use restoring::restore;

@@ -1,4 +1,5 @@
-ghost use Rattle.std.specs.Prelude.{◌≡◌, ◌<◌, ◌≤◌, true, None, IfOk, IfErr};
+ghost use Rattle.std.specs.Prelude.{◌≡◌, ◌<◌, ◌≤◌, true, option_map, IfOk, IfErr};
+ghost use Rattle.br_model.specs.Restored.{planned_in};
 ghost use Rattle.br_match.specs.Fault.{fault_number};
 ghost use Rattle.br_match.specs.declared.fault.PieceFault.TheVariants.{Memory};
 ghost use Rattle.br_join.specs.declared.fault.JoinFault.TheVariants.{StrangerPiece};
@@ -10,7 +11,7 @@ use br_bsr::Bootstrap;
 use br_join::{JoinFault, Joiner, Outcome};
 use br_match::{PieceFault, match_piece};
 use br_piece::{Piece, split};
-use br_types::FileKey;
+use br_types::{FileKey, Names};
 use br_volume::Drive;
 use std::alloc::Global;
 
@@ -26,15 +27,20 @@ fn want_of_memory(fault: JoinFault) -> PieceFault
 }
 
 /// What a drive finds of each piece, one piece after the other, joined; or the first refusal.
-fn joined<D: Drive>(alloc: Global, pieces: &[Piece], drive: &mut D) -> Result<Joiner, PieceFault>
+fn joined<D: Drive>(
+    alloc: Global,
+    pieces: &[Piece],
+    names: Option<Names>,
+    drive: &mut D,
+) -> Result<Joiner, PieceFault>
     ensures ready { IfOk result (λ joiner. is_ready joiner ≡ true) }
-    ensures unplanned { IfOk result (λ joiner. joiner.names ≡ None) }
+    ensures planned { IfOk result (λ joiner. joiner.names ≡ names) }
     ensures hits { JoinedOver (D.shows drive.old) (D.shows drive.new) pieces.now result }
     ensures grows { OnlyGrows (D.shows drive.old) (D.shows drive.new) }
     ensures counted { D.failures drive.old ≤ D.failures drive.new }
     ensures failed { IfErr result (λ fault. fault_number fault ≡ 13 → D.failures drive.old < D.failures drive.new) }
 {
-    let Ok(mut joiner) = Joiner::new(alloc, pieces, None) else {
+    let Ok(mut joiner) = Joiner::new(alloc, pieces, names) else {
         return Err(PieceFault::Memory);
     };
     for piece in pieces {
@@ -46,17 +52,19 @@ fn joined<D: Drive>(alloc: Global, pieces: &[Piece], drive: &mut D) -> Result<Jo
     Ok(joiner)
 }
 
-/// The files that a bootstrap asks for, read by one drive: for each file key that was hit its outcome, in order of the keys.
-/// The volumes are read one after the other, in the order in which the bootstrap first names them.
+/// The files that a bootstrap asks for, read by one drive, each with its outcome, in order of the file keys: those that were
+/// planned under names, else each that was hit. A planned file of which nothing was hit is a fault of its own (63), and so is one
+/// of another path (69). The volumes are read one after the other, in the order in which the bootstrap first names them.
 ///
 /// The refusal is that of the first volume that can't be read: `UnknownVolume`, or `Truncated`, `BadId` or `BadBlockSize` at a
 /// block; `DriveFault` where the drive failed. `Memory` where memory ran out.
 pub fn restore<D: Drive>(
     alloc: Global,
     bootstrap: &Bootstrap,
+    names: Option<Names>,
     drive: &mut D,
 ) -> Result<Vec<(FileKey, Outcome)>, PieceFault>
-    ensures files { RestoredOver (D.shows drive.old) (D.shows drive.new) bootstrap.now result }
+    ensures files { RestoredOver (D.shows drive.old) (D.shows drive.new) bootstrap.now (option_map planned_in names) result }
     ensures grows { OnlyGrows (D.shows drive.old) (D.shows drive.new) }
     ensures counted { D.failures drive.old ≤ D.failures drive.new }
     ensures failed { IfErr result (λ fault. fault_number fault ≡ 13 → D.failures drive.old < D.failures drive.new) }
@@ -64,7 +72,7 @@ pub fn restore<D: Drive>(
     let Ok(pieces) = split(alloc, bootstrap) else {
         return Err(PieceFault::Memory);
     };
-    let mut joiner = joined(alloc, &pieces, drive)?;
+    let mut joiner = joined(alloc, &pieces, names, drive)?;
     match joiner.finish() {
         Ok(outcomes) => Ok(outcomes),
         Err(_) => Err(PieceFault::Memory),

@@ -30,7 +30,7 @@ fn bootstrap(rt: &HostRuntime, text: &[u8]) -> Result<Bootstrap, Fail> {
 #[test]
 fn a_file_is_restored(rt: HostRuntime) -> Result<(), Fail> {
     let bootstrap = bootstrap(&rt, b"Volume=V1\nFileIndex=1\n")?;
-    let outcomes = restore(rt.alloc(), &bootstrap, &mut drive(&rt)?)?;
+    let outcomes = restore(rt.alloc(), &bootstrap, None, &mut drive(&rt)?)?;
     assert_eq!(rt; outcomes.len(), 1);
     let (key, outcome) = &outcomes[0];
     assert_eq!(rt;
@@ -50,7 +50,7 @@ fn a_file_is_restored(rt: HostRuntime) -> Result<(), Fail> {
 #[test]
 fn a_restore_stops_at_the_first_piece_that_is_refused(rt: HostRuntime) -> Result<(), Fail> {
     let bootstrap = bootstrap(&rt, b"Volume=V1\nVolume=Q\nVolume=P\n")?;
-    let fault = restore(rt.alloc(), &bootstrap, &mut drive(&rt)?)
+    let fault = restore(rt.alloc(), &bootstrap, None, &mut drive(&rt)?)
         .err()
         .ok_or("a refusal")?;
     let mut line = Vec::new(rt.alloc());

@@ -22,19 +22,47 @@ fn record(alloc: Global, stream: u32, bytes: &[u8]) -> Result<Record, Fail>
     })
 }
 
-/// Whether a block of the session has this number, this size and just one fragment of file 1, of this stream, size and number of
-/// bytes.
-fn has_one(bytes: &[u8], number: u32, len: u32, stream: i32, size: u32, count: usize) -> bool {
-    let Ok(block) = Block::read(bytes) else {
-        return false;
-    };
+/// The blocks of one record of stream 2.
+fn packed(alloc: Global, bytes: &[u8]) -> Result<Vec<Vec<u8>>, Fail>
+    requires size { length bytes.now < 2 ^ 32 }
+{
+    let record = record(alloc, 2, bytes)?;
+    Ok(pack(alloc, &[record], SESSION, 64)?)
+}
+
+/// The blocks of two records: of this stream and of the next.
+fn packed_two(
+    alloc: Global,
+    stream: u32,
+    first: &[u8],
+    second: &[u8],
+    limit: u32,
+) -> Result<Vec<Vec<u8>>, Fail>
+    requires stream_from { 1 ≤ stream }
+    requires stream_to { stream < 1000 }
+    requires first { length first.now < 2 ^ 32 }
+    requires second { length second.now < 2 ^ 32 }
+    requires least { 64 ≤ limit }
+    requires most { limit ≤ 64512 }
+{
+    let records = [
+        record(alloc, stream, first)?,
+        record(alloc, stream + 1, second)?,
+    ];
+    Ok(pack(alloc, &records, SESSION, limit)?)
+}
+
+/// Whether a block of the session has this number and size and just one fragment.
+fn has_head(block: &Block<'_>, number: u32, len: u32) -> bool {
     let head = block.head();
-    if head.session != SESSION || head.number != number || head.size != len {
-        return false;
-    }
-    if bytes.len() != len as usize || block.fragments().count() != 1 {
-        return false;
-    }
+    head.session == SESSION
+        && head.number == number
+        && head.size == len
+        && block.fragments().count() == 1
+}
+
+/// Whether a block's fragments are all of file 1, of this stream, size and number of bytes.
+fn has_fragment(block: &Block<'_>, stream: i32, size: u32, count: usize) -> bool {
     block.fragments().all(|fragment| {
         fragment.index == 1
             && fragment.stream == stream
@@ -43,80 +71,104 @@ fn has_one(bytes: &[u8], number: u32, len: u32, stream: i32, size: u32, count: u
     })
 }
 
+/// Whether a block of the session has this number, this size and just one fragment of file 1, of this stream, size and number of
+/// bytes.
+fn has_one(bytes: &[u8], number: u32, len: u32, stream: i32, size: u32, count: usize) -> bool {
+    match Block::read(bytes) {
+        Ok(block) => {
+            bytes.len() == len as usize
+                && has_head(&block, number, len)
+                && has_fragment(&block, stream, size, count)
+        }
+        Err(_) => false,
+    }
+}
+
+/// Whether the blocks are those of a record of 100 bytes.
+fn are_four(blocks: &[Vec<u8>]) -> bool {
+    match blocks {
+        [a, b, c, d] => {
+            has_one(a, 0, 64, 2, 100, 28)
+                && has_one(b, 1, 64, -2, 72, 28)
+                && has_one(c, 2, 64, -2, 44, 28)
+                && has_one(d, 3, 52, -2, 16, 16)
+        }
+        _ => false,
+    }
+}
+
 #[test]
 fn a_long_record_goes_on_from_block_to_block(rt: HostRuntime) -> Result<(), Fail> {
-    let blocks = pack(
-        rt.alloc(),
-        &[record(rt.alloc(), 2, &[b'x'; 100])?],
-        SESSION,
-        64,
-    )?;
-    assert_eq!(rt; blocks.len(), 4);
-    assert!(rt; has_one(&blocks[0], 0, 64, 2, 100, 28));
-    assert!(rt; has_one(&blocks[1], 1, 64, -2, 72, 28));
-    assert!(rt; has_one(&blocks[2], 2, 64, -2, 44, 28));
-    assert!(rt; has_one(&blocks[3], 3, 52, -2, 16, 16));
+    let blocks = packed(rt.alloc(), &[b'x'; 100])?;
+    assert!(rt; are_four(&blocks));
     Ok(())
+}
+
+/// Whether the blocks are one of a record of 16 bytes and one of a record of a byte.
+fn are_two(blocks: &[Vec<u8>]) -> bool {
+    match blocks {
+        [a, b] => has_one(a, 0, 52, 2, 16, 16) && has_one(b, 1, 37, 3, 1, 1),
+        _ => false,
+    }
 }
 
 #[test]
 fn a_record_begins_where_a_byte_of_it_fits(rt: HostRuntime) -> Result<(), Fail> {
     // The first record leaves 12 bytes.
-    let records = [
-        record(rt.alloc(), 2, b"0123456789abcdef")?,
-        record(rt.alloc(), 3, b"x")?,
-    ];
-    let blocks = pack(rt.alloc(), &records, SESSION, 64)?;
-    assert_eq!(rt; blocks.len(), 2);
-    assert!(rt; has_one(&blocks[0], 0, 52, 2, 16, 16));
-    assert!(rt; has_one(&blocks[1], 1, 37, 3, 1, 1));
+    let blocks = packed_two(rt.alloc(), 2, b"0123456789abcdef", b"x", 64)?;
+    assert!(rt; are_two(&blocks));
     Ok(())
+}
+
+/// Whether these bytes are the only block.
+fn is_only(blocks: &[Vec<u8>], wanted: &[u8]) -> bool {
+    match blocks {
+        [block] => block.as_slice() == wanted,
+        _ => false,
+    }
 }
 
 #[test]
 fn a_record_without_data_needs_its_header(rt: HostRuntime) -> Result<(), Fail> {
-    let records = [
-        record(rt.alloc(), 2, b"0123456789abcdef")?,
-        record(rt.alloc(), 3, b"")?,
-    ];
-    let blocks = pack(rt.alloc(), &records, SESSION, 64)?;
-    assert_eq!(rt; blocks.len(), 1);
-    assert_eq!(rt;
-        blocks[0].as_slice(),
-        b"\0\0\0\0\0\0\0\x40\0\0\0\0BB02\0\0\0\x01\0\0\0\x64\0\0\0\x01\0\0\0\x02\0\0\0\x100123456789abcdef\0\0\0\x01\0\0\0\x03\0\0\0\0".as_slice()
+    let blocks = packed_two(rt.alloc(), 2, b"0123456789abcdef", b"", 64)?;
+    assert!(rt;
+        is_only(
+            &blocks,
+            b"\0\0\0\0\0\0\0\x40\0\0\0\0BB02\0\0\0\x01\0\0\0\x64\0\0\0\x01\0\0\0\x02\0\0\0\x100123456789abcdef\0\0\0\x01\0\0\0\x03\0\0\0\0"
+        )
     );
     Ok(())
 }
 
 #[test]
 fn two_records_stand_in_one_block(rt: HostRuntime) -> Result<(), Fail> {
-    let records = [
-        record(rt.alloc(), 1, b"ab")?,
-        record(rt.alloc(), 2, b"hello")?,
-    ];
-    let blocks = pack(rt.alloc(), &records, SESSION, 64_512)?;
-    assert_eq!(rt; blocks.len(), 1);
-    assert_eq!(rt;
-        blocks[0].as_slice(),
-        b"\0\0\0\0\0\0\0\x37\0\0\0\0BB02\0\0\0\x01\0\0\0\x64\0\0\0\x01\0\0\0\x01\0\0\0\x02ab\0\0\0\x01\0\0\0\x02\0\0\0\x05hello".as_slice()
+    let blocks = packed_two(rt.alloc(), 1, b"ab", b"hello", 64_512)?;
+    assert!(rt;
+        is_only(
+            &blocks,
+            b"\0\0\0\0\0\0\0\x37\0\0\0\0BB02\0\0\0\x01\0\0\0\x64\0\0\0\x01\0\0\0\x01\0\0\0\x02ab\0\0\0\x01\0\0\0\x02\0\0\0\x05hello"
+        )
     );
     Ok(())
+}
+
+/// A block of a record of 15 bytes and of the first byte of another one of two bytes.
+const FULL: &[u8] =
+    b"\0\0\0\0\0\0\0\x40\0\0\0\0BB02\0\0\0\x01\0\0\0\x64\0\0\0\x01\0\0\0\x02\0\0\0\x0f0123456789abcde\0\0\0\x01\0\0\0\x03\0\0\0\x02x";
+
+/// Whether the blocks are that one and one with the byte that is left.
+fn are_full_and_left(blocks: &[Vec<u8>]) -> bool {
+    match blocks {
+        [a, b] => a.as_slice() == FULL && has_one(b, 1, 37, -3, 1, 1),
+        _ => false,
+    }
 }
 
 #[test]
 fn one_byte_of_a_record_fits(rt: HostRuntime) -> Result<(), Fail> {
     // The first record leaves 13 bytes.
-    let records = [
-        record(rt.alloc(), 2, b"0123456789abcde")?,
-        record(rt.alloc(), 3, b"xy")?,
-    ];
-    let blocks = pack(rt.alloc(), &records, SESSION, 64)?;
-    assert_eq!(rt; blocks.len(), 2);
-    assert_eq!(rt;
-        blocks[0].as_slice(),
-        b"\0\0\0\0\0\0\0\x40\0\0\0\0BB02\0\0\0\x01\0\0\0\x64\0\0\0\x01\0\0\0\x02\0\0\0\x0f0123456789abcde\0\0\0\x01\0\0\0\x03\0\0\0\x02x".as_slice()
-    );
-    assert!(rt; has_one(&blocks[1], 1, 37, -3, 1, 1));
+    let blocks = packed_two(rt.alloc(), 2, b"0123456789abcde", b"xy", 64)?;
+    assert!(rt; are_full_and_left(&blocks));
     Ok(())
 }
 

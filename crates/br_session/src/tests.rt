@@ -1,4 +1,5 @@
-ghost use Rattle.std.specs.Prelude.{◌≡◌, ◌≤◌, IfOk};
+ghost use Rattle.std.specs.Prelude.{◌≡◌, ◌≤◌, [], IfOk};
+ghost use Rattle.br_session.specs.Outcome.{ArePlaces};
 
 use super::*;
 use br_attr::Stat;
@@ -30,11 +31,27 @@ const FILE: Given<'static> = Given {
     digest: false,
 };
 
-fn made(alloc: Global, given: &Given<'_>) -> Result<Result<SavedFile, SessionFault>, Fail> {
-    let path = Path::new(alloc, given.path)?;
-    let stat = Stat::read(given.numbers)?;
+/// A symbolic link to a.
+const SYMBOLIC: Given<'static> = Given {
+    path: b"/l",
+    kind: 4,
+    numbers: NUMBERS,
+    link: b"a",
+    bytes: b"",
+    digest: true,
+};
+
+/// The link text and the bytes.
+fn contents(alloc: Global, given: &Given<'_>) -> Result<(Vec<u8>, Vec<u8>), AllocError> {
     let link = Vec::from_slice(alloc, given.link)?;
     let bytes = Vec::from_slice(alloc, given.bytes)?;
+    Ok((link, bytes))
+}
+
+fn made(alloc: Global, given: &Given<'_>) -> Result<Result<SavedFile, SessionFault>, Fail> {
+    let stat = Stat::read(given.numbers)?;
+    let path = Path::new(alloc, given.path)?;
+    let (link, bytes) = contents(alloc, given)?;
     Ok(SavedFile::new(path, given.kind, stat, link, bytes, given.digest))
 }
 
@@ -47,10 +64,6 @@ fn refusal(alloc: Global, given: &Given<'_>) -> Result<u32, Fail> {
     Ok(made(alloc, given)?.err().map_or(0, |fault| fault.number()))
 }
 
-fn name(alloc: Global, bytes: &[u8]) -> Result<VolName, Fail> {
-    Ok(VolName::new(alloc, bytes)?)
-}
-
 /// The same byte so many times.
 fn many(alloc: Global, byte: u8, count: usize) -> Result<Vec<u8>, AllocError> {
     let mut bytes = Vec::new(alloc);
@@ -60,35 +73,45 @@ fn many(alloc: Global, byte: u8, count: usize) -> Result<Vec<u8>, AllocError> {
     Ok(bytes)
 }
 
+/// Whether the file has this path, this type and this size.
+fn is_of(file: &SavedFile, path: &[u8], kind: u32, size: i64) -> bool {
+    file.path().bytes() == path && file.kind() == kind && file.stat().size() == size
+}
+
+/// Whether the file has this link text and these bytes.
+fn has(file: &SavedFile, link: &[u8], bytes: &[u8]) -> bool {
+    file.link() == link && file.bytes() == bytes
+}
+
 #[test]
 fn files_have_their_parts(rt: HostRuntime) -> Result<(), Fail> {
     let file = saved(rt.alloc(), &FILE)?;
-    assert_eq!(rt; file.path().bytes(), b"/a".as_slice());
-    assert_eq!(rt; file.kind(), 3);
-    assert_eq!(rt; file.stat().size(), 14);
-    assert_eq!(rt; file.link(), b"".as_slice());
-    assert_eq!(rt; file.bytes(), b"message digest".as_slice());
+    assert!(rt; is_of(&file, b"/a", 3, 14));
+    assert!(rt; has(&file, b"", b"message digest"));
     assert!(rt; !file.digest());
-    let link = Given {
-        path: b"/l",
-        kind: 4,
-        link: b"a",
-        bytes: b"",
-        digest: true,
-        ..FILE
-    };
-    let link = saved(rt.alloc(), &link)?;
-    assert_eq!(rt; link.link(), b"a".as_slice());
+    Ok(())
+}
+
+#[test]
+fn links_have_their_text(rt: HostRuntime) -> Result<(), Fail> {
+    let link = saved(rt.alloc(), &SYMBOLIC)?;
+    assert!(rt; has(&link, b"a", b""));
     assert!(rt; link.digest());
     Ok(())
 }
 
+/// So many bytes 0.
+fn zeros(alloc: Global, count: usize) -> Result<Vec<u8>, AllocError> {
+    let mut bytes = Vec::new(alloc);
+    bytes.resize(count, 0)?;
+    Ok(bytes)
+}
+
 /// The number of the refusal of a file of this type with 2^30 + 1 bytes, 0 where it can be saved.
 fn refusal_of_large(alloc: Global, kind: u32) -> Result<u32, Fail> {
-    let mut bytes = Vec::new(alloc);
-    bytes.resize(1_073_741_825, 0)?;
-    let path = Path::new(alloc, b"/a")?;
     let stat = Stat::read(NUMBERS)?;
+    let path = Path::new(alloc, b"/a")?;
+    let bytes = zeros(alloc, 1_073_741_825)?;
     let file = SavedFile::new(path, kind, stat, Vec::new(alloc), bytes, false);
     Ok(file.err().map_or(0, |fault| fault.number()))
 }
@@ -97,98 +120,72 @@ fn refusal_of_large(alloc: Global, kind: u32) -> Result<u32, Fail> {
 fn large_files_are_refused_before_their_type_is_tested(rt: HostRuntime) -> Result<(), Fail> {
     assert_eq!(rt; refusal_of_large(rt.alloc(), 3)?, 15);
     assert_eq!(rt; refusal_of_large(rt.alloc(), 6)?, 15);
+    assert_eq!(rt; SessionFault::TooLarge.number(), 15);
+    Ok(())
+}
+
+/// The bytes of the file.
+const MESSAGE: &[u8] = b"message digest";
+
+/// The refusal of a file with this path, this type, this link text and these bytes.
+fn refusal_of(
+    alloc: Global,
+    path: &[u8],
+    kind: u32,
+    link: &[u8],
+    bytes: &[u8],
+) -> Result<u32, Fail> {
+    let given = Given {
+        path,
+        kind,
+        numbers: NUMBERS,
+        link,
+        bytes,
+        digest: false,
+    };
+    refusal(alloc, &given)
+}
+
+#[test]
+fn types_are_1_to_5(rt: HostRuntime) -> Result<(), Fail> {
+    assert_eq!(rt; refusal_of(rt.alloc(), b"/a", 0, b"", MESSAGE)?, 17);
+    assert_eq!(rt; refusal_of(rt.alloc(), b"/a", 6, b"", b"")?, 17);
     Ok(())
 }
 
 #[test]
-fn files_that_cannot_be_saved_are_refused(rt: HostRuntime) -> Result<(), Fail> {
-    let long = many(rt.alloc(), b'a', 4096)?;
-    let too_long = many(rt.alloc(), b'a', 4097)?;
-    let given = [
-        (Given { kind: 0, ..FILE }, 17),
-        (
-            Given {
-                kind: 6,
-                bytes: b"",
-                ..FILE
-            },
-            17,
-        ),
-        (
-            Given {
-                kind: 5,
-                bytes: b"",
-                ..FILE
-            },
-            17,
-        ),
-        (
-            Given {
-                kind: 5,
-                bytes: b"",
-                path: b"/a/",
-                ..FILE
-            },
-            0,
-        ),
-        (
-            Given {
-                path: b"/a/",
-                ..FILE
-            },
-            17,
-        ),
-        (Given { kind: 2, ..FILE }, 17),
-        (
-            Given {
-                kind: 2,
-                bytes: b"",
-                ..FILE
-            },
-            0,
-        ),
-        (Given { link: b"b", ..FILE }, 17),
-        (
-            Given {
-                kind: 1,
-                bytes: b"",
-                link: b"b",
-                ..FILE
-            },
-            0,
-        ),
-        (
-            Given {
-                kind: 4,
-                bytes: b"",
-                link: b"b\0",
-                ..FILE
-            },
-            17,
-        ),
-        (
-            Given {
-                kind: 4,
-                bytes: b"",
-                link: &too_long,
-                ..FILE
-            },
-            17,
-        ),
-        (
-            Given {
-                kind: 4,
-                bytes: b"",
-                link: &long,
-                ..FILE
-            },
-            0,
-        ),
-    ];
-    for (place, (file, number)) in given.iter().enumerate() {
-        assert_eq!(rt; refusal(rt.alloc(), file)?, *number, "at {place}");
-    }
-    assert_eq!(rt; SessionFault::TooLarge.number(), 15);
+fn directories_alone_end_in_a_slash(rt: HostRuntime) -> Result<(), Fail> {
+    assert_eq!(rt; refusal_of(rt.alloc(), b"/a", 5, b"", b"")?, 17);
+    assert_eq!(rt; refusal_of(rt.alloc(), b"/a/", 5, b"", b"")?, 0);
+    assert_eq!(rt; refusal_of(rt.alloc(), b"/a/", 3, b"", MESSAGE)?, 17);
+    Ok(())
+}
+
+#[test]
+fn empty_files_have_no_bytes(rt: HostRuntime) -> Result<(), Fail> {
+    assert_eq!(rt; refusal_of(rt.alloc(), b"/a", 2, b"", MESSAGE)?, 17);
+    assert_eq!(rt; refusal_of(rt.alloc(), b"/a", 2, b"", b"")?, 0);
+    Ok(())
+}
+
+#[test]
+fn links_alone_have_a_text(rt: HostRuntime) -> Result<(), Fail> {
+    assert_eq!(rt; refusal_of(rt.alloc(), b"/a", 3, b"b", MESSAGE)?, 17);
+    assert_eq!(rt; refusal_of(rt.alloc(), b"/a", 1, b"b", b"")?, 0);
+    assert_eq!(rt; refusal_of(rt.alloc(), b"/a", 4, b"b\0", b"")?, 17);
+    Ok(())
+}
+
+/// The refusal of a symbolic link with a text of so many bytes.
+fn refusal_of_long(alloc: Global, count: usize) -> Result<u32, Fail> {
+    let text = many(alloc, b'a', count)?;
+    refusal_of(alloc, b"/a", 4, &text, b"")
+}
+
+#[test]
+fn a_link_text_has_at_most_4096_bytes(rt: HostRuntime) -> Result<(), Fail> {
+    assert_eq!(rt; refusal_of_long(rt.alloc(), 4097)?, 17);
+    assert_eq!(rt; refusal_of_long(rt.alloc(), 4096)?, 0);
     Ok(())
 }
 
@@ -203,6 +200,30 @@ fn place(alloc: Global, vol: &[u8], blocks: u32) -> Result<Place, Fail>
     Ok(Place { vol, blocks })
 }
 
+/// Lengths of volumes.
+fn starts_of(alloc: Global, given: &[(&[u8], u64)]) -> Result<Vec<(VolName, u64)>, Fail> {
+    let mut starts = Vec::new(alloc);
+    for (vol, length) in given {
+        starts.push((VolName::new(alloc, vol)?, *length))?;
+    }
+    Ok(starts)
+}
+
+/// What is written of a session to this place.
+fn to_place(
+    alloc: Global,
+    files: &[SavedFile],
+    limit: u32,
+    place: Place,
+    start: u64,
+) -> Result<Result<Written, SessionFault>, Fail>
+    requires least { 64 ≤ limit }
+    requires most { limit ≤ 64512 }
+{
+    let starts = starts_of(alloc, &[(b"V", start)])?;
+    Ok(write_session(alloc, files, session(1, 100), limit, &[place], &starts))
+}
+
 /// What is written of a session to a volume V of this length.
 fn on_one_volume(
     alloc: Global,
@@ -213,9 +234,8 @@ fn on_one_volume(
     requires least { 64 ≤ limit }
     requires most { limit ≤ 64512 }
 {
-    let places = [place(alloc, b"V", 0)?];
-    let starts = [(VolName::new(alloc, b"V")?, start)];
-    Ok(write_session(alloc, files, session(1, 100), limit, &places, &starts))
+    let place = place(alloc, b"V", 0)?;
+    to_place(alloc, files, limit, place, start)
 }
 
 /// The number of the refusal, 0 where the session is written.
@@ -237,38 +257,77 @@ fn is_block(block: &(VolName, Vec<u8>), vol: &[u8], length: usize) -> bool {
     block.0.bytes() == vol && block.1.len() == length
 }
 
+/// What is written of a file of 14 bytes with this path: a block to the first place, and what is left to the second.
+fn dealt_out(
+    alloc: Global,
+    path: &[u8],
+    session: SessionKey,
+    places: &[Place],
+    starts: &[(VolName, u64)],
+) -> Result<Written, Fail>
+    requires places { ArePlaces places.now }
+    requires some_place { places.now ≡ [] → ⊥ }
+{
+    let file = saved_file(alloc, path, MESSAGE, false)?;
+    Ok(write_session(alloc, &[file], session, 64, places, starts)?)
+}
+
+/// The first session: to A and B, which are empty.
+fn first_session(alloc: Global) -> Result<Written, Fail> {
+    let places = [place(alloc, b"A", 1)?, place(alloc, b"B", 0)?];
+    dealt_out(alloc, b"/a", session(1, 100), &places, &[])
+}
+
+/// Whether the blocks are one of A and two of B.
+fn are_blocks_of_first(blocks: &[(VolName, Vec<u8>)]) -> bool {
+    match blocks {
+        [a, b, c] => is_block(a, b"A", 64) && is_block(b, b"B", 64) && is_block(c, b"B", 44),
+        _ => false,
+    }
+}
+
+/// Whether the spans are one of A and one of B.
+fn are_spans_of_first(spans: &[Span]) -> bool {
+    match spans {
+        [a, b] => { is_span(a, b"A", (1, 1), (0, 63), 1) && is_span(b, b"B", (1, 1), (0, 107), 2) }
+        _ => false,
+    }
+}
+
 #[test]
 fn blocks_are_dealt_out(rt: HostRuntime) -> Result<(), Fail> {
-    let alloc = rt.alloc();
-    let places = [place(alloc, b"A", 1)?, place(alloc, b"B", 0)?];
-    let files = [saved(alloc, &FILE)?];
-    let first = write_session(alloc, &files, session(1, 100), 64, &places, &[])?;
-    assert_eq!(rt; first.blocks.len(), 3);
-    assert!(rt; is_block(&first.blocks[0], b"A", 64));
-    assert!(rt; is_block(&first.blocks[1], b"B", 64));
-    assert!(rt; is_block(&first.blocks[2], b"B", 44));
-    assert_eq!(rt; first.spans.len(), 2);
-    assert!(rt; is_span(&first.spans[0], b"A", (1, 1), (0, 63), 1));
-    assert!(rt; is_span(&first.spans[1], b"B", (1, 1), (0, 107), 2));
+    let first = first_session(rt.alloc())?;
+    assert!(rt; are_blocks_of_first(&first.blocks));
+    assert!(rt; are_spans_of_first(&first.spans));
+    Ok(())
+}
 
+/// The second session: to B and A, of the lengths that the first made. Another length of A counts for nothing.
+fn second_session(alloc: Global) -> Result<Written, Fail> {
+    let starts = starts_of(alloc, &[(b"A", 64), (b"B", 108), (b"A", 7)])?;
+    second_to(alloc, &starts)
+}
+
+fn second_to(alloc: Global, starts: &[(VolName, u64)]) -> Result<Written, Fail> {
     let places = [place(alloc, b"B", 1)?, place(alloc, b"A", 0)?];
-    let starts = [
-        (name(alloc, b"A")?, 64),
-        (name(alloc, b"B")?, 108),
-        (name(alloc, b"A")?, 7),
-    ];
-    let files = [saved(
-        alloc,
-        &Given {
-            path: b"/b",
-            ..FILE
-        },
-    )?];
-    let second = write_session(alloc, &files, session(2, 200), 64, &places, &starts)?;
+    dealt_out(alloc, b"/b", session(2, 200), &places, starts)
+}
+
+/// Whether the spans go on behind those of the first session.
+fn are_spans_of_second(spans: &[Span]) -> bool {
+    match spans {
+        [b, a] => {
+            is_span(b, b"B", (1, 1), (108, 171), 1) && is_span(a, b"A", (1, 1), (64, 171), 2)
+        }
+        _ => false,
+    }
+}
+
+#[test]
+fn blocks_are_dealt_out_behind_others(rt: HostRuntime) -> Result<(), Fail> {
+    let second = second_session(rt.alloc())?;
     assert_eq!(rt; second.blocks.len(), 3);
-    assert_eq!(rt; second.spans.len(), 2);
-    assert!(rt; is_span(&second.spans[0], b"B", (1, 1), (108, 171), 1));
-    assert!(rt; is_span(&second.spans[1], b"A", (1, 1), (64, 171), 2));
+    assert!(rt; are_spans_of_second(&second.spans));
     Ok(())
 }
 
@@ -294,16 +353,57 @@ const LINK: Given<'static> = Given {
     digest: true,
 };
 
+/// A file of type 3 with this path, these bytes and 14 as its size.
+fn saved_file(alloc: Global, path: &[u8], bytes: &[u8], digest: bool) -> Result<SavedFile, Fail> {
+    let given = Given {
+        path,
+        kind: 3,
+        numbers: NUMBERS,
+        link: b"",
+        bytes,
+        digest,
+    };
+    saved(alloc, &given)
+}
+
+/// What is written of a file with these bytes to V, which is empty.
+fn file_written(alloc: Global, bytes: &[u8], digest: bool) -> Result<Written, Fail> {
+    let file = saved_file(alloc, b"/a", bytes, digest)?;
+    Ok(on_one_volume(alloc, &[file], 64512, 0)??)
+}
+
+/// Two files.
+fn two_saved(alloc: Global, first: &Given<'_>, second: &Given<'_>) -> Result<[SavedFile; 2], Fail> {
+    Ok([saved(alloc, first)?, saved(alloc, second)?])
+}
+
+/// What is written of two files to V, which is empty.
+fn two_written(alloc: Global, first: &Given<'_>, second: &Given<'_>) -> Result<Written, Fail> {
+    let files = two_saved(alloc, first, second)?;
+    Ok(on_one_volume(alloc, &files, 64512, 0)??)
+}
+
+/// Whether the blocks are the one of the two files, on V.
+fn is_two_files(blocks: &[(VolName, Vec<u8>)]) -> bool {
+    match blocks {
+        [(vol, bytes)] => vol.bytes() == b"V".as_slice() && bytes.as_slice() == TWO_FILES,
+        _ => false,
+    }
+}
+
+/// Whether the spans are one of V: first and last index, first and last byte.
+fn is_one_span(spans: &[Span], files: (u32, u32), bytes: (u64, u64)) -> bool {
+    match spans {
+        [span] => is_span(span, b"V", files, bytes, 1),
+        _ => false,
+    }
+}
+
 #[test]
 fn a_file_and_a_link_are_one_block(rt: HostRuntime) -> Result<(), Fail> {
-    let alloc = rt.alloc();
-    let files = [saved(alloc, &ABC)?, saved(alloc, &LINK)?];
-    let written = on_one_volume(alloc, &files, 64512, 0)??;
-    assert_eq!(rt; written.blocks.len(), 1);
-    assert_eq!(rt; written.blocks[0].0.bytes(), b"V".as_slice());
-    assert_eq!(rt; written.blocks[0].1.as_slice(), TWO_FILES);
-    assert_eq!(rt; written.spans.len(), 1);
-    assert!(rt; is_span(&written.spans[0], b"V", (1, 2), (0, 140), 1));
+    let written = two_written(rt.alloc(), &ABC, &LINK)?;
+    assert!(rt; is_two_files(&written.blocks));
+    assert!(rt; is_one_span(&written.spans, (1, 2), (0, 140)));
     Ok(())
 }
 
@@ -311,113 +411,164 @@ fn a_file_and_a_link_are_one_block(rt: HostRuntime) -> Result<(), Fail> {
 const DIGEST: &[u8] =
     b"\0\0\0\x01\0\0\0\x03\0\0\0\x10\xf9\x6b\x69\x7d\x7c\xb7\x93\x8d\x52\x5a\x2f\x31\xaa\xf1\x61\xd0";
 
+/// Whether the blocks are one of 128 bytes with the digest at its end.
+fn ends_with_digest(blocks: &[(VolName, Vec<u8>)]) -> bool {
+    match blocks {
+        [(_, bytes)] => bytes.len() == 128 && bytes.ends_with(DIGEST),
+        _ => false,
+    }
+}
+
 #[test]
 fn digests_are_written(rt: HostRuntime) -> Result<(), Fail> {
-    let alloc = rt.alloc();
-    let files = [saved(
-        alloc,
-        &Given {
-            digest: true,
-            ..FILE
-        },
-    )?];
-    let written = on_one_volume(alloc, &files, 64512, 0)??;
-    assert_eq!(rt; written.blocks.len(), 1);
-    assert_eq!(rt; written.blocks[0].1.len(), 128);
-    assert!(rt; written.blocks[0].1.ends_with(DIGEST));
+    let written = file_written(rt.alloc(), b"message digest", true)?;
+    assert!(rt; ends_with_digest(&written.blocks));
     Ok(())
+}
+
+/// What is written of a file of 65,537 bytes `a`.
+fn large_written(alloc: Global) -> Result<Written, Fail> {
+    let bytes = many(alloc, b'a', 65_537)?;
+    file_written(alloc, &bytes, false)
+}
+
+/// Whether a full block has the first of the data behind the attributes.
+fn is_full_block(bytes: &[u8]) -> bool {
+    match bytes.get(74..) {
+        Some(data) => {
+            bytes.len() == 64512 && data.starts_with(b"\0\0\0\x01\0\0\0\x02\0\x01\0\0a")
+        }
+        None => false,
+    }
+}
+
+/// Whether a last block has the rest of the data and a record of its last byte.
+fn is_last_block(bytes: &[u8]) -> bool {
+    bytes.len() == 1159 && bytes.ends_with(b"a\0\0\0\x01\0\0\0\x02\0\0\0\x01a")
+}
+
+/// Whether the blocks are a full one and a last one.
+fn are_large(blocks: &[(VolName, Vec<u8>)]) -> bool {
+    match blocks {
+        [(_, full), (_, last)] => is_full_block(full) && is_last_block(last),
+        _ => false,
+    }
 }
 
 #[test]
 fn large_files_have_several_records(rt: HostRuntime) -> Result<(), Fail> {
-    let alloc = rt.alloc();
-    let bytes = many(alloc, b'a', 65_537)?;
-    let files = [saved(
-        alloc,
-        &Given {
-            bytes: &bytes,
-            ..FILE
-        },
-    )?];
-    let written = on_one_volume(alloc, &files, 64512, 0)??;
-    assert_eq!(rt; written.blocks.len(), 2);
-    assert_eq!(rt; written.blocks[0].1.len(), 64512);
-    assert!(rt; written.blocks[0].1[74..].starts_with(b"\0\0\0\x01\0\0\0\x02\0\x01\0\0a"));
-    assert_eq!(rt; written.blocks[1].1.len(), 1159);
-    assert!(rt;
-        written.blocks[1]
-            .1
-            .ends_with(b"a\0\0\0\x01\0\0\0\x02\0\0\0\x01a")
-    );
-    assert_eq!(rt; written.spans.len(), 1);
-    assert!(rt; is_span(&written.spans[0], b"V", (1, 1), (0, 65_670), 1));
+    let written = large_written(rt.alloc())?;
+    assert!(rt; are_large(&written.blocks));
+    assert!(rt; is_one_span(&written.spans, (1, 1), (0, 65_670)));
     Ok(())
 }
 
 #[test]
 fn no_files_need_no_place(rt: HostRuntime) -> Result<(), Fail> {
-    let alloc = rt.alloc();
-    let written = write_session(alloc, &[], session(1, 100), 64, &[], &[])?;
-    assert!(rt; written.blocks.is_empty());
-    assert!(rt; written.spans.is_empty());
-    let written = on_one_volume(alloc, &[], 64, 0)??;
+    let written = write_session(rt.alloc(), &[], session(1, 100), 64, &[], &[])?;
     assert!(rt; written.blocks.is_empty());
     assert!(rt; written.spans.is_empty());
     Ok(())
 }
+
+#[test]
+fn no_files_take_no_place(rt: HostRuntime) -> Result<(), Fail> {
+    let written = on_one_volume(rt.alloc(), &[], 64, 0)??;
+    assert!(rt; written.blocks.is_empty());
+    assert!(rt; written.spans.is_empty());
+    Ok(())
+}
+
+/// The refusal of two files where V has this length, 0 where they are written.
+fn refusal_of_two(
+    alloc: Global,
+    first: &Given<'_>,
+    second: &Given<'_>,
+    start: u64,
+) -> Result<u32, Fail> {
+    let files = two_saved(alloc, first, second)?;
+    order_refusal(alloc, &files, start)
+}
+
+/// A file without bytes, and a directory.
+const EMPTY: Given<'static> = Given {
+    path: b"/x",
+    kind: 2,
+    numbers: b"A A IGk B A A A D A A A A A A",
+    link: b"",
+    bytes: b"",
+    digest: false,
+};
+
+const DIRECTORY: Given<'static> = Given {
+    path: b"/x/",
+    kind: 5,
+    numbers: b"A A IGk B A A A D A A A A A A",
+    link: b"",
+    bytes: b"",
+    digest: false,
+};
 
 #[test]
 fn links_name_earlier_files(rt: HostRuntime) -> Result<(), Fail> {
     let alloc = rt.alloc();
-    let directory = Given {
-        path: b"/x/",
-        kind: 5,
-        bytes: b"",
-        ..ABC
-    };
-    let empty = Given {
-        kind: 2,
-        bytes: b"",
-        ..ABC
-    };
-    let to_none = Given {
-        numbers: NUMBERS,
-        ..LINK
-    };
-    let to_itself = Given {
-        numbers: b"A A A A A A A A A A A A A C",
-        ..LINK
-    };
-    let below_none = Given {
-        numbers: b"A A A A A A A A A A A A A -B",
-        ..LINK
-    };
-    let lists = [
-        (ABC, LINK, 0),
-        (empty, LINK, 0),
-        (LINK, ABC, 16),
-        (ABC, to_itself, 16),
-        (directory, LINK, 16),
-        (ABC, to_none, 16),
-        (ABC, below_none, 16),
-    ];
-    for (number, (first, second, refused)) in lists.iter().enumerate() {
-        let files = [saved(alloc, first)?, saved(alloc, second)?];
-        assert_eq!(rt; order_refusal(alloc, &files, 0)?, *refused, "at {number}");
-    }
+    assert_eq!(rt; refusal_of_two(alloc, &ABC, &LINK, 0)?, 0);
+    assert_eq!(rt; refusal_of_two(alloc, &EMPTY, &LINK, 0)?, 0);
     Ok(())
 }
 
 #[test]
+fn links_name_no_later_file_and_no_directory(rt: HostRuntime) -> Result<(), Fail> {
+    let alloc = rt.alloc();
+    assert_eq!(rt; refusal_of_two(alloc, &LINK, &ABC, 0)?, 16);
+    assert_eq!(rt; refusal_of_two(alloc, &DIRECTORY, &LINK, 0)?, 16);
+    Ok(())
+}
+
+/// The refusal of a file and a link with these numbers.
+fn refusal_of_numbers(alloc: Global, numbers: &[u8]) -> Result<u32, Fail> {
+    let link = Given {
+        path: b"/y",
+        kind: 1,
+        numbers,
+        link: b"/x",
+        bytes: b"",
+        digest: true,
+    };
+    refusal_of_two(alloc, &ABC, &link, 0)
+}
+
+#[test]
+fn links_to_themselves_and_to_no_file_are_refused(rt: HostRuntime) -> Result<(), Fail> {
+    let alloc = rt.alloc();
+    assert_eq!(rt;
+        refusal_of_numbers(alloc, b"A A A A A A A A A A A A A C")?,
+        16
+    );
+    assert_eq!(rt; refusal_of_numbers(alloc, NUMBERS)?, 16);
+    assert_eq!(rt;
+        refusal_of_numbers(alloc, b"A A A A A A A A A A A A A -B")?,
+        16
+    );
+    Ok(())
+}
+
+/// The last byte that a span may have: 2^63 - 2.
+const GREATEST: u64 = 9_223_372_036_854_775_806;
+
+#[test]
 fn spans_end_before_2_63_1(rt: HostRuntime) -> Result<(), Fail> {
     let alloc = rt.alloc();
-    let files = [saved(alloc, &ABC)?, saved(alloc, &LINK)?];
-    let greatest = 9_223_372_036_854_775_806;
-    assert_eq!(rt; order_refusal(alloc, &files, greatest - 140)?, 0);
-    assert_eq!(rt; order_refusal(alloc, &files, greatest - 139)?, 42);
-    assert_eq!(rt; order_refusal(alloc, &files, greatest)?, 42);
-    assert_eq!(rt; order_refusal(alloc, &files, u64::MAX)?, 42);
-    let turned = [saved(alloc, &LINK)?, saved(alloc, &ABC)?];
-    assert_eq!(rt; order_refusal(alloc, &turned, greatest)?, 16);
+    assert_eq!(rt; refusal_of_two(alloc, &ABC, &LINK, GREATEST - 140)?, 0);
+    assert_eq!(rt; refusal_of_two(alloc, &ABC, &LINK, GREATEST - 139)?, 42);
+    Ok(())
+}
+
+#[test]
+fn spans_begin_before_2_63_1(rt: HostRuntime) -> Result<(), Fail> {
+    let alloc = rt.alloc();
+    assert_eq!(rt; refusal_of_two(alloc, &ABC, &LINK, GREATEST)?, 42);
+    assert_eq!(rt; refusal_of_two(alloc, &ABC, &LINK, u64::MAX)?, 42);
+    assert_eq!(rt; refusal_of_two(alloc, &LINK, &ABC, GREATEST)?, 16);
     Ok(())
 }

@@ -1,6 +1,7 @@
 use super::*;
 use crate::folder::read_block;
 use br_types::VolName;
+use std::alloc::Global;
 use std::cell::Cell;
 use std::io::ErrorKind;
 use std::os::unix::fs::FileExt;
@@ -8,20 +9,26 @@ use std::test::Fail;
 use std::{env, fs, io, process};
 
 /// The bytes 0, 1, 2 and on, so many.
-fn counting(rt: &HostRuntime, len: u8) -> Result<Vec<u8>, Fail> {
-    let mut bytes = Vec::new(rt.alloc());
+fn counting(alloc: Global, len: u8) -> Result<Vec<u8>, Fail> {
+    let mut bytes = Vec::new(alloc);
     for byte in 0..len {
         bytes.push(byte)?;
     }
     Ok(bytes)
 }
 
+/// A volume of so many bytes.
+fn volume(alloc: Global, name: &[u8], len: u8) -> Result<(VolName, Vec<u8>), Fail> {
+    let bytes = counting(alloc, len)?;
+    Ok((VolName::new(alloc, name)?, bytes))
+}
+
 /// A volume V of 172 bytes, one E without bytes, and a second V of three bytes.
-fn volumes(rt: &HostRuntime) -> Result<Vec<(VolName, Vec<u8>)>, Fail> {
-    let mut volumes = Vec::new(rt.alloc());
-    volumes.push((VolName::new(rt.alloc(), b"V")?, counting(rt, 172)?))?;
-    volumes.push((VolName::new(rt.alloc(), b"E")?, counting(rt, 0)?))?;
-    volumes.push((VolName::new(rt.alloc(), b"V")?, counting(rt, 3)?))?;
+fn volumes(alloc: Global) -> Result<Vec<(VolName, Vec<u8>)>, Fail> {
+    let mut volumes = Vec::new(alloc);
+    volumes.push(volume(alloc, b"V", 172)?)?;
+    volumes.push(volume(alloc, b"E", 0)?)?;
+    volumes.push(volume(alloc, b"V", 3)?)?;
     Ok(volumes)
 }
 
@@ -36,119 +43,180 @@ fn read(
     drive.block_at(vol, addr, size, buf)
 }
 
+/// A drive over memory, the volume that is read, and what was read last.
+#[derive(Drop)]
+struct OpenDrive {
+    drive: MemDrive,
+    vol: VolName,
+    buf: Vec<u8>,
+}
+
+impl OpenDrive {
+    /// What the drive gives of the volume.
+    fn read(&mut self, addr: u64, size: u32) -> Result<Got, DriveFault> {
+        read(&mut self.drive, &self.vol, addr, size, &mut self.buf)
+    }
+
+    /// Whether the drive gives so many bytes, of which these are the first and the last.
+    fn gives(&mut self, at: (u64, u32), len: u32, ends: (u8, u8)) -> Result<bool, DriveFault> {
+        let got = self.read(at.0, at.1)?;
+        Ok(got == Got::Block(len) && is_run(&self.buf, len as usize, ends))
+    }
+
+    /// Whether the drive says that the volume ends here.
+    fn ends(&mut self, addr: u64) -> Result<bool, DriveFault> {
+        let got = self.read(addr, 24)?;
+        Ok(got == Got::End && self.buf.is_empty())
+    }
+}
+
+/// Whether the bytes are so many, of which these are the first and the last.
+fn is_run(bytes: &[u8], len: usize, ends: (u8, u8)) -> bool {
+    bytes.len() == len
+        && bytes.first().copied() == Some(ends.0)
+        && bytes.last().copied() == Some(ends.1)
+}
+
+/// A drive and the name of a volume, with a buffer that is not empty.
+fn reader_of(alloc: Global, drive: MemDrive, name: &[u8]) -> Result<OpenDrive, Fail> {
+    let vol = VolName::new(alloc, name)?;
+    let buf = Vec::from_slice(alloc, b"what was there before, and is longer than a block")?;
+    Ok(OpenDrive { drive, vol, buf })
+}
+
+/// A drive over the volumes and the name of one.
+fn reader(alloc: Global, name: &[u8]) -> Result<OpenDrive, Fail> {
+    let drive = MemDrive::new(volumes(alloc)?);
+    reader_of(alloc, drive, name)
+}
+
+/// A drive over the volumes that fails from its k-th call on, and V.
+fn failing(alloc: Global, k: u64) -> Result<OpenDrive, Fail> {
+    let drive = MemDrive::failing_from(volumes(alloc)?, k);
+    reader_of(alloc, drive, b"V")
+}
+
+/// Whether a drive gives blocks at the front and at the end of V, whole and cut off.
+fn gives_whole_and_cut(reader: &mut OpenDrive) -> Result<bool, DriveFault> {
+    let front = reader.gives((0, 24), 24, (0, 23))?;
+    let back = reader.gives((148, 24), 24, (148, 171))?;
+    let cut = reader.gives((160, 24), 12, (160, 171))?;
+    Ok(front && back && cut)
+}
+
+/// Whether a drive gives V's last byte, one byte inside, and all but the first.
+fn gives_one_and_all(reader: &mut OpenDrive) -> Result<bool, DriveFault> {
+    let last = reader.gives((171, 24), 1, (171, 171))?;
+    let inside = reader.gives((100, 1), 1, (100, 100))?;
+    let all = reader.gives((1, 4_194_304), 171, (1, 171))?;
+    Ok(last && inside && all)
+}
+
 #[test]
 fn a_block_is_so_many_bytes_or_all_that_are_left(rt: HostRuntime) -> Result<(), Fail> {
-    let mut drive = MemDrive::new(volumes(&rt)?);
-    let vol = VolName::new(rt.alloc(), b"V")?;
-    let mut buf = Vec::from_slice(
-        rt.alloc(),
-        b"what was there before, and is longer than a block",
-    )?;
-    for (addr, size, got, first, last) in [
-        (0, 24, 24, 0, 23),
-        (148, 24, 24, 148, 171),
-        (160, 24, 12, 160, 171),
-        (171, 24, 1, 171, 171),
-        (100, 1, 1, 100, 100),
-        (1, 4_194_304, 171, 1, 171),
-    ] {
-        assert_eq!(rt;
-            read(&mut drive, &vol, addr, size, &mut buf)?,
-            Got::Block(got)
-        );
-        assert_eq!(rt; buf.len(), got as usize, "{size} bytes at {addr}");
-        assert_eq!(rt; buf.first().copied(), Some(first), "{size} bytes at {addr}");
-        assert_eq!(rt; buf.last().copied(), Some(last), "{size} bytes at {addr}");
-    }
+    let mut reader = reader(rt.alloc(), b"V")?;
+    assert!(rt; gives_whole_and_cut(&mut reader)?);
+    assert!(rt; gives_one_and_all(&mut reader)?);
     Ok(())
 }
 
 #[test]
 fn no_bytes_are_asked_for(rt: HostRuntime) -> Result<(), Fail> {
-    let mut drive = MemDrive::new(volumes(&rt)?);
-    let vol = VolName::new(rt.alloc(), b"V")?;
-    let mut buf = counting(&rt, 5)?;
-    assert_eq!(rt; read(&mut drive, &vol, 171, 0, &mut buf)?, Got::Block(0));
-    assert!(rt; buf.is_empty());
-    assert_eq!(rt; read(&mut drive, &vol, 172, 0, &mut buf)?, Got::End);
+    let mut reader = reader(rt.alloc(), b"V")?;
+    assert_eq!(rt; reader.read(171, 0)?, Got::Block(0));
+    assert!(rt; reader.buf.is_empty());
+    assert_eq!(rt; reader.read(172, 0)?, Got::End);
     Ok(())
 }
 
 #[test]
 fn the_end_is_at_the_volumes_length(rt: HostRuntime) -> Result<(), Fail> {
-    let mut drive = MemDrive::new(volumes(&rt)?);
-    for (name, addr) in [
-        (b"V", 172),
-        (b"V", 173),
-        (b"V", 9_223_372_036_854_775_807),
-        (b"V", u64::MAX),
-        (b"E", 0),
-    ] {
-        let vol = VolName::new(rt.alloc(), name)?;
-        let mut buf = counting(&rt, 5)?;
-        assert_eq!(rt;
-            read(&mut drive, &vol, addr, 24, &mut buf)?,
-            Got::End,
-            "at {addr}"
-        );
-        assert!(rt; buf.is_empty());
-    }
+    let mut reader = reader(rt.alloc(), b"V")?;
+    assert!(rt; reader.ends(172)?);
+    assert!(rt; reader.ends(173)?);
+    Ok(())
+}
+
+#[test]
+fn far_behind_the_end_is_the_end(rt: HostRuntime) -> Result<(), Fail> {
+    let mut reader = reader(rt.alloc(), b"V")?;
+    assert!(rt; reader.ends(9_223_372_036_854_775_807)?);
+    assert!(rt; reader.ends(u64::MAX)?);
+    Ok(())
+}
+
+#[test]
+fn a_volume_without_bytes_ends_at_once(rt: HostRuntime) -> Result<(), Fail> {
+    let mut reader = reader(rt.alloc(), b"E")?;
+    assert!(rt; reader.ends(0)?);
     Ok(())
 }
 
 #[test]
 fn a_volume_that_is_not_there_is_refused(rt: HostRuntime) -> Result<(), Fail> {
-    let mut drive = MemDrive::new(volumes(&rt)?);
-    let mut buf = Vec::new(rt.alloc());
-    let vol = VolName::new(rt.alloc(), b"v")?;
-    let fault = read(&mut drive, &vol, 0, 24, &mut buf)
-        .err()
-        .ok_or("a fault")?;
+    let mut reader = reader(rt.alloc(), b"v")?;
+    let fault = reader.read(0, 24).err().ok_or("a fault")?;
     assert_eq!(rt; fault, DriveFault::UnknownVolume);
     assert_eq!(rt; fault.number(), 14);
     assert_eq!(rt; DriveFault::Memory.number(), 1);
     Ok(())
 }
 
+/// What a drive gives of a volume that is not there.
+fn unknown(alloc: Global, reader: &mut OpenDrive) -> Result<Result<Got, DriveFault>, Fail> {
+    let vol = VolName::new(alloc, b"v")?;
+    Ok(read(&mut reader.drive, &vol, 0, 24, &mut reader.buf))
+}
+
+/// Whether a drive fails three times.
+fn fails_on(reader: &mut OpenDrive) -> bool {
+    let first = reader.read(0, 24);
+    let second = reader.read(0, 24);
+    let third = reader.read(0, 24);
+    [first, second, third] == [Err(DriveFault::Fault); 3]
+}
+
 #[test]
 fn a_failing_drive_fails_from_its_kth_call_for_ever(rt: HostRuntime) -> Result<(), Fail> {
-    let vol = VolName::new(rt.alloc(), b"V")?;
-    let unknown = VolName::new(rt.alloc(), b"v")?;
-    let mut buf = Vec::new(rt.alloc());
-    let mut drive = MemDrive::failing_from(volumes(&rt)?, 3);
-    assert_eq!(rt; read(&mut drive, &vol, 0, 24, &mut buf), Ok(Got::Block(24)));
-    assert_eq!(rt;
-        read(&mut drive, &unknown, 0, 24, &mut buf),
-        Err(DriveFault::UnknownVolume)
-    );
-    for _ in 0..3 {
-        let answer = read(&mut drive, &vol, 0, 24, &mut buf);
-        assert_eq!(rt; answer, Err(DriveFault::Fault));
-    }
-    assert_eq!(rt; DriveFault::Fault.number(), 13);
+    let mut reader = failing(rt.alloc(), 3)?;
+    assert_eq!(rt; reader.read(0, 24), Ok(Got::Block(24)));
+    let unknown = unknown(rt.alloc(), &mut reader)?;
+    assert_eq!(rt; unknown, Err(DriveFault::UnknownVolume));
+    assert!(rt; fails_on(&mut reader));
     Ok(())
+}
+
+/// What the first call of a drive gives that fails from its k-th on.
+fn first_of_failing(alloc: Global, k: u64) -> Result<Result<Got, DriveFault>, Fail> {
+    let mut reader = failing(alloc, k)?;
+    Ok(reader.read(0, 24))
 }
 
 #[test]
 fn a_failing_drive_may_fail_from_its_first_call(rt: HostRuntime) -> Result<(), Fail> {
-    let vol = VolName::new(rt.alloc(), b"V")?;
-    let mut buf = Vec::new(rt.alloc());
-    for k in [0, 1] {
-        let mut drive = MemDrive::failing_from(volumes(&rt)?, k);
-        let answer = read(&mut drive, &vol, 0, 24, &mut buf);
-        assert_eq!(rt; answer, Err(DriveFault::Fault));
-    }
+    assert_eq!(rt; first_of_failing(rt.alloc(), 0)?, Err(DriveFault::Fault));
+    assert_eq!(rt; first_of_failing(rt.alloc(), 1)?, Err(DriveFault::Fault));
+    assert_eq!(rt; DriveFault::Fault.number(), 13);
     Ok(())
+}
+
+/// Whether a volume has this name and so many bytes.
+fn is_volume(volume: &(VolName, Vec<u8>), name: &[u8], len: usize) -> bool {
+    volume.0.bytes() == name && volume.1.len() == len
+}
+
+/// Whether these are the volumes of the tests.
+fn are_volumes(volumes: &[(VolName, Vec<u8>)]) -> bool {
+    match volumes {
+        [a, b, c] => is_volume(a, b"V", 172) && is_volume(b, b"E", 0) && is_volume(c, b"V", 3),
+        _ => false,
+    }
 }
 
 #[test]
 fn a_drive_gives_its_volumes_back(rt: HostRuntime) -> Result<(), Fail> {
-    let volumes = MemDrive::new(volumes(&rt)?).into_volumes();
-    assert_eq!(rt; volumes.len(), 3);
-    for ((name, bytes), (wanted, len)) in volumes.iter().zip([(b"V", 172), (b"E", 0), (b"V", 3)]) {
-        assert_eq!(rt; name.bytes(), wanted.as_slice());
-        assert_eq!(rt; bytes.len(), len);
-    }
+    let volumes = MemDrive::new(volumes(rt.alloc())?).into_volumes();
+    assert!(rt; are_volumes(&volumes));
     Ok(())
 }
 
@@ -161,66 +229,103 @@ fn length(store: &mut impl VolumeStore, vol: &VolName) -> Result<u64, StoreFault
     store.length(vol)
 }
 
+/// Appends to the volume of this name.
+fn append_to(
+    alloc: Global,
+    store: &mut impl VolumeStore,
+    name: &[u8],
+    bytes: &[u8],
+) -> Result<(), Fail> {
+    let vol = VolName::new(alloc, name)?;
+    Ok(append(store, &vol, bytes)?)
+}
+
 /// Appends to V, E and W, and to V again.
-fn fill(rt: &HostRuntime, store: &mut impl VolumeStore) -> Result<(), Fail> {
-    for (name, bytes) in [
-        (b"V", b"abc".as_slice()),
-        (b"E", b"".as_slice()),
-        (b"W", b"x".as_slice()),
-        (b"V", b"de".as_slice()),
-    ] {
-        append(store, &VolName::new(rt.alloc(), name)?, bytes)?;
-    }
-    Ok(())
+fn fill(alloc: Global, store: &mut impl VolumeStore) -> Result<(), Fail> {
+    append_to(alloc, store, b"V", b"abc")?;
+    append_to(alloc, store, b"E", b"")?;
+    append_to(alloc, store, b"W", b"x")?;
+    append_to(alloc, store, b"V", b"de")
+}
+
+/// The length of the volume of this name.
+fn length_of(alloc: Global, store: &mut impl VolumeStore, name: &[u8]) -> Result<u64, Fail> {
+    let vol = VolName::new(alloc, name)?;
+    Ok(length(store, &vol)?)
 }
 
 /// The lengths of V, E, W and v.
-fn lengths(rt: &HostRuntime, store: &mut impl VolumeStore) -> Result<[u64; 4], Fail> {
-    let mut lengths = [0; 4];
-    for (name, slot) in [b"V", b"E", b"W", b"v"].into_iter().zip(&mut lengths) {
-        *slot = length(store, &VolName::new(rt.alloc(), name)?)?;
+fn lengths(alloc: Global, store: &mut impl VolumeStore) -> Result<[u64; 4], Fail> {
+    let v = length_of(alloc, store, b"V")?;
+    let e = length_of(alloc, store, b"E")?;
+    let w = length_of(alloc, store, b"W")?;
+    let unknown = length_of(alloc, store, b"v")?;
+    Ok([v, e, w, unknown])
+}
+
+/// Whether a volume has this name and these bytes.
+fn is_text(volume: &(VolName, Vec<u8>), name: &[u8], text: &[u8]) -> bool {
+    volume.0.bytes() == name && volume.1.as_slice() == text
+}
+
+/// Whether these are the volumes that `fill` makes.
+fn are_filled(volumes: &[(VolName, Vec<u8>)]) -> bool {
+    match volumes {
+        [v, e, w] => is_text(v, b"V", b"abcde") && is_text(e, b"E", b"") && is_text(w, b"W", b"x"),
+        _ => false,
     }
-    Ok(lengths)
 }
 
 #[test]
 fn a_store_over_memory_appends(rt: HostRuntime) -> Result<(), Fail> {
     let mut store = MemStore::new(rt.alloc());
     assert!(rt; store.volumes().is_empty());
-    fill(&rt, &mut store)?;
-    assert_eq!(rt; lengths(&rt, &mut store)?, [5, 0, 1, 0]);
-    let wanted = [
-        (b"V", b"abcde".as_slice()),
-        (b"E", b"".as_slice()),
-        (b"W", b"x".as_slice()),
-    ];
-    assert_eq!(rt; store.volumes().len(), 3);
-    for ((name, bytes), (wanted, text)) in store.volumes().iter().zip(wanted) {
-        assert_eq!(rt; name.bytes(), wanted.as_slice());
-        assert_eq!(rt; bytes.as_slice(), text);
-    }
+    fill(rt.alloc(), &mut store)?;
+    assert_eq!(rt; lengths(rt.alloc(), &mut store)?, [5, 0, 1, 0]);
+    assert!(rt; are_filled(store.volumes()));
     Ok(())
+}
+
+/// A drive over the volumes that `fill` makes, and V.
+fn reader_of_store(alloc: Global) -> Result<OpenDrive, Fail> {
+    let mut store = MemStore::new(alloc);
+    fill(alloc, &mut store)?;
+    reader_of(alloc, MemDrive::new(store.into_volumes()), b"V")
 }
 
 #[test]
 fn a_store_gives_its_volumes_to_a_drive(rt: HostRuntime) -> Result<(), Fail> {
-    let mut store = MemStore::new(rt.alloc());
-    fill(&rt, &mut store)?;
-    let mut drive = MemDrive::new(store.into_volumes());
-    let vol = VolName::new(rt.alloc(), b"V")?;
-    let mut buf = Vec::new(rt.alloc());
-    assert_eq!(rt; read(&mut drive, &vol, 2, 24, &mut buf)?, Got::Block(3));
-    assert_eq!(rt; buf.as_slice(), b"cde".as_slice());
+    let mut reader = reader_of_store(rt.alloc())?;
+    assert_eq!(rt; reader.read(2, 24)?, Got::Block(3));
+    assert_eq!(rt; reader.buf.as_slice(), b"cde".as_slice());
     assert_eq!(rt; StoreFault::VolumeFault.number(), 44);
     Ok(())
 }
 
-/// A new folder for one test.
-fn new_folder(rt: &HostRuntime, name: &str) -> Result<String, Fail> {
+/// The path of a folder for one test.
+fn path_of_folder(rt: &HostRuntime, name: &str) -> Result<String, Fail> {
     let temporary = env::temp_dir(rt)?;
     let id = process::id(rt.process());
-    let folder = format!(in rt.alloc(); "{}/br_volume_{name}_{id}", temporary.display())?;
+    Ok(format!(in rt.alloc(); "{}/br_volume_{name}_{id}", temporary.display())?)
+}
+
+/// A new folder for one test.
+fn new_folder(rt: &HostRuntime, name: &str) -> Result<String, Fail> {
+    let folder = path_of_folder(rt, name)?;
     fs::create_dir(rt, folder.as_str())?;
+    Ok(folder)
+}
+
+/// Appends to V, E and W, and to V again, in a folder.
+fn fill_folder(rt: &HostRuntime, folder: &str) -> Result<(), Fail> {
+    let mut store = FolderStore::new(rt.alloc(), rt, folder)?;
+    fill(rt.alloc(), &mut store)
+}
+
+/// A new folder with the volumes that `fill` makes.
+fn filled_folder(rt: &HostRuntime, name: &str) -> Result<String, Fail> {
+    let folder = new_folder(rt, name)?;
+    fill_folder(rt, folder.as_str())?;
     Ok(folder)
 }
 
@@ -232,144 +337,189 @@ fn holds_file(rt: &HostRuntime, folder: &str, name: &str, wanted: &[u8]) -> Resu
 
 /// Whether the files of V, E and W are what `fill` appended, and an `f` behind the first.
 fn holds_files(rt: &HostRuntime, folder: &str) -> Result<bool, Fail> {
-    Ok(
-        holds_file(rt, folder, "V", b"abcdef")?
-            && holds_file(rt, folder, "E", b"")?
-            && holds_file(rt, folder, "W", b"x")?,
-    )
+    let v = holds_file(rt, folder, "V", b"abcdef")?;
+    let e = holds_file(rt, folder, "E", b"")?;
+    let w = holds_file(rt, folder, "W", b"x")?;
+    Ok(v && e && w)
+}
+
+/// The length of V after an `f` was appended by a store that is new.
+fn length_after_f(rt: &HostRuntime, folder: &str) -> Result<u64, Fail> {
+    let mut again = FolderStore::new(rt.alloc(), rt, folder)?;
+    append_to(rt.alloc(), &mut again, b"V", b"f")?;
+    length_of(rt.alloc(), &mut again, b"V")
 }
 
 #[test]
 fn a_store_over_a_folder_appends(rt: HostRuntime) -> Result<(), Fail> {
-    let folder = new_folder(&rt, "store")?;
-    fill(
-        &rt,
-        &mut FolderStore::new(rt.alloc(), &rt, folder.as_str())?,
-    )?;
-    let mut again = FolderStore::new(rt.alloc(), &rt, folder.as_str())?;
-    let vol = VolName::new(rt.alloc(), b"V")?;
-    append(&mut again, &vol, b"f")?;
-    assert_eq!(rt; length(&mut again, &vol)?, 6);
-    let held = holds_files(&rt, folder.as_str())?;
-    assert!(rt; held);
+    let folder = filled_folder(&rt, "store")?;
+    assert_eq!(rt; length_after_f(&rt, folder.as_str())?, 6);
+    assert!(rt; holds_files(&rt, folder.as_str())?);
     fs::remove_dir_all(&rt, folder.as_str())?;
     Ok(())
+}
+
+/// What a store over this folder answers.
+fn answer_over(rt: &HostRuntime, folder: &str) -> Result<Result<(), StoreFault>, Fail> {
+    let vol = VolName::new(rt.alloc(), b"V")?;
+    let mut store = FolderStore::new(rt.alloc(), rt, folder)?;
+    Ok(append(&mut store, &vol, b"g"))
 }
 
 #[test]
 fn a_store_without_its_folder_refuses(rt: HostRuntime) -> Result<(), Fail> {
     let folder = new_folder(&rt, "nowhere")?;
     fs::remove_dir_all(&rt, folder.as_str())?;
-    let mut store = FolderStore::new(rt.alloc(), &rt, folder.as_str())?;
-    let vol = VolName::new(rt.alloc(), b"V")?;
-    let answer = append(&mut store, &vol, b"g");
+    let answer = answer_over(&rt, folder.as_str())?;
     assert_eq!(rt; answer, Err(StoreFault::VolumeFault));
     Ok(())
 }
 
+/// What a drive gives of the volume of this name.
+fn read_of(
+    alloc: Global,
+    drive: &mut impl Drive,
+    name: &[u8],
+    at: (u64, u32),
+    buf: &mut Vec<u8>,
+) -> Result<Got, Fail> {
+    let vol = VolName::new(alloc, name)?;
+    Ok(read(drive, &vol, at.0, at.1, buf)?)
+}
+
+/// Whether a block of so many bytes was given.
+fn is_block(got: Got, wanted: usize) -> bool {
+    match got {
+        Got::Block(len) => len as usize == wanted,
+        Got::End => false,
+    }
+}
+
 /// Whether a drive gives these bytes of V.
 fn gives_block(
-    rt: &HostRuntime,
+    alloc: Global,
     drive: &mut impl Drive,
     addr: u64,
     size: u32,
     wanted: &[u8],
 ) -> Result<bool, Fail> {
-    let vol = VolName::new(rt.alloc(), b"V")?;
-    let mut buf = counting(rt, 50)?;
-    let is_block = match read(drive, &vol, addr, size, &mut buf)? {
-        Got::Block(len) => len as usize == wanted.len(),
-        Got::End => false,
-    };
-    Ok(is_block && buf.as_slice() == wanted)
+    let mut buf = counting(alloc, 50)?;
+    let got = read_of(alloc, drive, b"V", (addr, size), &mut buf)?;
+    Ok(is_block(got, wanted.len()) && buf.as_slice() == wanted)
 }
 
 /// Whether a drive says that V ends here.
-fn gives_end(rt: &HostRuntime, drive: &mut impl Drive, addr: u64) -> Result<bool, Fail> {
-    let vol = VolName::new(rt.alloc(), b"V")?;
-    let mut buf = counting(rt, 50)?;
-    Ok(read(drive, &vol, addr, 24, &mut buf)? == Got::End && buf.is_empty())
+fn gives_end(alloc: Global, drive: &mut impl Drive, addr: u64) -> Result<bool, Fail> {
+    let mut buf = counting(alloc, 50)?;
+    let got = read_of(alloc, drive, b"V", (addr, 24), &mut buf)?;
+    Ok(got == Got::End && buf.is_empty())
 }
 
 /// Whether a drive gives V, which is `abcde`, at its front and at its end, and where no bytes or very many are asked for.
-fn gives_abcde(rt: &HostRuntime, drive: &mut impl Drive) -> Result<bool, Fail> {
-    Ok(
-        gives_block(rt, drive, 0, 3, b"abc")?
-            && gives_block(rt, drive, 3, 3, b"de")?
-            && gives_block(rt, drive, 1, u32::MAX, b"bcde")?
-            && gives_block(rt, drive, 4, 0, b"")?,
-    )
+fn gives_abcde(alloc: Global, drive: &mut impl Drive) -> Result<bool, Fail> {
+    let front = gives_block(alloc, drive, 0, 3, b"abc")?;
+    let end = gives_block(alloc, drive, 3, 3, b"de")?;
+    let many = gives_block(alloc, drive, 1, u32::MAX, b"bcde")?;
+    let none = gives_block(alloc, drive, 4, 0, b"")?;
+    Ok(front && end && many && none)
 }
 
 /// Whether a drive gives no bytes of V, which has five, at its end and behind it.
-fn gives_five(rt: &HostRuntime, drive: &mut impl Drive) -> Result<bool, Fail> {
-    Ok(
-        gives_end(rt, drive, 5)?
-            && gives_end(rt, drive, 6)?
-            && gives_end(rt, drive, 9_223_372_036_854_775_807)?
-            && gives_end(rt, drive, u64::MAX)?,
-    )
+fn gives_five(alloc: Global, drive: &mut impl Drive) -> Result<bool, Fail> {
+    let end = gives_end(alloc, drive, 5)?;
+    let behind = gives_end(alloc, drive, 6)?;
+    let far = gives_end(alloc, drive, 9_223_372_036_854_775_807)?;
+    let farthest = gives_end(alloc, drive, u64::MAX)?;
+    Ok(end && behind && far && farthest)
+}
+
+/// Whether one drive over a folder gives V and its end.
+fn reads_folder(rt: &HostRuntime, folder: &str) -> Result<bool, Fail> {
+    let mut drive = FolderDrive::new(rt.alloc(), rt, folder)?;
+    let read = gives_abcde(rt.alloc(), &mut drive)?;
+    let ended = gives_five(rt.alloc(), &mut drive)?;
+    Ok(read && ended)
 }
 
 #[test]
 fn a_drive_over_a_folder_reads(rt: HostRuntime) -> Result<(), Fail> {
-    let folder = new_folder(&rt, "drive")?;
-    fill(
-        &rt,
-        &mut FolderStore::new(rt.alloc(), &rt, folder.as_str())?,
-    )?;
-    let mut drive = FolderDrive::new(rt.alloc(), &rt, folder.as_str())?;
-    let read = gives_abcde(&rt, &mut drive)?;
-    let ended = gives_five(&rt, &mut drive)?;
-    assert!(rt; read && ended);
+    let folder = filled_folder(&rt, "drive")?;
+    assert!(rt; reads_folder(&rt, folder.as_str())?);
     fs::remove_dir_all(&rt, folder.as_str())?;
     Ok(())
 }
 
+/// Whether a drive gives these bytes as the first of a volume.
+fn gives_first(
+    alloc: Global,
+    drive: &mut impl Drive,
+    name: &[u8],
+    buf: &mut Vec<u8>,
+    wanted: &[u8],
+) -> Result<bool, Fail> {
+    let got = read_of(alloc, drive, name, (0, 24), buf)?;
+    Ok(got != Got::End && buf.as_slice() == wanted)
+}
+
+/// Whether a drive gives V, W twice, and V again.
+fn gives_each(alloc: Global, drive: &mut impl Drive, buf: &mut Vec<u8>) -> Result<bool, Fail> {
+    let v = gives_first(alloc, drive, b"V", buf, b"abcde")?;
+    let w = gives_first(alloc, drive, b"W", buf, b"x")?;
+    let w_again = gives_first(alloc, drive, b"W", buf, b"x")?;
+    let v_again = gives_first(alloc, drive, b"V", buf, b"abcde")?;
+    Ok(v && w && w_again && v_again)
+}
+
+/// Whether one drive over a folder, with one buffer, goes from volume to volume.
+fn goes_through_folder(rt: &HostRuntime, folder: &str) -> Result<bool, Fail> {
+    let mut drive = FolderDrive::new(rt.alloc(), rt, folder)?;
+    let mut buf = Vec::new(rt.alloc());
+    gives_each(rt.alloc(), &mut drive, &mut buf)
+}
+
 #[test]
 fn a_drive_over_a_folder_goes_from_volume_to_volume(rt: HostRuntime) -> Result<(), Fail> {
-    let folder = new_folder(&rt, "volumes")?;
-    fill(
-        &rt,
-        &mut FolderStore::new(rt.alloc(), &rt, folder.as_str())?,
-    )?;
-    let mut drive = FolderDrive::new(rt.alloc(), &rt, folder.as_str())?;
-    let mut buf = Vec::new(rt.alloc());
-    for (name, wanted) in [
-        (b"V", b"abcde".as_slice()),
-        (b"W", b"x".as_slice()),
-        (b"W", b"x".as_slice()),
-        (b"V", b"abcde".as_slice()),
-    ] {
-        let vol = VolName::new(rt.alloc(), name)?;
-        assert!(rt; read(&mut drive, &vol, 0, 24, &mut buf)? != Got::End);
-        assert_eq!(rt; buf.as_slice(), wanted);
-    }
+    let folder = filled_folder(&rt, "volumes")?;
+    assert!(rt; goes_through_folder(&rt, folder.as_str())?);
     fs::remove_dir_all(&rt, folder.as_str())?;
     Ok(())
 }
 
 /// What a drive answers for the first bytes of a volume.
 fn fault_of(
-    rt: &HostRuntime,
+    alloc: Global,
     drive: &mut impl Drive,
     name: &[u8],
 ) -> Result<Option<DriveFault>, Fail> {
-    let vol = VolName::new(rt.alloc(), name)?;
-    let mut buf = Vec::new(rt.alloc());
+    let vol = VolName::new(alloc, name)?;
+    let mut buf = Vec::new(alloc);
     Ok(read(drive, &vol, 0, 24, &mut buf).err())
+}
+
+/// What one drive over a folder answers for V and for D.
+fn faults_of(rt: &HostRuntime, folder: &str) -> Result<[Option<DriveFault>; 2], Fail> {
+    let mut drive = FolderDrive::new(rt.alloc(), rt, folder)?;
+    let unknown = fault_of(rt.alloc(), &mut drive, b"V")?;
+    let inside = fault_of(rt.alloc(), &mut drive, b"D")?;
+    Ok([unknown, inside])
+}
+
+/// Makes a folder D in a folder.
+fn make_d(rt: &HostRuntime, folder: &str) -> Result<(), Fail> {
+    let path = format!(in rt.alloc(); "{folder}/D")?;
+    fs::create_dir(rt, path.as_str())?;
+    Ok(())
 }
 
 #[test]
 fn a_drive_over_a_folder_refuses(rt: HostRuntime) -> Result<(), Fail> {
     let folder = new_folder(&rt, "refuses")?;
-    let path = format!(in rt.alloc(); "{folder}/D")?;
-    fs::create_dir(&rt, path.as_str())?;
-    let mut drive = FolderDrive::new(rt.alloc(), &rt, folder.as_str())?;
-    let unknown = fault_of(&rt, &mut drive, b"V")?;
-    assert_eq!(rt; unknown, Some(DriveFault::UnknownVolume));
-    let inside = fault_of(&rt, &mut drive, b"D")?;
-    assert_eq!(rt; inside, Some(DriveFault::Fault));
+    make_d(&rt, folder.as_str())?;
+    let faults = faults_of(&rt, folder.as_str())?;
+    assert_eq!(rt;
+        faults,
+        [Some(DriveFault::UnknownVolume), Some(DriveFault::Fault)]
+    );
     fs::remove_dir_all(&rt, folder.as_str())?;
     Ok(())
 }
@@ -405,18 +555,17 @@ impl FileExt for Slow {
     }
 }
 
-#[test]
-fn short_and_interrupted_reads_are_tried_again(rt: HostRuntime) -> Result<(), Fail> {
-    let file = Slow {
-        good: u64::MAX,
+/// Such a file, of which nothing was read yet.
+fn slow_file(good: u64) -> Slow {
+    Slow {
+        good,
         calls: Cell::new(0),
-    };
-    let mut buf = Vec::new(rt.alloc());
-    assert_eq!(rt;
-        read_block(&file, 10, 100_000, &mut buf)?,
-        Got::Block(100_000)
-    );
-    assert_eq!(rt; buf.len(), 100_000);
+    }
+}
+
+/// Whether these are the bytes of the file from address 10 on.
+fn are_from_10(bytes: &[u8]) -> bool {
+    let mut same = bytes.len() == 100_000;
     for (at, byte) in [
         (0, 10),
         (245, 255),
@@ -425,24 +574,48 @@ fn short_and_interrupted_reads_are_tried_again(rt: HostRuntime) -> Result<(), Fa
         (65_536, 10),
         (99_999, 169),
     ] {
-        assert_eq!(rt; buf.get(at).copied(), Some(byte), "at {at}");
+        same = same && bytes.get(at).copied() == Some(byte);
     }
-    assert_eq!(rt; read_block(&file, 199_990, 24, &mut buf)?, Got::Block(10));
-    assert_eq!(rt; read_block(&file, 200_000, 24, &mut buf)?, Got::End);
+    same
+}
+
+#[test]
+fn short_and_interrupted_reads_are_tried_again(rt: HostRuntime) -> Result<(), Fail> {
+    let mut buf = Vec::new(rt.alloc());
+    let got = read_block(&slow_file(u64::MAX), 10, 100_000, &mut buf)?;
+    assert_eq!(rt; got, Got::Block(100_000));
+    assert!(rt; are_from_10(&buf));
     Ok(())
+}
+
+/// What the file gives near its end and at its end, behind a long read.
+fn at_the_end(file: &Slow, buf: &mut Vec<u8>) -> Result<[Got; 3], DriveFault> {
+    let long = read_block(file, 10, 100_000, buf)?;
+    let near = read_block(file, 199_990, 24, buf)?;
+    let end = read_block(file, 200_000, 24, buf)?;
+    Ok([long, near, end])
+}
+
+#[test]
+fn the_end_of_a_file_is_found_by_short_reads(rt: HostRuntime) -> Result<(), Fail> {
+    let mut buf = Vec::new(rt.alloc());
+    let got = at_the_end(&slow_file(u64::MAX), &mut buf)?;
+    assert_eq!(rt; got, [Got::Block(100_000), Got::Block(10), Got::End]);
+    Ok(())
+}
+
+/// What a file gives that fails behind address 70,000, up to there and then farther.
+fn up_to_a_fault(alloc: Global) -> [Result<Got, DriveFault>; 2] {
+    let file = slow_file(70_000);
+    let mut buf = Vec::new(alloc);
+    let good = read_block(&file, 0, 70_000, &mut buf);
+    let bad = read_block(&file, 0, 80_000, &mut buf);
+    [good, bad]
 }
 
 #[test]
 fn a_read_that_fails_in_the_middle_is_a_fault(rt: HostRuntime) -> Result<(), Fail> {
-    let file = Slow {
-        good: 70_000,
-        calls: Cell::new(0),
-    };
-    let mut buf = Vec::new(rt.alloc());
-    assert_eq!(rt; read_block(&file, 0, 70_000, &mut buf)?, Got::Block(70_000));
-    assert_eq!(rt;
-        read_block(&file, 0, 80_000, &mut buf),
-        Err(DriveFault::Fault)
-    );
+    let answers = up_to_a_fault(rt.alloc());
+    assert_eq!(rt; answers, [Ok(Got::Block(70_000)), Err(DriveFault::Fault)]);
     Ok(())
 }

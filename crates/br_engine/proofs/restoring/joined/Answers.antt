@@ -15,7 +15,7 @@ pub loop-piece-init : goal.loop-piece-init
 loop-piece-init g c = (
   joined_none (g.D.Drive.shows c.args.drive.now) c.in-Ok.joiner (ap (λ (j : Joining). j.hits) c.in-Ok.ensures),
   refl,
-  ap (λ (j : Joining). j.names) c.in-Ok.ensures,
+  refl,
   grows_itself (g.D.Drive.shows c.args.drive.now),
   omega arith,
 )

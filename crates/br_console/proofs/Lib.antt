@@ -1,0 +1,2 @@
+pub mod TalkLaws
+pub mod RunLaws

@@ -1,0 +1,50 @@
+-- Why a run of the console broke off, and the line that says so.
+use Rattle.std.specs.Prelude.{ℕ, List, [], Option, Some, None, option_map, ⊤}
+use Rattle.br_model.specs.Text.{refused_line}
+use Rattle.br_model.specs.Meaning as model
+use Rattle.br_match.specs.Fault as piece
+use Rattle.br_plan.specs.Fault as plan
+use Rattle.br_engine.specs.Fault.{piece_text}
+use Rattle.br_console.specs.declared.console_fault.ConsoleFault.{ConsoleFault}
+use Rattle.br_console.specs.declared.console_fault.ConsoleFault.TheVariants.{Memory, Plan, Piece, Io}
+
+-- the number of a refused choice or plan, or the fault of a piece
+pub data Refusal : Type 0 where
+  OfPlan : ℕ → Refusal
+  OfPiece : model.PieceFault → Refusal
+
+-- the refusal that history, lines and volumes decide, nothing for want of memory, a drive that failed, and a fault of reading or
+-- writing
+abbrev pub cause : ConsoleFault → Option Refusal
+cause Memory = None
+cause (Plan fault) = option_map OfPlan (plan.cause fault)
+cause (Piece fault) = option_map OfPiece (piece.cause fault)
+cause (Io fault) = None
+
+-- the number of a refusal; a fault of reading or writing has none
+abbrev pub fault_number : ConsoleFault → Option ℕ
+fault_number Memory = Some 1
+fault_number (Plan fault) = Some (plan.fault_number fault)
+fault_number (Piece fault) = Some (piece.fault_number fault)
+fault_number (Io fault) = None
+
+-- the line of a refusal; a fault of reading or writing has none
+abbrev pub fault_text : ConsoleFault → List ℕ
+fault_text Memory = refused_line 1
+fault_text (Plan fault) = refused_line (plan.fault_number fault)
+fault_text (Piece fault) = piece_text fault
+fault_text (Io fault) = []
+
+-- anything but the fault of a piece
+abbrev pub IsNoPiece : ConsoleFault → Type 0
+IsNoPiece Memory = ⊤
+IsNoPiece (Plan fault) = ⊤
+IsNoPiece (Piece fault) = ⊥
+IsNoPiece (Io fault) = ⊤
+
+-- want of memory, or a fault of reading or writing, which may come at any time
+abbrev pub IsFree : ConsoleFault → Type 0
+IsFree Memory = ⊤
+IsFree (Plan fault) = ⊥
+IsFree (Piece fault) = ⊥
+IsFree (Io fault) = ⊤

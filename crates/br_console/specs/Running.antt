@@ -1,0 +1,201 @@
+-- A run of the console: from a history and the lines of a dialogue to a bootstrap, and over volumes to a manifest; what is written
+-- behind what the writer held, and what is answered or refused.
+use Rattle.std.specs.Prelude.{◌≡◌, ℕ, Bool, true, List, [], ◌++◌, Vec, Option, Some, None, option_map, IfSome, Result, Ok, Err, ⊤}
+use Rattle.std.specs.Global.{Global}
+use Rattle.std.specs.Io.KnownBytes.{Appends, Keeps}
+use Rattle.br_model.specs.Answer.{◌>>=◌, refused_as, IsRefusal}
+use Rattle.br_model.specs.Volume.{Volume}
+use Rattle.br_model.specs.Bootstrap.{canonical}
+use Rattle.br_model.specs.Meaning as model
+use Rattle.br_model.specs.Meaning.{pieces_of}
+use Rattle.br_model.specs.Restored.{Restored}
+use Rattle.br_model.specs.Manifest.{manifest}
+use Rattle.br_model.specs.Job.{JobRows}
+use Rattle.br_model.specs.Choice.{Request, choose}
+use Rattle.br_model.specs.View.{view_of}
+use Rattle.br_model.specs.Console.{at_start, console_lines, dialogue, marks_at_done}
+use Rattle.br_model.specs.Plan.{Plan, plan_of}
+use Rattle.br_plan.specs.Fault as plan
+use Rattle.br_mark.specs.Seen.{Situation}
+use Rattle.br_engine.specs.Restoring.{StandsForEach, restored_files}
+use Rattle.br_engine.specs.Extracting.{are_files}
+use Rattle.br_console.specs.Fault.{Refusal, OfPlan, OfPiece, cause}
+use Rattle.br_console.specs.Talking.{are_answered}
+use Rattle.br_console.specs.declared.console_fault.ConsoleFault.{ConsoleFault}
+use Rattle.br_console.specs.declared.console_fault.ConsoleFault.TheVariants as fault
+use Rattle.br_console.specs.declared.running.ConsoleRun.{ConsoleRun}
+
+-- ---- what stands before a drive is asked
+
+-- the console over the view of the chosen jobs, at the root and without marks; or the refusal of the choice
+unfoldable pub opening : List JobRows → Request → Result Situation ℕ
+opening history q = do
+  jobs ← choose history q
+  Ok (record { view = view_of jobs; state = at_start })
+
+-- what is written before a drive is asked, whether no line was refused, and the plan, where the dialogue ended by `done`
+pub record Begun : Type 0 where
+  pub text : List ℕ
+  pub is_clean : Bool
+  pub plan : Result (Option Plan) ℕ
+
+-- behind a dialogue that ended by `done` the bootstrap of the plan, unless the plan is refused
+abbrev pub with_plan : List ℕ → Bool → Result Plan ℕ → Begun
+with_plan text clean (Ok plan) = record { text = text ++ canonical plan.groups; is_clean = clean; plan = Ok (Some plan) }
+with_plan text clean (Err n) = record { text = text; is_clean = clean; plan = Err n }
+
+-- behind a dialogue with these marks at its `done`, if there is one
+abbrev pub with_marks : List JobRows → Request → List ℕ → Bool → Option (List (List ℕ)) → Begun
+with_marks history q text clean None = record { text = text; is_clean = clean; plan = Ok None }
+with_marks history q text clean (Some marks) = with_plan text clean (plan_of history q marks)
+
+-- the dialogue of these lines with the console, unless the choice is refused
+abbrev pub with_console : List JobRows → Request → List (List ℕ) → Result Situation ℕ → Begun
+with_console history q lines (Ok s) =
+    with_marks history q (dialogue s.view s.state lines) (are_answered s.view s.state lines) (marks_at_done s.view s.state lines)
+with_console history q lines (Err n) = record { text = []; is_clean = true; plan = Err n }
+
+-- what stands before a drive is asked, for the lines of a text
+unfoldable pub begun : List JobRows → Request → List ℕ → Begun
+begun history q text = with_console history q (console_lines text) (opening history q)
+
+-- ---- the whole of a run
+
+-- what is written, and what is answered or refused
+pub record Run : Type 0 where
+  pub text : List ℕ
+  pub answer : Result ConsoleRun Refusal
+
+-- behind what was written the manifest of the files, or the fault of a piece and nothing more
+abbrev pub with_files : List ℕ → Bool → Result (List Restored) model.PieceFault → Run
+with_files text clean (Ok rs) = record { text = text ++ manifest rs; answer = Ok (record { is_clean = clean; restored = Some (are_files rs) }) }
+with_files text clean (Err why) = record { text = text; answer = Err (OfPiece why) }
+
+-- over volumes the files that were planned, under their names; without a plan nothing more
+abbrev pub over_volumes : List ℕ → Bool → List Volume → Result (Option Plan) ℕ → Run
+over_volumes text clean volumes (Ok None) = record { text = text; answer = Ok (record { is_clean = clean; restored = None }) }
+over_volumes text clean volumes (Ok (Some plan)) = with_files text clean (restored_files plan.groups (Some plan.names) volumes)
+over_volumes text clean volumes (Err n) = record { text = text; answer = Err (OfPlan n) }
+
+-- a run over volumes from what stands before they are asked
+abbrev pub run_from : Begun → List Volume → Run
+run_from b volumes = over_volumes b.text b.is_clean volumes b.plan
+
+-- the run of a request with the lines of a text over volumes
+unfoldable pub console_run : List JobRows → Request → List ℕ → List Volume → Run
+console_run history q text volumes = run_from (begun history q text) volumes
+
+-- the refusal is the expected one, and what is expected was written behind what the writer held; no refusal to compare means want
+-- of memory, a drive that failed, or a fault of reading or writing, which may come at any time
+abbrev pub RefusesRun : Option (List ℕ) → Option (List ℕ) → Run → Option Refusal → Type 0
+RefusesRun before after expected None = ⊤
+RefusesRun before after expected (Some why) = (expected.answer ≡ Err why) × Appends before after expected.text
+
+-- the answer is the expected one, and what is expected was written behind what the writer held
+abbrev pub Runs : Option (List ℕ) → Option (List ℕ) → Result ConsoleRun ConsoleFault → Run → Type 0
+Runs before after (Ok run) expected = (expected.answer ≡ Ok run) × Appends before after expected.text
+Runs before after (Err why) expected = RefusesRun before after expected (cause why)
+
+-- a drive that showed the earlier volumes before and the later ones behind may be taken to show these, for the pieces of the plan
+-- if there is one
+abbrev pub StandsForPlan : List Volume → List Volume → Begun → List Volume → Type 0
+StandsForPlan earlier later b volumes = (plan : Plan) → b.plan ≡ Ok (Some plan) → StandsForEach earlier later (pieces_of plan.groups) volumes
+
+-- where the reader tells its bytes and the drive its volumes, the run is that of these bytes over all volumes that the drive may be
+-- taken to show
+abbrev pub RunsOver : Option (List ℕ) → Option (List Volume) → Option (List Volume) → Option (List ℕ) → Option (List ℕ) → List JobRows → Request → Result ConsoleRun ConsoleFault → Type 0
+RunsOver (Some text) (Some earlier) (Some later) before after history q result =
+    (volumes : List Volume) → StandsForPlan earlier later (begun history q text) volumes → Runs before after result (console_run history q text volumes)
+RunsOver None earlier later before after history q result = ⊤
+RunsOver (Some text) None later before after history q result = ⊤
+RunsOver (Some text) (Some earlier) None before after history q result = ⊤
+
+-- ---- a run over any drive
+
+-- the manifest of some files was written, and the answer is whether each of them is a file
+abbrev pub WritesSome : Option (List ℕ) → Option (List ℕ) → Bool → Type 0
+WritesSome before after whole = (rs : List Restored) × (whole ≡ are_files rs) × Appends before after (manifest rs)
+
+-- without a plan nothing more was written than what stands before a drive is asked, else the manifest of some files behind it, and
+-- the answer is whether each of them is a file
+abbrev pub Ends : Option (List ℕ) → Option (List ℕ) → Begun → Option Bool → Type 0
+Ends before after b None = (b.plan ≡ Ok None) × Appends before after b.text
+Ends before after b (Some whole) =
+    (plan : Plan) × (rs : List Restored) × (b.plan ≡ Ok (Some plan)) × (whole ≡ are_files rs) × Appends before after (b.text ++ manifest rs)
+
+-- whatever the drive does, what stands before it is asked was written first; and nothing more where the choice or the plan is
+-- refused, or a piece by whatever fault
+abbrev pub Tells : Option (List ℕ) → Option (List ℕ) → Begun → Result ConsoleRun ConsoleFault → Type 0
+Tells before after b (Ok run) = (b.is_clean ≡ run.is_clean) × Ends before after b run.restored
+Tells before after b (Err fault.Memory) = ⊤
+Tells before after b (Err (fault.Plan why)) = IfSome (plan.cause why) (λ n. (b.plan ≡ Err n) × Appends before after b.text)
+Tells before after b (Err (fault.Piece why)) = (plan : Plan) × (b.plan ≡ Ok (Some plan)) × Appends before after b.text
+Tells before after b (Err (fault.Io why)) = ⊤
+
+-- the same where the reader tells its bytes
+abbrev pub TellsOver : Option (List ℕ) → Option (List ℕ) → Option (List ℕ) → List JobRows → Request → Result ConsoleRun ConsoleFault → Type 0
+TellsOver (Some text) before after history q result = Tells before after (begun history q text) result
+TellsOver None before after history q result = ⊤
+
+-- ---- the steps of a run
+
+-- the marks that a talk ended with, if it ended by `done`
+abbrev pub Marks : Type 0
+Marks = Option (Vec (List ℕ) Global)
+
+-- the marks as a list
+abbrev pub marks_in : Marks → Option (List (List ℕ))
+marks_in marks = option_map (λ (paths : Vec (List ℕ) Global). paths.items) marks
+
+-- the dialogue of the lines was written; none was refused, or some were; and these are the marks at its `done`, if there is one
+pub record IsDialogue (lines : List (List ℕ)) (before after : Option (List ℕ)) (s : Situation) (clean : Bool) (marks : Option (List (List ℕ))) : Type 0 where
+  pub written : Appends before after (dialogue s.view s.state lines)
+  pub clean_is : clean ≡ are_answered s.view s.state lines
+  pub marks_are : marks ≡ marks_at_done s.view s.state lines
+
+-- where the reader tells its bytes, their lines were talked over with the console
+abbrev pub MarksOver : Option (List ℕ) → Option (List ℕ) → Option (List ℕ) → Situation → Result (Bool × Marks) ConsoleFault → Type 0
+MarksOver (Some text) before after s (Ok talked) = IsDialogue (console_lines text) before after s talked.0 (marks_in talked.1)
+MarksOver (Some text) before after s (Err why) = ⊤
+MarksOver None before after s result = ⊤
+
+-- the plan for the marks was made and its bootstrap written; or it is refused, and nothing was written
+abbrev pub WritesPlan : Option (List ℕ) → Option (List ℕ) → Result Plan ℕ → Result Plan ConsoleFault → Type 0
+WritesPlan before after expected (Ok plan) = (expected ≡ Ok plan) × Appends before after (canonical plan.groups)
+WritesPlan before after expected (Err fault.Memory) = ⊤
+WritesPlan before after expected (Err (fault.Plan why)) = IsRefusal (plan.cause why) expected × Keeps before after
+WritesPlan before after expected (Err (fault.Piece why)) = ⊥
+WritesPlan before after expected (Err (fault.Io why)) = ⊤
+
+-- the same is written and stands as expected before a drive is asked; or the choice or the plan is refused as expected
+abbrev pub Begins : Option (List ℕ) → Option (List ℕ) → Begun → Result (Bool × Option Plan) ConsoleFault → Type 0
+Begins before after b (Ok made) = (b.is_clean ≡ made.0) × (b.plan ≡ Ok made.1) × Appends before after b.text
+Begins before after b (Err fault.Memory) = ⊤
+Begins before after b (Err (fault.Plan why)) = IfSome (plan.cause why) (λ n. (b.plan ≡ Err n) × Appends before after b.text)
+Begins before after b (Err (fault.Piece why)) = ⊥
+Begins before after b (Err (fault.Io why)) = ⊤
+
+-- where the reader tells its bytes, all stands as these say
+abbrev pub BeginsOver : Option (List ℕ) → Option (List ℕ) → Option (List ℕ) → List JobRows → Request → Result (Bool × Option Plan) ConsoleFault → Type 0
+BeginsOver (Some text) before after history q result = Begins before after (begun history q text) result
+BeginsOver None before after history q result = ⊤
+
+-- the manifest of the files was written, and the answer is whether each is a file; or the refusal is the fault of a piece
+abbrev pub Delivers : Option (List ℕ) → Option (List ℕ) → Result Bool ConsoleFault → Result (List Restored) model.PieceFault → Type 0
+Delivers before after (Ok whole) expected = (rs : List Restored) × (expected ≡ Ok rs) × (whole ≡ are_files rs) × Appends before after (manifest rs)
+Delivers before after (Err why) expected = IsRefusal (cause why) (refused_as OfPiece expected)
+
+-- where the drive tells its volumes, the files are those of the plan over all volumes that it may be taken to show
+abbrev pub DeliversOver : Option (List Volume) → Option (List Volume) → Option (List ℕ) → Option (List ℕ) → Plan → Result Bool ConsoleFault → Type 0
+DeliversOver (Some earlier) (Some later) before after plan result =
+    (volumes : List Volume) → StandsForEach earlier later (pieces_of plan.groups) volumes
+    → Delivers before after result (restored_files plan.groups (Some plan.names) volumes)
+DeliversOver None later before after plan result = ⊤
+DeliversOver (Some earlier) None before after plan result = ⊤
+
+-- behind the fault of a piece nothing was written
+abbrev pub StopsAt : Option (List ℕ) → Option (List ℕ) → ConsoleFault → Type 0
+StopsAt before after fault.Memory = ⊤
+StopsAt before after (fault.Plan why) = ⊥
+StopsAt before after (fault.Piece why) = Keeps before after
+StopsAt before after (fault.Io why) = ⊤

@@ -1,0 +1,95 @@
+ghost use Rattle.std.specs.Prelude.{◌≡◌, ◌++◌, OnOk};
+ghost use Rattle.std.specs.IoError.{error_kind};
+ghost use Rattle.std.specs.declared.io.ErrorKind.TheVariants.{OutOfMemory};
+ghost use Rattle.br_console.specs.Fault.{fault_number, fault_text, IsFree};
+ghost use Rattle.br_console.specs.declared.console_fault.ConsoleFault.TheVariants.{Memory, Plan, Piece, Io};
+
+use br_engine::{push_piece_line, push_refused_line};
+use br_match::PieceFault;
+use br_plan::PlanFault;
+use std::alloc::AllocError;
+use std::io::{self, ErrorKind};
+use thiserror::Error;
+
+/// Why a run of the console broke off.
+#[derive(Debug, Drop, Error)]
+pub enum ConsoleFault {
+    #[error("out of memory")]
+    Memory,
+    /// No jobs were chosen, or nothing was marked.
+    #[error("{0}")]
+    Plan(PlanFault),
+    /// A volume could not be read.
+    #[error("{0}")]
+    Piece(PieceFault),
+    /// Reading the lines or writing what comes of them failed.
+    #[error("{0}")]
+    Io(io::Error),
+}
+
+impl From<AllocError> for ConsoleFault {
+    ghost from_gives = { λ _ e. e ≡ Memory };
+
+    fn from(_e: AllocError) -> ConsoleFault {
+        ConsoleFault::Memory
+    }
+}
+
+impl From<PlanFault> for ConsoleFault {
+    ghost from_gives = { λ fault e. e ≡ Plan fault };
+
+    fn from(fault: PlanFault) -> ConsoleFault {
+        ConsoleFault::Plan(fault)
+    }
+}
+
+impl From<PieceFault> for ConsoleFault {
+    ghost from_gives = { λ fault e. e ≡ Piece fault };
+
+    fn from(fault: PieceFault) -> ConsoleFault {
+        ConsoleFault::Piece(fault)
+    }
+}
+
+/// An input or an output for which memory ran out is `Memory`.
+impl From<io::Error> for ConsoleFault {
+    ghost from_gives = { λ fault e. IsFree e × (error_kind fault ≡ OutOfMemory → e ≡ Memory) × (¬ (error_kind fault ≡ OutOfMemory) → e ≡ Io fault) };
+
+    fn from(fault: io::Error) -> ConsoleFault {
+        if fault.kind() == ErrorKind::OutOfMemory {
+            ConsoleFault::Memory
+        } else {
+            ConsoleFault::Io(fault)
+        }
+    }
+}
+
+impl ConsoleFault {
+    /// The number of the refusal: 1 want of memory, 50, 53 or 54 no jobs to choose, 51 nothing marked, 10 to 14 a volume. A fault
+    /// of reading or writing is no refusal.
+    pub fn number(&self) -> Option<u32>
+        ensures { result ≡ fault_number self.now }
+    {
+        match self {
+            ConsoleFault::Memory => Some(1),
+            ConsoleFault::Plan(fault) => Some(fault.number()),
+            ConsoleFault::Piece(fault) => Some(fault.number()),
+            ConsoleFault::Io(_) => None,
+        }
+    }
+
+    /// Writes the line of the refusal: `refused N VOLUME ADDRESS` for 10 to 14, with the volume escaped, else `refused N`.
+    /// Nothing for a fault of reading or writing.
+    ///
+    /// Where memory is short, a part of the line may stand there.
+    pub fn push_line(&self, text: &mut Vec<u8>) -> Result<(), AllocError>
+        ensures { OnOk result (text.new.items ≡ text.old.items ++ fault_text self.now) }
+    {
+        match self {
+            ConsoleFault::Memory => push_refused_line(text, 1),
+            ConsoleFault::Plan(fault) => push_refused_line(text, fault.number()),
+            ConsoleFault::Piece(fault) => push_piece_line(text, fault),
+            ConsoleFault::Io(_) => Ok(()),
+        }
+    }
+}

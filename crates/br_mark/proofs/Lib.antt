@@ -1,0 +1,4 @@
+pub mod TrimLaws
+pub mod WayLaws
+pub mod MarkLaws
+pub mod ShowLaws

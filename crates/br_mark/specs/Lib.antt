@@ -1,0 +1,5 @@
+pub mod Argument
+pub mod Fault
+pub mod Said
+pub mod Seen
+pub mod Trim

@@ -1,0 +1,189 @@
+ghost use Rattle.std.specs.Prelude.{◌≡◌, IfOk, position};
+ghost use Rattle.std.specs.List.{before_first, after_first};
+ghost use Rattle.br_model.specs.Answer.{Answers, AnswersAlways};
+ghost use Rattle.br_model.specs.Text.{is_blank, trim_by};
+ghost use Rattle.br_model.specs.Console as model;
+ghost use Rattle.br_mark.specs.Argument.{needed_text, wanted_text};
+ghost use Rattle.br_mark.specs.Fault.{cause, fault_number};
+ghost use Rattle.br_mark.specs.Said.{said, text_of};
+ghost use Rattle.br_mark.specs.Trim.{trimmed_front, trimmed_end};
+
+use crate::fault::MarkFault;
+use std::alloc::{AllocError, Global};
+
+/// The most bytes that a line has.
+const MAX_LEN: usize = 4096;
+
+/// What may be asked of a console. A pattern is matched with names, a way is a path of directories.
+#[derive(Debug, Drop)]
+pub enum Command {
+    /// Goes to a directory.
+    Cd(Vec<u8>),
+    /// Says where the console stands.
+    Pwd,
+    /// Shows the names in the directory, all or those that match.
+    Ls(Option<Vec<u8>>),
+    /// Marks the names that match, and all below the directories among them.
+    Mark(Vec<u8>),
+    /// Takes such marks back.
+    Unmark(Vec<u8>),
+    /// Marks the directories that match, or the directory itself, without what is below.
+    MarkDir(Option<Vec<u8>>),
+    /// Takes such marks back.
+    UnmarkDir(Option<Vec<u8>>),
+    /// Says how many paths there are, and how many are marked.
+    Count,
+    /// Shows the marked paths below the directory.
+    LsMark,
+    /// Shows the paths whose last component matches.
+    Find(Vec<u8>),
+    /// Says how many paths are marked, and how many bytes their files have.
+    Estimate,
+    /// Ends the dialogue with the marks.
+    Done,
+    /// Ends the dialogue without them.
+    Quit,
+}
+
+/// A blank is a space or a tab.
+fn is_blank_byte(byte: u8) -> bool
+    ensures { result ≡ is_blank byte }
+{
+    byte == b' ' || byte == b'\t'
+}
+
+/// The text without the blanks at its front.
+fn without_front(text: &[u8]) -> &[u8]
+    ensures { result.now ≡ trimmed_front text.now }
+{
+    let mut left = text;
+    while let Some((first, rest)) = left.split_first() {
+        if !is_blank_byte(*first) {
+            return left;
+        }
+        left = rest;
+    }
+    left
+}
+
+/// The text without the blanks at its end.
+fn without_end(text: &[u8]) -> &[u8]
+    ensures { result.now ≡ trimmed_end text.now }
+{
+    let mut left = text;
+    while let Some((last, front)) = left.split_last() {
+        if !is_blank_byte(*last) {
+            return left;
+        }
+        left = front;
+    }
+    left
+}
+
+/// The text without the blanks at its ends.
+#[tactic(auto, unfolding(br_model::specs::Text::trim_by))]
+fn trimmed(text: &[u8]) -> &[u8]
+    ensures { result.now ≡ trim_by is_blank text.now }
+{
+    without_end(without_front(text))
+}
+
+fn blank_in(text: &[u8]) -> Option<usize>
+    ensures { result ≡ position is_blank text.now }
+{
+    text.iter().position(|byte| is_blank_byte(*byte))
+}
+
+/// The text in front of the first blank, and what stands behind it.
+fn first_word(text: &[u8]) -> (&[u8], &[u8])
+    ensures word { result.0.now ≡ before_first is_blank text.now }
+    ensures rest { result.1.now ≡ after_first is_blank text.now }
+{
+    match blank_in(text) {
+        None => (text, &[]),
+        Some(i) => (&text[..i], &text[i + 1..]),
+    }
+}
+
+/// A command that takes no argument.
+fn alone(command: Command, text: &[u8]) -> Result<Command, MarkFault>
+    ensures { AnswersAlways said fault_number result (model.alone (said command) text.now) }
+{
+    if text.is_empty() {
+        Ok(command)
+    } else {
+        Err(MarkFault::UnknownCommand)
+    }
+}
+
+/// An argument that a command needs.
+fn needed(alloc: Global, text: &[u8]) -> Result<Vec<u8>, MarkFault>
+    ensures { Answers (λ t. t.items) cause result (needed_text text.now) }
+{
+    if text.is_empty() {
+        return Err(MarkFault::UnknownCommand);
+    }
+    Ok(Vec::from_slice(alloc, text)?)
+}
+
+/// An argument that may be missing.
+fn wanted(alloc: Global, text: &[u8]) -> Result<Option<Vec<u8>>, AllocError>
+    ensures { IfOk result (λ o. text_of o ≡ wanted_text text.now) }
+{
+    if text.is_empty() {
+        return Ok(None);
+    }
+    Ok(Some(Vec::from_slice(alloc, text)?))
+}
+
+/// The command of a word and of the text behind it.
+#[tactic(auto, unfolding(br_model::specs::Console::read_words))]
+fn read_words(alloc: Global, word: &[u8], text: &[u8]) -> Result<Command, MarkFault>
+    ensures { Answers said cause result (model.read_words word.now text.now) }
+{
+    if word == b"cd".as_slice() {
+        Ok(Command::Cd(needed(alloc, text)?))
+    } else if word == b"pwd".as_slice() {
+        alone(Command::Pwd, text)
+    } else if word == b"ls".as_slice() {
+        Ok(Command::Ls(wanted(alloc, text)?))
+    } else if word == b"mark".as_slice() {
+        Ok(Command::Mark(needed(alloc, text)?))
+    } else if word == b"unmark".as_slice() {
+        Ok(Command::Unmark(needed(alloc, text)?))
+    } else if word == b"markdir".as_slice() {
+        Ok(Command::MarkDir(wanted(alloc, text)?))
+    } else if word == b"unmarkdir".as_slice() {
+        Ok(Command::UnmarkDir(wanted(alloc, text)?))
+    } else if word == b"count".as_slice() {
+        alone(Command::Count, text)
+    } else if word == b"lsmark".as_slice() {
+        alone(Command::LsMark, text)
+    } else if word == b"find".as_slice() {
+        Ok(Command::Find(needed(alloc, text)?))
+    } else if word == b"estimate".as_slice() {
+        alone(Command::Estimate, text)
+    } else if word == b"done".as_slice() {
+        alone(Command::Done, text)
+    } else if word == b"quit".as_slice() {
+        alone(Command::Quit, text)
+    } else {
+        Err(MarkFault::UnknownCommand)
+    }
+}
+
+impl Command {
+    /// The command of a line: its first word, and the rest of the line without the blanks (spaces and tabs) at its ends.
+    /// `UnknownCommand` where the line has more than 4,096 bytes, the word is none of the commands (small letters alone), or
+    /// its argument is missing or too much.
+    #[tactic(auto, unfolding(br_model::specs::Console::read_command))]
+    pub fn read(alloc: Global, line: &[u8]) -> Result<Command, MarkFault>
+        ensures { Answers said cause result (model.read_command line.now) }
+    {
+        if line.len() > MAX_LEN {
+            return Err(MarkFault::UnknownCommand);
+        }
+        let (word, rest) = first_word(trimmed(line));
+        read_words(alloc, word, trimmed(rest))
+    }
+}

@@ -1,0 +1,10 @@
+pub mod RangeLaws
+pub mod PartLaws
+pub mod SetLaws
+pub mod NameLaws
+pub mod FileLaws
+pub mod SelectLaws
+pub mod PlanLaws
+pub mod MomentLaws
+pub mod ValidLaws
+pub mod CalendarLaws

@@ -1,0 +1,50 @@
+-- Ranges and groups that a bootstrap may have.
+use Rattle.std.proofs.Common.{◌≡◌, ℕ, ◌+◌, ◌<◌, ◌≤◌, ◌^◌, ◌-◌, Bool, true, false, ◌&&◌, cond, eqb, leb, List, [], ◌∷◌, get_or, length, refl, sym, ap, ◌∙◌, arith}
+use Rattle.std.proofs.lemmas.Bool.{and_parts, and_from, eqb-true}
+use Rattle.std.proofs.lemmas.Bool.Decides.{nat_tests}
+use Rattle.std.specs.List.{list_all}
+use Rattle.br_model.specs.Bootstrap.{Range, FileIndex, VolAddr, SessionId, SessionTime, Group, group_on}
+use Rattle.br_model.specs.BootstrapText.{is_range, is_group}
+use Rattle.br_model.specs.Name.{is_volume_name}
+use Rattle.br_model.specs.Job.{Span, is_span, are_rows, JobRows}
+use Rattle.br_model.proofs.GroupLaws.{rows_say}
+use Rattle.br_model.proofs.ListLaws.{all_pass, of_each}
+use Rattle.br_plan.specs.Parts.{with_number}
+
+one_index : (i : ℕ) → 1 ≤ i → i < 2 ^ 31 → is_range FileIndex (record { low = i; high = i }) ≡ true
+one_index i low high = grind (arith, nat_tests)
+
+wider : (low high i : ℕ) → (leb 1 low && leb low high && leb high (2 ^ 31 - 1)) ≡ true → high + 1 ≡ i → i < 2 ^ 31 → (leb 1 low && leb low i && leb i (2 ^ 31 - 1)) ≡ true
+wider low high i e next small = grind (arith, nat_tests)
+
+-- ranges that an index may be given, with an index behind them
+pub with_number_valid : (rs : List Range) (i : ℕ) → 1 ≤ i → i < 2 ^ 31 → list_all (is_range FileIndex) rs ≡ true → list_all (is_range FileIndex) (with_number rs i) ≡ true
+with_number_valid [] i low high e = and_from (is_range FileIndex (record { low = i; high = i })) true (one_index i low high) refl
+with_number_valid (r ∷ []) i low high e = go (eqb (r.high + 1) i) refl
+  where
+    first : is_range FileIndex r ≡ true
+    first = (and_parts (is_range FileIndex r) true e).0
+
+    go : (b : Bool) → eqb (r.high + 1) i ≡ b
+        → list_all (is_range FileIndex) (cond b (record { low = r.low; high = i } ∷ []) (r ∷ record { low = i; high = i } ∷ [])) ≡ true
+    go true is = and_from (is_range FileIndex (record { low = r.low; high = i })) true (wider r.low r.high i first (eqb-true (r.high + 1) i is) high) refl
+    go false is =
+        and_from (is_range FileIndex r) (is_range FileIndex (record { low = i; high = i }) && true) first
+        (and_from (is_range FileIndex (record { low = i; high = i })) true (one_index i low high) refl)
+with_number_valid (r ∷ s ∷ rs) i low high e =
+    let p = and_parts (is_range FileIndex r) (list_all (is_range FileIndex) (s ∷ rs)) e in
+    and_from (is_range FileIndex r) (list_all (is_range FileIndex) (with_number (s ∷ rs) i)) p.0 (with_number_valid (s ∷ rs) i low high p.1)
+
+-- ---- groups
+
+-- a group on a volume with ranges that its criteria may be given
+pub group_valid : (empty : Group) (name : List ℕ) (ids times addresses indexes : List Range) → empty ≡ group_on name → is_volume_name name ≡ true
+    → list_all (is_range SessionId) ids ≡ true → list_all (is_range SessionTime) times ≡ true → list_all (is_range VolAddr) addresses ≡ true → list_all (is_range FileIndex) indexes ≡ true
+    → is_group (record empty { session_ids = ids; session_times = times; addresses = addresses; indexes = indexes }) ≡ true
+unfolding is_group
+group_valid empty name ids times addresses indexes on valid are_ids are_times are_addresses are_indexes = rw (on, valid, are_ids, are_times, are_addresses, are_indexes) refl
+
+-- a span of a job that can stand has its ends in order
+pub span_of_job : (j : JobRows) (spans : List Span) (i : ℕ) (s : Span) → spans ≡ j.spans → are_rows j ≡ true → i < length spans → s ≡ get_or spans i s → is_span s ≡ true
+span_of_job j spans i s same valid lt is =
+    of_each (λ (t : Span). is_span t ≡ true) spans s (all_pass is_span spans (ap (list_all is_span) same ∙ (rows_say j valid).spans_fit)) (i, lt, sym is)

@@ -1,0 +1,5 @@
+pub mod Fault
+pub mod Selected
+pub mod Parts
+pub mod Means
+pub mod Moment

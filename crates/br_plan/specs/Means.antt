@@ -1,0 +1,31 @@
+-- What a plan of a history promises.
+use Rattle.std.specs.Prelude.{◌≡◌, ℕ, List, Some, Ok, Contains}
+use Rattle.std.specs.List.{AllByRecursion, AllZip}
+use Rattle.std.specs.List.Sorted.{IsPermutation}
+use Rattle.br_model.specs.Volume.{Volume, Extends}
+use Rattle.br_model.specs.Meaning.{Hits, meaning}
+use Rattle.br_model.specs.Restored.{files}
+use Rattle.br_model.specs.Job.{JobRows, Job, IsJob}
+use Rattle.br_model.specs.Choice.{Request, choose}
+use Rattle.br_model.specs.View.{Entry, view_of}
+use Rattle.br_model.specs.Plan.{Plan, selection, plan_groups, plan_names}
+use Rattle.br_model.specs.PlanMeaning.{IsCopy, by_key, rows_of_jobs}
+use Rattle.br_model.specs.Stored.{Holds}
+
+-- the plan of selected entries of the chosen jobs
+abbrev pub plan_with : List Entry → List JobRows → Plan
+plan_with selected jobs = record { groups = plan_groups selected jobs; names = plan_names selected }
+
+-- Of all jobs with what they saved whose rows are this history's: where those that are chosen stand on volumes, the plan has a
+-- meaning over all volumes that extend these, and its files are, in order of key, the selected entries' copies: one for each
+-- entry, and no others.
+abbrev pub MeansSelection : List JobRows → Request → List (List ℕ) → Plan → Type 0
+MeansSelection history q marks plan =
+    (jobs : List Job) (chosen : List JobRows) (volumes later : List Volume)
+    → rows_of_jobs jobs ≡ history → AllByRecursion IsJob jobs
+    → choose history q ≡ Ok chosen
+    → ((j : Job) → Contains jobs j → Contains chosen j.rows → Holds volumes j)
+    → Extends later volumes
+    → (hits : Hits) × (meaning plan.groups later ≡ Ok hits)
+    × AllZip (IsCopy jobs) (by_key (selection (view_of chosen) marks)) (files hits (Some plan.names))
+    × IsPermutation (selection (view_of chosen) marks) (by_key (selection (view_of chosen) marks))

@@ -1,0 +1,73 @@
+-- Entries that are selected, by one test of each, and the keys of their files in the jobs.
+use Rattle.std.specs.Prelude.{◌≡◌, ℕ, Bool, false, ◌&&◌, ◌||◌, ◌==◌, nat_lt, List, filter, ℤ, pos, negsuc}
+use Rattle.std.specs.Borrow.{Bor}
+use Rattle.std.specs.List.{list_any}
+use Rattle.std.specs.Cmp.Lexicographic.{slice_cmp}
+use Rattle.std.specs.Ordering.{nat_cmp, ordering_then}
+use Rattle.std.specs.declared.cmp.Ordering.{Ordering}
+use Rattle.std.specs.BTreeSet.{BTreeSet, contains, contains_by}
+use Rattle.br_model.specs.Order.{is_among}
+use Rattle.br_model.specs.Name.{FileKey}
+use Rattle.br_model.specs.View.{Entry}
+use Rattle.br_view.specs.declared.entry.Entry as shown
+
+-- whether a set of paths, which borrows them, has the path
+abbrev pub has_path : BTreeSet (Bor (List ℕ)) → List ℕ → Bool
+has_path set path = contains_by (λ k. slice_cmp nat_cmp path k.now) set
+
+-- the set has these paths
+abbrev pub ArePaths : BTreeSet (Bor (List ℕ)) → List (List ℕ) → Type 0
+ArePaths set paths = (q : List ℕ) → has_path set q ≡ is_among paths q
+
+-- which file of which job, by their numbers
+abbrev pub FileOf : Type 0
+FileOf = ℕ × ℕ
+
+-- files of jobs are ordered by job, then by index
+abbrev pub file_cmp : FileOf → FileOf → Ordering
+file_cmp a b = ordering_then (nat_cmp a.0 b.0) (nat_cmp a.1 b.1)
+
+-- the file of an entry
+abbrev pub file_of : Entry → FileOf
+file_of e = (e.job, e.index)
+
+-- whether an entry of the job with this index of a link, or 0, is a hard link to the file
+abbrev pub links_by : ℕ → ℤ → FileOf → Bool
+links_by job (pos n) file = nat_lt 0 n && file.1 == n && file.0 == job
+links_by job (negsuc n) file = false
+
+-- whether the entry is a hard link to the file
+abbrev pub links_to : FileOf → Entry → Bool
+links_to file e = links_by e.job e.link_index file
+
+-- whether a set of files has the file
+abbrev pub has_file : BTreeSet FileOf → FileOf → Bool
+has_file set file = contains file_cmp set file
+
+-- the set has the files to which those of the entries are hard links whose paths pass the test
+abbrev pub AreLinked : BTreeSet FileOf → (List ℕ → Bool) → List Entry → Type 0
+AreLinked set marked entries = (q : FileOf) → has_file set q ≡ list_any (λ (e : Entry). marked e.path && links_to q e) entries
+
+-- the second set has a file more, if this is the index of a link
+abbrev pub AddsLink : BTreeSet FileOf → ℕ → ℤ → BTreeSet FileOf → Type 0
+AddsLink old job link new = (q : FileOf) → has_file new q ≡ (has_file old q || links_by job link q)
+
+-- whether the entry has a path or a file that passes the test
+abbrev pub passes : (List ℕ → Bool) → (FileOf → Bool) → Entry → Bool
+passes marked linked e = marked e.path || linked (file_of e)
+
+-- whether the entry is marked, or a marked one is a hard link to its file
+abbrev pub is_selected : List (List ℕ) → List Entry → Entry → Bool
+is_selected marks entries e = is_among marks e.path || list_any (λ (d : Entry). is_among marks d.path && links_to (file_of e) d) entries
+
+-- the entries that are selected
+abbrev pub selected_of : List (List ℕ) → List Entry → List Entry
+selected_of marks entries = filter (is_selected marks entries) entries
+
+-- the key of an entry's file
+abbrev pub key_of : shown.Entry → FileKey
+key_of e = record { session = e.session; index = e.index }
+
+-- key and path of the file of an entry, which stands beside its path
+abbrev pub named_pair : Bor (List ℕ) × shown.Entry → FileKey × List ℕ
+named_pair p = (key_of p.1, p.0.now)

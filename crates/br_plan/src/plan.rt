@@ -1,0 +1,110 @@
+ghost use Rattle.std.specs.Prelude.{◌≡◌, map, IfOk};
+ghost use Rattle.br_model.specs.Answer.{Answers};
+ghost use Rattle.br_model.specs.Plan as model;
+ghost use Rattle.br_model.specs.Restored.{planned_in};
+ghost use Rattle.br_plan.specs.Fault.{cause};
+ghost use Rattle.br_plan.specs.Means.{MeansSelection, plan_with};
+ghost use Rattle.br_view.specs.Shown.{shown_pair};
+
+use crate::fault::PlanFault;
+use crate::group::groups_of;
+use crate::naming::names_of;
+use crate::part::files_of;
+use crate::request::Request;
+use crate::select::{Shown, selected};
+use br_bsr::Bootstrap;
+use br_choose::choose;
+use br_history::{History, JobRows};
+use br_model::plan_means_selection;
+use br_types::{Names, Path};
+use br_view::View;
+use std::alloc::{AllocError, Global};
+use std::marker::Model;
+
+/// The most groups of a bootstrap: 2^32 - 1.
+const MAX_GROUPS: usize = 4_294_967_295;
+
+/// How selected files are restored: what of which volumes is read, and under which path each file is expected. It owns all that
+/// it names.
+#[derive(Debug, Drop)]
+pub struct Plan {
+    bootstrap: Bootstrap,
+    names: Names,
+}
+
+impl Model for Plan {
+    ghost use Rattle.br_model.specs.Plan as model;
+    ghost use Rattle.br_model.specs.Restored.{planned_in};
+
+    ghost Value = { model.Plan };
+
+    ghost view = { λ p. record { groups = p.bootstrap; names = planned_in p.names } };
+}
+
+/// The plan for selected entries of the jobs. 2^32 groups are want of memory.
+fn plan_for(alloc: Global, entries: &[Shown<'_>], jobs: &[&JobRows]) -> Result<Plan, AllocError>
+    ensures { IfOk result (λ plan. plan ≡ plan_with (map shown_pair entries.now) (map (λ j. j.now) jobs.now)) }
+{
+    let files = files_of(alloc, entries)?;
+    let groups = groups_of(alloc, &files, jobs)?;
+    if groups.len() > MAX_GROUPS {
+        return Err(AllocError);
+    }
+    let names = names_of(alloc, entries)?;
+    Ok(Plan {
+        bootstrap: Bootstrap::from_valid(groups),
+        names,
+    })
+}
+
+impl Plan {
+    /// The plan for the marked paths.
+    pub fn make(
+        alloc: Global,
+        history: &History,
+        request: &Request,
+        marks: &[Path],
+    ) -> Result<Plan, PlanFault>
+        ensures answers { Answers (λ plan. plan) cause result (model.plan_of history.now request.now marks.now) }
+        ensures means { IfOk result (MeansSelection history.now request.now marks.now) }
+    {
+        plan_means_selection();
+        // The jobs are a history by their type.
+        let _ = history.jobs();
+        let jobs = choose(
+            alloc,
+            history,
+            &request.client,
+            &request.fileset,
+            request.moment,
+        )?;
+        let view = View::build(alloc, &jobs)?;
+        let entries = selected(alloc, view.entries(), marks)?;
+        if entries.is_empty() {
+            return Err(PlanFault::NothingMarked);
+        }
+        Ok(plan_for(alloc, &entries, &jobs)?)
+    }
+
+    /// What of which volumes is read.
+    pub fn bootstrap(&self) -> &Bootstrap
+        ensures { result.now ≡ self.now.groups }
+    {
+        &self.bootstrap
+    }
+
+    /// Under which path each file is expected.
+    pub fn names(&self) -> &Names
+        ensures { planned_in result.now ≡ self.now.names }
+    {
+        &self.names
+    }
+
+    /// What of which volumes is read, and under which path each file is expected.
+    pub fn into_parts(self) -> (Bootstrap, Names)
+        ensures bootstrap { result.0 ≡ self.groups }
+        ensures names { planned_in result.1 ≡ self.names }
+    {
+        (self.bootstrap, self.names)
+    }
+}

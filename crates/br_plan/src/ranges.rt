@@ -1,0 +1,39 @@
+ghost use Rattle.std.specs.Prelude.{◌≡◌, true, IfOk, OnOk};
+ghost use Rattle.std.specs.List.{list_all};
+ghost use Rattle.br_model.specs.Bootstrap.{FileIndex as by_index};
+ghost use Rattle.br_model.specs.BootstrapText.{is_range};
+ghost use Rattle.br_model.specs.Plan as model;
+ghost use Rattle.br_plan.specs.Parts.{indexes_of, with_number};
+
+use crate::part::FileOf;
+use br_bsr::Range;
+use std::alloc::{AllocError, Global};
+
+/// Puts a number behind ranges, as a part of the last one where it is next to it.
+fn push_number(ranges: &mut Vec<Range>, number: u64) -> Result<(), AllocError>
+    ensures { OnOk result (ranges.new.items ≡ with_number ranges.old.items number) }
+{
+    if let Some(last) = ranges.last_mut() {
+        if number > 0 && last.high == number - 1 {
+            last.high = number;
+            return Ok(());
+        }
+    }
+    ranges.push(Range {
+        low: number,
+        high: number,
+    })?;
+    Ok(())
+}
+
+/// The indexes of files that stand in order, as ranges that are as long as can be.
+pub(crate) fn ranges_of(alloc: Global, files: &[FileOf]) -> Result<Vec<Range>, AllocError>
+    ensures same { IfOk result (λ ranges. ranges.items ≡ model.ranges_of (indexes_of files.now)) }
+    ensures valid { IfOk result (λ ranges. list_all (is_range by_index) ranges.items ≡ true) }
+{
+    let mut ranges = Vec::new(alloc);
+    for (_, index) in files {
+        push_number(&mut ranges, u64::from(index.get()))?;
+    }
+    Ok(ranges)
+}

@@ -1,0 +1,11 @@
+pub mod FlagLaws
+pub mod MatchLaws
+pub mod PartLaws
+pub mod SetLaws
+pub mod RunLaws
+pub mod MeantLaws
+pub mod StepLaws
+pub mod PickLaws
+pub mod MarkLaws
+pub mod ListsLaws
+pub mod ChildLaws

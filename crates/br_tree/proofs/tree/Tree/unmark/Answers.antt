@@ -1,0 +1,41 @@
+use Rattle.std.proofs.Common.{ℕ, List, Bool, true, false, sym, ap, subst, ◌∙◌, ◌≡◌, length}
+use Rattle.std.proofs.lemmas.List.{with_items_is, length-map}
+use Rattle.std.specs.Vec.{with_items}
+use Rattle.br_model.specs.View.{Entry, view_paths}
+use Rattle.br_model.specs.Console as model
+use Rattle.br_tree.specs.Marking.{Marking, paths_of, after_unmark, newly_unmarked}
+use Rattle.br_tree.specs.Walk.{is_picked, set_where, changes, IsRising}
+use Rattle.br_tree.proofs.MeantLaws.{meant_is}
+use Rattle.br_tree.proofs.SetLaws.{as_many}
+use Rattle.br_tree.proofs.MarkLaws.{seen, marks_left, unmarked_now}
+use Rattle.br_tree.proofs.tree.Tree.unmark.Goals as goal
+
+pub returns-clause-marks : goal.returns-clause-marks
+returns-clause-marks c =
+    let view = c.self.inside.shown in
+    let v = c.self.inside.is_marked in
+    let fs = v.items in
+    let ps = view_paths view in
+    let d = c.args.directory.now in
+    let test : List ℕ → Bool = is_picked true d c.args.pattern.now in
+    let rises : IsRising ps = subst IsRising c.rows.ensures.paths c.rows.ensures.rising in
+    let long : length fs ≡ length ps = c.self.invariant.1 ∙ sym (length-map view (λ (e : Entry). e.path)) in
+    let is = meant_is ps d c.args.pattern.now in
+    let set : c.change_matching.new.flags ≡ set_where test false ps fs =
+    c.change_matching.ensures.flags ∙ ap (λ qs. set_where test false qs c.deref_mut.result.now) c.rows.ensures.paths ∙ ap (set_where test false ps) c.deref_mut.ensures.value in
+    let kept : (with_items v c.change_matching.new.flags).items ≡ set_where test false ps fs = with_items_is v c.change_matching.new.flags (ap length set ∙ as_many test false ps fs ∙ sym v.ok.0) ∙ set in
+    ap (seen view) kept ∙ marks_left test view fs rises long (model.meant ps c.args.directory.now c.args.pattern.now) is ∙ ap (λ (m : Marking). after_unmark m (model.meant (paths_of m) c.args.directory.now c.args.pattern.now)) c.self.view_is
+
+pub returns-clause-answer : goal.returns-clause-answer
+returns-clause-answer c =
+    let view = c.self.inside.shown in
+    let v = c.self.inside.is_marked in
+    let fs = v.items in
+    let ps = view_paths view in
+    let d = c.args.directory.now in
+    let test : List ℕ → Bool = is_picked true d c.args.pattern.now in
+    let rises : IsRising ps = subst IsRising c.rows.ensures.paths c.rows.ensures.rising in
+    let long : length fs ≡ length ps = c.self.invariant.1 ∙ sym (length-map view (λ (e : Entry). e.path)) in
+    let is = meant_is ps d c.args.pattern.now in
+    c.change_matching.ensures.answer ∙ ap (λ qs. changes test false qs c.deref_mut.result.now) c.rows.ensures.paths ∙ ap (changes test false ps) c.deref_mut.ensures.value
+    ∙ unmarked_now test view fs rises long (model.meant ps c.args.directory.now c.args.pattern.now) is ∙ ap (λ (m : Marking). newly_unmarked m (model.meant (paths_of m) c.args.directory.now c.args.pattern.now)) c.self.view_is

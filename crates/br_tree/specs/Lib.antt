@@ -1,0 +1,5 @@
+pub mod Marking
+pub mod Seen
+pub mod Fronts
+pub mod Walk
+pub mod Lists

@@ -1,0 +1,101 @@
+-- Runs of paths that begin alike, and flags beside paths.
+use Rattle.std.specs.Prelude.{◌≡◌, ℕ, ◌+◌, ◌-◌, ◌≤◌, ◌<◌, Bool, true, false, not, ◌&&◌, ◌||◌, if◌then◌else◌, List, [], ◌∷◌, ◌++◌, length, map, take, drop, bytes_eq, Option, Some, None}
+use Rattle.std.specs.Borrow.{Bor}
+use Rattle.std.specs.List.{AllByRecursion, list_any, prefix_len}
+use Rattle.std.specs.Cmp.Lexicographic.{slice_cmp}
+use Rattle.std.specs.Ordering.{nat_cmp}
+use Rattle.std.specs.declared.cmp.Ordering.TheVariants.{Less}
+use Rattle.br_model.specs.Name.{is_slash, is_directory}
+use Rattle.br_model.specs.Console.{begins_with, is_below, child_of, children, matches, bare}
+use Rattle.br_model.specs.Text.{is_empty}
+use Rattle.br_view.specs.declared.entry.Entry.{Entry}
+
+-- a path beside its entry
+abbrev pub Pair : Type 0
+Pair = Bor (List ℕ) × Entry
+
+-- the paths of pairs
+abbrev pub seen_paths : List Pair → List (List ℕ)
+seen_paths pairs = map (λ (p : Pair). p.0.now) pairs
+
+-- a text up to its first slash
+abbrev pub first_part : List ℕ → List ℕ
+first_part text = take (prefix_len (λ c. not (is_slash c)) text + 1) text
+
+-- all of some paths pass a test, or none does
+abbrev pub AllPassing : (List ℕ → Bool) → List (List ℕ) → Type 0
+AllPassing test paths = AllByRecursion (λ path. test path ≡ true) paths
+
+abbrev pub NonePassing : (List ℕ → Bool) → List (List ℕ) → Type 0
+NonePassing test paths = AllByRecursion (λ path. test path ≡ false) paths
+
+-- each path is below all behind it
+abbrev pub IsRising : List (List ℕ) → Type 0
+IsRising [] = Unit {0}
+IsRising (path ∷ paths) = AllByRecursion (λ later. slice_cmp nat_cmp path later ≡ Less) paths × IsRising paths
+
+-- from a first place to a last one the paths pass a test, and no other does
+pub record IsRun (test : List ℕ → Bool) (paths : List (List ℕ)) (first last : ℕ) : Type 0 where
+  pub ordered : first ≤ last
+  pub bound : last ≤ length paths
+  pub before : NonePassing test (take first paths)
+  pub within : AllPassing test (take (last - first) (drop first paths))
+  pub after : NonePassing test (drop last paths)
+
+-- the first paths pass a test, and then up to a place none does
+pub record IsStep (test : List ℕ → Bool) (paths : List (List ℕ)) (reach len : ℕ) : Type 0 where
+  pub some : 0 < len
+  pub ordered : reach ≤ len
+  pub bound : len ≤ length paths
+  pub within : AllPassing test (take reach paths)
+  pub after : NonePassing test (drop reach (take len paths))
+
+-- a name, where it is not empty
+abbrev pub some_name : List ℕ → List (List ℕ)
+some_name name = if is_empty name then [] else name ∷ []
+
+-- the first paths are of one child, which is no child of those behind them
+pub record IsFirstChild (directory : List ℕ) (paths : List (List ℕ)) (path : List ℕ) (len : ℕ) : Type 0 where
+  pub some : 0 < len
+  pub bound : len ≤ length paths
+  pub begins : begins_with path directory ≡ true
+  pub names : children paths directory ≡ some_name (child_of directory path) ++ children (drop len paths) directory
+
+-- whether the path is that of the directory in the directory
+abbrev pub is_own : List ℕ → List ℕ → Bool
+is_own directory path = is_directory path && bytes_eq path (directory ++ child_of directory path)
+
+-- whether the path of a child that matches, or of something below it, is meant; without what is below only a directory's own
+abbrev pub picks : Bool → List ℕ → List ℕ → List ℕ → Bool
+picks deep directory pattern path = (deep || is_own directory path) && matches pattern (bare (child_of directory path))
+
+-- the same of any path
+abbrev pub is_picked : Bool → List ℕ → List ℕ → List ℕ → Bool
+is_picked deep directory pattern path = is_below directory path && picks deep directory pattern path
+
+-- the flags with those of the paths that pass set to a value
+abbrev pub set_where : (List ℕ → Bool) → Bool → List (List ℕ) → List Bool → List Bool
+set_where test value [] flags = flags
+set_where test value (path ∷ paths) [] = []
+set_where test value (path ∷ paths) (flag ∷ flags) = (if test path then value else flag) ∷ set_where test value paths flags
+
+-- whether two flags differ
+abbrev pub differs : Bool → Bool → Bool
+differs true flag = not flag
+differs false flag = flag
+
+-- how many flags that changes
+abbrev pub changed : (List ℕ → Bool) → Bool → List (List ℕ) → List Bool → ℕ
+changed test value [] flags = 0
+changed test value (path ∷ paths) [] = 0
+changed test value (path ∷ paths) (flag ∷ flags) = (if test path && differs value flag then 1 else 0) + changed test value paths flags
+
+-- how many flags change, where a path passes
+abbrev pub changes : (List ℕ → Bool) → Bool → List (List ℕ) → List Bool → Option ℕ
+changes test value paths flags = if list_any test paths then Some (changed test value paths flags) else None
+
+-- a number of set flags, after so many were set or taken
+abbrev pub recount : Bool → ℕ → Option ℕ → ℕ
+recount value n None = n
+recount true n (Some k) = n + k
+recount false n (Some k) = n - k

@@ -1,0 +1,19 @@
+//! The tree of a view: what stands in a directory, and which paths are marked.
+//!
+//! Contracts see a `Tree` as the view's entries and the marked paths in byte order.
+#![tactic(auto)]
+
+mod child;
+mod list;
+mod names;
+mod pattern;
+mod run;
+mod sign;
+#[cfg(test)]
+mod tests;
+mod tree;
+mod walk;
+
+pub use child::{Child, Sign};
+pub use pattern::{bare_name, matches};
+pub use tree::Tree;

@@ -1,0 +1,81 @@
+ghost use Rattle.std.specs.Prelude.{◌≡◌, true, ◌<◌, ◌++◌, ◌∷◌, [], if◌then◌else◌, length, map, IfOk, OnOk};
+ghost use Rattle.br_model.specs.Console as model;
+ghost use Rattle.br_model.specs.Text.{is_empty};
+ghost use Rattle.br_tree.specs.Seen.{flagged, seen_child, signed};
+ghost use Rattle.br_tree.specs.Walk.{seen_paths, some_name, AllPassing, IsFirstChild, IsRising};
+
+use crate::child::Child;
+use crate::list::pair_at;
+use crate::run::{Shown, child_len, child_name, run_of};
+use crate::sign::sign_of;
+use crate::walk::part_of;
+use std::alloc::{AllocError, Global};
+
+/// The path of a child, of a path that is the child's or below it.
+fn front_of<'p>(directory: &[u8], path: &'p [u8], name: &[u8]) -> &'p [u8]
+    requires begins { model.begins_with path.now directory.now ≡ true }
+    requires named { name.now ≡ model.child_of directory.now path.now }
+    ensures { result.now ≡ directory.now ++ name.now }
+{
+    &path[..directory.len() + name.len()]
+}
+
+/// The first of some paths in a directory, and how many of the first ones are of its child.
+fn next_child<'h>(entries: &[Shown<'h>], directory: &[u8]) -> (&'h [u8], usize)
+    requires sorted { IsRising (seen_paths entries.now) }
+    requires begins { AllPassing (λ path. model.begins_with path directory.now) (seen_paths entries.now) }
+    requires some { 0 < length entries.now }
+    ensures { IsFirstChild directory.now (seen_paths entries.now) result.0.now result.1 }
+{
+    let path = pair_at(entries, 0).0.bytes();
+    (
+        path,
+        child_len(entries, directory, child_name(directory, path)),
+    )
+}
+
+/// Notes the child that has a path, with its sign; the directory itself is no child.
+fn note_child<'h>(
+    noted: &mut Vec<Child<'h>>,
+    entries: &[Shown<'_>],
+    flags: &[bool],
+    directory: &[u8],
+    path: &'h [u8],
+) -> Result<(), AllocError>
+    requires sorted { IsRising (seen_paths entries.now) }
+    requires as_long { length flags.now ≡ length entries.now }
+    requires begins { model.begins_with path.now directory.now ≡ true }
+    ensures { OnOk result (map seen_child noted.new.items ≡ map seen_child noted.old.items ++ map (signed (flagged (seen_paths entries.now) flags.now) directory.now) (some_name (model.child_of directory.now path.now))) }
+{
+    let name = child_name(directory, path);
+    if !name.is_empty() {
+        let sign = sign_of(entries, flags, front_of(directory, path, name));
+        if noted.push(Child { name, sign }).is_err() {
+            return Err(AllocError);
+        }
+    }
+    Ok(())
+}
+
+/// The names in a directory, each with its sign.
+pub(crate) fn names_in<'h>(
+    alloc: Global,
+    entries: &[Shown<'h>],
+    flags: &[bool],
+    directory: &[u8],
+) -> Result<Vec<Child<'h>>, AllocError>
+    requires sorted { IsRising (seen_paths entries.now) }
+    requires as_long { length flags.now ≡ length entries.now }
+    ensures { IfOk result (λ noted. map seen_child noted.items ≡ map (signed (flagged (seen_paths entries.now) flags.now) directory.now) (model.children (seen_paths entries.now) directory.now)) }
+{
+    let (first, last) = run_of(entries, directory);
+    let run = part_of(entries, first, last);
+    let mut noted = Vec::new(alloc);
+    let mut place = 0;
+    while place < run.len() {
+        let (path, len) = next_child(run.split_at(place).1, directory);
+        note_child(&mut noted, entries, flags, directory, path)?;
+        place += len;
+    }
+    Ok(noted)
+}

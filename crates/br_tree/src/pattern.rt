@@ -1,0 +1,105 @@
+ghost use Rattle.std.specs.Prelude.{◌≡◌, ◌==◌, ◌||◌};
+ghost use Rattle.std.specs.List.{list_any};
+ghost use Rattle.br_model.specs.Console as model;
+ghost use Rattle.br_model.specs.Name.{is_directory};
+ghost use Rattle.br_tree.specs.Fronts.{IsFront};
+
+/// Whether a name ends in a `/`.
+pub(crate) fn is_directory_name(name: &[u8]) -> bool
+    ensures { result ≡ is_directory name.now }
+{
+    match name.last() {
+        Some(last) => *last == b'/',
+        None => false,
+    }
+}
+
+/// A name without the `/` at its end.
+pub fn bare_name(name: &[u8]) -> &[u8]
+    ensures { result.now ≡ model.bare name.now }
+{
+    if is_directory_name(name) {
+        &name[..name.len() - 1]
+    } else {
+        name
+    }
+}
+
+/// How a pattern stands to a name up to its first `*`.
+enum Front<'t> {
+    /// There is no `*`, and it matches the whole name.
+    Whole,
+    /// It does not match.
+    Never,
+    /// It matches, and these are the pattern behind the `*` and the name from there on.
+    Star(&'t [u8], &'t [u8]),
+}
+
+/// Whether a byte of a pattern that is no `*` stands for a byte.
+fn takes(mark: u8, byte: u8) -> bool
+    ensures { result ≡ (mark == 63 || mark == byte) }
+{
+    mark == b'?' || mark == byte
+}
+
+/// Matches a pattern up to its first `*`.
+fn match_front<'t>(pattern: &'t [u8], name: &'t [u8]) -> Front<'t>
+    ensures { IsFront result pattern.now name.now }
+{
+    let mut left = pattern;
+    let mut behind = name;
+    while let Some((mark, rest)) = left.split_first() {
+        if *mark == b'*' {
+            return Front::Star(rest, behind);
+        }
+        match behind.split_first() {
+            Some((byte, more)) => {
+                if !takes(*mark, *byte) {
+                    return Front::Never;
+                }
+                left = rest;
+                behind = more;
+            }
+            None => return Front::Never,
+        }
+    }
+    if behind.is_empty() {
+        Front::Whole
+    } else {
+        Front::Never
+    }
+}
+
+/// Whether a pattern matches the name from some place on. What comes before a `*` is taken where it matches first: a later place
+/// leaves less of the name, and what it leaves is left by the first one too.
+fn matches_somewhere(pattern: &[u8], name: &[u8]) -> bool
+    ensures { result ≡ list_any (model.matches pattern.now) (model.tails name.now) }
+{
+    let mut left = pattern;
+    let mut behind = name;
+    loop {
+        match match_front(left, behind) {
+            Front::Whole => return true,
+            Front::Star(rest, more) => {
+                left = rest;
+                behind = more;
+            }
+            Front::Never => match behind.split_first() {
+                Some((_, more)) => behind = more,
+                None => return false,
+            },
+        }
+    }
+}
+
+/// Whether a pattern matches a whole name: `*` stands for any bytes, `?` for one byte, any other byte for itself. It takes at
+/// most as many steps as the product of the lengths.
+pub fn matches(pattern: &[u8], name: &[u8]) -> bool
+    ensures { result ≡ model.matches pattern.now name.now }
+{
+    match match_front(pattern, name) {
+        Front::Whole => true,
+        Front::Never => false,
+        Front::Star(rest, more) => matches_somewhere(rest, more),
+    }
+}

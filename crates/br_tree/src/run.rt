@@ -1,0 +1,93 @@
+ghost use Rattle.std.specs.Prelude.{◌≡◌, ◌<◌, IfSome, length, position, ◌≤◌, take, drop, bytes_eq};
+ghost use Rattle.std.specs.Cmp.Lexicographic.{slice_cmp};
+ghost use Rattle.std.specs.Ordering.{nat_cmp, is_lt};
+ghost use Rattle.br_model.specs.Console.{child_of, begins_with};
+ghost use Rattle.br_model.specs.Name.{is_slash};
+ghost use Rattle.br_tree.specs.Walk.{first_part, seen_paths, IsRising, IsRun, AllPassing, NonePassing};
+
+use br_types::Path;
+use br_view::Entry;
+
+/// A path of a view beside its newest copy.
+pub(crate) type Shown<'h> = (&'h Path, Entry);
+
+/// Where the first `/` of a text stands.
+pub(crate) fn slash_in(text: &[u8]) -> Option<usize>
+    ensures place { result ≡ position is_slash text.now }
+    ensures bound { IfSome result (λ place. place < length text.now) }
+{
+    text.iter().position(|byte| *byte == b'/')
+}
+
+/// A text up to its first `/`.
+fn part_of(text: &[u8]) -> &[u8]
+    ensures { result.now ≡ first_part text.now }
+{
+    match slash_in(text) {
+        Some(place) => &text[..place + 1],
+        None => text,
+    }
+}
+
+/// A path without as many bytes as a directory has.
+pub(crate) fn rest_of<'p>(directory: &[u8], path: &'p [u8]) -> &'p [u8]
+    ensures { result.now ≡ drop (length directory.now) path.now }
+{
+    &path[directory.len().min(path.len())..]
+}
+
+/// The rest of a path behind a directory up to its next `/`.
+pub(crate) fn child_name<'p>(directory: &[u8], path: &'p [u8]) -> &'p [u8]
+    ensures { result.now ≡ child_of directory.now path.now }
+{
+    part_of(rest_of(directory, path))
+}
+
+/// Whether a path comes before a text in byte order.
+fn comes_before(path: &Path, text: &[u8]) -> bool
+    ensures { result ≡ is_lt (slice_cmp nat_cmp path.now text.now) }
+{
+    path.bytes().cmp(text).is_lt()
+}
+
+/// From where on the paths do not come before a text.
+pub(crate) fn not_before(entries: &[Shown<'_>], text: &[u8]) -> usize
+    requires { IsRising (seen_paths entries.now) }
+    ensures bound { result ≤ length entries.now }
+    ensures before { AllPassing (λ path. is_lt (slice_cmp nat_cmp path text.now)) (take result (seen_paths entries.now)) }
+    ensures after { NonePassing (λ path. is_lt (slice_cmp nat_cmp path text.now)) (drop result (seen_paths entries.now)) }
+{
+    entries.partition_point(|entry| comes_before(entry.0, text))
+}
+
+/// How many of the first paths begin with a text, of paths of which none comes before it.
+fn begin_with(entries: &[Shown<'_>], text: &[u8]) -> usize
+    requires sorted { IsRising (seen_paths entries.now) }
+    requires after { NonePassing (λ path. is_lt (slice_cmp nat_cmp path text.now)) (seen_paths entries.now) }
+    ensures bound { result ≤ length entries.now }
+    ensures within { AllPassing (λ path. begins_with path text.now) (take result (seen_paths entries.now)) }
+    ensures after { NonePassing (λ path. begins_with path text.now) (drop result (seen_paths entries.now)) }
+{
+    entries.partition_point(|entry| entry.0.bytes().starts_with(text))
+}
+
+/// From where to where the paths begin with a text.
+pub(crate) fn run_of(entries: &[Shown<'_>], text: &[u8]) -> (usize, usize)
+    requires { IsRising (seen_paths entries.now) }
+    ensures { IsRun (λ path. begins_with path text.now) (seen_paths entries.now) result.0 result.1 }
+{
+    let first = not_before(entries, text);
+    (first, first + begin_with(entries.split_at(first).1, text))
+}
+
+/// How many of the first paths in a directory are those of its first child: the child itself and what is below it.
+pub(crate) fn child_len(entries: &[Shown<'_>], directory: &[u8], name: &[u8]) -> usize
+    requires sorted { IsRising (seen_paths entries.now) }
+    requires below { AllPassing (λ path. begins_with path directory.now) (seen_paths entries.now) }
+    requires first { NonePassing (λ path. is_lt (slice_cmp nat_cmp (child_of directory.now path) name.now)) (seen_paths entries.now) }
+    ensures bound { result ≤ length entries.now }
+    ensures within { AllPassing (λ path. bytes_eq (child_of directory.now path) name.now) (take result (seen_paths entries.now)) }
+    ensures after { NonePassing (λ path. bytes_eq (child_of directory.now path) name.now) (drop result (seen_paths entries.now)) }
+{
+    entries.partition_point(|entry| child_name(directory, entry.0.bytes()) == name)
+}

@@ -1,0 +1,180 @@
+ghost use Rattle.std.specs.Prelude.{◌≡◌, true, ◌<◌, ◌≤◌, ◌-◌, ◌++◌, length, take, drop, count_by, replicate, bytes_eq, not, ◌&&◌, if◌then◌else◌};
+ghost use Rattle.std.specs.Cmp.Lexicographic.{slice_cmp};
+ghost use Rattle.std.specs.Ordering.{nat_cmp, is_lt};
+ghost use Rattle.br_model.specs.Console.{begins_with, child_of, matches, bare};
+ghost use Rattle.br_model.specs.Text.{is_empty};
+ghost use Rattle.br_tree.specs.Walk.{differs, seen_paths, is_picked, is_own, set_where, changes, AllPassing, NonePassing, IsRising, IsStep};
+
+use crate::pattern::{bare_name, is_directory_name, matches as fits};
+use crate::run::{Shown, child_len, child_name, not_before, rest_of, run_of};
+
+/// Sets flags to a value and says how many had another one.
+fn set_flags(flags: &mut [bool], value: bool) -> usize
+    ensures flags { flags.new ≡ replicate (length flags.old) value }
+    ensures count { result ≡ count_by (λ flag. differs value flag) flags.old }
+    ensures few { result ≤ length flags.old }
+{
+    let count = flags.iter().filter(|flag| **flag != value).count();
+    flags.fill(value);
+    count
+}
+
+/// Sets the flags of some places to a value and says how many had another one.
+fn set_range(flags: &mut [bool], from: usize, to: usize, value: bool) -> usize
+    requires ordered { from ≤ to }
+    requires bound { to ≤ length flags.old }
+    ensures flags { flags.new ≡ take from flags.old ++ replicate (to - from) value ++ drop to flags.old }
+    ensures count { result ≡ count_by (λ flag. differs value flag) (take (to - from) (drop from flags.old)) }
+    ensures few { result ≤ to - from }
+{
+    set_flags(&mut flags[from..to], value)
+}
+
+/// Whether a path in a directory, of a child of this name, is that of the directory that the child is.
+fn is_own_path(directory: &[u8], path: &[u8], name: &[u8]) -> bool
+    requires begins { begins_with path.now directory.now ≡ true }
+    requires named { name.now ≡ child_of directory.now path.now }
+    ensures { result ≡ is_own directory.now path.now }
+{
+    is_directory_name(path) && rest_of(directory, path) == name
+}
+
+/// Of as many paths of a child how many are meant, from its first path on.
+fn reach_of(
+    path: &[u8],
+    name: &[u8],
+    len: usize,
+    directory: &[u8],
+    pattern: &[u8],
+    deep: bool,
+) -> usize
+    requires begins { begins_with path.now directory.now ≡ true }
+    requires named { name.now ≡ child_of directory.now path.now }
+    ensures { result ≡ (if not (is_empty name.now) && matches pattern.now (bare name.now) then (if deep then len else (if is_own directory.now path.now then 1 else 0)) else 0) }
+{
+    if name.is_empty() || !fits(pattern, bare_name(name)) {
+        0
+    } else if deep {
+        len
+    } else if is_own_path(directory, path, name) {
+        1
+    } else {
+        0
+    }
+}
+
+/// Of the paths of the first child how many are meant, from the first on, and how many it has.
+fn step(entries: &[Shown<'_>], directory: &[u8], pattern: &[u8], deep: bool) -> (usize, usize)
+    requires sorted { IsRising (seen_paths entries.now) }
+    requires begins { AllPassing (λ path. begins_with path directory.now) (seen_paths entries.now) }
+    requires some { 0 < length entries.now }
+    ensures { IsStep (is_picked deep directory.now pattern.now) (seen_paths entries.now) result.0 result.1 }
+{
+    match entries.split_first() {
+        None => (0, 0),
+        Some((first, _)) => {
+            let path = first.0.bytes();
+            let name = child_name(directory, path);
+            let len = child_len(entries, directory, name);
+            (reach_of(path, name, len, directory, pattern, deep), len)
+        }
+    }
+}
+
+/// Sets the flags of the children of a directory that match a pattern and of all below them, or of the directories among them
+/// alone, and says how many had another value; nothing where no path is meant.
+fn set_children(
+    entries: &[Shown<'_>],
+    flags: &mut [bool],
+    directory: &[u8],
+    pattern: &[u8],
+    deep: bool,
+    value: bool,
+) -> Option<usize>
+    requires sorted { IsRising (seen_paths entries.now) }
+    requires begins { AllPassing (λ path. begins_with path directory.now) (seen_paths entries.now) }
+    requires as_long { length flags.old ≡ length entries.now }
+    ensures flags { flags.new ≡ set_where (is_picked deep directory.now pattern.now) value (seen_paths entries.now) flags.old }
+    ensures answer { result ≡ changes (is_picked deep directory.now pattern.now) value (seen_paths entries.now) flags.old }
+{
+    let mut place = 0;
+    let mut count = 0;
+    let mut found = false;
+    while place < entries.len() {
+        let (reach, len) = step(entries.split_at(place).1, directory, pattern, deep);
+        count += set_range(flags, place, place + reach, value);
+        found = found || 0 < reach;
+        place += len;
+    }
+    if found { Some(count) } else { None }
+}
+
+/// Pairs from a place to another.
+pub(crate) fn part_of<'e, 'h>(
+    entries: &'e [Shown<'h>],
+    first: usize,
+    last: usize,
+) -> &'e [Shown<'h>]
+    requires ordered { first ≤ last }
+    requires bound { last ≤ length entries.now }
+    ensures { result.now ≡ take (last - first) (drop first entries.now) }
+{
+    &entries[first..last]
+}
+
+/// How many of the first paths are a directory's own, of paths of which none comes before it.
+pub(crate) fn own_len(entries: &[Shown<'_>], directory: &[u8]) -> usize
+    requires sorted { IsRising (seen_paths entries.now) }
+    requires from { NonePassing (λ path. is_lt (slice_cmp nat_cmp path directory.now)) (seen_paths entries.now) }
+    ensures bound { result ≤ length entries.now }
+    ensures within { AllPassing (bytes_eq directory.now) (take result (seen_paths entries.now)) }
+    ensures after { NonePassing (bytes_eq directory.now) (drop result (seen_paths entries.now)) }
+{
+    match entries.split_first() {
+        Some((first, _)) => { if directory == first.0.bytes() { 1 } else { 0 } }
+        None => 0,
+    }
+}
+
+/// The same of the children of a directory in a whole view.
+pub(crate) fn set_matching(
+    entries: &[Shown<'_>],
+    flags: &mut [bool],
+    directory: &[u8],
+    pattern: &[u8],
+    deep: bool,
+    value: bool,
+) -> Option<usize>
+    requires sorted { IsRising (seen_paths entries.now) }
+    requires as_long { length flags.old ≡ length entries.now }
+    ensures flags { flags.new ≡ set_where (is_picked deep directory.now pattern.now) value (seen_paths entries.now) flags.old }
+    ensures answer { result ≡ changes (is_picked deep directory.now pattern.now) value (seen_paths entries.now) flags.old }
+{
+    let (first, last) = run_of(entries, directory);
+    set_children(
+        part_of(entries, first, last),
+        &mut flags[first..last],
+        directory,
+        pattern,
+        deep,
+        value,
+    )
+}
+
+/// Sets the flag of the path of a directory and says how many had another value; nothing where it is no path.
+pub(crate) fn set_own(
+    entries: &[Shown<'_>],
+    flags: &mut [bool],
+    directory: &[u8],
+    value: bool,
+) -> Option<usize>
+    requires sorted { IsRising (seen_paths entries.now) }
+    requires as_long { length flags.old ≡ length entries.now }
+    ensures flags { flags.new ≡ set_where (bytes_eq directory.now) value (seen_paths entries.now) flags.old }
+    ensures answer { result ≡ changes (bytes_eq directory.now) value (seen_paths entries.now) flags.old }
+{
+    let first = not_before(entries, directory);
+    let own = own_len(entries.split_at(first).1, directory);
+    let count = set_range(flags, first, first + own, value);
+    if 0 < own { Some(count) } else { None }
+}
