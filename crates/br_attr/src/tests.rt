@@ -15,16 +15,125 @@ const NUMBERS: &[u8] = b"P0A CF2vg IGk B Po Po A 3Y BAA I BHqbnC BHqbnC BHqbnC A
 /// A symbolic link of size 5 to `to`.
 const LINK: &[u8] = b"1 4 /l\0A A IGk B A A A F A A A A A A\0to\0";
 
+/// What its first numbers are: dev, ino, mode, nlink, uid, gid, rdev.
+const NODE: [i64; 7] = [64768, 35089376, 33188, 1, 1000, 1000, 0];
+
+/// What the others are: size, blksize, blocks, atime, mtime, ctime, LinkFI.
+const DATA: [i64; 7] = [3544, 4096, 8, 1202305474, 1202305474, 1202305474, 0];
+
+/// A hard link to file 2, with spaces around its numbers.
+const HARD_LINK: &[u8] = b"7 1 /b\0 A A A A A A A A A A A A  -B C \0/a\0rest";
+
+/// Records, and the number of the refusal where they are read as the first file's, 0 where they are not refused.
+const RECORDS: [(&[u8], u32); 12] = [
+    (b"1 3 /a\0A A A A A A A A A A A A A\0", 0),
+    (b"1 3 /a\0A A A A A A A A A A A A\0\0", 21),
+    (b"1 3 /a\0A A A A A A A A A A A =\0\0", 20),
+    (b"1 3 a\0A\0\0", 22),
+    (b"1 3 /a", 21),
+    (b"1", 21),
+    (b"1 3", 21),
+    (b"1 3 /a\0A", 21),
+    (b"0 3 /a\0", 20),
+    (b"2147483648 3 /a\0", 20),
+    (b"1 0 /a\0", 20),
+    (b"2 0 /a\0", 23),
+];
+
+/// Texts of numbers, and the numbers.
+const READ: [(&[u8], i64); 6] = [
+    (b"-A", 0),
+    (b"-B", -1),
+    (b"BA", 64),
+    (b"AAAAAAAAAAAABA", 64),
+    (b"-IAAAAAAAAAA", i64::MIN),
+    (b"H//////////", i64::MAX),
+];
+
+/// Numbers, and their texts.
+const SHORTEST: [(i64, &[u8]); 5] = [
+    (0, b"A"),
+    (64, b"BA"),
+    (-1, b"-B"),
+    (i64::MIN, b"-IAAAAAAAAAA"),
+    (i64::MAX, b"H//////////"),
+];
+
+/// Texts that are no number.
+const NO_NUMBERS: [&[u8]; 7] = [
+    b"",
+    b"-",
+    b"A=",
+    b"--A",
+    b"IAAAAAAAAAA",
+    b"-IAAAAAAAAAB",
+    b"QAAAAAAAAAA",
+];
+
 fn index(number: u32) -> Result<FileIndex, Fail> {
     Ok(FileIndex::new(number).ok_or("an index")?)
 }
 
-/// The number of the refusal, 0 where the record is read.
-fn refusal(alloc: Global, record: &[u8]) -> Result<u32, Fail> {
-    match Attr::read(alloc, record, index(1)?) {
-        Ok(_) => Ok(0),
-        Err(fault) => Ok(fault.number()),
+fn read(alloc: Global, record: &[u8], number: u32) -> Result<Attr, Fail> {
+    Ok(Attr::read(alloc, record, index(number)?)?)
+}
+
+/// Why the record is not that of the file with this index.
+fn fault_of(alloc: Global, record: &[u8], number: u32) -> Result<Option<AttrFault>, Fail> {
+    Ok(Attr::read(alloc, record, index(number)?).err())
+}
+
+/// The first record that is not refused with its number.
+fn wrongly_refused(
+    alloc: Global,
+    records: &[(&'static [u8], u32)],
+) -> Result<Option<&'static [u8]>, Fail> {
+    for (record, number) in records {
+        if fault_of(alloc, record, 1)?.map_or(0, |fault| fault.number()) != *number {
+            return Ok(Some(record));
+        }
     }
+    Ok(None)
+}
+
+/// The first text that is not read as its number.
+fn wrongly_read(texts: &[(&'static [u8], i64)]) -> Option<&'static [u8]> {
+    for (text, number) in texts {
+        if read_number(text) != Ok(*number) {
+            return Some(text);
+        }
+    }
+    None
+}
+
+/// The first text that is read, or refused as something else than a bad number.
+fn not_refused(texts: &[&'static [u8]]) -> Option<&'static [u8]> {
+    for text in texts {
+        if read_number(text) != Err(AttrFault::BadNumber) {
+            return Some(text);
+        }
+    }
+    None
+}
+
+/// Whether the number is written as this text.
+fn is_written(alloc: Global, number: i64, wanted: &[u8]) -> Result<bool, AllocError> {
+    let mut text = Vec::new(alloc);
+    write_number(number, &mut text)?;
+    Ok(text.as_slice() == wanted)
+}
+
+/// The first number that is not written as its text.
+fn wrongly_written(
+    alloc: Global,
+    numbers: &[(i64, &'static [u8])],
+) -> Result<Option<i64>, AllocError> {
+    for (number, text) in numbers {
+        if !is_written(alloc, *number, text)? {
+            return Ok(Some(*number));
+        }
+    }
+    Ok(None)
 }
 
 /// The byte many times, and one B.
@@ -37,143 +146,111 @@ fn long(alloc: Global, byte: u8) -> Result<Vec<u8>, AllocError> {
     Ok(text)
 }
 
+/// What such a long text is read as.
+fn long_number(alloc: Global, byte: u8) -> Result<Result<i64, AttrFault>, AllocError> {
+    let text = long(alloc, byte)?;
+    Ok(read_number(&text))
+}
+
+fn node_of(stat: &Stat) -> [i64; 7] {
+    [
+        stat.dev(),
+        stat.ino(),
+        stat.mode(),
+        stat.nlink(),
+        stat.uid(),
+        stat.gid(),
+        stat.rdev(),
+    ]
+}
+
+fn data_of(stat: &Stat) -> [i64; 7] {
+    [
+        stat.size(),
+        stat.blksize(),
+        stat.blocks(),
+        stat.atime(),
+        stat.mtime(),
+        stat.ctime(),
+        stat.link_index(),
+    ]
+}
+
+/// Whether index, type, path and link are these.
+fn names(attr: &Attr, numbers: (u32, u32), path: &[u8], link: &[u8]) -> bool {
+    (attr.index().get(), attr.kind()) == numbers
+        && attr.path().bytes() == path
+        && attr.link() == link
+}
+
+/// Whether the link comes apart into its parts.
+fn link_comes_apart(attr: Attr) -> bool {
+    let (kind, path, stat, link) = attr.into_parts();
+    kind == 4
+        && path.bytes() == b"/l".as_slice()
+        && stat.size() == 5
+        && link.as_slice() == b"to".as_slice()
+}
+
+/// Whether the attributes are written as the record.
+fn is_record(alloc: Global, attr: &Attr) -> Result<bool, AllocError> {
+    let record = attr.write(alloc)?;
+    Ok(record.as_slice() == WRITTEN)
+}
+
+/// Whether their parts are written as the record.
+fn are_record(alloc: Global, attr: &Attr) -> Result<bool, Fail> {
+    let record = write_attributes(alloc, index(1)?, 3, attr.path(), &attr.stat(), b"")?;
+    Ok(record.as_slice() == WRITTEN)
+}
+
+/// Whether their numbers are written as those of the record.
+fn are_numbers(alloc: Global, stat: &Stat) -> Result<bool, AllocError> {
+    let numbers = stat.write(alloc)?;
+    Ok(numbers.as_slice() == NUMBERS)
+}
+
 #[test]
-fn reads_a_record(rt: HostRuntime) -> Result<(), Fail> {
-    let attr = Attr::read(rt.alloc(), RECORD, index(1)?)?;
-    assert_eq!(rt; attr.index().get(), 1);
-    assert_eq!(rt; attr.kind(), 3);
-    assert_eq!(rt; attr.path().bytes(), b"/a".as_slice());
-    assert_eq!(rt; attr.link(), b"".as_slice());
-    let stat = attr.stat();
-    assert_eq!(rt; stat.dev(), 64768);
-    assert_eq!(rt; stat.ino(), 35089376);
-    assert_eq!(rt; stat.mode(), 33188);
-    assert_eq!(rt; stat.nlink(), 1);
-    assert_eq!(rt; stat.uid(), 1000);
-    assert_eq!(rt; stat.gid(), 1000);
-    assert_eq!(rt; stat.rdev(), 0);
-    assert_eq!(rt; stat.size(), 3544);
-    assert_eq!(rt; stat.blksize(), 4096);
-    assert_eq!(rt; stat.blocks(), 8);
-    assert_eq!(rt; stat.atime(), 1202305474);
-    assert_eq!(rt; stat.mtime(), 1202305474);
-    assert_eq!(rt; stat.ctime(), 1202305474);
-    assert_eq!(rt; stat.link_index(), 0);
-    assert_eq!(rt;
-        Attr::read(rt.alloc(), RECORD, index(2)?).map(|_| ()),
-        Err(AttrFault::IndexDiffers)
-    );
+fn reads_and_writes_a_record(rt: HostRuntime) -> Result<(), Fail> {
+    let attr = read(rt.alloc(), RECORD, 1)?;
+    assert!(rt; names(&attr, (1, 3), b"/a", b""));
+    assert_eq!(rt; node_of(&attr.stat()), NODE);
+    assert_eq!(rt; data_of(&attr.stat()), DATA);
+    assert!(rt; is_record(rt.alloc(), &attr)?);
+    assert!(rt; are_record(rt.alloc(), &attr)?);
+    assert!(rt; are_numbers(rt.alloc(), &attr.stat())?);
     Ok(())
 }
 
 #[test]
-fn a_record_comes_apart(rt: HostRuntime) -> Result<(), Fail> {
-    let (kind, path, stat, link) = Attr::read(rt.alloc(), LINK, index(1)?)?.into_parts();
-    assert_eq!(rt; kind, 4);
-    assert_eq!(rt; path.bytes(), b"/l".as_slice());
-    assert_eq!(rt; stat.size(), 5);
-    assert_eq!(rt; link.as_slice(), b"to".as_slice());
-    Ok(())
-}
-
-#[test]
-fn writes_a_record(rt: HostRuntime) -> Result<(), Fail> {
-    let attr = Attr::read(rt.alloc(), RECORD, index(1)?)?;
-    let record = attr.write(rt.alloc())?;
-    assert_eq!(rt; record.as_slice(), WRITTEN);
-    let record = write_attributes(rt.alloc(), index(1)?, 3, attr.path(), &attr.stat(), b"")?;
-    assert_eq!(rt; record.as_slice(), WRITTEN);
-    let numbers = attr.stat().write(rt.alloc())?;
-    assert_eq!(rt; numbers.as_slice(), NUMBERS);
+fn reads_links(rt: HostRuntime) -> Result<(), Fail> {
+    assert!(rt; link_comes_apart(read(rt.alloc(), LINK, 1)?));
+    let attr = read(rt.alloc(), HARD_LINK, 7)?;
+    assert!(rt; names(&attr, (7, 1), b"/b", b"/a"));
+    assert!(rt; attr.stat().ctime() == -1);
+    assert!(rt; attr.stat().link_index() == 2);
     Ok(())
 }
 
 #[test]
 fn refuses_records(rt: HostRuntime) -> Result<(), Fail> {
-    let records = [
-        (b"1 3 /a\0A A A A A A A A A A A A A\0".as_slice(), 0),
-        (b"1 3 /a\0A A A A A A A A A A A A\0\0".as_slice(), 21),
-        (b"1 3 /a\0A A A A A A A A A A A =\0\0".as_slice(), 20),
-        (b"1 3 a\0A\0\0".as_slice(), 22),
-        (b"1 3 /a".as_slice(), 21),
-        (b"1".as_slice(), 21),
-        (b"1 3".as_slice(), 21),
-        (b"1 3 /a\0A".as_slice(), 21),
-        (b"0 3 /a\0".as_slice(), 20),
-        (b"2147483648 3 /a\0".as_slice(), 20),
-        (b"1 0 /a\0".as_slice(), 20),
-        (b"2 0 /a\0".as_slice(), 23),
-    ];
-    for (record, number) in records {
-        assert_eq!(rt; refusal(rt.alloc(), record)?, number, "at {record:?}");
-    }
+    assert_eq!(rt;
+        fault_of(rt.alloc(), RECORD, 2)?,
+        Some(AttrFault::IndexDiffers)
+    );
+    assert_eq!(rt; wrongly_refused(rt.alloc(), &RECORDS)?, None);
+    assert!(rt; Stat::read(b"A\tA") == Err(AttrFault::BadNumber));
+    assert!(rt; Stat::read(b"") == Err(AttrFault::MissingField));
     Ok(())
 }
 
 #[test]
-fn reads_a_link(rt: HostRuntime) -> Result<(), Fail> {
-    let record = b"7 1 /b\0 A A A A A A A A A A A A  -B C \0/a\0rest";
-    let attr = Attr::read(rt.alloc(), record, index(7)?)?;
-    assert_eq!(rt; attr.kind(), 1);
-    assert_eq!(rt; attr.link(), b"/a".as_slice());
-    assert_eq!(rt; attr.stat().ctime(), -1);
-    assert_eq!(rt; attr.stat().link_index(), 2);
-    assert_eq!(rt; Stat::read(b"A\tA"), Err(AttrFault::BadNumber));
-    assert_eq!(rt; Stat::read(b""), Err(AttrFault::MissingField));
-    Ok(())
-}
-
-#[test]
-fn reads_numbers(rt: HostRuntime) -> Result<(), Fail> {
-    let numbers = [
-        (b"-A".as_slice(), 0),
-        (b"-B".as_slice(), -1),
-        (b"BA".as_slice(), 64),
-        (b"AAAAAAAAAAAABA".as_slice(), 64),
-        (b"-IAAAAAAAAAA".as_slice(), i64::MIN),
-        (b"H//////////".as_slice(), i64::MAX),
-    ];
-    for (text, number) in numbers {
-        assert_eq!(rt; read_number(text), Ok(number), "at {text:?}");
-    }
-    let zeros = long(rt.alloc(), b'A')?;
-    assert_eq!(rt; read_number(&zeros), Ok(1));
-    Ok(())
-}
-
-#[test]
-fn writes_numbers(rt: HostRuntime) -> Result<(), Fail> {
-    let numbers = [
-        (0, b"A".as_slice()),
-        (64, b"BA".as_slice()),
-        (-1, b"-B".as_slice()),
-        (i64::MIN, b"-IAAAAAAAAAA".as_slice()),
-        (i64::MAX, b"H//////////".as_slice()),
-    ];
-    for (number, written) in numbers {
-        let mut text = Vec::new(rt.alloc());
-        write_number(number, &mut text)?;
-        assert_eq!(rt; text.as_slice(), written, "at {number}");
-    }
-    Ok(())
-}
-
-#[test]
-fn refuses_numbers(rt: HostRuntime) -> Result<(), Fail> {
-    let texts = [
-        b"".as_slice(),
-        b"-".as_slice(),
-        b"A=".as_slice(),
-        b"--A".as_slice(),
-        b"IAAAAAAAAAA".as_slice(),
-        b"-IAAAAAAAAAB".as_slice(),
-        b"QAAAAAAAAAA".as_slice(),
-    ];
-    for text in texts {
-        assert_eq!(rt; read_number(text), Err(AttrFault::BadNumber), "at {text:?}");
-    }
-    let great = long(rt.alloc(), b'B')?;
-    assert_eq!(rt; read_number(&great), Err(AttrFault::BadNumber));
-    assert_eq!(rt; AttrFault::BadNumber.number(), 20);
+fn reads_and_writes_numbers(rt: HostRuntime) -> Result<(), Fail> {
+    assert_eq!(rt; wrongly_read(&READ), None);
+    assert!(rt; long_number(rt.alloc(), b'A')? == Ok(1));
+    assert_eq!(rt; wrongly_written(rt.alloc(), &SHORTEST)?, None);
+    assert_eq!(rt; not_refused(&NO_NUMBERS), None);
+    assert!(rt; long_number(rt.alloc(), b'B')? == Err(AttrFault::BadNumber));
+    assert!(rt; AttrFault::BadNumber.number() == 20);
     Ok(())
 }

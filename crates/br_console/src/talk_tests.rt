@@ -26,24 +26,27 @@ fn letter(byte: u8) -> Result<Letter, Fail> {
     Ok(Letter::new(byte).ok_or("a letter")?)
 }
 
-/// A good backup of this number, level and start with these rows.
-fn job(
-    alloc: Global,
-    id: u32,
-    level: u8,
-    start: u64,
-    shapes: &[Shape<'_>],
-) -> Result<JobRows, Fail> {
+/// The row of a file of three bytes.
+fn file_row(alloc: Global, path: &[u8], index: u32) -> Result<FileRow, Fail> {
+    Ok(FileRow {
+        path: Path::new(alloc, path)?,
+        index,
+        lstat: String::from_str(alloc, "A A IGk B A A A D A A A A A A")?,
+        md5: None,
+    })
+}
+
+fn file_rows(alloc: Global, shapes: &[Shape<'_>]) -> Result<Vec<FileRow>, Fail> {
     let mut files = Vec::new(alloc);
     for (path, index) in shapes {
-        files.push(FileRow {
-            path: Path::new(alloc, path)?,
-            index: *index,
-            lstat: String::from_str(alloc, "A A IGk B A A A D A A A A A A")?,
-            md5: None,
-        })?;
+        files.push(file_row(alloc, path, *index)?)?;
     }
-    let row = JobRow {
+    Ok(files)
+}
+
+/// The row of a good backup of this number, level and start.
+fn job_row(alloc: Global, id: u32, level: u8, start: u64) -> Result<JobRow, Fail> {
+    Ok(JobRow {
         id: JobId::new(id).ok_or("a number")?,
         kind: letter(b'B')?,
         level: letter(level)?,
@@ -52,8 +55,22 @@ fn job(
         session: SessionKey { id, time: 7 },
         client: Name::new(alloc, b"mars")?,
         fileset: Name::new(alloc, b"home")?,
-    };
-    Ok(JobRows::new(row, files, Vec::new(alloc))?)
+    })
+}
+
+/// A good backup of this number, level and start with these rows.
+fn job(
+    alloc: Global,
+    id: u32,
+    level: u8,
+    start: u64,
+    shapes: &[Shape<'_>],
+) -> Result<JobRows, Fail> {
+    Ok(JobRows::new(
+        job_row(alloc, id, level, start)?,
+        file_rows(alloc, shapes)?,
+        Vec::new(alloc),
+    )?)
 }
 
 /// A Full with these rows.
@@ -68,7 +85,116 @@ fn tree_of<'h>(alloc: Global, job: &'h JobRows) -> Result<Tree<'h>, Fail> {
     Ok(Tree::build(alloc, view)?)
 }
 
-/// A talk over a tree, from a console at `/`.
+/// What is said over a Full, and what comes of it.
+#[derive(Clone, Copy)]
+struct Case<'a> {
+    shapes: &'a [Shape<'a>],
+    lines: &'a [u8],
+    /// What the writer holds before.
+    before: &'a [u8],
+    talk: Talk,
+    text: &'a [u8],
+    /// The lines that stay unread.
+    left: &'a [u8],
+    /// The one path that is marked at the end, nothing for none.
+    marked: &'a [u8],
+}
+
+/// Whether a talk with this console ends, writes and reads as expected.
+fn is_held(alloc: Global, console: &mut Console<'_>, case: &Case<'_>) -> Result<bool, Fail> {
+    let mut left = case.lines;
+    let mut text = Vec::from_slice(alloc, case.before)?;
+    let talk = converse(alloc, console, &mut left, &mut text)?;
+    Ok(talk == case.talk && text.as_slice() == case.text && left == case.left)
+}
+
+/// Whether this is the one path, where there are paths.
+fn is_the_one(paths: &[Path], path: &[u8]) -> bool {
+    match paths {
+        [] => path.is_empty(),
+        [marked] => marked.bytes() == path,
+        _ => false,
+    }
+}
+
+fn is_marked(alloc: Global, console: &Console<'_>, path: &[u8]) -> Result<bool, Fail> {
+    let marked = console.marked(alloc)?;
+    Ok(is_the_one(&marked, path))
+}
+
+/// Whether a talk is as expected, and the marks behind it are.
+fn holds(alloc: Global, case: &Case<'_>) -> Result<bool, Fail> {
+    let job = full(alloc, case.shapes)?;
+    let mut console = Console::new(alloc, tree_of(alloc, &job)?)?;
+    let is_held = is_held(alloc, &mut console, case)?;
+    Ok(is_held && is_marked(alloc, &console, case.marked)?)
+}
+
+/// Lines up to `done`, three of them refused.
+const TO_DONE: Case<'static> = Case {
+    shapes: FILES,
+    lines: b"mark *\nmark nil\ncd etc\nunmark passwd\nlsmark\nls\ncount\n\
+    cd /nil\ncd ..\nls\nfrob\nunmark *\ndone\n",
+    before: b"",
+    talk: Talk {
+        is_done: true,
+        is_clean: false,
+    },
+    text: b"4 marked\nrefused 57\ncwd is: /etc/\n1 unmarked\n/etc/\n/etc/hosts\n\
+    *hosts\n passwd\n4 paths, 3 marked\nrefused 56\ncwd is: /\n*etc/\n+home/\nrefused 55\n3 unmarked\n",
+    left: b"",
+    marked: b"",
+};
+
+const LINES_BEHIND: Case<'static> = Case {
+    shapes: FILES,
+    lines: b"mark home\ndone\npwd\nquit\n",
+    before: b"> ",
+    talk: Talk {
+        is_done: true,
+        is_clean: true,
+    },
+    text: b"> 1 marked\n",
+    left: b"pwd\nquit\n",
+    marked: b"/home/u/x",
+};
+
+const QUIT: Case<'static> = Case {
+    shapes: FILES,
+    lines: b"mark home\nquit\ndone\n",
+    before: b"",
+    talk: Talk {
+        is_done: false,
+        is_clean: true,
+    },
+    text: b"1 marked\n",
+    left: b"done\n",
+    marked: b"/home/u/x",
+};
+
+const NO_LINES: Case<'static> = Case {
+    shapes: FILES,
+    lines: b"",
+    before: b"",
+    talk: Talk {
+        is_done: false,
+        is_clean: true,
+    },
+    text: b"",
+    left: b"",
+    marked: b"",
+};
+
+#[test]
+fn a_talk_ends_at_done_at_quit_or_with_its_lines(rt: HostRuntime) -> Result<(), Fail> {
+    assert!(rt; holds(rt.alloc(), &TO_DONE)?);
+    assert!(rt; holds(rt.alloc(), &LINES_BEHIND)?);
+    assert!(rt; holds(rt.alloc(), &QUIT)?);
+    assert!(rt; holds(rt.alloc(), &NO_LINES)?);
+    Ok(())
+}
+
+/// Talks over a tree, from a console at `/`.
 fn talk_over<R: BufRead + Drop, W: Write + Drop>(
     alloc: Global,
     tree: Tree<'_>,
@@ -79,12 +205,16 @@ fn talk_over<R: BufRead + Drop, W: Write + Drop>(
     converse(alloc, &mut console, reader, writer)
 }
 
-/// What is written for these lines over a Full with these rows.
-fn told(alloc: Global, shapes: &[Shape<'_>], mut lines: &[u8]) -> Result<(Talk, Vec<u8>), Fail> {
-    let job = full(alloc, shapes)?;
+/// Whether this is written for these lines over a tree.
+fn is_written(
+    alloc: Global,
+    tree: Tree<'_>,
+    mut lines: &[u8],
+    expected: &[u8],
+) -> Result<bool, Fail> {
     let mut text = Vec::new(alloc);
-    let talk = talk_over(alloc, tree_of(alloc, &job)?, &mut lines, &mut text)?;
-    Ok((talk, text))
+    talk_over(alloc, tree, &mut lines, &mut text)?;
+    Ok(text.as_slice() == expected)
 }
 
 /// Whether this is written for these lines over a Full with these rows.
@@ -94,98 +224,51 @@ fn is_told(
     lines: &[u8],
     expected: &[u8],
 ) -> Result<bool, Fail> {
-    let (_, text) = told(alloc, shapes, lines)?;
-    Ok(text.as_slice() == expected)
+    let job = full(alloc, shapes)?;
+    is_written(alloc, tree_of(alloc, &job)?, lines, expected)
 }
 
-/// Lines up to `done`, three of them refused.
-const LINES: &[u8] = b"mark *\nmark nil\ncd etc\nunmark passwd\nlsmark\nls\ncount\n\
-    cd /nil\ncd ..\nls\nfrob\nunmark *\ndone\n";
+/// Blanks around words and between them.
+const BLANKS: &[u8] = b" \tpwd\t \n\t cd \t etc \t\n";
 
-/// What is written for them.
-const ANSWERS: &[u8] = b"4 marked\nrefused 57\ncwd is: /etc/\n1 unmarked\n/etc/\n/etc/hosts\n\
-    *hosts\n passwd\n4 paths, 3 marked\nrefused 56\ncwd is: /\n*etc/\n+home/\nrefused 55\n3 unmarked\n";
+/// A file and a directory of one name.
+const ONE_NAME: &[Shape<'static>] = &[(b"/etc", 1), (b"/etc/hosts", 2)];
 
-#[test]
-fn a_talk_goes_on_to_done(rt: HostRuntime) -> Result<(), Fail> {
-    let alloc = rt.alloc();
-    let job = full(alloc, FILES)?;
-    let mut console = Console::new(alloc, tree_of(alloc, &job)?)?;
-    let mut lines = LINES;
-    let mut text = Vec::new(alloc);
-    let talk = converse(alloc, &mut console, &mut lines, &mut text)?;
-    assert_eq!(rt; (talk.is_done, talk.is_clean), (true, false));
-    assert_eq!(rt; text.as_slice(), ANSWERS);
-    assert!(rt; console.marked(alloc)?.is_empty());
-    Ok(())
-}
-
-#[test]
-fn a_clean_talk_leaves_marks_and_the_lines_behind(rt: HostRuntime) -> Result<(), Fail> {
-    let alloc = rt.alloc();
-    let job = full(alloc, FILES)?;
-    let mut console = Console::new(alloc, tree_of(alloc, &job)?)?;
-    let mut lines = b"mark home\ndone\npwd\nquit\n".as_slice();
-    let mut text = Vec::from_slice(alloc, b"> ")?;
-    let talk = converse(alloc, &mut console, &mut lines, &mut text)?;
-    assert_eq!(rt; (talk.is_done, talk.is_clean), (true, true));
-    assert_eq!(rt; text.as_slice(), b"> 1 marked\n".as_slice());
-    assert_eq!(rt; lines, b"pwd\nquit\n".as_slice());
-    let marked = console.marked(alloc)?;
-    assert_eq!(rt; marked.len(), 1);
-    assert_eq!(rt; marked[0].bytes(), b"/home/u/x".as_slice());
-    Ok(())
-}
-
-#[test]
-fn quit_and_the_end_of_the_lines_are_not_done(rt: HostRuntime) -> Result<(), Fail> {
-    let (talk, text) = told(rt.alloc(), FILES, b"mark home\nquit\ndone\n")?;
-    assert_eq!(rt; (talk.is_done, talk.is_clean), (false, true));
-    assert_eq!(rt; text.as_slice(), b"1 marked\n".as_slice());
-    let (talk, text) = told(rt.alloc(), FILES, b"")?;
-    assert_eq!(rt; (talk.is_done, talk.is_clean), (false, true));
-    assert!(rt; text.is_empty());
-    Ok(())
-}
+const ROOT: &[Shape<'static>] = &[(b"/", 1)];
 
 #[test]
 fn a_line_ends_at_its_line_feed(rt: HostRuntime) -> Result<(), Fail> {
     let alloc = rt.alloc();
-    let blanks = b" \tpwd\t \n\t cd \t etc \t\n";
-    assert!(rt; is_told(alloc, FILES, blanks, b"cwd is: /\ncwd is: /etc/\n")?);
+    assert!(rt; is_told(alloc, FILES, BLANKS, b"cwd is: /\ncwd is: /etc/\n")?);
     assert!(rt; is_told(alloc, FILES, b"\npwd", b"refused 55\ncwd is: /\n")?);
     assert!(rt; is_told(alloc, FILES, b"pwd\r\n \n", b"refused 55\nrefused 55\n")?);
     Ok(())
 }
 
-#[test]
-fn ways_are_refused_or_followed(rt: HostRuntime) -> Result<(), Fail> {
-    let lines = b"cd //\ncd nil/..\n";
-    assert!(rt; is_told(rt.alloc(), FILES, lines, b"refused 56\ncwd is: /\n")?);
-    Ok(())
+/// Whether ways are refused or followed.
+fn ways_are_told(alloc: Global) -> Result<bool, Fail> {
+    is_told(
+        alloc,
+        FILES,
+        b"cd //\ncd nil/..\n",
+        b"refused 56\ncwd is: /\n",
+    )
 }
 
-#[test]
-fn nothing_stands_in_an_empty_view(rt: HostRuntime) -> Result<(), Fail> {
-    assert!(rt; is_told(rt.alloc(), &[], b"ls\nmark *\n", b"refused 57\n")?);
-    Ok(())
+fn an_empty_view_is_told(alloc: Global) -> Result<bool, Fail> {
+    is_told(alloc, &[], b"ls\nmark *\n", b"refused 57\n")
 }
 
-#[test]
-fn a_file_and_a_directory_have_one_name(rt: HostRuntime) -> Result<(), Fail> {
-    let shapes: &[Shape<'_>] = &[(b"/etc", 1), (b"/etc/hosts", 2)];
+fn one_name_is_told(alloc: Global) -> Result<bool, Fail> {
     let lines = b"ls etc\nmark etc\nlsmark\n";
     let expected = b" etc\n etc/\n2 marked\n/etc\n/etc/hosts\n";
-    assert!(rt; is_told(rt.alloc(), shapes, lines, expected)?);
-    Ok(())
+    is_told(alloc, ONE_NAME, lines, expected)
 }
 
-#[test]
-fn the_root_has_a_row(rt: HostRuntime) -> Result<(), Fail> {
+fn the_root_is_told(alloc: Global) -> Result<bool, Fail> {
     let lines = b"find *\nmarkdir\ncount\n";
     let expected = b" /\n1 marked\n1 paths, 1 marked\n";
-    assert!(rt; is_told(rt.alloc(), &[(b"/", 1)], lines, expected)?);
-    Ok(())
+    is_told(alloc, ROOT, lines, expected)
 }
 
 fn number(job: &JobRows) -> u32
@@ -206,28 +289,46 @@ fn are_apart(jobs: &[&JobRows]) -> bool
     }
 }
 
-/// What is found in the view of these jobs.
-fn found(alloc: Global, jobs: &[&JobRows]) -> Result<Vec<u8>, Fail> {
+/// The tree of the view of two or three jobs.
+fn tree_over<'h>(alloc: Global, jobs: &[&'h JobRows]) -> Result<Tree<'h>, Fail> {
     if !are_apart(jobs) {
         return Err(Fail::new("jobs of one number"));
     }
-    let tree = Tree::build(alloc, View::build(alloc, jobs)?)?;
-    let mut lines = b"find *\n".as_slice();
-    let mut text = Vec::new(alloc);
-    talk_over(alloc, tree, &mut lines, &mut text)?;
-    Ok(text)
+    let view = View::build(alloc, jobs)?;
+    Ok(Tree::build(alloc, view)?)
+}
+
+/// Whether these paths are found in the view of these jobs.
+fn is_found(alloc: Global, jobs: &[&JobRows], expected: &[u8]) -> Result<bool, Fail> {
+    is_written(alloc, tree_over(alloc, jobs)?, b"find *\n", expected)
+}
+
+/// Whether a third job that saves `/a` brings it back.
+fn is_found_again(alloc: Global, first: &JobRows, second: &JobRows) -> Result<bool, Fail> {
+    let third = job(alloc, 3, b'I', 300, &[(b"/a", 1)])?;
+    is_found(alloc, &[first, second, &third], b" /a\n /b\n")
+}
+
+/// Whether a second job that notes `/a` as deleted hides it.
+fn is_hidden(alloc: Global, first: &JobRows) -> Result<bool, Fail> {
+    let second = job(alloc, 2, b'I', 200, &[(b"/a", 0)])?;
+    let is_hidden = is_found(alloc, &[first, &second], b" /b\n")?;
+    Ok(is_hidden && is_found_again(alloc, first, &second)?)
+}
+
+/// Whether the newest copies of the paths of some jobs are found.
+fn newest_copies_are_found(alloc: Global) -> Result<bool, Fail> {
+    let first = full(alloc, &[(b"/a", 1), (b"/b", 2)])?;
+    is_hidden(alloc, &first)
 }
 
 #[test]
-fn the_newest_copies_are_found(rt: HostRuntime) -> Result<(), Fail> {
-    let alloc = rt.alloc();
-    let first = full(alloc, &[(b"/a", 1), (b"/b", 2)])?;
-    let second = job(alloc, 2, b'I', 200, &[(b"/a", 0)])?;
-    let third = job(alloc, 3, b'I', 300, &[(b"/a", 1)])?;
-    let text = found(alloc, &[&first, &second])?;
-    assert_eq!(rt; text.as_slice(), b" /b\n".as_slice());
-    let text = found(alloc, &[&first, &second, &third])?;
-    assert_eq!(rt; text.as_slice(), b" /a\n /b\n".as_slice());
+fn lines_are_answered_from_the_view(rt: HostRuntime) -> Result<(), Fail> {
+    assert!(rt; ways_are_told(rt.alloc())?);
+    assert!(rt; an_empty_view_is_told(rt.alloc())?);
+    assert!(rt; one_name_is_told(rt.alloc())?);
+    assert!(rt; the_root_is_told(rt.alloc())?);
+    assert!(rt; newest_copies_are_found(rt.alloc())?);
     Ok(())
 }
 
@@ -251,34 +352,46 @@ impl Write for Broken {
     }
 }
 
-/// The number of a fault behind a line that was answered, 0 for a fault of reading or writing.
-fn fault_behind_a_line(alloc: Global, kind: ErrorKind) -> Result<(u32, Vec<u8>), Fail> {
-    let job = full(alloc, FILES)?;
+/// The number of the fault of a talk over this job, 0 for a fault of reading or writing.
+fn fault_over<R: BufRead + Drop, W: Write + Drop>(
+    alloc: Global,
+    job: &JobRows,
+    reader: &mut R,
+    writer: &mut W,
+) -> Result<u32, Fail> {
+    match talk_over(alloc, tree_of(alloc, job)?, reader, writer) {
+        Ok(_) => Err(Fail::new("no fault")),
+        Err(fault) => Ok(fault.number().unwrap_or(0)),
+    }
+}
+
+/// Whether a fault of this kind behind a line has this number, 0 for a fault of reading or writing, and the line is answered.
+fn is_seen(alloc: Global, job: &JobRows, kind: ErrorKind, number: u32) -> Result<bool, Fail> {
     let mut reader = BufReader::new(alloc, b"pwd\nls".as_slice().chain(Broken(kind)))?;
     let mut writer = BufWriter::new(alloc, Vec::new(alloc))?;
-    let talk = talk_over(alloc, tree_of(alloc, &job)?, &mut reader, &mut writer);
-    let fault = talk.err().ok_or("a fault")?;
-    let seen = Vec::from_slice(alloc, writer.get_ref())?;
-    Ok((fault.number().unwrap_or(0), seen))
+    let fault = fault_over(alloc, job, &mut reader, &mut writer)?;
+    Ok(fault == number && writer.get_ref().as_slice() == b"cwd is: /\n".as_slice())
 }
 
-#[test]
-fn each_answer_is_seen_before_the_next_line(rt: HostRuntime) -> Result<(), Fail> {
-    let (number, seen) = fault_behind_a_line(rt.alloc(), ErrorKind::BrokenPipe)?;
-    assert_eq!(rt; number, 0);
-    assert_eq!(rt; seen.as_slice(), b"cwd is: /\n".as_slice());
-    let (number, _) = fault_behind_a_line(rt.alloc(), ErrorKind::OutOfMemory)?;
-    assert_eq!(rt; number, 1);
-    Ok(())
+/// Whether each answer is seen before the next line is read.
+fn answers_are_seen(alloc: Global, job: &JobRows) -> Result<bool, Fail> {
+    let broken = is_seen(alloc, job, ErrorKind::BrokenPipe, 0)?;
+    let full = is_seen(alloc, job, ErrorKind::OutOfMemory, 1)?;
+    Ok(broken && full)
 }
 
-#[test]
-fn an_answer_can_not_be_written(rt: HostRuntime) -> Result<(), Fail> {
-    let alloc = rt.alloc();
-    let job = full(alloc, FILES)?;
+/// Whether an answer that can't be written is a fault of writing.
+fn writing_fails(alloc: Global, job: &JobRows) -> Result<bool, Fail> {
     let mut lines = b"pwd\n".as_slice();
     let mut writer = Broken(ErrorKind::BrokenPipe);
-    let talk = talk_over(alloc, tree_of(alloc, &job)?, &mut lines, &mut writer);
-    assert!(rt; matches!(&talk, Err(ConsoleFault::Io(_))));
+    let talk = talk_over(alloc, tree_of(alloc, job)?, &mut lines, &mut writer);
+    Ok(matches!(&talk, Err(ConsoleFault::Io(_))))
+}
+
+#[test]
+fn faults_of_streams_are_told_behind_what_is_seen(rt: HostRuntime) -> Result<(), Fail> {
+    let job = full(rt.alloc(), FILES)?;
+    assert!(rt; answers_are_seen(rt.alloc(), &job)?);
+    assert!(rt; writing_fails(rt.alloc(), &job)?);
     Ok(())
 }

@@ -1,234 +1,361 @@
 use super::*;
+use std::alloc::Global;
 use std::test::Fail;
 
-/// A name of so many bytes.
-fn letters(rt: &HostRuntime, len: usize) -> Result<Vec<u8>, Fail> {
-    Ok(vec![in rt.alloc(); b'a'; len]?)
+/// How many letters a text has, and whether it is a name.
+const LENGTHS: [(usize, bool); 4] = [(0, false), (1, true), (127, true), (128, false)];
+
+/// Texts that are no name.
+const NO_NAMES: [&[u8]; 4] = [b"a/b", b"a\"b", b"a\tb", b"\xe9"];
+
+/// Texts that name no volume.
+const NO_VOLUMES: [&[u8]; 3] = [b".", b"..", b""];
+
+const PATHS: [&[u8]; 6] = [b"/", b"/a", b"/a/", b"/a/b", b"/...", b"/a b\xff"];
+
+/// Texts that are no path.
+const NO_PATHS: [&[u8]; 9] = [
+    b"", b"a", b"//", b"/a//b", b"/a//", b"/.", b"/../a", b"/a/.", b"/a\0",
+];
+
+/// Numbers, and whether they are an index.
+const INDEXES: [(u32, bool); 4] = [
+    (0, false),
+    (1, true),
+    (2_147_483_647, true),
+    (2_147_483_648, false),
+];
+
+/// Bytes, and whether they are a letter.
+const LETTERS: [(u8, bool); 5] = [
+    (b'A', true),
+    (b'z', true),
+    (b'@', false),
+    (b'[', false),
+    (b'0', false),
+];
+
+/// Keys in their order: session, time and index.
+const KEYS: [(u32, u32, u32); 4] = [(1, 9, 9), (2, 1, 9), (2, 2, 1), (2, 2, 2)];
+
+/// Bytes, and how they are printed behind `=`.
+const PRINTED: [(&[u8], &[u8]); 5] = [
+    (b"", b"="),
+    (b"/a", b"=/a"),
+    (b"/a b\\c", b"=/a\\x20b\\x5cc"),
+    (b"\xff\x00\n\x7f\x80", b"=\\xff\\x00\\x0a\\x7f\\x80"),
+    (b"!~\"AZ", b"=!~\"AZ"),
+];
+
+/// Texts, and the bytes that they stand for.
+const ESCAPED: [(&[u8], &[u8]); 6] = [
+    (b"", b""),
+    (b"/a", b"/a"),
+    (b"/a\\x20b\\x5cc", b"/a b\\c"),
+    (b"\\xff\\x00\\x61", b"\xff\x00a"),
+    (b"\xff \t", b"\xff \t"),
+    (b"x20\\x5cx20", b"x20\\x20"),
+];
+
+/// Texts with a bad escape.
+const BAD_ESCAPES: [&[u8]; 11] = [
+    b"\\",
+    b"a\\x",
+    b"\\x2",
+    b"\\n",
+    b"\\\\",
+    b"\\X20",
+    b"\\x2G",
+    b"\\x5C",
+    b"\\x:0",
+    b"\\x2 0",
+    b"\\x20\\x",
+];
+
+/// A text of so many letters.
+fn letters(alloc: Global, len: usize) -> Result<Vec<u8>, Fail> {
+    Ok(vec![in alloc; b'a'; len]?)
 }
 
-#[test]
-fn names_have_1_to_127_bytes(rt: HostRuntime) -> Result<(), Fail> {
-    for (len, valid) in [(0, false), (1, true), (127, true), (128, false)] {
-        let bytes = letters(&rt, len)?;
-        let name = Name::new(rt.alloc(), &bytes);
-        match &name {
-            Ok(name) => assert_eq!(rt; name.bytes(), bytes.as_slice()),
-            Err(fault) => assert_eq!(rt; fault.number(), 2),
+/// Whether the bytes are a name with these bytes, or refused by 2.
+fn is_name_as(alloc: Global, bytes: &[u8], valid: bool) -> bool {
+    match Name::new(alloc, bytes) {
+        Ok(name) => valid && name.bytes() == bytes,
+        Err(fault) => !valid && fault.number() == 2,
+    }
+}
+
+/// The first of these lengths at which it is another way.
+fn wrong_length(alloc: Global, lengths: &[(usize, bool)]) -> Result<Option<usize>, Fail> {
+    for (len, valid) in lengths {
+        let bytes = letters(alloc, *len)?;
+        if !is_name_as(alloc, &bytes, *valid) {
+            return Ok(Some(*len));
         }
-        assert_eq!(rt; name.is_ok(), valid, "a name of {len} bytes");
     }
-    Ok(())
+    Ok(None)
+}
+
+/// The first text that is a name, or refused as something else.
+fn wrong_name(alloc: Global, texts: &[&'static [u8]]) -> Option<&'static [u8]> {
+    for text in texts {
+        if Name::new(alloc, text).err() != Some(NameFault::BadName) {
+            return Some(text);
+        }
+    }
+    None
+}
+
+/// The first text that names a volume, or is refused with another number.
+fn wrong_volume(alloc: Global, texts: &[&'static [u8]]) -> Option<&'static [u8]> {
+    for text in texts {
+        if VolName::new(alloc, text).err().map(|fault| fault.number()) != Some(2) {
+            return Some(text);
+        }
+    }
+    None
+}
+
+/// Whether the copy of a name has the name's bytes.
+fn name_is_copied(alloc: Global, bytes: &[u8]) -> Result<bool, Fail> {
+    let name = Name::new(alloc, bytes)?;
+    let copy = name.copy(alloc)?;
+    Ok(copy.bytes() == bytes)
+}
+
+/// Whether the copy of a volume's name has the name's bytes.
+fn volume_is_copied(alloc: Global, bytes: &[u8]) -> Result<bool, Fail> {
+    let name = VolName::new(alloc, bytes)?;
+    let copy = name.copy(alloc)?;
+    Ok(copy.bytes() == bytes)
 }
 
 #[test]
-fn names_have_few_kinds_of_bytes(rt: HostRuntime) -> Result<(), Fail> {
-    let name = Name::new(rt.alloc(), b"Az09-_.: ")?;
-    assert_eq!(rt; name.copy(rt.alloc())?.bytes(), b"Az09-_.: ".as_slice());
-    for bad in [b"a/b".as_slice(), b"a\"b", b"a\tb", b"\xe9"] {
-        assert_eq!(rt; Name::new(rt.alloc(), bad).err(), Some(NameFault::BadName));
-    }
+fn names_have_few_kinds_of_bytes_and_at_most_127(rt: HostRuntime) -> Result<(), Fail> {
+    assert_eq!(rt; wrong_length(rt.alloc(), &LENGTHS)?, None);
+    assert_eq!(rt; wrong_name(rt.alloc(), &NO_NAMES), None);
+    assert!(rt; name_is_copied(rt.alloc(), b"Az09-_.: ")?);
+    assert_eq!(rt; wrong_volume(rt.alloc(), &NO_VOLUMES), None);
+    assert!(rt; volume_is_copied(rt.alloc(), b"...")?);
     Ok(())
 }
 
-#[test]
-fn a_volume_is_not_named_like_a_folder(rt: HostRuntime) -> Result<(), Fail> {
-    for bad in [b".".as_slice(), b"..", b""] {
-        let fault = VolName::new(rt.alloc(), bad).err().ok_or("no volume")?;
-        assert_eq!(rt; fault.number(), 2);
-    }
-    let name = VolName::new(rt.alloc(), b"...")?;
-    assert_eq!(rt; name.copy(rt.alloc())?.bytes(), b"...".as_slice());
-    Ok(())
+/// Whether the copy of a path has the path's bytes.
+fn path_is_copied(alloc: Global, bytes: &[u8]) -> Result<bool, Fail> {
+    let path = Path::new(alloc, bytes)?;
+    let copy = path.copy(alloc)?;
+    Ok(copy.bytes() == bytes)
 }
 
-#[test]
-fn paths_are_absolute_and_plain(rt: HostRuntime) -> Result<(), Fail> {
-    for good in [
-        b"/".as_slice(),
-        b"/a",
-        b"/a/",
-        b"/a/b",
-        b"/...",
-        b"/a b\xff",
-    ] {
-        let path = Path::new(rt.alloc(), good)?;
-        assert_eq!(rt; path.copy(rt.alloc())?.bytes(), good);
+/// The first path whose copy is another one.
+fn wrong_copy(alloc: Global, paths: &[&'static [u8]]) -> Result<Option<&'static [u8]>, Fail> {
+    for path in paths {
+        if !path_is_copied(alloc, path)? {
+            return Ok(Some(path));
+        }
     }
-    for bad in [
-        b"".as_slice(),
-        b"a",
-        b"//",
-        b"/a//b",
-        b"/a//",
-        b"/.",
-        b"/../a",
-        b"/a/.",
-        b"/a\0",
-    ] {
-        let fault = Path::new(rt.alloc(), bad).err().ok_or("no path")?;
-        assert_eq!(rt; fault.number(), 3, "{bad:?}");
-    }
-    Ok(())
+    Ok(None)
 }
 
-#[test]
-fn paths_have_at_most_4096_bytes(rt: HostRuntime) -> Result<(), Fail> {
-    let mut bytes = letters(&rt, 4096)?;
+/// The first text that is a path, or is refused with another number.
+fn wrong_path(alloc: Global, texts: &[&'static [u8]]) -> Option<&'static [u8]> {
+    for text in texts {
+        if Path::new(alloc, text).err().map(|fault| fault.number()) != Some(3) {
+            return Some(text);
+        }
+    }
+    None
+}
+
+/// Why `/` and so many letters are no path.
+fn fault_of_long_path(alloc: Global, count: usize) -> Result<Option<NameFault>, Fail> {
+    let mut bytes = letters(alloc, count)?;
     bytes.insert(0, b'/')?;
+    Ok(Path::new(alloc, &bytes).err())
+}
+
+#[test]
+fn paths_are_absolute_and_plain_and_have_at_most_4096_bytes(rt: HostRuntime) -> Result<(), Fail> {
+    assert_eq!(rt; wrong_copy(rt.alloc(), &PATHS)?, None);
+    assert_eq!(rt; wrong_path(rt.alloc(), &NO_PATHS), None);
     assert_eq!(rt;
-        Path::new(rt.alloc(), &bytes).err(),
+        fault_of_long_path(rt.alloc(), 4096)?,
         Some(NameFault::BadPath)
     );
-    let _ = bytes.pop();
-    assert!(rt; Path::new(rt.alloc(), &bytes).is_ok());
+    assert_eq!(rt; fault_of_long_path(rt.alloc(), 4095)?, None);
     Ok(())
 }
 
-#[test]
-fn numbers_have_their_ranges(rt: HostRuntime) {
-    assert_eq!(rt; FileIndex::new(0), None);
-    assert_eq!(rt; FileIndex::new(1).map(|index| index.get()), Some(1));
-    assert_eq!(rt;
-        FileIndex::new(2_147_483_647).map(|index| index.get()),
-        Some(2_147_483_647)
-    );
-    assert_eq!(rt; FileIndex::new(2_147_483_648), None);
-    assert_eq!(rt; JobId::new(0), None);
-    assert_eq!(rt;
-        JobId::new(4_294_967_295).map(|id| id.get()),
-        Some(4_294_967_295)
-    );
-    for (byte, valid) in [
-        (b'A', true),
-        (b'z', true),
-        (b'@', false),
-        (b'[', false),
-        (b'0', false),
-    ] {
-        assert_eq!(rt;
-            Letter::new(byte).map(|letter| letter.get()),
-            valid.then_some(byte)
-        );
+/// The first number that is an index or none the other way round.
+fn wrong_index(numbers: &[(u32, bool)]) -> Option<u32> {
+    for (number, valid) in numbers {
+        if FileIndex::new(*number).map(|index| index.get()) != valid.then_some(*number) {
+            return Some(*number);
+        }
     }
+    None
 }
 
-fn key(id: u32, time: u32, index: u32) -> Option<FileKey> {
-    let session = SessionKey { id, time };
-    FileIndex::new(index).map(|index| FileKey { session, index })
+/// The first byte that is a letter or none the other way round.
+fn wrong_letter(bytes: &[(u8, bool)]) -> Option<u8> {
+    for (byte, valid) in bytes {
+        if Letter::new(*byte).map(|letter| letter.get()) != valid.then_some(*byte) {
+            return Some(*byte);
+        }
+    }
+    None
+}
+
+fn key(shape: (u32, u32, u32)) -> Result<FileKey, Fail> {
+    let (id, time, index) = shape;
+    Ok(FileKey {
+        session: SessionKey { id, time },
+        index: FileIndex::new(index).ok_or("an index")?,
+    })
+}
+
+/// Whether each key is below the next one.
+fn ascend(shapes: &[(u32, u32, u32)]) -> Result<bool, Fail> {
+    for pair in shapes.windows(2) {
+        let [low, high] = pair else {
+            return Ok(false);
+        };
+        if key(*low)? >= key(*high)? {
+            return Ok(false);
+        }
+    }
+    Ok(true)
 }
 
 #[test]
-fn names_are_a_map(rt: HostRuntime) -> Result<(), Fail> {
-    let first = key(1, 100, 2).ok_or("a key")?;
-    let other = key(1, 200, 1).ok_or("a key")?;
-    let mut names = Names::new(rt.alloc());
-    assert!(rt;
-        names
-            .insert(other, Path::new(rt.alloc(), b"/b")?)?
-            .is_none()
-    );
-    assert!(rt;
-        names
-            .insert(first, Path::new(rt.alloc(), b"/a")?)?
-            .is_none()
-    );
-    let before = names
-        .insert(first, Path::new(rt.alloc(), b"/c")?)?
-        .ok_or("a path before")?;
-    assert_eq!(rt; before.bytes(), b"/a".as_slice());
-    let copy = names.copy(rt.alloc())?;
-    for names in [&names, &copy] {
-        assert_eq!(rt; names.get(first).ok_or("a path")?.bytes(), b"/c".as_slice());
-        assert_eq!(rt; names.get(other).ok_or("a path")?.bytes(), b"/b".as_slice());
-        assert!(rt; names.get(key(2, 100, 2).ok_or("a key")?).is_none());
-    }
+fn numbers_have_their_ranges_and_keys_their_order(rt: HostRuntime) -> Result<(), Fail> {
+    assert_eq!(rt; wrong_index(&INDEXES), None);
+    assert!(rt; JobId::new(0) == None);
+    assert!(rt; JobId::new(4_294_967_295).map(|id| id.get()) == Some(4_294_967_295));
+    assert_eq!(rt; wrong_letter(&LETTERS), None);
+    assert!(rt; ascend(&KEYS)?);
     Ok(())
 }
 
-#[test]
-fn names_come_in_order_of_key(rt: HostRuntime) -> Result<(), Fail> {
-    let first = key(1, 100, 2).ok_or("a key")?;
-    let other = key(1, 200, 1).ok_or("a key")?;
-    let mut names = Names::new(rt.alloc());
-    names.insert(other, Path::new(rt.alloc(), b"/b")?)?;
-    names.insert(first, Path::new(rt.alloc(), b"/a")?)?;
+/// Sets the path of a file, and says whether it had none.
+fn is_new(alloc: Global, names: &mut Names, key: FileKey, path: &[u8]) -> Result<bool, Fail> {
+    Ok(names.insert(key, Path::new(alloc, path)?)?.is_none())
+}
+
+/// Sets the path of a file, and says whether it had this one.
+fn had(
+    alloc: Global,
+    names: &mut Names,
+    key: FileKey,
+    path: &[u8],
+    before: &[u8],
+) -> Result<bool, Fail> {
+    match names.insert(key, Path::new(alloc, path)?)? {
+        Some(found) => Ok(found.bytes() == before),
+        None => Ok(false),
+    }
+}
+
+/// Whether the file has this path.
+fn has(names: &Names, key: FileKey, path: &[u8]) -> bool {
+    match names.get(key) {
+        Some(found) => found.bytes() == path,
+        None => false,
+    }
+}
+
+/// Whether the two files have these paths, and another file has none.
+fn are_set(names: &Names, first: &[u8], other: &[u8]) -> Result<bool, Fail> {
+    let is_first = has(names, key((1, 100, 2))?, first);
+    let is_other = has(names, key((1, 200, 1))?, other);
+    let no_third = names.get(key((2, 100, 2))?).is_none();
+    Ok(is_first && is_other && no_third)
+}
+
+/// Sets the paths of the two files, the second first, and says whether both had none.
+fn are_new(alloc: Global, names: &mut Names) -> Result<bool, Fail> {
+    let is_other_new = is_new(alloc, names, key((1, 200, 1))?, b"/b")?;
+    let is_first_new = is_new(alloc, names, key((1, 100, 2))?, b"/a")?;
+    Ok(is_other_new && is_first_new)
+}
+
+/// Whether the names are those of the two files, in order of key.
+fn come_in_order(names: &Names) -> Result<bool, Fail> {
     let mut entries = names.iter();
-    for (wanted, bytes) in [(first, b"/a".as_slice()), (other, b"/b".as_slice())] {
-        let (key, path) = entries.next().ok_or("an entry")?;
-        assert_eq!(rt; *key, wanted);
-        assert_eq!(rt; path.bytes(), bytes);
+    for (wanted, bytes) in [((1, 100, 2), b"/a"), ((1, 200, 1), b"/b")] {
+        let (found, path) = entries.next().ok_or("an entry")?;
+        if *found != key(wanted)? || path.bytes() != bytes.as_slice() {
+            return Ok(false);
+        }
     }
-    assert!(rt; entries.next().is_none());
-    Ok(())
+    Ok(entries.next().is_none())
+}
+
+/// Whether a copy has the same paths.
+fn copy_is_set(alloc: Global, names: &Names, first: &[u8], other: &[u8]) -> Result<bool, Fail> {
+    let copy = names.copy(alloc)?;
+    are_set(&copy, first, other)
 }
 
 #[test]
-fn keys_are_ordered_by_session_then_time_then_index(rt: HostRuntime) -> Result<(), Fail> {
-    let keys = [key(1, 9, 9), key(2, 1, 9), key(2, 2, 1), key(2, 2, 2)];
-    for pair in keys.windows(2) {
-        assert_eq!(rt; pair.len(), 2);
-        assert!(rt; pair[0] < pair[1]);
-    }
+fn names_are_a_map_in_order_of_key(rt: HostRuntime) -> Result<(), Fail> {
+    let mut names = Names::new(rt.alloc());
+    assert!(rt; are_new(rt.alloc(), &mut names)?);
+    assert!(rt; come_in_order(&names)?);
+    assert!(rt; had(rt.alloc(), &mut names, key((1, 100, 2))?, b"/c", b"/a")?);
+    assert!(rt; are_set(&names, b"/c", b"/b")?);
+    assert!(rt; copy_is_set(rt.alloc(), &names, b"/c", b"/b")?);
     Ok(())
 }
 
-/// A text with `name` behind it as it is printed.
-fn printed(rt: &HostRuntime, text: &[u8], name: &[u8]) -> Result<Vec<u8>, Fail> {
-    let mut printed = Vec::from_slice(rt.alloc(), text)?;
-    push_escaped(&mut printed, name)?;
-    Ok(printed)
+/// Whether the name is printed so behind `=`.
+fn is_printed(alloc: Global, name: &[u8], wanted: &[u8]) -> Result<bool, Fail> {
+    let mut text = Vec::from_slice(alloc, b"=")?;
+    push_escaped(&mut text, name)?;
+    Ok(text.as_slice() == wanted)
+}
+
+/// The first name that is printed in another way.
+fn wrongly_printed(
+    alloc: Global,
+    names: &[(&'static [u8], &'static [u8])],
+) -> Result<Option<&'static [u8]>, Fail> {
+    for (name, wanted) in names {
+        if !is_printed(alloc, name, wanted)? {
+            return Ok(Some(name));
+        }
+    }
+    Ok(None)
+}
+
+/// The first text that is read as other bytes.
+fn wrongly_read(
+    alloc: Global,
+    texts: &[(&'static [u8], &'static [u8])],
+) -> Result<Option<&'static [u8]>, Fail> {
+    for (text, wanted) in texts {
+        let bytes = unescape(alloc, text)?;
+        if bytes.as_slice() != *wanted {
+            return Ok(Some(text));
+        }
+    }
+    Ok(None)
+}
+
+/// The first text that is read, or refused as something else.
+fn not_refused(alloc: Global, texts: &[&'static [u8]]) -> Option<&'static [u8]> {
+    for text in texts {
+        if unescape(alloc, text).err() != Some(EscapeFault::BadEscape) {
+            return Some(text);
+        }
+    }
+    None
 }
 
 #[test]
-fn names_are_printed_with_escapes(rt: HostRuntime) -> Result<(), Fail> {
-    for (name, wanted) in [
-        (b"".as_slice(), b"=".as_slice()),
-        (b"/a", b"=/a"),
-        (b"/a b\\c", b"=/a\\x20b\\x5cc"),
-        (b"\xff\x00\n\x7f\x80", b"=\\xff\\x00\\x0a\\x7f\\x80"),
-        (b"!~\"AZ", b"=!~\"AZ"),
-    ] {
-        let text = printed(&rt, b"=", name)?;
-        assert_eq!(rt; text.as_slice(), wanted);
-    }
+fn names_are_printed_with_escapes_and_read(rt: HostRuntime) -> Result<(), Fail> {
+    assert_eq!(rt; wrongly_printed(rt.alloc(), &PRINTED)?, None);
+    assert_eq!(rt; wrongly_read(rt.alloc(), &ESCAPED)?, None);
+    assert_eq!(rt; not_refused(rt.alloc(), &BAD_ESCAPES), None);
     Ok(())
-}
-
-#[test]
-fn escapes_are_read(rt: HostRuntime) -> Result<(), Fail> {
-    for (text, wanted) in [
-        (b"".as_slice(), b"".as_slice()),
-        (b"/a", b"/a"),
-        (b"/a\\x20b\\x5cc", b"/a b\\c"),
-        (b"\\xff\\x00\\x61", b"\xff\x00a"),
-        (b"\xff \t", b"\xff \t"),
-        (b"x20\\x5cx20", b"x20\\x20"),
-    ] {
-        let bytes = unescape(rt.alloc(), text)?;
-        assert_eq!(rt; bytes.as_slice(), wanted);
-    }
-    Ok(())
-}
-
-#[test]
-fn other_backslashes_are_bad_escapes(rt: HostRuntime) {
-    for text in [
-        b"\\".as_slice(),
-        b"a\\x",
-        b"\\x2",
-        b"\\n",
-        b"\\\\",
-        b"\\X20",
-        b"\\x2G",
-        b"\\x5C",
-        b"\\x:0",
-        b"\\x2 0",
-        b"\\x20\\x",
-    ] {
-        assert_eq!(rt;
-            unescape(rt.alloc(), text).err(),
-            Some(EscapeFault::BadEscape),
-            "{text:?}"
-        );
-    }
 }

@@ -1,4 +1,4 @@
-ghost use Rattle.std.specs.Prelude.{◌≡◌, true, ◌==◌, map};
+ghost use Rattle.std.specs.Prelude.{◌≡◌, true, ◌==◌, map, IfOk};
 ghost use Rattle.br_model.specs.Job.{no_pair};
 
 use super::*;
@@ -36,6 +36,27 @@ fn row(alloc: Global, id: u32, level: u8, start: u64) -> Result<JobRow, Fail> {
     })
 }
 
+/// A row of File.
+fn file_row(alloc: Global, shape: Shape<'_>) -> Result<FileRow, Fail> {
+    let path = Path::new(alloc, shape.0)?;
+    let lstat = String::from_str(alloc, shape.2)?;
+    Ok(FileRow {
+        path,
+        index: shape.1,
+        lstat,
+        md5: None,
+    })
+}
+
+/// Rows of File.
+fn file_rows(alloc: Global, shapes: &[Shape<'_>]) -> Result<Vec<FileRow>, Fail> {
+    let mut files = Vec::new(alloc);
+    for shape in shapes {
+        files.push(file_row(alloc, *shape)?)?;
+    }
+    Ok(files)
+}
+
 /// A job of this number, level and start with these rows.
 fn job_of_level(
     alloc: Global,
@@ -44,16 +65,8 @@ fn job_of_level(
     start: u64,
     shapes: &[Shape<'_>],
 ) -> Result<JobRows, Fail> {
-    let mut files = Vec::new(alloc);
-    for (path, index, lstat) in shapes {
-        files.push(FileRow {
-            path: Path::new(alloc, path)?,
-            index: *index,
-            lstat: String::from_str(alloc, lstat)?,
-            md5: None,
-        })?;
-    }
     let row = row(alloc, id, level, start)?;
+    let files = file_rows(alloc, shapes)?;
     Ok(JobRows::new(row, files, Vec::new(alloc))?)
 }
 
@@ -107,92 +120,91 @@ fn shown(alloc: Global, jobs: &[&JobRows]) -> Result<Vec<u8>, Fail> {
     entries_text(alloc, &view)
 }
 
-fn full(alloc: Global) -> Result<JobRows, Fail> {
-    job(alloc, 1, 100, &[(b"/b", 1, SAVED), (b"/a", 2, SAVED)])
+/// Whether these are the entries of the view of these jobs.
+fn shows(alloc: Global, jobs: &[&JobRows], wanted: &[u8]) -> Result<bool, Fail> {
+    Ok(shown(alloc, jobs)?.as_slice() == wanted)
 }
 
-fn deleting(alloc: Global) -> Result<JobRows, Fail> {
-    job(alloc, 2, 200, &[(b"/a", 0, "")])
+/// A job of two files, and one that deletes the second of them.
+fn full_and_deleting(alloc: Global) -> Result<(JobRows, JobRows), Fail> {
+    let full = job(alloc, 1, 100, &[(b"/b", 1, SAVED), (b"/a", 2, SAVED)])?;
+    Ok((full, job(alloc, 2, 200, &[(b"/a", 0, "")])?))
 }
 
 fn saving(alloc: Global) -> Result<JobRows, Fail> {
     job(alloc, 3, 300, &[(b"/a", 5, SAVED)])
 }
 
-/// What is shown of one job with these rows, beside a job without rows.
-fn shown_alone(alloc: Global, shapes: &[Shape<'_>]) -> Result<Vec<u8>, Fail> {
+/// Whether these are the entries of a job with these rows, beside a job without rows.
+fn shows_alone(alloc: Global, shapes: &[Shape<'_>], wanted: &[u8]) -> Result<bool, Fail> {
     let alone = job(alloc, 1, 100, shapes)?;
     let empty = job(alloc, 2, 200, &[])?;
-    shown(alloc, &[&alone, &empty])
+    shows(alloc, &[&alone, &empty], wanted)
 }
 
-#[test]
-fn a_deletion_hides_the_older_copy(rt: HostRuntime) -> Result<(), Fail> {
-    let alloc = rt.alloc();
-    let first = full(alloc)?;
-    let second = deleting(alloc)?;
-    let text = shown(alloc, &[&first, &second])?;
-    assert_eq!(rt; text.as_slice(), b"/b11 ".as_slice());
-    Ok(())
+/// Whether the deletion hides the older copy of /a.
+fn shows_no_deleted(alloc: Global) -> Result<bool, Fail> {
+    let (full, deleting) = full_and_deleting(alloc)?;
+    shows(alloc, &[&full, &deleting], b"/b11 ")
 }
 
-#[test]
-fn the_last_job_counts_in_any_order(rt: HostRuntime) -> Result<(), Fail> {
-    let alloc = rt.alloc();
-    let first = full(alloc)?;
-    let second = deleting(alloc)?;
-    let third = saving(alloc)?;
-    let turned = shown(alloc, &[&third, &first, &second])?;
-    assert_eq!(rt; turned.as_slice(), b"/a35 /b11 ".as_slice());
-    Ok(())
+/// Whether the last job's copy of /a is shown, whichever job is named first.
+fn shows_the_last(alloc: Global) -> Result<bool, Fail> {
+    let (full, deleting) = full_and_deleting(alloc)?;
+    let saving = saving(alloc)?;
+    shows(alloc, &[&saving, &full, &deleting], b"/a35 /b11 ")
 }
 
-#[test]
-fn of_one_start_the_greater_number_counts(rt: HostRuntime) -> Result<(), Fail> {
-    let alloc = rt.alloc();
+/// Whether of two jobs of one start the one with the greater number is shown.
+fn shows_the_greater(alloc: Global) -> Result<bool, Fail> {
     let low = job(alloc, 4, 100, &[(b"/a", 9, SAVED)])?;
     let high = job(alloc, 6, 100, &[(b"/a", 1, SAVED)])?;
-    let text = shown(alloc, &[&high, &low])?;
-    assert_eq!(rt; text.as_slice(), b"/a61 ".as_slice());
+    shows(alloc, &[&high, &low], b"/a61 ")
+}
+
+#[test]
+fn of_several_jobs_the_last_counts(rt: HostRuntime) -> Result<(), Fail> {
+    assert!(rt; shows_no_deleted(rt.alloc())?);
+    assert!(rt; shows_the_last(rt.alloc())?);
+    assert!(rt; shows_the_greater(rt.alloc())?);
     Ok(())
 }
 
 #[test]
-fn a_saved_row_counts_before_a_deletion(rt: HostRuntime) -> Result<(), Fail> {
-    let text = shown_alone(rt.alloc(), &[(b"/a", 1, SAVED), (b"/a", 0, "")])?;
-    assert_eq!(rt; text.as_slice(), b"/a11 ".as_slice());
-    let turned = shown_alone(rt.alloc(), &[(b"/a", 0, ""), (b"/a", 1, SAVED)])?;
-    assert_eq!(rt; turned.as_slice(), b"/a11 ".as_slice());
+fn in_one_job_a_saved_row_and_the_greater_index_count(rt: HostRuntime) -> Result<(), Fail> {
+    let first: &[Shape] = &[(b"/a", 1, SAVED), (b"/a", 0, "")];
+    assert!(rt; shows_alone(rt.alloc(), first, b"/a11 ")?);
+    let last: &[Shape] = &[(b"/a", 0, ""), (b"/a", 1, SAVED)];
+    assert!(rt; shows_alone(rt.alloc(), last, b"/a11 ")?);
+    let three: &[Shape] = &[(b"/a", 4, SAVED), (b"/a", 7, SAVED), (b"/a", 2, SAVED)];
+    assert!(rt; shows_alone(rt.alloc(), three, b"/a17 ")?);
     Ok(())
 }
 
-#[test]
-fn in_one_job_the_greater_index_counts(rt: HostRuntime) -> Result<(), Fail> {
-    let text = shown_alone(
-        rt.alloc(),
-        &[(b"/a", 4, SAVED), (b"/a", 7, SAVED), (b"/a", 2, SAVED)],
-    )?;
-    assert_eq!(rt; text.as_slice(), b"/a17 ".as_slice());
-    Ok(())
+/// Session and index of an entry.
+fn numbers_of(entry: &Entry) -> (u32, u32, u32) {
+    (entry.session.id, entry.session.time, entry.index.get())
 }
 
-/// Session, index, size and index of the linked file that a view has at a path.
-fn numbers_at(
+/// Whether a view has these numbers at a path: session and index, size and index of the linked file.
+fn has_at(
     alloc: Global,
     view: &View<'_>,
     path: &[u8],
-) -> Result<(u32, u32, u32, i64, i64), Fail> {
+    numbers: (u32, u32, u32),
+    sizes: (i64, i64),
+) -> Result<bool, Fail> {
     let path = Path::new(alloc, path)?;
-    let entry = view.get(&path).ok_or("an entry")?;
-    let session = entry.session;
-    let index = entry.index.get();
-    Ok((
-        session.id,
-        session.time,
-        index,
-        entry.size,
-        entry.link_index,
-    ))
+    Ok(
+        view.get(&path).is_some_and(|entry| numbers_of(entry) == numbers
+            && (entry.size, entry.link_index) == sizes),
+    )
+}
+
+/// Whether a view has nothing at a path.
+fn has_none_at(alloc: Global, view: &View<'_>, path: &[u8]) -> Result<bool, Fail> {
+    let path = Path::new(alloc, path)?;
+    Ok(view.get(&path).is_none())
 }
 
 /// Whether the last entry of a view is of this path.
@@ -203,21 +215,32 @@ fn ends_with(view: &View<'_>, path: &[u8]) -> bool {
     }
 }
 
-#[test]
-fn get_finds_the_newest_copy(rt: HostRuntime) -> Result<(), Fail> {
-    let alloc = rt.alloc();
-    let older = full(alloc)?;
+/// Whether this view of three paths has the numbers of the newest copy of /a, ends with /d/ and has no /d.
+fn is_newest(alloc: Global, view: &View<'_>) -> Result<bool, Fail> {
+    let has_a = has_at(alloc, view, b"/a", (2, 7, 3), (80, 3))?;
+    let has_no_d = has_none_at(alloc, view, b"/d")?;
+    Ok(view.len() == 3 && has_a && ends_with(view, b"/d/") && has_no_d)
+}
+
+/// Whether the view of two jobs is as is wanted of the newest copies.
+fn finds_the_newest(alloc: Global) -> Result<bool, Fail> {
+    let older = job(alloc, 1, 100, &[(b"/b", 1, SAVED), (b"/a", 2, SAVED)])?;
     let newer = job(alloc, 2, 200, &[(b"/a", 3, LINK), (b"/d/", 4, SAVED)])?;
     let view = view_of(alloc, &[&older, &newer])?;
-    assert_eq!(rt; view.len(), 3);
-    assert_eq!(rt; numbers_at(alloc, &view, b"/a")?, (2, 7, 3, 80, 3));
-    assert!(rt; ends_with(&view, b"/d/"));
-    assert!(rt; view.get(&Path::new(alloc, b"/d")?).is_none());
+    is_newest(alloc, &view)
+}
+
+#[test]
+fn get_finds_the_newest_copy(rt: HostRuntime) -> Result<(), Fail> {
+    assert!(rt; finds_the_newest(rt.alloc())?);
     Ok(())
 }
 
-/// A history of jobs of these numbers, levels, starts and rows.
-fn history(alloc: Global, jobs: &[(u32, u8, u64, &[Shape<'_>])]) -> Result<History, Fail> {
+/// A job of a history: number, level, start, rows.
+type Backup<'s> = (u32, u8, u64, &'s [Shape<'s>]);
+
+/// A history of these jobs.
+fn history(alloc: Global, jobs: &[Backup<'_>]) -> Result<History, Fail> {
     let mut history = History::new(alloc);
     for (id, level, start, shapes) in jobs {
         history.push(job_of_level(alloc, *id, *level, *start, shapes)?)?;
@@ -225,69 +248,91 @@ fn history(alloc: Global, jobs: &[(u32, u8, u64, &[Shape<'_>])]) -> Result<Histo
     Ok(history)
 }
 
-/// The view of the jobs that are chosen for a moment.
-fn view_before<'h>(alloc: Global, history: &'h History, moment: u64) -> Result<View<'h>, Fail> {
+/// The jobs that are chosen for a moment.
+fn chosen_before<'h>(
+    alloc: Global,
+    history: &'h History,
+    moment: u64,
+) -> Result<Vec<&'h JobRows>, Fail>
+    ensures { IfOk result (λ jobs. no_pair (λ j k. j.row.id == k.row.id) (map (λ j. j.now) jobs.items) ≡ true) }
+{
     let client = Name::new(alloc, b"mars")?;
     let fileset = Name::new(alloc, b"home")?;
-    let jobs = choose(alloc, history, &client, &fileset, moment)?;
+    Ok(choose(alloc, history, &client, &fileset, moment)?)
+}
+
+/// The view of the jobs that are chosen for a moment.
+fn view_before<'h>(alloc: Global, history: &'h History, moment: u64) -> Result<View<'h>, Fail> {
+    let jobs = chosen_before(alloc, history, moment)?;
     Ok(View::build(alloc, &jobs)?)
 }
 
-/// The entries of this view.
-fn shown_before(alloc: Global, history: &History, moment: u64) -> Result<Vec<u8>, Fail> {
+/// Whether these are the entries of this view.
+fn shows_before(
+    alloc: Global,
+    history: &History,
+    moment: u64,
+    wanted: &[u8],
+) -> Result<bool, Fail> {
     let view = view_before(alloc, history, moment)?;
-    entries_text(alloc, &view)
+    Ok(entries_text(alloc, &view)?.as_slice() == wanted)
 }
 
-/// Of which job this view has a path, 0 where it has none.
-fn job_before(alloc: Global, history: &History, moment: u64, path: &[u8]) -> Result<u32, Fail> {
-    let view = view_before(alloc, history, moment)?;
+/// Of which job a view has a path, 0 where it has none.
+fn job_at(alloc: Global, view: &View<'_>, path: &[u8]) -> Result<u32, Fail> {
     let path = Path::new(alloc, path)?;
     Ok(view.get(&path).map_or(0, |entry| entry.job.get()))
 }
 
-#[test]
-fn chosen_jobs_have_a_view(rt: HostRuntime) -> Result<(), Fail> {
-    let alloc = rt.alloc();
+/// Of which jobs this view has /a and /b.
+fn jobs_before(alloc: Global, history: &History, moment: u64) -> Result<(u32, u32), Fail> {
+    let view = view_before(alloc, history, moment)?;
+    let a = job_at(alloc, &view, b"/a")?;
+    let b = job_at(alloc, &view, b"/b")?;
+    Ok((a, b))
+}
+
+/// A Full, an Incremental before the Differential, which deletes /a, and an Incremental that saves it again.
+fn four_jobs(alloc: Global) -> Result<History, Fail> {
     let full: &[Shape] = &[(b"/b", 1, SAVED), (b"/a", 2, SAVED)];
     let left_out: &[Shape] = &[(b"/c", 1, SAVED)];
     let deleting: &[Shape] = &[(b"/a", 0, "")];
     let saving: &[Shape] = &[(b"/a", 1, SAVED)];
-    let history = history(
-        alloc,
-        &[
-            (1, b'F', 100, full),
-            (2, b'I', 150, left_out),
-            (3, b'D', 200, deleting),
-            (4, b'I', 300, saving),
-        ],
-    )?;
-    let early = shown_before(alloc, &history, 200)?;
-    assert_eq!(rt; early.as_slice(), b"/a12 /b11 /c21 ".as_slice());
-    let deleted = shown_before(alloc, &history, 300)?;
-    assert_eq!(rt; deleted.as_slice(), b"/b11 ".as_slice());
-    let saved = shown_before(alloc, &history, 301)?;
-    assert_eq!(rt; saved.as_slice(), b"/a41 /b11 ".as_slice());
+    let jobs = [
+        (1, b'F', 100, full),
+        (2, b'I', 150, left_out),
+        (3, b'D', 200, deleting),
+        (4, b'I', 300, saving),
+    ];
+    history(alloc, &jobs)
+}
+
+#[test]
+fn chosen_jobs_have_a_view(rt: HostRuntime) -> Result<(), Fail> {
+    let history = four_jobs(rt.alloc())?;
+    assert!(rt; shows_before(rt.alloc(), &history, 200, b"/a12 /b11 /c21 ")?);
+    assert!(rt; shows_before(rt.alloc(), &history, 300, b"/b11 ")?);
+    assert!(rt; shows_before(rt.alloc(), &history, 301, b"/a41 /b11 ")?);
     Ok(())
+}
+
+/// A Full, an Incremental that deletes /a, and one that saves it again.
+fn three_jobs(alloc: Global) -> Result<History, Fail> {
+    let full: &[Shape] = &[(b"/b", 1, SAVED), (b"/a", 2, SAVED)];
+    let deleting: &[Shape] = &[(b"/a", 0, "")];
+    let saving: &[Shape] = &[(b"/a", 5, SAVED)];
+    let jobs = [
+        (1, b'F', 100, full),
+        (2, b'I', 200, deleting),
+        (3, b'I', 300, saving),
+    ];
+    history(alloc, &jobs)
 }
 
 #[test]
 fn get_knows_deletions(rt: HostRuntime) -> Result<(), Fail> {
-    let alloc = rt.alloc();
-    let full: &[Shape] = &[(b"/b", 1, SAVED), (b"/a", 2, SAVED)];
-    let deleting: &[Shape] = &[(b"/a", 0, "")];
-    let saving: &[Shape] = &[(b"/a", 5, SAVED)];
-    let history = history(
-        alloc,
-        &[
-            (1, b'F', 100, full),
-            (2, b'I', 200, deleting),
-            (3, b'I', 300, saving),
-        ],
-    )?;
-    assert_eq!(rt; job_before(alloc, &history, 300, b"/a")?, 0);
-    assert_eq!(rt; job_before(alloc, &history, 300, b"/b")?, 1);
-    assert_eq!(rt; job_before(alloc, &history, 301, b"/a")?, 3);
-    assert_eq!(rt; job_before(alloc, &history, 301, b"/b")?, 1);
+    let history = three_jobs(rt.alloc())?;
+    assert_eq!(rt; jobs_before(rt.alloc(), &history, 300)?, (0, 1));
+    assert_eq!(rt; jobs_before(rt.alloc(), &history, 301)?, (3, 1));
     Ok(())
 }

@@ -1,5 +1,5 @@
 use super::Joiner;
-use crate::fault::JoinFault;
+use crate::fault::{JoinFault, Refused};
 use crate::item::Outcome;
 use br_bsr::read_bootstrap;
 use br_match::{Found, Hit, Spot};
@@ -78,118 +78,194 @@ fn is_file(file: &(FileKey, Outcome), index: u32, path: &[u8], bytes: &[u8]) -> 
 
 /// Whether the files are /a with `ab` and /b with `c`.
 fn are_both(files: &[(FileKey, Outcome)]) -> bool {
-    files.len() == 2 && is_file(&files[0], 1, b"/a", b"ab") && is_file(&files[1], 2, b"/b", b"c")
+    match files {
+        [a, b] => is_file(a, 1, b"/a", b"ab") && is_file(b, 2, b"/b", b"c"),
+        _ => false,
+    }
+}
+
+/// A joiner of the two pieces, without names.
+fn new_joiner(alloc: Global) -> Result<Joiner, Fail> {
+    let pieces = two_pieces(alloc)?;
+    Ok(Joiner::new(alloc, pieces.as_slice(), None)?)
+}
+
+/// Takes what is found of a piece.
+fn take_piece(alloc: Global, joiner: &mut Joiner, piece: u32) -> Result<(), Fail> {
+    take(joiner, found(alloc, piece)?)
+}
+
+/// The files, none where a piece is open.
+fn finished(alloc: Global, joiner: &mut Joiner) -> Result<Vec<(FileKey, Outcome)>, Fail> {
+    if joiner.ready() {
+        Ok(joiner.finish()?)
+    } else {
+        Ok(Vec::new(alloc))
+    }
+}
+
+/// Whether there are three hits, and `a` is the last.
+fn end_with_a(hits: &[Hit]) -> bool {
+    match hits {
+        [_, _, last] => last.bytes.as_slice() == b"a".as_slice(),
+        _ => false,
+    }
+}
+
+/// Whether what is handed back is of the piece 2, which is none of the two.
+fn is_of_stranger(refused: &Refused<Found>) -> bool {
+    refused.fault == JoinFault::StrangerPiece
+        && refused.fault.number() == 58
+        && refused.value.piece == 2
+        && end_with_a(&refused.value.hits)
+}
+
+/// Whether a joiner hands back what is found of the piece 2.
+fn hands_back(alloc: Global, joiner: &mut Joiner) -> Result<bool, Fail> {
+    let hits = found(alloc, 0)?.hits;
+    match joiner.take(Found { piece: 2, hits }) {
+        Ok(()) => Ok(false),
+        Err(refused) => Ok(is_of_stranger(&refused)),
+    }
 }
 
 #[test]
 fn hands_back_what_is_of_another_piece(rt: HostRuntime) -> Result<(), Fail> {
-    let alloc = rt.alloc();
-    let mut joiner = Joiner::new(alloc, two_pieces(alloc)?.as_slice(), None)?;
-    let mut stranger = found(alloc, 0)?;
-    stranger.piece = 2;
-    match joiner.take(stranger) {
-        Ok(()) => assert!(rt; false),
-        Err(refused) => {
-            assert_eq!(rt; refused.fault, JoinFault::StrangerPiece);
-            assert_eq!(rt; refused.fault.number(), 58);
-            assert_eq!(rt; refused.value.piece, 2);
-            assert_eq!(rt; refused.value.hits.len(), 3);
-            assert_eq!(rt; refused.value.hits[2].bytes.as_slice(), b"a".as_slice());
-        }
-    }
+    let mut joiner = new_joiner(rt.alloc())?;
+    assert!(rt; hands_back(rt.alloc(), &mut joiner)?);
     assert!(rt; !joiner.ready());
     Ok(())
 }
 
-#[test]
-fn joins_in_any_order(rt: HostRuntime) -> Result<(), Fail> {
-    let alloc = rt.alloc();
-    for (first, second) in [(0, 1), (1, 0)] {
-        let mut joiner = Joiner::new(alloc, two_pieces(alloc)?.as_slice(), None)?;
-        assert!(rt; !joiner.ready());
-        take(&mut joiner, found(alloc, first)?)?;
-        assert!(rt; !joiner.ready());
-        take(&mut joiner, found(alloc, second)?)?;
-        assert!(rt; joiner.ready());
-        let files = if joiner.ready() {
-            joiner.finish()?
-        } else {
-            Vec::new(alloc)
-        };
-        assert!(rt; are_both(files.as_slice()));
-    }
-    Ok(())
+/// Whether a joiner is ready before, between and behind two pieces that it takes.
+fn readiness(
+    alloc: Global,
+    joiner: &mut Joiner,
+    first: u32,
+    second: u32,
+) -> Result<[bool; 3], Fail> {
+    let before = joiner.ready();
+    take_piece(alloc, joiner, first)?;
+    let between = joiner.ready();
+    take_piece(alloc, joiner, second)?;
+    Ok([before, between, joiner.ready()])
+}
+
+/// Whether a joiner is ready just behind both pieces, and makes both files of them.
+fn joins(alloc: Global, joiner: &mut Joiner, first: u32, second: u32) -> Result<bool, Fail> {
+    let ready = readiness(alloc, joiner, first, second)?;
+    let files = finished(alloc, joiner)?;
+    Ok(ready == [false, false, true] && are_both(&files))
+}
+
+/// The same of a new joiner.
+fn joins_anew(alloc: Global, first: u32, second: u32) -> Result<bool, Fail> {
+    let mut joiner = new_joiner(alloc)?;
+    joins(alloc, &mut joiner, first, second)
+}
+
+/// Takes that nothing is found of a piece.
+fn take_nothing(alloc: Global, joiner: &mut Joiner, piece: u32) -> Result<(), Fail> {
+    let hits = Vec::new(alloc);
+    take(joiner, Found { piece, hits })
+}
+
+/// Whether a joiner is ready before, between and behind both pieces, of which nothing is found.
+fn readiness_of_nothing(alloc: Global, joiner: &mut Joiner) -> Result<[bool; 3], Fail> {
+    let before = joiner.ready();
+    take_nothing(alloc, joiner, 0)?;
+    let between = joiner.ready();
+    take_nothing(alloc, joiner, 1)?;
+    Ok([before, between, joiner.ready()])
+}
+
+/// Whether a joiner is ready just behind both pieces, of which nothing is found, and makes no file of them.
+fn joins_nothing(alloc: Global, joiner: &mut Joiner) -> Result<bool, Fail> {
+    let ready = readiness_of_nothing(alloc, joiner)?;
+    let files = finished(alloc, joiner)?;
+    Ok(ready == [false, false, true] && files.is_empty())
 }
 
 #[test]
-fn is_empty_and_open_after_a_finish(rt: HostRuntime) -> Result<(), Fail> {
-    let alloc = rt.alloc();
-    let mut joiner = Joiner::new(alloc, two_pieces(alloc)?.as_slice(), None)?;
-    for round in 0..2 {
-        for piece in 0..2 {
-            assert!(rt; !joiner.ready());
-            let hits = if round == 0 {
-                found(alloc, piece)?.hits
-            } else {
-                Vec::new(alloc)
-            };
-            take(&mut joiner, Found { piece, hits })?;
-        }
-        let files = if joiner.ready() {
-            joiner.finish()?
-        } else {
-            Vec::new(alloc)
-        };
-        assert_eq!(rt; files.len(), if round == 0 { 2 } else { 0 });
-    }
+fn joins_in_any_order_and_is_then_empty_and_open(rt: HostRuntime) -> Result<(), Fail> {
+    let mut joiner = new_joiner(rt.alloc())?;
+    assert!(rt; joins(rt.alloc(), &mut joiner, 0, 1)?);
+    assert!(rt; joins_nothing(rt.alloc(), &mut joiner)?);
+    assert!(rt; joins_anew(rt.alloc(), 1, 0)?);
     Ok(())
+}
+
+/// Takes both pieces twice, and then another fragment at a place that is taken.
+fn take_repeats(alloc: Global, joiner: &mut Joiner) -> Result<(), Fail> {
+    take_piece(alloc, joiner, 0)?;
+    take_piece(alloc, joiner, 1)?;
+    take_piece(alloc, joiner, 1)?;
+    take_piece(alloc, joiner, 0)?;
+    take(joiner, found_at_taken_place(alloc)?)
+}
+
+/// Of piece 1 `z` of the second file, where that piece has `c`.
+fn found_at_taken_place(alloc: Global) -> Result<Found, Fail> {
+    let mut hits = Vec::new(alloc);
+    hits.push(hit(alloc, 2, (1, 0), 2, b"z")?)?;
+    Ok(Found { piece: 1, hits })
 }
 
 #[test]
 fn a_repeat_changes_nothing(rt: HostRuntime) -> Result<(), Fail> {
-    let alloc = rt.alloc();
-    let mut joiner = Joiner::new(alloc, two_pieces(alloc)?.as_slice(), None)?;
-    for piece in [0, 1, 1, 0] {
-        take(&mut joiner, found(alloc, piece)?)?;
-    }
-    // At a place that is taken another fragment changes nothing either.
-    let mut hits = Vec::new(alloc);
-    hits.push(hit(alloc, 2, (1, 0), 2, b"z")?)?;
-    take(&mut joiner, Found { piece: 1, hits })?;
-    let files = if joiner.ready() {
-        joiner.finish()?
-    } else {
-        Vec::new(alloc)
-    };
-    assert!(rt; are_both(files.as_slice()));
+    let mut joiner = new_joiner(rt.alloc())?;
+    take_repeats(rt.alloc(), &mut joiner)?;
+    assert!(rt; are_both(&finished(rt.alloc(), &mut joiner)?));
     Ok(())
 }
 
-#[test]
-fn restores_what_was_planned(rt: HostRuntime) -> Result<(), Fail> {
-    let alloc = rt.alloc();
+/// Plans a file.
+fn plan(alloc: Global, names: &mut Names, index: u32, path: &[u8]) -> Result<(), Fail> {
+    let key = key(index)?;
+    names.insert(key, Path::new(alloc, path)?)?;
+    Ok(())
+}
+
+/// The names of the files 3 and 1.
+fn planned_names(alloc: Global) -> Result<Names, Fail> {
     let mut names = Names::new(alloc);
-    names.insert(key(3)?, Path::new(alloc, b"/c")?)?;
-    names.insert(key(1)?, Path::new(alloc, b"/a")?)?;
-    let mut joiner = Joiner::new(alloc, two_pieces(alloc)?.as_slice(), Some(names))?;
-    take(&mut joiner, found(alloc, 0)?)?;
-    take(&mut joiner, found(alloc, 1)?)?;
-    let files = if joiner.ready() {
-        joiner.finish()?
-    } else {
-        Vec::new(alloc)
-    };
-    assert_eq!(rt; files.len(), 2);
-    assert!(rt; is_file(&files[0], 1, b"/a", b"ab"));
-    assert_eq!(rt; files[1].0, key(3)?);
-    assert!(rt;
-        matches!(
-            &files[1].1,
+    plan(alloc, &mut names, 3, b"/c")?;
+    plan(alloc, &mut names, 1, b"/a")?;
+    Ok(names)
+}
+
+/// A joiner of the two pieces that restores the files 3 and 1.
+fn planned_joiner(alloc: Global) -> Result<Joiner, Fail> {
+    let pieces = two_pieces(alloc)?;
+    let names = planned_names(alloc)?;
+    Ok(Joiner::new(alloc, pieces.as_slice(), Some(names))?)
+}
+
+/// Whether of the file with this key nothing was found.
+fn is_missing(file: &(FileKey, Outcome), key: FileKey) -> bool {
+    file.0 == key
+        && matches!(
+            &file.1,
             Outcome::Fault {
                 number: 63,
                 stream: 0
             }
         )
-    );
+}
+
+/// Whether the files are /a with `ab`, and one of this key of which nothing was found.
+fn are_planned(files: &[(FileKey, Outcome)], key: FileKey) -> bool {
+    match files {
+        [a, c] => is_file(a, 1, b"/a", b"ab") && is_missing(c, key),
+        _ => false,
+    }
+}
+
+#[test]
+fn restores_what_was_planned(rt: HostRuntime) -> Result<(), Fail> {
+    let mut joiner = planned_joiner(rt.alloc())?;
+    take_piece(rt.alloc(), &mut joiner, 0)?;
+    take_piece(rt.alloc(), &mut joiner, 1)?;
+    assert!(rt; are_planned(&finished(rt.alloc(), &mut joiner)?, key(3)?));
     Ok(())
 }
