@@ -3,16 +3,314 @@ use br_types::{SessionKey, VolName};
 use std::alloc::{AllocError, Global};
 use std::test::Fail;
 
+/// Texts, and why they are refused.
+const REFUSED: [(&str, BsrFault); 13] = [
+    ("FileIndex=1", BsrFault::VolumeFirst { line: 1 }),
+    ("FileIndex", BsrFault::VolumeFirst { line: 1 }),
+    ("FileIndex=x", BsrFault::VolumeFirst { line: 1 }),
+    ("Client=\"x\"", BsrFault::UnsupportedKeyword { line: 1 }),
+    ("Client", BsrFault::UnsupportedKeyword { line: 1 }),
+    ("=1", BsrFault::UnknownKeyword { line: 1 }),
+    (
+        "Volume=\"V1\"\nClient=\"x\"",
+        BsrFault::UnsupportedKeyword { line: 2 },
+    ),
+    ("Volume=\"V1\"\nFoo=1", BsrFault::UnknownKeyword { line: 2 }),
+    (
+        "Volume=\"V1\"\nFileIndex=5-2",
+        BsrFault::BadValue { line: 2 },
+    ),
+    ("Volume=\"V1\"\nFileIndex", BsrFault::BadValue { line: 2 }),
+    ("Volume=\"V1\"\nFileIndex=0", BsrFault::BadValue { line: 2 }),
+    ("\n# none\nStorage=\"S", BsrFault::BadValue { line: 3 }),
+    ("Storage", BsrFault::BadValue { line: 1 }),
+];
+
+/// Texts with a bad value in the first line.
+const BAD_VOLUMES: [&str; 9] = [
+    "Volume=",
+    "Volume=\"V1",
+    "Volume=\"",
+    "Volume=V 1",
+    "Volume=..",
+    "Volume=V1\r",
+    "Volume=\"V1\" x",
+    "Volume=V1 \x0b",
+    "Volume=V1 = x",
+];
+
+/// Texts with a bad value in the second line.
+const BAD_NUMBERS: [&str; 17] = [
+    "Volume=V1\nFileIndex=1,,2",
+    "Volume=V1\nFileIndex=1,",
+    "Volume=V1\nFileIndex=1 2",
+    "Volume=V1\nFileIndex=+1",
+    "Volume=V1\nFileIndex=1-2-3",
+    "Volume=V1\nFileIndex=-2",
+    "Volume=V1\nVolFile=000000000000000000001",
+    "Volume=V1\nVolAddr=99999999999999999999",
+    "Volume=V1\nVolAddr=9223372036854775808",
+    "Volume=V1\nVolSessionId=4294967296",
+    "Volume=V1\nVolSessionTime=4294967296",
+    "Volume=V1\nVolFile=4294967296",
+    "Volume=V1\nVolBlock=4294967296",
+    "Volume=V1\nFileIndex=2147483648",
+    "Volume=V1\nStream=2147483648",
+    "Volume=V1\nStream=0",
+    "Volume=V1\nStream=0-1",
+];
+
+/// Texts, and the canonical texts of what they mean.
+const CANONICAL: [(&str, &str); 8] = [
+    ("", ""),
+    ("\r\n \t\n# \"", ""),
+    (
+        "Storage=\"S\"\nVolume=\"V1\"\nFileIndex=1\n",
+        "Volume=\"V1\"\nFileIndex=1\n",
+    ),
+    (
+        "volume = V1\nVolSessionId=1,3-4\nFileIndex=2\nFileIndex=5-6",
+        "Volume=\"V1\"\nVolSessionId=1\nVolSessionId=3-4\nFileIndex=2\nFileIndex=5-6\n",
+    ),
+    (
+        "\tVOLUME\t=\t\" V 1\" # \"\r\nstream = 1 - 2\t, 00000000000000000003\r\nVoLaDdR=7 - 7",
+        "Volume=\" V 1\"\nVolAddr=7\nStream=1-2\nStream=3\n",
+    ),
+    (
+        "Device=\"a # b\"\nSlot=\nCount=#\nMediaType=x=y\nVolume=V#1",
+        "Volume=\"V\"\n",
+    ),
+    (
+        "Volume=A\nStream=1\nFileIndex=1\nVolAddr=0\nVolBlock=0\nVolFile=0\nVolSessionTime=0\nVolSessionId=0\nVolume=A",
+        "Volume=\"A\"\nVolSessionId=0\nVolSessionTime=0\nVolFile=0\nVolBlock=0\nVolAddr=0\nFileIndex=1\nStream=1\nVolume=\"A\"\n",
+    ),
+    (
+        "Volume=A\nVolSessionId=4294967295\nVolSessionTime=4294967295\nVolFile=4294967295\nVolBlock=4294967295\nVolAddr=9223372036854775807\nFileIndex=2147483647\nStream=2147483647\n",
+        "Volume=\"A\"\nVolSessionId=4294967295\nVolSessionTime=4294967295\nVolFile=4294967295\nVolBlock=4294967295\nVolAddr=9223372036854775807\nFileIndex=2147483647\nStream=2147483647\n",
+    ),
+];
+
+/// What Bacula's Director wrote for a full and an incremental job on one volume.
+const WRITTEN: &str =
+    "Storage=\"File1\"\nVolume=\"Vol-0001\"\nMediaType=\"File\"\nDevice=\"FileDev\"\nVolSessionId=1\nVolSessionTime=1795302931\nVolAddr=206-1172\nFileIndex=1-2\nFileIndex=4-5\nCount=4\nStorage=\"File1\"\nVolume=\"Vol-0001\"\nMediaType=\"File\"\nDevice=\"FileDev\"\nVolSessionId=1\nVolSessionTime=1795302940\nVolAddr=1656-2149\nFileIndex=1\nCount=1\n";
+
+/// What it wrote for a restore by a regular expression.
+const WITH_REGEX: &str =
+    "Storage=\"File1\"\nVolume=\"Vol-0001\"\nMediaType=\"File\"\nFileRegex=tiny\nDevice=\"FileDev\"\nVolSessionId=1\n";
+
+/// What is written of the two jobs.
+const OF_TWO_JOBS: &[u8] =
+    b"Volume=\"Vol-0001\"\nVolSessionId=1\nVolSessionTime=1795302931\nVolAddr=206-1172\nFileIndex=1-2\nFileIndex=4-5\nVolume=\"Vol-0001\"\nVolSessionId=1\nVolSessionTime=1795302940\nVolAddr=1656-2149\nFileIndex=1\n";
+
+/// The session of the full job.
+const FULL: SessionKey = SessionKey {
+    id: 1,
+    time: 1_795_302_931,
+};
+
+/// Addresses and indexes, and whether the full job has a record there.
+const SPOTS: [(u64, i32, bool); 5] = [
+    (206, 1, true),
+    (205, 1, false),
+    (1172, 5, true),
+    (1173, 5, false),
+    (206, 3, false),
+];
+
+/// A group of three sessions and three files.
+const SESSIONS_AND_FILES: &str = "volume = V1\nVolSessionId=1,3-4\nFileIndex=2\nFileIndex=5-6";
+
+/// Sessions and files, and whether they are of the group.
+const FILES: [(u32, i32, bool); 8] = [
+    (3, 5, true),
+    (4, 2, true),
+    (2, 5, false),
+    (1, 3, false),
+    (5, 5, false),
+    (4, 6, true),
+    (4, 7, false),
+    (1, 4, false),
+];
+
+/// Groups, and whether a record of file 1 at address 2^32 + 5 in session 7 of time 9 is of them.
+const CRITERIA: [(&str, bool); 10] = [
+    ("Volume=V\nVolFile=1\nVolBlock=5", true),
+    ("Volume=V\nVolFile=0", false),
+    ("Volume=V\nVolBlock=4", false),
+    ("Volume=V\nVolBlock=4-5", true),
+    ("Volume=V\nVolAddr=4294967301", true),
+    ("Volume=V\nVolAddr=0-4294967300", false),
+    ("Volume=V\nVolSessionTime=8,10", false),
+    ("Volume=V\nVolSessionTime=8-10", true),
+    ("Volume=V\nStream=2147483647", false),
+    ("Volume=V", true),
+];
+
+/// Faults, their numbers, and their lines.
+const FAULTS: [(BsrFault, u32, Option<u64>); 6] = [
+    (BsrFault::Memory, 1, None),
+    (BsrFault::VolumeFirst { line: 7 }, 30, Some(7)),
+    (BsrFault::UnknownKeyword { line: 7 }, 31, Some(7)),
+    (BsrFault::UnsupportedKeyword { line: 7 }, 32, Some(7)),
+    (BsrFault::BadValue { line: 7 }, 33, Some(7)),
+    (BsrFault::TooLong { line: 7 }, 34, Some(7)),
+];
+
 fn fault_of(alloc: Global, text: &[u8]) -> Option<BsrFault> {
-    match read_bootstrap(alloc, text) {
-        Ok(_) => None,
-        Err(fault) => Some(fault),
-    }
+    read_bootstrap(alloc, text).err()
 }
 
 fn canonical_of(alloc: Global, text: &[u8]) -> Result<Vec<u8>, BsrFault> {
     let bootstrap = read_bootstrap(alloc, text)?;
     Ok(write_bootstrap(alloc, &bootstrap)?)
+}
+
+/// The first text that is read, or refused in another way.
+fn wrongly_refused(alloc: Global, texts: &[(&'static str, BsrFault)]) -> Option<&'static str> {
+    for (text, fault) in texts {
+        if fault_of(alloc, text.as_bytes()) != Some(*fault) {
+            return Some(text);
+        }
+    }
+    None
+}
+
+/// The first text that has no bad value in this line.
+fn not_refused(alloc: Global, texts: &[&'static str], line: u64) -> Option<&'static str> {
+    for text in texts {
+        if fault_of(alloc, text.as_bytes()) != Some(BsrFault::BadValue { line }) {
+            return Some(text);
+        }
+    }
+    None
+}
+
+#[test]
+fn refuses_in_order(rt: HostRuntime) {
+    assert_eq!(rt; wrongly_refused(rt.alloc(), &REFUSED), None);
+    assert_eq!(rt; not_refused(rt.alloc(), &BAD_VOLUMES, 1), None);
+    assert_eq!(rt; not_refused(rt.alloc(), &BAD_NUMBERS, 2), None);
+}
+
+/// Whether this is the canonical text of what the text means, and its own canonical text.
+fn has_canonical(alloc: Global, text: &[u8], canonical: &[u8]) -> Result<bool, BsrFault> {
+    let written = canonical_of(alloc, text)?;
+    let again = canonical_of(alloc, &written)?;
+    Ok(written.as_slice() == canonical && again.as_slice() == canonical)
+}
+
+/// The first text that has another canonical text.
+fn wrongly_written(
+    alloc: Global,
+    texts: &[(&'static str, &'static str)],
+) -> Result<Option<&'static str>, BsrFault> {
+    for (text, canonical) in texts {
+        if !has_canonical(alloc, text.as_bytes(), canonical.as_bytes())? {
+            return Ok(Some(text));
+        }
+    }
+    Ok(None)
+}
+
+/// Whether the first group is that of the full job, the second that of the incremental one.
+fn are_two_jobs(groups: &[Group]) -> bool {
+    match groups {
+        [full, incremental] => {
+            full.vol.bytes() == b"Vol-0001".as_slice()
+                && full.last_address() == Some(1172)
+                && full.indexes.len() == 2
+                && SPOTS.iter().all(|(addr, index, is_hit)| full.hits(*addr, FULL, *index, 2)
+                    == *is_hit)
+                && incremental.last_address() == Some(2149)
+                && !incremental.hits(1656, FULL, 1, 2)
+        }
+        _ => false,
+    }
+}
+
+fn reads_two_jobs(alloc: Global) -> Result<bool, BsrFault> {
+    let bootstrap = read_bootstrap(alloc, WRITTEN.as_bytes())?;
+    Ok(are_two_jobs(bootstrap.groups()))
+}
+
+/// Many times what Bacula's Director wrote.
+fn many_groups(alloc: Global) -> Result<Vec<u8>, AllocError> {
+    let mut text = Vec::new(alloc);
+    for _ in 0..10_000 {
+        text.extend_from_slice(WRITTEN.as_bytes())?;
+    }
+    Ok(text)
+}
+
+/// How many groups there are in it.
+fn count_of_groups(alloc: Global) -> Result<usize, BsrFault> {
+    let text = many_groups(alloc)?;
+    let bootstrap = read_bootstrap(alloc, &text)?;
+    Ok(bootstrap.groups().len())
+}
+
+#[test]
+fn reads_and_writes(rt: HostRuntime) -> Result<(), Fail> {
+    assert_eq!(rt; wrongly_written(rt.alloc(), &CANONICAL)?, None);
+    assert!(rt; reads_two_jobs(rt.alloc())?);
+    assert!(rt; has_canonical(rt.alloc(), WRITTEN.as_bytes(), OF_TWO_JOBS)?);
+    assert!(rt;
+        fault_of(rt.alloc(), WITH_REGEX.as_bytes())
+            == Some(BsrFault::UnsupportedKeyword { line: 4 })
+    );
+    assert!(rt; count_of_groups(rt.alloc())? == 20_000);
+    Ok(())
+}
+
+/// Whether exactly the files of the table that are marked are of the only group.
+fn hits_files(groups: &[Group]) -> bool {
+    match groups {
+        [group] => FILES.iter().all(|(id, index, is_hit)| {
+            let session = SessionKey { id: *id, time: 100 };
+            group.hits(0, session, *index, 2) == *is_hit
+        }),
+        _ => false,
+    }
+}
+
+fn reads_sessions_and_files(alloc: Global) -> Result<bool, BsrFault> {
+    let bootstrap = read_bootstrap(alloc, SESSIONS_AND_FILES.as_bytes())?;
+    Ok(hits_files(bootstrap.groups()))
+}
+
+/// Whether a record at address 2^32 + 5 in session 7 of time 9 is of the only group, of the stream 2^31 that goes on; labels are
+/// not.
+fn is_hit_by(groups: &[Group], is_hit: bool) -> bool {
+    let session = SessionKey { id: 7, time: 9 };
+    match groups {
+        [group] => {
+            group.hits(4_294_967_301, session, 1, -2_147_483_648) == is_hit
+                && !group.hits(4_294_967_301, session, 0, 2)
+                && !group.hits(4_294_967_301, session, -1, 2)
+        }
+        _ => false,
+    }
+}
+
+/// The first group that is hit or not the other way round.
+fn wrongly_hit(
+    alloc: Global,
+    texts: &[(&'static str, bool)],
+) -> Result<Option<&'static str>, BsrFault> {
+    for (text, is_hit) in texts {
+        let bootstrap = read_bootstrap(alloc, text.as_bytes())?;
+        if !is_hit_by(bootstrap.groups(), *is_hit) {
+            return Ok(Some(text));
+        }
+    }
+    Ok(None)
+}
+
+#[test]
+fn hits_by_every_criterion(rt: HostRuntime) -> Result<(), Fail> {
+    assert!(rt; reads_sessions_and_files(rt.alloc())?);
+    assert_eq!(rt; wrongly_hit(rt.alloc(), &CRITERIA)?, None);
+    Ok(())
 }
 
 /// `Volume=V1`, LF, and `keyword` with so many spaces behind it that its line has `len` bytes.
@@ -25,287 +323,130 @@ fn long_line(alloc: Global, keyword: &[u8], len: u32) -> Result<Vec<u8>, AllocEr
     Ok(text)
 }
 
-#[test]
-fn refuses_in_order(rt: HostRuntime) {
-    for (text, fault) in [
-        ("FileIndex=1", BsrFault::VolumeFirst { line: 1 }),
-        ("FileIndex", BsrFault::VolumeFirst { line: 1 }),
-        ("FileIndex=x", BsrFault::VolumeFirst { line: 1 }),
-        ("Client=\"x\"", BsrFault::UnsupportedKeyword { line: 1 }),
-        ("Client", BsrFault::UnsupportedKeyword { line: 1 }),
-        ("=1", BsrFault::UnknownKeyword { line: 1 }),
-        (
-            "Volume=\"V1\"\nClient=\"x\"",
-            BsrFault::UnsupportedKeyword { line: 2 },
-        ),
-        ("Volume=\"V1\"\nFoo=1", BsrFault::UnknownKeyword { line: 2 }),
-        (
-            "Volume=\"V1\"\nFileIndex=5-2",
-            BsrFault::BadValue { line: 2 },
-        ),
-        ("Volume=\"V1\"\nFileIndex", BsrFault::BadValue { line: 2 }),
-        ("Volume=\"V1\"\nFileIndex=0", BsrFault::BadValue { line: 2 }),
-        ("\n# none\nStorage=\"S", BsrFault::BadValue { line: 3 }),
-        ("Storage", BsrFault::BadValue { line: 1 }),
-    ] {
-        assert_eq!(rt;
-            fault_of(rt.alloc(), text.as_bytes()),
-            Some(fault),
-            "{text}"
-        );
-    }
-}
-
-#[test]
-fn refuses_bad_values(rt: HostRuntime) {
-    for text in [
-        "Volume=",
-        "Volume=\"V1",
-        "Volume=\"",
-        "Volume=V 1",
-        "Volume=..",
-        "Volume=V1\r",
-        "Volume=\"V1\" x",
-        "Volume=V1 \x0b",
-        "Volume=V1 = x",
-    ] {
-        assert_eq!(rt;
-            fault_of(rt.alloc(), text.as_bytes()),
-            Some(BsrFault::BadValue { line: 1 }),
-            "{text}"
-        );
-    }
-    for text in [
-        "Volume=V1\nFileIndex=1,,2",
-        "Volume=V1\nFileIndex=1,",
-        "Volume=V1\nFileIndex=1 2",
-        "Volume=V1\nFileIndex=+1",
-        "Volume=V1\nFileIndex=1-2-3",
-        "Volume=V1\nFileIndex=-2",
-        "Volume=V1\nVolFile=000000000000000000001",
-        "Volume=V1\nVolAddr=99999999999999999999",
-        "Volume=V1\nVolAddr=9223372036854775808",
-        "Volume=V1\nVolSessionId=4294967296",
-        "Volume=V1\nVolSessionTime=4294967296",
-        "Volume=V1\nVolFile=4294967296",
-        "Volume=V1\nVolBlock=4294967296",
-        "Volume=V1\nFileIndex=2147483648",
-        "Volume=V1\nStream=2147483648",
-        "Volume=V1\nStream=0",
-        "Volume=V1\nStream=0-1",
-    ] {
-        assert_eq!(rt;
-            fault_of(rt.alloc(), text.as_bytes()),
-            Some(BsrFault::BadValue { line: 2 }),
-            "{text}"
-        );
-    }
-}
-
-#[test]
-fn reads_and_writes(rt: HostRuntime) -> Result<(), Fail> {
-    for (text, canonical) in [
-        ("", ""),
-        ("\r\n \t\n# \"", ""),
-        (
-            "Storage=\"S\"\nVolume=\"V1\"\nFileIndex=1\n",
-            "Volume=\"V1\"\nFileIndex=1\n",
-        ),
-        (
-            "volume = V1\nVolSessionId=1,3-4\nFileIndex=2\nFileIndex=5-6",
-            "Volume=\"V1\"\nVolSessionId=1\nVolSessionId=3-4\nFileIndex=2\nFileIndex=5-6\n",
-        ),
-        (
-            "\tVOLUME\t=\t\" V 1\" # \"\r\nstream = 1 - 2\t, 00000000000000000003\r\nVoLaDdR=7 - 7",
-            "Volume=\" V 1\"\nVolAddr=7\nStream=1-2\nStream=3\n",
-        ),
-        (
-            "Device=\"a # b\"\nSlot=\nCount=#\nMediaType=x=y\nVolume=V#1",
-            "Volume=\"V\"\n",
-        ),
-        (
-            "Volume=A\nStream=1\nFileIndex=1\nVolAddr=0\nVolBlock=0\nVolFile=0\nVolSessionTime=0\nVolSessionId=0\nVolume=A",
-            "Volume=\"A\"\nVolSessionId=0\nVolSessionTime=0\nVolFile=0\nVolBlock=0\nVolAddr=0\nFileIndex=1\nStream=1\nVolume=\"A\"\n",
-        ),
-        (
-            "Volume=A\nVolSessionId=4294967295\nVolSessionTime=4294967295\nVolFile=4294967295\nVolBlock=4294967295\nVolAddr=9223372036854775807\nFileIndex=2147483647\nStream=2147483647\n",
-            "Volume=\"A\"\nVolSessionId=4294967295\nVolSessionTime=4294967295\nVolFile=4294967295\nVolBlock=4294967295\nVolAddr=9223372036854775807\nFileIndex=2147483647\nStream=2147483647\n",
-        ),
-    ] {
-        let written = canonical_of(rt.alloc(), text.as_bytes())?;
-        assert!(rt; written.as_slice() == canonical.as_bytes(), "{text}");
-        let again = canonical_of(rt.alloc(), &written)?;
-        assert!(rt; again == written, "{text}");
-    }
-    Ok(())
-}
-
-/// What Bacula's Director wrote for a full and an incremental job on one volume.
-const WRITTEN: &str =
-    "Storage=\"File1\"\nVolume=\"Vol-0001\"\nMediaType=\"File\"\nDevice=\"FileDev\"\nVolSessionId=1\nVolSessionTime=1795302931\nVolAddr=206-1172\nFileIndex=1-2\nFileIndex=4-5\nCount=4\nStorage=\"File1\"\nVolume=\"Vol-0001\"\nMediaType=\"File\"\nDevice=\"FileDev\"\nVolSessionId=1\nVolSessionTime=1795302940\nVolAddr=1656-2149\nFileIndex=1\nCount=1\n";
-
-/// What it wrote for a restore by a regular expression.
-const WITH_REGEX: &str =
-    "Storage=\"File1\"\nVolume=\"Vol-0001\"\nMediaType=\"File\"\nFileRegex=tiny\nDevice=\"FileDev\"\nVolSessionId=1\n";
-
-#[test]
-fn reads_what_bacula_wrote(rt: HostRuntime) -> Result<(), Fail> {
-    let bootstrap = read_bootstrap(rt.alloc(), WRITTEN.as_bytes())?;
-    let [full, incremental] = bootstrap.groups() else {
-        assert!(rt; false, "two groups");
-        return Ok(());
-    };
-    assert!(rt; full.vol.bytes() == b"Vol-0001".as_slice());
-    assert_eq!(rt; full.last_address(), Some(1172));
-    assert_eq!(rt; full.indexes.len(), 2);
-    assert_eq!(rt; incremental.last_address(), Some(2149));
-    let first = SessionKey {
-        id: 1,
-        time: 1_795_302_931,
-    };
-    for (addr, index, is_hit) in [
-        (206, 1, true),
-        (205, 1, false),
-        (1172, 5, true),
-        (1173, 5, false),
-        (206, 3, false),
-    ] {
-        assert_eq!(rt; full.hits(addr, first, index, 2), is_hit, "{addr} {index}");
-    }
-    assert!(rt; !incremental.hits(1656, first, 1, 2));
-    let written = write_bootstrap(rt.alloc(), &bootstrap)?;
-    let canonical =
-        b"Volume=\"Vol-0001\"\nVolSessionId=1\nVolSessionTime=1795302931\nVolAddr=206-1172\nFileIndex=1-2\nFileIndex=4-5\nVolume=\"Vol-0001\"\nVolSessionId=1\nVolSessionTime=1795302940\nVolAddr=1656-2149\nFileIndex=1\n";
-    assert!(rt; written.as_slice() == canonical.as_slice());
-    let again = canonical_of(rt.alloc(), &written)?;
-    assert!(rt; again == written);
-    let fault = BsrFault::UnsupportedKeyword { line: 4 };
-    assert_eq!(rt; fault_of(rt.alloc(), WITH_REGEX.as_bytes()), Some(fault));
-    Ok(())
-}
-
-#[test]
-fn hits_by_every_criterion(rt: HostRuntime) -> Result<(), Fail> {
-    let text = "volume = V1\nVolSessionId=1,3-4\nFileIndex=2\nFileIndex=5-6";
-    let bootstrap = read_bootstrap(rt.alloc(), text.as_bytes())?;
-    for group in bootstrap.groups() {
-        for (id, index, is_hit) in [
-            (3, 5, true),
-            (4, 2, true),
-            (2, 5, false),
-            (1, 3, false),
-            (5, 5, false),
-            (4, 6, true),
-            (4, 7, false),
-            (1, 4, false),
-        ] {
-            let session = SessionKey { id, time: 100 };
-            assert_eq!(rt; group.hits(0, session, index, 2), is_hit, "{id} {index}");
-        }
-    }
-    let session = SessionKey { id: 7, time: 9 };
-    for (text, is_hit) in [
-        ("Volume=V\nVolFile=1\nVolBlock=5", true),
-        ("Volume=V\nVolFile=0", false),
-        ("Volume=V\nVolBlock=4", false),
-        ("Volume=V\nVolBlock=4-5", true),
-        ("Volume=V\nVolAddr=4294967301", true),
-        ("Volume=V\nVolAddr=0-4294967300", false),
-        ("Volume=V\nVolSessionTime=8,10", false),
-        ("Volume=V\nVolSessionTime=8-10", true),
-        ("Volume=V\nStream=2147483647", false),
-        ("Volume=V", true),
-    ] {
-        let bootstrap = read_bootstrap(rt.alloc(), text.as_bytes())?;
-        for group in bootstrap.groups() {
-            assert_eq!(rt;
-                group.hits(4_294_967_301, session, 1, -2_147_483_648),
-                is_hit,
-                "{text}"
-            );
-            assert!(rt;
-                !group.hits(4_294_967_301, session, 0, 2)
-                    && !group.hits(4_294_967_301, session, -1, 2)
-            );
-        }
-    }
-    Ok(())
+/// Why such a line is refused, with an end of a line behind it and without.
+fn faults_of_line(
+    alloc: Global,
+    keyword: &[u8],
+    len: u32,
+) -> Result<(Option<BsrFault>, Option<BsrFault>), AllocError> {
+    let mut text = long_line(alloc, keyword, len)?;
+    let open = fault_of(alloc, &text);
+    text.extend_from_slice(b"\r\n")?;
+    Ok((open, fault_of(alloc, &text)))
 }
 
 #[test]
 fn bounds_lines(rt: HostRuntime) -> Result<(), Fail> {
-    for (len, fault) in [(4096, None), (4097, Some(BsrFault::TooLong { line: 2 }))] {
-        let mut text = long_line(rt.alloc(), b"FileIndex=1", len)?;
-        assert_eq!(rt; fault_of(rt.alloc(), &text), fault);
-        text.extend_from_slice(b"\r\n")?;
-        assert_eq!(rt; fault_of(rt.alloc(), &text), fault);
-    }
-    let unknown = long_line(rt.alloc(), b"Foo=1", 4097)?;
-    assert_eq!(rt;
-        fault_of(rt.alloc(), &unknown),
-        Some(BsrFault::TooLong { line: 2 })
-    );
+    let too_long = Some(BsrFault::TooLong { line: 2 });
+    assert!(rt; faults_of_line(rt.alloc(), b"FileIndex=1", 4096)? == (None, None));
+    assert!(rt; faults_of_line(rt.alloc(), b"FileIndex=1", 4097)? == (too_long, too_long));
+    assert!(rt; faults_of_line(rt.alloc(), b"Foo=1", 4097)? == (too_long, too_long));
     Ok(())
 }
 
-#[test]
-fn reads_many_groups(rt: HostRuntime) -> Result<(), Fail> {
-    let mut text = Vec::new(rt.alloc());
-    for _ in 0..10_000 {
-        text.extend_from_slice(WRITTEN.as_bytes())?;
+/// All of the volume V1.
+fn volume(alloc: Global) -> Result<Group, Fail> {
+    Ok(Group::on(alloc, VolName::new(alloc, b"V1")?))
+}
+
+/// The addresses 1 to 9 of the volume V1.
+fn addresses(alloc: Global) -> Result<Group, Fail> {
+    let mut group = volume(alloc)?;
+    group.addrs.push(Range { low: 3, high: 9 })?;
+    group.addrs.push(Range { low: 1, high: 4 })?;
+    Ok(group)
+}
+
+/// The same with a stream that is none.
+fn bad_addresses(alloc: Global) -> Result<Group, Fail> {
+    let group = addresses(alloc)?;
+    let mut bad = group.copy(alloc)?;
+    bad.streams.push(Range { low: 0, high: 1 })?;
+    Ok(bad)
+}
+
+/// Whether the group is all of a volume.
+fn is_volume(group: &Group) -> bool {
+    group.is_valid() && group.covers(5) && group.last_address() == None
+}
+
+/// Whether the group is the addresses 1 to 9.
+fn is_addresses(group: &Group) -> bool {
+    group.is_valid()
+        && group.covers(1)
+        && group.covers(9)
+        && !group.covers(0)
+        && !group.covers(10)
+        && group.last_address() == Some(9)
+}
+
+fn bootstrap_of(alloc: Global, group: Group) -> Result<Option<Bootstrap>, Fail> {
+    let mut groups = Vec::new(alloc);
+    groups.push(group)?;
+    Ok(Bootstrap::new(groups))
+}
+
+/// The text of a bootstrap of one group, none where it is not valid.
+fn text_of(alloc: Global, group: Group) -> Result<Option<Vec<u8>>, Fail> {
+    match bootstrap_of(alloc, group)? {
+        Some(bootstrap) => Ok(Some(write_bootstrap(alloc, &bootstrap)?)),
+        None => Ok(None),
     }
-    let bootstrap = read_bootstrap(rt.alloc(), &text)?;
-    assert_eq!(rt; bootstrap.groups().len(), 20_000);
-    Ok(())
+}
+
+/// Whether the addresses are written as a bootstrap.
+fn is_written(alloc: Global, wanted: &[u8]) -> Result<bool, Fail> {
+    match text_of(alloc, addresses(alloc)?)? {
+        Some(text) => Ok(text.as_slice() == wanted),
+        None => Ok(false),
+    }
+}
+
+/// Whether the group with a bad stream is refused.
+fn is_refused(alloc: Global) -> Result<bool, Fail> {
+    let bad = bad_addresses(alloc)?;
+    Ok(!bad.is_valid() && bootstrap_of(alloc, bad)?.is_none())
 }
 
 #[test]
 fn makes_bootstraps(rt: HostRuntime) -> Result<(), Fail> {
-    let alloc = rt.alloc();
-    let mut group = Group::on(alloc, VolName::new(alloc, b"V1")?);
-    assert!(rt; group.is_valid() && group.covers(5));
-    assert_eq!(rt; group.last_address(), None);
-    group.addrs.push(Range { low: 3, high: 9 })?;
-    group.addrs.push(Range { low: 1, high: 4 })?;
-    assert!(rt; group.covers(1) && group.covers(9) && !group.covers(0) && !group.covers(10));
-    assert_eq!(rt; group.last_address(), Some(9));
-    let mut wrong = group.copy(alloc)?;
-    wrong.streams.push(Range { low: 0, high: 1 })?;
-    assert!(rt; group.is_valid() && !wrong.is_valid());
-    let mut groups = Vec::new(alloc);
-    groups.push(group)?;
-    let Some(bootstrap) = Bootstrap::new(groups) else {
-        assert!(rt; false, "a valid group");
-        return Ok(());
-    };
-    let written = write_bootstrap(alloc, &bootstrap)?;
-    assert!(rt; written.as_slice() == b"Volume=\"V1\"\nVolAddr=3-9\nVolAddr=1-4\n".as_slice());
-    let mut groups = Vec::new(alloc);
-    groups.push(wrong)?;
-    assert!(rt; Bootstrap::new(groups).is_none());
-    let empty = Bootstrap::from_valid(Vec::new(alloc));
-    assert!(rt; empty.groups().is_empty());
+    assert!(rt; is_volume(&volume(rt.alloc())?));
+    assert!(rt; is_addresses(&addresses(rt.alloc())?));
+    assert!(rt; is_written(rt.alloc(), b"Volume=\"V1\"\nVolAddr=3-9\nVolAddr=1-4\n")?);
+    assert!(rt; is_refused(rt.alloc())?);
+    assert!(rt;
+        Bootstrap::from_valid(Vec::new(rt.alloc()))
+            .groups()
+            .is_empty()
+    );
     Ok(())
+}
+
+/// The first fault that has another number or line.
+fn wrong_fault(faults: &[(BsrFault, u32, Option<u64>)]) -> Option<BsrFault> {
+    for (fault, number, line) in faults {
+        if fault.number() != *number || fault.line() != *line {
+            return Some(*fault);
+        }
+    }
+    None
+}
+
+fn has_text(alloc: Global, fault: BsrFault, wanted: &str) -> Result<bool, Fail> {
+    let message = fault.to_string(alloc)?;
+    Ok(message.as_str() == wanted)
 }
 
 #[test]
 fn names_faults(rt: HostRuntime) -> Result<(), Fail> {
-    let line = 7;
-    for (fault, number, place) in [
-        (BsrFault::Memory, 1, None),
-        (BsrFault::VolumeFirst { line }, 30, Some(7)),
-        (BsrFault::UnknownKeyword { line }, 31, Some(7)),
-        (BsrFault::UnsupportedKeyword { line }, 32, Some(7)),
-        (BsrFault::BadValue { line }, 33, Some(7)),
-        (BsrFault::TooLong { line }, 34, Some(7)),
-    ] {
-        assert_eq!(rt; fault.number(), number);
-        assert_eq!(rt; fault.line(), place);
-    }
-    let message = BsrFault::TooLong { line }.to_string(rt.alloc())?;
-    assert_eq!(rt;
-        message.as_str(),
-        "line 7: more than 4096 bytes; split the line"
+    assert!(rt; wrong_fault(&FAULTS) == None);
+    let too_long = BsrFault::TooLong { line: 7 };
+    assert!(rt;
+        has_text(
+            rt.alloc(),
+            too_long,
+            "line 7: more than 4096 bytes; split the line"
+        )?
     );
     Ok(())
 }

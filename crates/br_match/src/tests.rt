@@ -17,20 +17,31 @@ fn pieces_of_text(alloc: Global, text: &[u8]) -> Result<Vec<Piece>, BsrFault> {
     Ok(split(alloc, &bootstrap)?)
 }
 
+/// A volume with these bytes.
+fn volume(alloc: Global, name: &[u8], bytes: &[u8]) -> Result<(VolName, Vec<u8>), Fail> {
+    let bytes = Vec::from_slice(alloc, bytes)?;
+    Ok((VolName::new(alloc, name)?, bytes))
+}
+
 /// A volume V1 with these bytes, and one E without bytes.
 fn volumes(alloc: Global, bytes: &[u8]) -> Result<Vec<(VolName, Vec<u8>)>, Fail> {
     let mut volumes = Vec::new(alloc);
-    volumes.push((VolName::new(alloc, b"V1")?, Vec::from_slice(alloc, bytes)?))?;
-    volumes.push((VolName::new(alloc, b"E")?, Vec::new(alloc)))?;
+    volumes.push(volume(alloc, b"V1", bytes)?)?;
+    volumes.push(volume(alloc, b"E", b"")?)?;
     Ok(volumes)
+}
+
+/// What is found of a piece where V1 has these bytes.
+fn found_of(alloc: Global, bytes: &[u8], piece: &Piece) -> Result<Result<Found, PieceFault>, Fail> {
+    let mut drive = MemDrive::new(volumes(alloc, bytes)?);
+    Ok(match_piece(alloc, piece, &mut drive))
 }
 
 /// What is found of the first piece of a bootstrap where V1 has these bytes.
 fn found_on(alloc: Global, bytes: &[u8], text: &[u8]) -> Result<Result<Found, PieceFault>, Fail> {
     let pieces = pieces_of_text(alloc, text)?;
     let piece = pieces.first().ok_or("a piece")?;
-    let mut drive = MemDrive::new(volumes(alloc, bytes)?);
-    Ok(match_piece(alloc, piece, &mut drive))
+    found_of(alloc, bytes, piece)
 }
 
 /// The number and the address of a refusal on V1.
@@ -62,17 +73,27 @@ fn has_places(found: &Found, places: &[(u32, u64, u32)]) -> bool {
     true
 }
 
+/// Whether a piece is answered where the drive fails from its k-th call on.
+fn is_answered(alloc: Global, bytes: &[u8], piece: &Piece, k: u64) -> Result<bool, Fail> {
+    let mut drive = MemDrive::failing_from(volumes(alloc, bytes)?, k);
+    Ok(match_piece(alloc, piece, &mut drive).is_ok())
+}
+
 /// How many calls of the drive a piece takes, if it is not refused.
-fn calls(alloc: Global, bytes: &[u8], text: &[u8]) -> Result<Option<u64>, Fail> {
-    let pieces = pieces_of_text(alloc, text)?;
-    let piece = pieces.first().ok_or("a piece")?;
+fn calls_of(alloc: Global, bytes: &[u8], piece: &Piece) -> Result<Option<u64>, Fail> {
     for calls in 0..20 {
-        let mut drive = MemDrive::failing_from(volumes(alloc, bytes)?, calls + 1);
-        if match_piece(alloc, piece, &mut drive).is_ok() {
+        if is_answered(alloc, bytes, piece, calls + 1)? {
             return Ok(Some(calls));
         }
     }
     Ok(None)
+}
+
+/// How many calls of the drive the first piece of a bootstrap takes, if it is not refused.
+fn calls(alloc: Global, bytes: &[u8], text: &[u8]) -> Result<Option<u64>, Fail> {
+    let pieces = pieces_of_text(alloc, text)?;
+    let piece = pieces.first().ok_or("a piece")?;
+    calls_of(alloc, bytes, piece)
 }
 
 /// The first bytes, so many, of two of the blocks and bytes behind them that are no block.
@@ -84,218 +105,304 @@ fn with_spoilt_tail(alloc: Global, len: usize) -> Result<Vec<u8>, Fail> {
     Ok(bytes)
 }
 
+/// Whether what is found on V1 has these groups, addresses and ordinals, in order.
+fn has_on(
+    alloc: Global,
+    bytes: &[u8],
+    text: &[u8],
+    places: &[(u32, u64, u32)],
+) -> Result<bool, Fail> {
+    let found = found_on(alloc, bytes, text)??;
+    Ok(has_places(&found, places))
+}
+
+/// Whether nothing is found on V1.
+fn has_none_on(alloc: Global, bytes: &[u8], text: &[u8]) -> Result<bool, Fail> {
+    Ok(found_on(alloc, bytes, text)??.hits.is_empty())
+}
+
+/// The number and the address of the refusal on V1.
+fn refused_on(alloc: Global, bytes: &[u8], text: &[u8]) -> Result<Option<(u32, u64)>, Fail> {
+    Ok(refused(&found_on(alloc, bytes, text)?))
+}
+
+/// Whether a hit is of file 1 of session 1, 100.
+fn is_of_file(hit: &Hit) -> bool {
+    hit.key.session.id == 1 && hit.key.session.time == 100 && hit.key.index.get() == 1
+}
+
+/// Whether a hit is of that file and has this stream, size and bytes.
+fn is_hit(hit: &Hit, stream: i32, size: u32, bytes: &[u8]) -> bool {
+    is_of_file(hit) && hit.stream == stream && hit.size == size && hit.bytes.as_slice() == bytes
+}
+
+/// Whether the hits are the two records of the block.
+fn are_both(hits: &[Hit]) -> bool {
+    match hits {
+        [a, b] => is_hit(a, 1, 38, ATTRIBUTES) && is_hit(b, 2, 5, b"hello"),
+        _ => false,
+    }
+}
+
 #[test]
 fn hits_are_found(rt: HostRuntime) -> Result<(), Fail> {
     let found = found_on(rt.alloc(), BLOCK, b"Volume=V1\nFileIndex=1\n")??;
     assert_eq!(rt; found.piece, 0);
     assert!(rt; has_places(&found, &[(0, 0, 0), (0, 0, 1)]));
-    for hit in &found.hits {
-        assert_eq!(rt; hit.key.session.id, 1);
-        assert_eq!(rt; hit.key.session.time, 100);
-        assert_eq!(rt; hit.key.index.get(), 1);
-    }
-    let first = found.hits.first().ok_or("a first hit")?;
-    assert_eq!(rt; first.stream, 1);
-    assert_eq!(rt; first.size, 38);
-    assert_eq!(rt; first.bytes.as_slice(), ATTRIBUTES);
-    let second = found.hits.get(1).ok_or("a second hit")?;
-    assert_eq!(rt; second.stream, 2);
-    assert_eq!(rt; second.size, 5);
-    assert_eq!(rt; second.bytes.as_slice(), b"hello".as_slice());
+    assert!(rt; are_both(&found.hits));
     Ok(())
+}
+
+/// Whether a drive gives of a piece this number and these places.
+fn gives_piece(
+    alloc: Global,
+    drive: &mut MemDrive,
+    piece: &Piece,
+    places: &[(u32, u64, u32)],
+) -> Result<bool, Fail> {
+    let found = match_piece(alloc, piece, drive)?;
+    Ok(found.piece == piece.number && has_places(&found, places))
+}
+
+/// Whether a drive gives these pieces, with the groups 0 and 3, and with no hit.
+fn gives_both(alloc: Global, drive: &mut MemDrive, pieces: &[Piece]) -> Result<bool, Fail> {
+    match pieces {
+        [a, b] => {
+            let first = gives_piece(alloc, drive, a, &[(0, 0, 0), (3, 0, 1)])?;
+            let second = gives_piece(alloc, drive, b, &[])?;
+            Ok(first && second && a.number == 0 && b.number == 1)
+        }
+        _ => Ok(false),
+    }
+}
+
+/// Whether the groups of two pieces keep their numbers.
+fn keep_numbers(alloc: Global) -> Result<bool, Fail> {
+    let text = b"Volume=V1\nStream=1\nVolume=E\nVolume=E\nVolume=V1\nStream=2\n";
+    let pieces = pieces_of_text(alloc, text)?;
+    let mut drive = MemDrive::new(volumes(alloc, BLOCK)?);
+    gives_both(alloc, &mut drive, &pieces)
 }
 
 #[test]
 fn a_hit_has_the_number_of_the_first_group(rt: HostRuntime) -> Result<(), Fail> {
-    let found = found_on(rt.alloc(), BLOCK, b"Volume=V1\nStream=2\nVolume=V1\n")??;
-    assert!(rt; has_places(&found, &[(1, 0, 0), (0, 0, 1)]));
+    let text = b"Volume=V1\nStream=2\nVolume=V1\n";
+    assert!(rt; has_on(rt.alloc(), BLOCK, text, &[(1, 0, 0), (0, 0, 1)])?);
+    assert!(rt; keep_numbers(rt.alloc())?);
     Ok(())
 }
 
-#[test]
-fn groups_keep_their_numbers(rt: HostRuntime) -> Result<(), Fail> {
-    let text = b"Volume=V1\nStream=1\nVolume=E\nVolume=E\nVolume=V1\nStream=2\n";
-    let pieces = pieces_of_text(rt.alloc(), text)?;
-    assert_eq!(rt; pieces.len(), 2);
-    let mut drive = MemDrive::new(volumes(rt.alloc(), BLOCK)?);
-    let found = match_piece(rt.alloc(), &pieces[0], &mut drive)?;
-    assert_eq!(rt; found.piece, 0);
-    assert!(rt; has_places(&found, &[(0, 0, 0), (3, 0, 1)]));
-    let found = match_piece(rt.alloc(), &pieces[1], &mut drive)?;
-    assert_eq!(rt; found.piece, 1);
-    assert!(rt; found.hits.is_empty());
-    Ok(())
+/// Whether the first hit is of this stream.
+fn begins_with(hits: &[Hit], stream: i32) -> bool {
+    hits.first().is_some_and(|hit| hit.stream == stream)
+}
+
+/// Whether of a label, and a part of a record that began in an earlier block, the part is the only hit.
+fn finds_the_part(alloc: Global) -> Result<bool, Fail> {
+    let mut bytes = *BLOCK;
+    bytes[24..28].copy_from_slice(&[0xff, 0xff, 0xff, 0xff]);
+    bytes[78..82].copy_from_slice(&[0xff, 0xff, 0xff, 0xfe]);
+    let found = found_on(alloc, &bytes, b"Volume=V1\nStream=1-2\n")??;
+    Ok(has_places(&found, &[(0, 0, 1)]) && begins_with(&found.hits, -2))
 }
 
 #[test]
 fn other_records_are_no_hits(rt: HostRuntime) -> Result<(), Fail> {
-    for text in [
-        b"Volume=V1\nVolSessionId=2\n".as_slice(),
-        b"Volume=V1\nVolSessionTime=101\n".as_slice(),
-        b"Volume=V1\nVolFile=1\n".as_slice(),
-        b"Volume=V1\nVolBlock=1-90\n".as_slice(),
-        b"Volume=V1\nFileIndex=2\n".as_slice(),
-        b"Volume=V1\nStream=3\n".as_slice(),
-    ] {
-        let found = found_on(rt.alloc(), BLOCK, text)??;
-        assert!(rt; found.hits.is_empty());
-    }
-    // A label, and a part of a record that began in an earlier block.
-    let mut bytes = *BLOCK;
-    bytes[24..28].copy_from_slice(&[0xff, 0xff, 0xff, 0xff]);
-    bytes[78..82].copy_from_slice(&[0xff, 0xff, 0xff, 0xfe]);
-    let found = found_on(rt.alloc(), &bytes, b"Volume=V1\nStream=1-2\n")??;
-    assert!(rt; has_places(&found, &[(0, 0, 1)]));
-    let hit = found.hits.first().ok_or("a hit")?;
-    assert_eq!(rt; hit.stream, -2);
+    assert!(rt; has_none_on(rt.alloc(), BLOCK, b"Volume=V1\nVolSessionId=2\n")?);
+    assert!(rt; has_none_on(rt.alloc(), BLOCK, b"Volume=V1\nVolSessionTime=101\n")?);
+    assert!(rt; has_none_on(rt.alloc(), BLOCK, b"Volume=V1\nVolFile=1\n")?);
+    assert!(rt; has_none_on(rt.alloc(), BLOCK, b"Volume=V1\nVolBlock=1-90\n")?);
+    assert!(rt; has_none_on(rt.alloc(), BLOCK, b"Volume=V1\nFileIndex=2\n")?);
+    assert!(rt; has_none_on(rt.alloc(), BLOCK, b"Volume=V1\nStream=3\n")?);
+    assert!(rt; finds_the_part(rt.alloc())?);
     Ok(())
+}
+
+/// Whether what is found on the blocks with a spoilt tail has these places.
+fn has_before_tail(
+    alloc: Global,
+    len: usize,
+    text: &[u8],
+    places: &[(u32, u64, u32)],
+) -> Result<bool, Fail> {
+    let bytes = with_spoilt_tail(alloc, len)?;
+    has_on(alloc, &bytes, text, places)
+}
+
+/// The refusal on the blocks with a spoilt tail.
+fn refused_before_tail(alloc: Global, len: usize, text: &[u8]) -> Result<Option<(u32, u64)>, Fail> {
+    let bytes = with_spoilt_tail(alloc, len)?;
+    refused_on(alloc, &bytes, text)
 }
 
 #[test]
 fn the_walk_ends_behind_the_last_address(rt: HostRuntime) -> Result<(), Fail> {
-    let bytes = with_spoilt_tail(rt.alloc(), 300)?;
-    let first = found_on(rt.alloc(), &bytes, b"Volume=V1\nVolAddr=0-90\n")??;
-    assert!(rt; has_places(&first, &[(0, 0, 0), (0, 0, 1)]));
-    let second = found_on(rt.alloc(), &bytes, b"Volume=V1\nVolAddr=91\n")??;
-    assert!(rt; has_places(&second, &[(0, 91, 0), (0, 91, 1)]));
-    let text = b"Volume=V1\nVolAddr=181\nVolAddr=0-90\nVolume=V1\nVolAddr=50-100\n";
-    let both = found_on(rt.alloc(), &bytes, text)??;
-    assert!(rt; has_places(&both, &[(0, 0, 0), (0, 0, 1), (1, 91, 0), (1, 91, 1)]));
-    let tail = found_on(rt.alloc(), &bytes, b"Volume=V1\nVolAddr=182\n")?;
-    assert_eq!(rt; refused(&tail), Some((10, 182)));
+    let alloc = rt.alloc();
+    let first = b"Volume=V1\nVolAddr=0-90\n";
+    assert!(rt; has_before_tail(alloc, 300, first, &[(0, 0, 0), (0, 0, 1)])?);
+    let second = b"Volume=V1\nVolAddr=91\n";
+    assert!(rt; has_before_tail(alloc, 300, second, &[(0, 91, 0), (0, 91, 1)])?);
+    let tail = b"Volume=V1\nVolAddr=182\n";
+    assert_eq!(rt; refused_before_tail(alloc, 300, tail)?, Some((10, 182)));
+    let both = b"Volume=V1\nVolAddr=181\nVolAddr=0-90\nVolume=V1\nVolAddr=50-100\n";
+    let places = [(0, 0, 0), (0, 0, 1), (1, 91, 0), (1, 91, 1)];
+    assert!(rt; has_before_tail(alloc, 300, both, &places)?);
     // Only one of the groups has addresses.
-    let all = found_on(rt.alloc(), &bytes, b"Volume=V1\nVolAddr=0\nVolume=V1\n")?;
-    assert_eq!(rt; refused(&all), Some((10, 182)));
-    let none = found_on(rt.alloc(), BLOCK, b"Volume=V1\n")??;
-    assert!(rt; has_places(&none, &[(0, 0, 0), (0, 0, 1)]));
+    let all = b"Volume=V1\nVolAddr=0\nVolume=V1\n";
+    assert_eq!(rt; refused_before_tail(alloc, 300, all)?, Some((10, 182)));
+    assert!(rt; has_on(rt.alloc(), BLOCK, b"Volume=V1\n", &[(0, 0, 0), (0, 0, 1)])?);
     Ok(())
 }
 
 #[test]
 fn only_a_covered_block_must_be_whole(rt: HostRuntime) -> Result<(), Fail> {
-    let header = with_spoilt_tail(rt.alloc(), 115)?;
     // The second block has only its header.
-    let text = b"Volume=V1\nVolAddr=0\nVolAddr=92-200\n";
-    let found = found_on(rt.alloc(), &header, text)??;
-    assert!(rt; has_places(&found, &[(0, 0, 0), (0, 0, 1)]));
-    let text = b"Volume=V1\nVolAddr=0\nVolAddr=91-200\n";
-    assert_eq!(rt;
-        refused(&found_on(rt.alloc(), &header, text)?),
-        Some((12, 91))
-    );
+    let alloc = rt.alloc();
+    let beside = b"Volume=V1\nVolAddr=0\nVolAddr=92-200\n";
+    assert!(rt; has_before_tail(alloc, 115, beside, &[(0, 0, 0), (0, 0, 1)])?);
+    let inside = b"Volume=V1\nVolAddr=0\nVolAddr=91-200\n";
+    assert_eq!(rt; refused_before_tail(alloc, 115, inside)?, Some((12, 91)));
     // Not even its header is whole.
-    let header = with_spoilt_tail(rt.alloc(), 114)?;
-    let text = b"Volume=V1\nVolAddr=0\nVolAddr=92-200\n";
-    assert_eq!(rt;
-        refused(&found_on(rt.alloc(), &header, text)?),
-        Some((12, 91))
-    );
+    assert_eq!(rt; refused_before_tail(alloc, 114, beside)?, Some((12, 91)));
     Ok(())
 }
 
-#[test]
-fn a_volume_that_is_cut_off_is_refused(rt: HostRuntime) -> Result<(), Fail> {
+/// How many bytes the block has left where it is cut off and not refused as is wanted, 0 where there is none such.
+fn not_refused(alloc: Global) -> Result<usize, Fail> {
     for len in 1..91 {
-        let result = found_on(rt.alloc(), &BLOCK[..len], b"Volume=V1\n")?;
-        assert_eq!(rt; refused(&result), Some((12, 0)), "of {len} bytes");
+        if refused_on(alloc, &BLOCK[..len], b"Volume=V1\n")? != Some((12, 0)) {
+            return Ok(len);
+        }
     }
-    let found = found_on(rt.alloc(), &BLOCK[..0], b"Volume=V1\n")??;
-    assert!(rt; found.hits.is_empty());
-    Ok(())
+    Ok(0)
+}
+
+/// The refusal of a block with these numbers at the bytes 5 and 7 of its header.
+fn refused_at(alloc: Global, fifth: u8, seventh: u8) -> Result<Option<(u32, u64)>, Fail> {
+    let mut bytes = *BLOCK;
+    bytes[5] = fifth;
+    bytes[7] = seventh;
+    refused_on(alloc, &bytes, b"Volume=V1\n")
 }
 
 #[test]
-fn a_bad_header_is_refused(rt: HostRuntime) -> Result<(), Fail> {
-    let mut bytes = *BLOCK;
-    bytes[7] = 23;
-    let result = found_on(rt.alloc(), &bytes, b"Volume=V1\n")?;
-    assert_eq!(rt; refused(&result), Some((11, 0)));
+fn a_cut_off_volume_and_a_bad_header_are_refused(rt: HostRuntime) -> Result<(), Fail> {
+    assert_eq!(rt; not_refused(rt.alloc())?, 0);
+    assert!(rt; has_none_on(rt.alloc(), &BLOCK[..0], b"Volume=V1\n")?);
+    assert_eq!(rt; refused_at(rt.alloc(), 0, 23)?, Some((11, 0)));
     // 4,194,305.
-    bytes[5] = 0x40;
-    bytes[7] = 1;
-    let result = found_on(rt.alloc(), &bytes, b"Volume=V1\n")?;
-    assert_eq!(rt; refused(&result), Some((11, 0)));
+    assert_eq!(rt; refused_at(rt.alloc(), 0x40, 1)?, Some((11, 0)));
     // 24: the bytes behind the header are no block.
-    bytes[5] = 0;
-    bytes[7] = 24;
-    let result = found_on(rt.alloc(), &bytes, b"Volume=V1\n")?;
-    assert_eq!(rt; refused(&result), Some((10, 24)));
+    assert_eq!(rt; refused_at(rt.alloc(), 0, 24)?, Some((10, 24)));
     Ok(())
+}
+
+/// Whether a fault is that there is no volume Q.
+fn is_unknown(fault: &PieceFault) -> bool {
+    fault.number() == 14
+        && fault.addr() == Some(0)
+        && fault
+            .vol()
+            .is_some_and(|vol| vol.bytes() == b"Q".as_slice())
+}
+
+/// Whether the piece is refused since there is no volume Q.
+fn refuses_q(alloc: Global, text: &[u8]) -> Result<bool, Fail> {
+    match found_on(alloc, BLOCK, text)? {
+        Ok(_) => Ok(false),
+        Err(fault) => Ok(is_unknown(&fault)),
+    }
 }
 
 #[test]
 fn a_volume_that_is_not_there_is_refused(rt: HostRuntime) -> Result<(), Fail> {
-    for text in [
-        b"Volume=Q\n".as_slice(),
-        b"Volume=Q\nVolAddr=1000-2000\n".as_slice(),
-    ] {
-        let fault = found_on(rt.alloc(), BLOCK, text)?.err().ok_or("a fault")?;
-        assert_eq!(rt; fault.number(), 14);
-        assert_eq!(rt; fault.addr(), Some(0));
-        assert!(rt;
-            fault
-                .vol()
-                .is_some_and(|vol| vol.bytes() == b"Q".as_slice())
-        );
-    }
+    assert!(rt; refuses_q(rt.alloc(), b"Volume=Q\n")?);
+    assert!(rt; refuses_q(rt.alloc(), b"Volume=Q\nVolAddr=1000-2000\n")?);
     Ok(())
+}
+
+/// A piece 3 of V1 without groups.
+fn without_groups(alloc: Global) -> Result<Piece, Fail> {
+    Ok(Piece {
+        number: 3,
+        vol: VolName::new(alloc, b"V1")?,
+        groups: Vec::new(alloc),
+    })
+}
+
+/// Whether of a piece without groups nothing is found where V1 has these bytes.
+fn finds_nothing(alloc: Global, bytes: &[u8]) -> Result<bool, Fail> {
+    let piece = without_groups(alloc)?;
+    let found = found_of(alloc, bytes, &piece)??;
+    Ok(found.piece == 3 && found.hits.is_empty())
+}
+
+/// The refusal of a piece without groups where V1 has these bytes.
+fn refused_without_groups(alloc: Global, bytes: &[u8]) -> Result<Option<(u32, u64)>, Fail> {
+    let piece = without_groups(alloc)?;
+    Ok(refused(&found_of(alloc, bytes, &piece)?))
 }
 
 #[test]
 fn a_piece_without_groups_has_no_hits(rt: HostRuntime) -> Result<(), Fail> {
-    let piece = Piece {
-        number: 3,
-        vol: VolName::new(rt.alloc(), b"V1")?,
-        groups: Vec::new(rt.alloc()),
-    };
-    for bytes in [BLOCK.as_slice(), b"".as_slice()] {
-        let mut drive = MemDrive::new(volumes(rt.alloc(), bytes)?);
-        let found = match_piece(rt.alloc(), &piece, &mut drive)?;
-        assert_eq!(rt; found.piece, 3);
-        assert!(rt; found.hits.is_empty());
-    }
+    assert!(rt; finds_nothing(rt.alloc(), BLOCK)?);
+    assert!(rt; finds_nothing(rt.alloc(), b"")?);
     // 24 bytes that are no block: the header at address 0 is read.
-    let mut drive = MemDrive::new(volumes(rt.alloc(), b"not a block of level BB2")?);
-    let result = match_piece(rt.alloc(), &piece, &mut drive);
-    assert_eq!(rt; refused(&result), Some((10, 0)));
+    let refusal = refused_without_groups(rt.alloc(), b"not a block of level BB2")?;
+    assert_eq!(rt; refusal, Some((10, 0)));
     Ok(())
+}
+
+/// The refusal where the drive fails from its k-th call on, `None` where the piece is answered.
+fn refused_from(alloc: Global, k: u64) -> Result<Option<(u32, u64)>, Fail> {
+    let pieces = pieces_of_text(alloc, b"Volume=V1\n")?;
+    let piece = pieces.first().ok_or("a piece")?;
+    let mut drive = MemDrive::failing_from(volumes(alloc, BLOCK)?, k);
+    Ok(refused(&match_piece(alloc, piece, &mut drive)))
+}
+
+/// Whether the piece is answered where the drive fails from its k-th call on.
+fn answers_before(alloc: Global, k: u64) -> Result<bool, Fail> {
+    let pieces = pieces_of_text(alloc, b"Volume=V1\n")?;
+    let piece = pieces.first().ok_or("a piece")?;
+    is_answered(alloc, BLOCK, piece, k)
 }
 
 #[test]
 fn a_drive_that_fails_is_told_with_the_address(rt: HostRuntime) -> Result<(), Fail> {
-    let pieces = pieces_of_text(rt.alloc(), b"Volume=V1\n")?;
-    let piece = pieces.first().ok_or("a piece")?;
-    for (k, addr) in [(1, 0), (2, 0), (3, 91)] {
-        let mut drive = MemDrive::failing_from(volumes(rt.alloc(), BLOCK)?, k);
-        let result = match_piece(rt.alloc(), piece, &mut drive);
-        assert_eq!(rt; refused(&result), Some((13, addr)));
-    }
-    let mut drive = MemDrive::failing_from(volumes(rt.alloc(), BLOCK)?, 4);
-    assert!(rt; match_piece(rt.alloc(), piece, &mut drive).is_ok());
+    assert_eq!(rt; refused_from(rt.alloc(), 1)?, Some((13, 0)));
+    assert_eq!(rt; refused_from(rt.alloc(), 2)?, Some((13, 0)));
+    assert_eq!(rt; refused_from(rt.alloc(), 3)?, Some((13, 91)));
+    assert!(rt; answers_before(rt.alloc(), 4)?);
     Ok(())
+}
+
+/// How many calls the two blocks take.
+fn calls_of_two(alloc: Global, text: &[u8]) -> Result<Option<u64>, Fail> {
+    let two = with_spoilt_tail(alloc, 182)?;
+    calls(alloc, &two, text)
 }
 
 #[test]
 fn only_covered_blocks_are_read(rt: HostRuntime) -> Result<(), Fail> {
-    let two = with_spoilt_tail(rt.alloc(), 182)?;
-    assert_eq!(rt; calls(rt.alloc(), &two, b"Volume=V1\n")?, Some(5));
+    assert_eq!(rt; calls_of_two(rt.alloc(), b"Volume=V1\n")?, Some(5));
     assert_eq!(rt;
-        calls(rt.alloc(), &two, b"Volume=V1\nVolAddr=0\n")?,
-        Some(2)
-    );
-    assert_eq!(rt;
-        calls(rt.alloc(), &two, b"Volume=V1\nVolAddr=91\n")?,
-        Some(3)
-    );
-    assert_eq!(rt;
-        calls(rt.alloc(), &two, b"Volume=V1\nVolAddr=1-90\n")?,
-        Some(1)
-    );
-    assert_eq!(rt;
-        calls(rt.alloc(), &two, b"Volume=V1\nFileIndex=7\n")?,
+        calls_of_two(rt.alloc(), b"Volume=V1\nFileIndex=7\n")?,
         Some(5)
     );
     assert_eq!(rt; calls(rt.alloc(), b"", b"Volume=V1\n")?, Some(1));
+    assert_eq!(rt;
+        calls_of_two(rt.alloc(), b"Volume=V1\nVolAddr=0\n")?,
+        Some(2)
+    );
+    assert_eq!(rt;
+        calls_of_two(rt.alloc(), b"Volume=V1\nVolAddr=91\n")?,
+        Some(3)
+    );
+    assert_eq!(rt;
+        calls_of_two(rt.alloc(), b"Volume=V1\nVolAddr=1-90\n")?,
+        Some(1)
+    );
     Ok(())
 }
 
@@ -312,46 +419,65 @@ fn block_of_100(alloc: Global) -> Result<Vec<u8>, Fail> {
     Ok(bytes)
 }
 
-#[test]
-fn many_ranges_are_looked_up(rt: HostRuntime) -> Result<(), Fail> {
-    let alloc = rt.alloc();
-    let bytes = block_of_100(alloc)?;
+/// A bootstrap of V1 with the files 6000, 5997 and on to 3.
+fn many_ranges(alloc: Global) -> Result<String, Fail> {
     let mut text = String::from_str(alloc, "Volume=V1\n")?;
     for n in 0..2000u32 {
-        // 6000, 5997 and on to 3.
         text.push_str(format!(in alloc; "FileIndex={}\n", 6000 - 3 * n)?.as_str())?;
     }
-    let found = found_on(alloc, &bytes, text.as_bytes())??;
+    Ok(text)
+}
+
+/// Whether the hits are of files whose number 3 divides, each at the record of this number.
+fn are_of_thirds(hits: &[Hit]) -> bool {
+    hits.iter().all(|hit| {
+        hit.key.index.get() % 3 == 0
+            && u64::from(hit.place.ordinal) + 1 == u64::from(hit.key.index.get())
+    })
+}
+
+/// What is found of a bootstrap in the block of 100 records.
+fn found_in_100(alloc: Global, text: &[u8]) -> Result<Found, Fail> {
+    let bytes = block_of_100(alloc)?;
+    Ok(found_on(alloc, &bytes, text)??)
+}
+
+#[test]
+fn many_ranges_are_looked_up(rt: HostRuntime) -> Result<(), Fail> {
+    let text = many_ranges(rt.alloc())?;
+    let found = found_in_100(rt.alloc(), text.as_bytes())?;
     assert_eq!(rt; found.hits.len(), 33);
-    for hit in &found.hits {
-        assert_eq!(rt; hit.key.index.get() % 3, 0);
-        assert_eq!(rt;
-            u64::from(hit.place.ordinal) + 1,
-            u64::from(hit.key.index.get())
-        );
-    }
+    assert!(rt; are_of_thirds(&found.hits));
     Ok(())
+}
+
+/// Whether the hit at this place is of this file.
+fn has_index(hits: &[Hit], place: usize, index: u32) -> bool {
+    hits.get(place)
+        .is_some_and(|hit| hit.key.index.get() == index)
 }
 
 #[test]
 fn a_range_may_hold_others(rt: HostRuntime) -> Result<(), Fail> {
-    let bytes = block_of_100(rt.alloc())?;
     let text = b"Volume=V1\nFileIndex=30-31\nFileIndex=10-90\nFileIndex=20,95\n";
-    let found = found_on(rt.alloc(), &bytes, text)??;
+    let found = found_in_100(rt.alloc(), text)?;
     assert_eq!(rt; found.hits.len(), 82);
-    for (place, index) in [(0, 10), (40, 50), (80, 90), (81, 95)] {
-        let hit = found.hits.get(place).ok_or("a hit")?;
-        assert_eq!(rt; hit.key.index.get(), index);
-    }
+    assert!(rt; has_index(&found.hits, 0, 10) && has_index(&found.hits, 40, 50));
+    assert!(rt; has_index(&found.hits, 80, 90) && has_index(&found.hits, 81, 95));
     Ok(())
+}
+
+/// What the fault says of a block that is cut off.
+fn text_of_fault(alloc: Global) -> Result<String, Fail> {
+    let fault = found_on(alloc, &BLOCK[..90], b"Volume=V1\n")?
+        .err()
+        .ok_or("a fault")?;
+    Ok(format!(in alloc; "{fault}")?)
 }
 
 #[test]
 fn faults_say_what_is_wrong(rt: HostRuntime) -> Result<(), Fail> {
-    let fault = found_on(rt.alloc(), &BLOCK[..90], b"Volume=V1\n")?
-        .err()
-        .ok_or("a fault")?;
-    let text = format!(in rt.alloc(); "{fault}")?;
+    let text = text_of_fault(rt.alloc())?;
     assert_eq!(rt; text.as_str(), "the block is cut off, at address 0");
     assert_eq!(rt; PieceFault::Memory.number(), 1);
     assert!(rt; PieceFault::Memory.vol().is_none());
