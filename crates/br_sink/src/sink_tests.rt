@@ -1,7 +1,8 @@
 use super::*;
-use crate::tests::{fault, item, key};
-use br_join::{FileBytes, Outcome};
+use crate::tests::{fault, item, key, whole_item};
+use br_join::Outcome;
 use br_types::FileKey;
+use std::alloc::Global;
 use std::os::unix::fs::symlink;
 use std::test::Fail;
 use std::{env, fs, process};
@@ -16,9 +17,9 @@ fn file(
     kind: u32,
     bytes: &[u8],
 ) -> Result<(FileKey, Outcome), Fail> {
-    let mut item = item(rt, path, kind, ZEROS)?;
-    item.bytes = FileBytes::new(Vec::from_slice(rt.alloc(), bytes)?);
-    Ok((key(1)?, Outcome::File(item)))
+    let key = key(1)?;
+    let item = whole_item(rt, path, (kind, ZEROS), b"", bytes)?;
+    Ok((key, Outcome::File(item)))
 }
 
 /// A file with the letters "hello" for each path.
@@ -30,6 +31,38 @@ fn outcomes(rt: &HostRuntime, paths: &[&[u8]]) -> Result<Vec<(FileKey, Outcome)>
     Ok(all)
 }
 
+/// Path, type and bytes of a file.
+type Shape<'s> = (&'s [u8], u32, &'s [u8]);
+
+/// These files.
+fn files(rt: &HostRuntime, shapes: &[Shape<'_>]) -> Result<Vec<(FileKey, Outcome)>, Fail> {
+    let mut all = Vec::new(rt.alloc());
+    for (path, kind, bytes) in shapes {
+        all.push(file(rt, path, *kind, bytes)?)?;
+    }
+    Ok(all)
+}
+
+/// The number at which a delivery stopped, with how many files it put.
+fn stop_of(
+    alloc: Global,
+    outcomes: &[(FileKey, Outcome)],
+    sink: &mut MemSink,
+) -> Option<(u32, u64)> {
+    match deliver(alloc, outcomes, sink) {
+        Ok(_) => None,
+        Err(stop) => Some((stop.number(), stop.done())),
+    }
+}
+
+/// Whether files have these paths, as far as both go.
+fn have_paths(items: &[Item], paths: &[&[u8]]) -> bool {
+    items
+        .iter()
+        .zip(paths)
+        .all(|(item, path)| item.path.bytes() == *path)
+}
+
 /// How many files a sink over memory got, and the number at which the delivery stopped with how many it put, or none.
 fn delivered(
     rt: &HostRuntime,
@@ -37,119 +70,120 @@ fn delivered(
     mut sink: MemSink,
 ) -> Result<(usize, Option<(u32, u64)>), Fail> {
     let outcomes = outcomes(rt, paths)?;
-    let stop = match deliver(rt.alloc(), &outcomes, &mut sink) {
-        Ok(_) => None,
-        Err(stop) => Some((stop.number(), stop.done())),
-    };
-    for (item, path) in sink.items().iter().zip(paths) {
-        if item.path.bytes() != *path {
-            return Err(Fail::from("another path"));
-        }
+    let stop = stop_of(rt.alloc(), &outcomes, &mut sink);
+    if !have_paths(sink.items(), paths) {
+        return Err(Fail::from("another path"));
     }
     Ok((sink.items().len(), stop))
 }
 
+/// What a sink that doesn't fail gets of files of these paths.
+fn delivered_all(rt: &HostRuntime, paths: &[&[u8]]) -> Result<(usize, Option<(u32, u64)>), Fail> {
+    delivered(rt, paths, MemSink::new(rt.alloc()))
+}
+
 #[test]
-fn a_file_on_the_way_stops(rt: HostRuntime) -> Result<(), Fail> {
-    let paths: [&[u8]; 2] = [b"/a", b"/a/b"];
+fn only_a_file_on_the_way_stops(rt: HostRuntime) -> Result<(), Fail> {
+    assert_eq!(rt; delivered_all(&rt, &[b"/a", b"/a/b"])?, (1, Some((81, 1))));
     assert_eq!(rt;
-        delivered(&rt, &paths, MemSink::new(rt.alloc()))?,
-        (1, Some((81, 1)))
-    );
-    let paths: [&[u8]; 3] = [b"/x", b"/a/b/c", b"/a"];
-    assert_eq!(rt;
-        delivered(&rt, &paths, MemSink::new(rt.alloc()))?,
+        delivered_all(&rt, &[b"/x", b"/a/b/c", b"/a"])?,
         (2, Some((81, 2)))
     );
-    Ok(())
-}
-
-#[test]
-fn a_folder_is_in_no_way(rt: HostRuntime) -> Result<(), Fail> {
-    let paths: [&[u8]; 3] = [b"/a/b", b"/a/", b"/a/b"];
+    // Folders, equal names and longer names are in no way.
+    assert_eq!(rt; delivered_all(&rt, &[b"/a/b", b"/a/", b"/a/b"])?, (3, None));
+    assert_eq!(rt; delivered_all(&rt, &[b"/", b"/a/", b"/a/b"])?, (3, None));
+    assert_eq!(rt; delivered_all(&rt, &[b"/a", b"/a"])?, (2, None));
     assert_eq!(rt;
-        delivered(&rt, &paths, MemSink::new(rt.alloc()))?,
-        (3, None)
-    );
-    let paths: [&[u8]; 3] = [b"/", b"/a/", b"/a/b"];
-    assert_eq!(rt;
-        delivered(&rt, &paths, MemSink::new(rt.alloc()))?,
+        delivered_all(&rt, &[b"/a/b", b"/ab", b"/a/bc"])?,
         (3, None)
     );
     Ok(())
 }
 
-#[test]
-fn equal_and_longer_names_are_free(rt: HostRuntime) -> Result<(), Fail> {
-    let paths: [&[u8]; 2] = [b"/a", b"/a"];
-    assert_eq!(rt;
-        delivered(&rt, &paths, MemSink::new(rt.alloc()))?,
-        (2, None)
-    );
-    let paths: [&[u8]; 3] = [b"/a/b", b"/ab", b"/a/bc"];
-    assert_eq!(rt;
-        delivered(&rt, &paths, MemSink::new(rt.alloc()))?,
-        (3, None)
-    );
-    Ok(())
+/// What a sink that fails at its k-th put gets of three files, and the stop.
+fn failing_at(rt: &HostRuntime, k: u64) -> Result<(usize, Option<(u32, u64)>), Fail> {
+    delivered(
+        rt,
+        &[b"/a", b"/b", b"/c"],
+        MemSink::failing_at(rt.alloc(), k),
+    )
 }
 
-#[test]
-fn a_sink_fails_at_each_put(rt: HostRuntime) -> Result<(), Fail> {
-    let paths: [&[u8]; 3] = [b"/a", b"/b", b"/c"];
-    for (k, put) in [(1, 0), (2, 1), (3, 2)] {
-        assert_eq!(rt;
-            delivered(&rt, &paths, MemSink::failing_at(rt.alloc(), k))?,
-            (put, Some((80, k - 1)))
-        );
-    }
-    let sink = MemSink::failing_at(rt.alloc(), 4);
-    assert_eq!(rt; delivered(&rt, &paths, sink)?, (3, None));
-    Ok(())
+/// What a sink answers three times for a file.
+fn puts(sink: &mut MemSink, item: &Item) -> [Result<(), SinkFault>; 3] {
+    let first = sink.put(item);
+    let second = sink.put(item);
+    let third = sink.put(item);
+    [first, second, third]
 }
 
-#[test]
-fn a_sink_goes_on_after_it_failed(rt: HostRuntime) -> Result<(), Fail> {
+/// Whether a sink that fails at its second put gets the other two of three.
+fn goes_on(rt: &HostRuntime) -> Result<bool, Fail> {
+    let item = item(rt, b"/a", 2, ZEROS)?;
     let mut sink = MemSink::failing_at(rt.alloc(), 2);
-    let item = item(&rt, b"/a", 2, ZEROS)?;
-    assert_eq!(rt; sink.put(&item), Ok(()));
-    assert_eq!(rt; sink.put(&item), Err(SinkFault::Fault));
-    assert_eq!(rt; sink.put(&item), Ok(()));
-    assert_eq!(rt; sink.items().len(), 2);
+    let answers = puts(&mut sink, &item);
+    Ok(answers == [Ok(()), Err(SinkFault::Fault), Ok(())] && sink.items().len() == 2)
+}
+
+#[test]
+fn a_sink_fails_at_each_put_and_goes_on(rt: HostRuntime) -> Result<(), Fail> {
+    assert_eq!(rt; failing_at(&rt, 1)?, (0, Some((80, 0))));
+    assert_eq!(rt; failing_at(&rt, 2)?, (1, Some((80, 1))));
+    assert_eq!(rt; failing_at(&rt, 3)?, (2, Some((80, 2))));
+    assert_eq!(rt; failing_at(&rt, 4)?, (3, None));
+    assert!(rt; goes_on(&rt)?);
     assert_eq!(rt; SinkFault::Fault.number(), 80);
     Ok(())
 }
 
+/// Two files and a fault between them.
+fn with_fault(rt: &HostRuntime) -> Result<Vec<(FileKey, Outcome)>, Fail> {
+    let mut all = files(rt, &[(b"/a", 3, b"hello")])?;
+    all.push((key(9)?, fault(63, 0)))?;
+    all.push(file(rt, b"/b", 3, b"more")?)?;
+    Ok(all)
+}
+
+/// Whether a delivery says that there were two files and a fault.
+fn reports_two(alloc: Global, outcomes: &[(FileKey, Outcome)], sink: &mut MemSink) -> bool {
+    let wanted = Report {
+        files: 2,
+        faults: 1,
+        skipped: 0,
+    };
+    match deliver(alloc, outcomes, sink) {
+        Err(_) => false,
+        Ok(report) => report == wanted,
+    }
+}
+
+/// Whether there are two files, the last of them with these bytes.
+fn are_two(items: &[Item], bytes: &[u8]) -> bool {
+    match items {
+        [_, last] => last.bytes.bytes() == bytes,
+        _ => false,
+    }
+}
+
 #[test]
 fn faults_are_passed_over(rt: HostRuntime) -> Result<(), Fail> {
-    let outcomes = [
-        file(&rt, b"/a", 3, b"hello")?,
-        (key(9)?, fault(63, 0)),
-        file(&rt, b"/b", 3, b"more")?,
-    ];
+    let outcomes = with_fault(&rt)?;
     let mut sink = MemSink::new(rt.alloc());
-    match deliver(rt.alloc(), &outcomes, &mut sink) {
-        Err(_) => return Err(Fail::from("stopped")),
-        Ok(report) => assert_eq!(rt;
-            report,
-            Report {
-                files: 2,
-                faults: 1,
-                skipped: 0
-            }
-        ),
-    }
-    assert_eq!(rt; sink.items().len(), 2);
-    let last = sink.items().last().ok_or("no file")?;
-    assert_eq!(rt; last.bytes.bytes(), b"more".as_slice());
+    assert!(rt; reports_two(rt.alloc(), &outcomes, &mut sink));
+    assert!(rt; are_two(sink.items(), b"more"));
     Ok(())
+}
+
+/// The path of a folder for one test.
+fn path_of_folder(rt: &HostRuntime, name: &str) -> Result<String, Fail> {
+    let temporary = env::temp_dir(rt)?;
+    let id = process::id(rt.process());
+    Ok(format!(in rt.alloc(); "{}/br_sink_{name}_{id}", temporary.display())?)
 }
 
 /// A new folder for one test.
 fn new_folder(rt: &HostRuntime, name: &str) -> Result<String, Fail> {
-    let temporary = env::temp_dir(rt)?;
-    let id = process::id(rt.process());
-    let folder = format!(in rt.alloc(); "{}/br_sink_{name}_{id}", temporary.display())?;
+    let folder = path_of_folder(rt, name)?;
     fs::create_dir(rt, folder.as_str())?;
     Ok(folder)
 }
@@ -167,117 +201,153 @@ fn into_folder(
     }
 }
 
-/// The bytes of a file in a folder.
-fn bytes_in(rt: &HostRuntime, folder: &str, name: &str) -> Result<Vec<u8>, Fail> {
+/// Whether a file in a folder has these bytes.
+fn has_bytes(rt: &HostRuntime, folder: &str, name: &str, wanted: &[u8]) -> Result<bool, Fail> {
     let path = format!(in rt.alloc(); "{folder}/{name}")?;
-    Ok(fs::read(rt, path.as_str())?)
+    Ok(fs::read(rt, path.as_str())?.as_slice() == wanted)
 }
 
+/// Whether these files are all delivered into a folder.
+fn puts_all(rt: &HostRuntime, folder: &str, shapes: &[Shape<'_>]) -> Result<bool, Fail> {
+    let outcomes = files(rt, shapes)?;
+    Ok(into_folder(rt, folder, &outcomes)?.is_none())
+}
+
+/// Whether there is a folder of this name in a folder.
+fn has_folder(rt: &HostRuntime, folder: &str, name: &str) -> Result<bool, Fail> {
+    let path = format!(in rt.alloc(); "{folder}/{name}")?;
+    Ok(fs::metadata(rt, path.as_str())?.is_dir())
+}
+
+/// Whether there is nothing of this name in a folder.
+fn has_nothing(rt: &HostRuntime, folder: &str, name: &str) -> Result<bool, Fail> {
+    let path = format!(in rt.alloc(); "{folder}/{name}")?;
+    Ok(fs::symlink_metadata(rt, path.as_str()).is_err())
+}
+
+/// A file that is put twice, one without bytes, folders and a link.
+const ALL_KINDS: &[Shape<'static>] = &[
+    (b"/a/b", 3, b"hello"),
+    (b"/x", 2, b""),
+    (b"/a/b", 3, b"hi"),
+    (b"/d/e/", 5, b""),
+    (b"/", 5, b""),
+    (b"/l", 4, b""),
+];
+
 #[test]
-fn a_folder_gets_files(rt: HostRuntime) -> Result<(), Fail> {
-    let folder = new_folder(&rt, "files")?;
-    let outcomes = [
-        file(&rt, b"/a/b", 3, b"hello")?,
-        file(&rt, b"/x", 2, b"")?,
-        file(&rt, b"/a/b", 3, b"hi")?,
-    ];
-    assert_eq!(rt; into_folder(&rt, folder.as_str(), &outcomes)?, None);
-    assert_eq!(rt;
-        bytes_in(&rt, folder.as_str(), "a/b")?.as_slice(),
-        b"hi".as_slice()
-    );
-    assert_eq!(rt;
-        bytes_in(&rt, folder.as_str(), "x")?.as_slice(),
-        b"".as_slice()
-    );
+fn a_folder_gets_files_and_folders_and_no_links(rt: HostRuntime) -> Result<(), Fail> {
+    let folder = new_folder(&rt, "kinds")?;
+    assert!(rt; puts_all(&rt, folder.as_str(), ALL_KINDS)?);
+    assert!(rt; has_bytes(&rt, folder.as_str(), "a/b", b"hi")?);
+    assert!(rt; has_bytes(&rt, folder.as_str(), "x", b"")?);
+    assert!(rt; has_folder(&rt, folder.as_str(), "d/e")?);
+    assert!(rt; has_nothing(&rt, folder.as_str(), "l")?);
     fs::remove_dir_all(&rt, folder.as_str())?;
     Ok(())
 }
 
-#[test]
-fn a_folder_gets_folders_and_no_links(rt: HostRuntime) -> Result<(), Fail> {
-    let folder = new_folder(&rt, "folders")?;
-    let outcomes = [
-        file(&rt, b"/d/e/", 5, b"")?,
-        file(&rt, b"/", 5, b"")?,
-        file(&rt, b"/l", 4, b"")?,
-    ];
-    assert_eq!(rt; into_folder(&rt, folder.as_str(), &outcomes)?, None);
-    let made = format!(in rt.alloc(); "{folder}/d/e")?;
-    assert!(rt; fs::metadata(&rt, made.as_str())?.is_dir());
-    let link = format!(in rt.alloc(); "{folder}/l")?;
-    assert!(rt; fs::symlink_metadata(&rt, link.as_str()).is_err());
-    fs::remove_dir_all(&rt, folder.as_str())?;
-    Ok(())
+/// The number at which there is no sink over this path, 0 where there is one.
+fn refused(rt: &HostRuntime, path: &str) -> u32 {
+    match FolderSink::new(rt.alloc(), rt, path) {
+        Ok(_) => 0,
+        Err(fault) => fault.number(),
+    }
+}
+
+/// The refusals of a folder that is empty, of it with a file a, of that file, and of a folder that is not there.
+fn refusals(rt: &HostRuntime, folder: &str) -> Result<[u32; 4], Fail> {
+    let inside = format!(in rt.alloc(); "{folder}/a")?;
+    let empty = refused(rt, folder);
+    fs::write(rt, inside.as_str(), b"")?;
+    let filled = refused(rt, folder);
+    let file = refused(rt, inside.as_str());
+    Ok([empty, filled, file, refused(rt, "/no/such/folder")])
 }
 
 #[test]
 fn a_folder_must_be_there_and_empty(rt: HostRuntime) -> Result<(), Fail> {
     let folder = new_folder(&rt, "empty")?;
-    let inside = format!(in rt.alloc(); "{folder}/a")?;
-    assert!(rt; FolderSink::new(rt.alloc(), &rt, folder.as_str()).is_ok());
-    fs::write(&rt, inside.as_str(), b"")?;
-    for path in [folder.as_str(), inside.as_str(), "/no/such/folder"] {
-        match FolderSink::new(rt.alloc(), &rt, path) {
-            Ok(_) => return Err(Fail::from("a sink")),
-            Err(fault) => assert_eq!(rt; fault.number(), 81),
-        }
-    }
+    assert_eq!(rt; refusals(&rt, folder.as_str())?, [0, 81, 81, 81]);
     fs::remove_dir_all(&rt, folder.as_str())?;
     Ok(())
 }
 
+/// The stop of a delivery of three files, of which the second has a name that is no text.
+fn stop_at_no_text(rt: &HostRuntime, folder: &str) -> Result<Option<(u32, u64)>, Fail> {
+    let outcomes = outcomes(rt, &[b"/a", b"/\xff", b"/c"])?;
+    into_folder(rt, folder, &outcomes)
+}
+
+/// The stop of a delivery of a file with a slash at its end into a new folder.
+fn stop_at_slash(rt: &HostRuntime) -> Result<Option<(u32, u64)>, Fail> {
+    let folder = new_folder(rt, "slash")?;
+    let outcomes = files(rt, &[(b"/a/", 2, b"")])?;
+    let stop = into_folder(rt, folder.as_str(), &outcomes)?;
+    fs::remove_dir_all(rt, folder.as_str())?;
+    Ok(stop)
+}
+
 #[test]
-fn a_name_that_is_no_text_stops(rt: HostRuntime) -> Result<(), Fail> {
+fn a_name_that_is_no_text_and_a_slash_at_the_end_stop(rt: HostRuntime) -> Result<(), Fail> {
     let folder = new_folder(&rt, "text")?;
-    let outcomes = outcomes(&rt, &[b"/a", b"/\xff", b"/c"])?;
-    let stop = into_folder(&rt, folder.as_str(), &outcomes)?;
-    assert_eq!(rt; stop, Some((80, 1)));
-    assert_eq!(rt;
-        bytes_in(&rt, folder.as_str(), "a")?.as_slice(),
-        b"hello".as_slice()
-    );
+    assert_eq!(rt; stop_at_no_text(&rt, folder.as_str())?, Some((80, 1)));
+    assert!(rt; has_bytes(&rt, folder.as_str(), "a", b"hello")?);
     fs::remove_dir_all(&rt, folder.as_str())?;
+    assert_eq!(rt; stop_at_slash(&rt)?, Some((80, 0)));
     Ok(())
 }
 
-#[test]
-fn a_file_with_a_slash_at_its_end_stops(rt: HostRuntime) -> Result<(), Fail> {
-    let folder = new_folder(&rt, "slash")?;
-    let outcomes = [file(&rt, b"/a/", 2, b"")?];
-    let stop = into_folder(&rt, folder.as_str(), &outcomes)?;
-    assert_eq!(rt; stop, Some((80, 0)));
-    fs::remove_dir_all(&rt, folder.as_str())?;
+/// Makes a link in a folder.
+fn link_to(rt: &HostRuntime, target: &str, folder: &str, name: &str) -> Result<(), Fail> {
+    let path = format!(in rt.alloc(); "{folder}/{name}")?;
+    symlink(rt, target, path.as_str())?;
     Ok(())
+}
+
+/// What a sink answers for a file of this path and this type.
+fn put_of(
+    rt: &HostRuntime,
+    sink: &mut impl Sink,
+    path: &[u8],
+    kind: u32,
+) -> Result<Result<(), SinkFault>, Fail> {
+    let item = item(rt, path, kind, ZEROS)?;
+    Ok(sink.put(&item))
+}
+
+/// What a sink answers for files below and at a link, and for a folder at one.
+fn puts_at_links(
+    rt: &HostRuntime,
+    sink: &mut impl Sink,
+) -> Result<[Result<(), SinkFault>; 3], Fail> {
+    let below = put_of(rt, sink, b"/a/b", 2)?;
+    let file = put_of(rt, sink, b"/f", 2)?;
+    let folder = put_of(rt, sink, b"/a/", 5)?;
+    Ok([below, file, folder])
+}
+
+/// Whether a sink over a folder refuses what would go through its links to a folder beside and to a file there.
+fn refuses_links(rt: &HostRuntime, beside: &str, folder: &str) -> Result<bool, Fail> {
+    let mut sink = FolderSink::new(rt.alloc(), rt, folder)?;
+    make_links(rt, beside, folder)?;
+    let answers = puts_at_links(rt, &mut sink)?;
+    Ok(answers == [Err(SinkFault::Fault); 3])
+}
+
+/// Makes the link a to a folder, and f to the file b that is not there.
+fn make_links(rt: &HostRuntime, beside: &str, folder: &str) -> Result<(), Fail> {
+    let target = format!(in rt.alloc(); "{beside}/b")?;
+    link_to(rt, beside, folder, "a")?;
+    link_to(rt, target.as_str(), folder, "f")
 }
 
 #[test]
 fn a_link_in_the_folder_is_refused(rt: HostRuntime) -> Result<(), Fail> {
     let beside = new_folder(&rt, "beside")?;
     let folder = new_folder(&rt, "link")?;
-    let mut sink = FolderSink::new(rt.alloc(), &rt, folder.as_str())?;
-    let target = format!(in rt.alloc(); "{beside}/b")?;
-    symlink(
-        &rt,
-        beside.as_str(),
-        format!(in rt.alloc(); "{folder}/a")?.as_str(),
-    )?;
-    symlink(
-        &rt,
-        target.as_str(),
-        format!(in rt.alloc(); "{folder}/f")?.as_str(),
-    )?;
-    for path in [b"/a/b".as_slice(), b"/f".as_slice()] {
-        assert_eq!(rt;
-            sink.put(&item(&rt, path, 2, ZEROS)?),
-            Err(SinkFault::Fault)
-        );
-    }
-    assert_eq!(rt;
-        sink.put(&item(&rt, b"/a/", 5, ZEROS)?),
-        Err(SinkFault::Fault)
-    );
-    assert!(rt; fs::symlink_metadata(&rt, target.as_str()).is_err());
+    assert!(rt; refuses_links(&rt, beside.as_str(), folder.as_str())?);
+    assert!(rt; has_nothing(&rt, beside.as_str(), "b")?);
     fs::remove_dir_all(&rt, folder.as_str())?;
     fs::remove_dir_all(&rt, beside.as_str())?;
     Ok(())
