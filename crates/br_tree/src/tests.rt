@@ -2,7 +2,7 @@ use super::*;
 use br_history::{FileRow, JobRow, JobRows};
 use br_types::{JobId, Letter, Name, Path, SessionKey};
 use br_view::View;
-use std::alloc::Global;
+use std::alloc::{AllocError, Global};
 use std::test::Fail;
 
 fn letter(byte: u8) -> Result<Letter, Fail> {
@@ -62,11 +62,10 @@ fn tree<'h>(alloc: Global, job: &'h JobRows) -> Result<Tree<'h>, Fail> {
 }
 
 /// A sign and some bytes as a line.
-fn add_line(text: &mut Vec<u8>, sign: u8, bytes: &[u8]) -> Result<(), Fail> {
-    text.push(sign)?;
+fn add_line(text: &mut Vec<u8>, sign: u8, bytes: &[u8]) -> Result<(), AllocError> {
+    text.extend_from_slice(&[sign])?;
     text.extend_from_slice(bytes)?;
-    text.push(b'\n')?;
-    Ok(())
+    text.extend_from_slice(b"\n")
 }
 
 /// Whether these are the names in a directory, each a line behind its sign.
@@ -207,12 +206,17 @@ fn the_root_is_nobody_s_child(alloc: Global) -> Result<bool, Fail> {
     mark_root(alloc, &mut tree)
 }
 
+/// Whether there is a root without children.
+fn is_empty(alloc: Global, tree: &Tree<'_>) -> Result<bool, Fail> {
+    let is_listed = lists(alloc, tree, b"/", b"")?;
+    Ok(is_listed && tree.count() == (0, 0) && tree.has_dir(b"/"))
+}
+
 /// Whether a view without paths has a root and no children.
 fn an_empty_view_has_no_children(alloc: Global) -> Result<bool, Fail> {
     let job = job(alloc, &[])?;
     let tree = tree(alloc, &job)?;
-    let listed = lists(alloc, &tree, b"/", b"")?;
-    Ok(listed && tree.count() == (0, 0) && tree.has_dir(b"/"))
+    is_empty(alloc, &tree)
 }
 
 #[test]
@@ -314,16 +318,29 @@ fn is_counted_unmarked(alloc: Global, tree: &mut Tree<'_>, number: u32) -> Resul
     is_count_of_marks(alloc, tree)
 }
 
+/// Whether it is so after both.
+fn is_counted(alloc: Global, tree: &mut Tree<'_>, number: u32) -> Result<bool, Fail> {
+    let is_marked = is_counted_marked(alloc, tree, number)?;
+    let is_unmarked = is_counted_unmarked(alloc, tree, next(number))?;
+    Ok(is_marked && is_unmarked)
+}
+
+/// The first of a hundred numbers after which it is not so.
+fn wrongly_counted(alloc: Global, tree: &mut Tree<'_>) -> Result<Option<u32>, Fail> {
+    let mut number = next(1);
+    for _ in 0..100 {
+        if !is_counted(alloc, tree, number)? {
+            return Ok(Some(number));
+        }
+        number = next(next(number));
+    }
+    Ok(None)
+}
+
 #[test]
 fn the_number_of_marks_is_that_of_the_marked_paths(rt: HostRuntime) -> Result<(), Fail> {
     let job = homes(rt.alloc())?;
     let mut tree = tree(rt.alloc(), &job)?;
-    let mut number = 1u32;
-    for _ in 0..100 {
-        number = next(number);
-        assert!(rt; is_counted_marked(rt.alloc(), &mut tree, number)?);
-        number = next(number);
-        assert!(rt; is_counted_unmarked(rt.alloc(), &mut tree, number)?);
-    }
+    assert_eq!(rt; wrongly_counted(rt.alloc(), &mut tree)?, None);
     Ok(())
 }

@@ -1,0 +1,39 @@
+//! What the words of the command line ask for.
+
+use crate::making::Size;
+
+/// Up to where the steps go.
+#[derive(Clone, Copy, Debug, PartialEq, Eq, PartialOrd, Ord)]
+pub(crate) enum Stage {
+    History,
+    View,
+    Tree,
+    List,
+    Mark,
+    Plan,
+}
+
+fn stage_of(word: &str) -> Option<Stage> {
+    match word {
+        "history" => Some(Stage::History),
+        "view" => Some(Stage::View),
+        "tree" => Some(Stage::Tree),
+        "list" => Some(Stage::List),
+        "mark" => Some(Stage::Mark),
+        "plan" => Some(Stage::Plan),
+        _ => None,
+    }
+}
+
+/// Stage and size that the words name, of which the first is the program's name.
+pub(crate) fn read_words(words: &[String]) -> Option<(Stage, Size)> {
+    let [_, stage, paths, jobs, rows] = words else {
+        return None;
+    };
+    let size = Size {
+        paths: paths.as_str().parse().ok()?,
+        jobs: jobs.as_str().parse().ok()?,
+        rows: rows.as_str().parse().ok()?,
+    };
+    Some((stage_of(stage.as_str())?, size))
+}
