@@ -1,0 +1,5 @@
+pub mod Cuts
+pub mod ReadLaws
+pub mod SpanOrder
+pub mod LoadLaws
+pub mod InsertedLaws

@@ -1,0 +1,5 @@
+pub mod Fault
+pub mod Decode
+pub mod Rows
+pub mod Load
+pub mod Inserted

@@ -1,0 +1,6 @@
+//! The tables of the catalogue, and whether the schema of a database has these tables and no others.
+#![tactic(auto)]
+
+mod ours;
+
+pub use ours::{is_empty, is_ours};

@@ -1,0 +1,15 @@
+pub mod Makes
+pub mod NameTexts
+pub mod RowTexts
+pub mod Words
+pub mod Inserts
+pub mod Values
+pub mod Selects
+pub mod Ready
+pub mod Appends
+pub mod Joined
+pub mod Fresh
+pub mod Writes
+pub mod Creates
+pub mod Opens
+pub mod Loads

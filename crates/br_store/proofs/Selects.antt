@@ -1,0 +1,106 @@
+-- What a plain SELECT in a transaction leaves and shows.
+use Rattle.std.proofs.Common.{◌≡◌, ◌⊎◌, inl, inr, ℕ, pos, List, Option, IfSome, [], ◌∷◌, map, Bool, true, false, ◌&&◌, cond, None, Some, refl, sym, ap, subst, ◌∙◌}
+use Rattle.sqlite.specs.declared.types.Value.TheVariants.{Null, Int}
+use Rattle.sqlite.specs.Order.{Row, column}
+use Rattle.sqlite.specs.Query.{Query, IsAnswer, Output, output}
+use Rattle.sqlite.specs.Program.{overlay}
+use Rattle.std.specs.List.{AllByRecursion, list_all, flat_map}
+use Rattle.sqlite.specs.Term.{Env, holds}
+use Rattle.sqlite.specs.Tree.{Trees}
+use Rattle.sqlite.specs.Ops.{binary, is_true}
+use Rattle.sqlite.specs.Collation.TheVariants.{Binary}
+use Rattle.sqlite_sql.specs.declared.ops.BinaryOp.TheVariants.{Compare}
+use Rattle.sqlite_sql.specs.declared.ops.CompareOp.TheVariants.{Eq}
+use Rattle.sqlite_rules.specs.Lists.{Has}
+use Rattle.sqlite_rules.proofs.ListLemmas.{all_from, all_has}
+use Rattle.sqlite_trees.proofs.ListLemmas.{all-permutation, all-flat_map}
+use Rattle.br_store.specs.Held.{IsName, IsNumberOf}
+use Rattle.br_store.specs.Names.{tree_of, word}
+use Rattle.br_store.specs.declared.names.Dictionary.{Dictionary}
+use Rattle.br_store.specs.declared.names.Dictionary.TheVariants.{Client, FileSet, Media, Path, Filename}
+use Rattle.br_store.proofs.Values.{word_tied}
+use Rattle.br_store.proofs.NameTexts.{name_query}
+use Rattle.sqlite.specs.Schema.{Schema}
+use Rattle.sqlite.specs.Command.TheVariants.{Select}
+use Rattle.sqlite.specs.declared.error.Error.{Error}
+use Rattle.sqlite.specs.Listing.{understood, reads_listing}
+use Rattle.sqlite.specs.Clock.{timed}
+use Rattle.sqlite.specs.State.{State, KeepsCommit, IsUnchanged, IsRolledBack, Fails, IsNotRun, FailsToQuery, FailsToShow, IsTooLate, ShowsRows, Shown}
+use Rattle.sqlite.proofs.Callers.{IsPlain, command_of, reads_as}
+
+pub unchanged_keeps : (old new : State) → IsUnchanged old new → KeepsCommit old new
+unchanged_keeps old new h = record { was_open = λ _. h.0.was_open; committed = λ _. h.0.committed_is }
+
+pub undone_keeps : (old new : State) → IsRolledBack old new → KeepsCommit old new
+undone_keeps old new h = record { was_open = h.was_open; committed = λ up. (h.undone up).1 }
+
+fails_keep : (old new : State) (U : Type 0) (e : Error) → Fails old new U e → KeepsCommit old new
+fails_keep old new U e h = undone_keeps old new h.3
+
+pub not_run_keeps : (old new : State) (sql : List ℕ) (params : Row) (e : Error) → IsNotRun old new sql params e → KeepsCommit old new
+unfolding IsNotRun
+not_run_keeps old new sql params e (inl h) = unchanged_keeps old new h.1
+not_run_keeps old new sql params e (inr h) = fails_keep old new ⊥ e h
+
+module _ (schema : Schema) (sql : List ℕ) (params : Row) (old new : State) (has : old.now.schema ≡ schema) (plain : IsPlain (understood schema sql)) where
+  pub shown_same : (rows : List Row) → Shown sql params old new rows → IsUnchanged old new
+  unfolding Shown
+  shown_same rows h =
+      let known = sym h.1.is ∙ ap (λ s. understood s sql) has in
+      let bare = subst IsPlain (sym known) plain in
+      (subst (ShowsRows old new sql h.0 (timed params h.0.formats h.1.now) rows) bare.0 h.2).3
+
+  pub failure_keeps : (e : Error) → FailsToQuery sql params old new e ⊎ IsTooLate sql params old new e → KeepsCommit old new
+  unfolding FailsToQuery
+  failure_keeps e (inr late) = unchanged_keeps old new late.5
+  failure_keeps e (inl (inl not_run)) = not_run_keeps old new sql params e not_run
+  failure_keeps e (inl (inr h)) =
+      let known = sym h.1.is ∙ ap (λ s. understood s sql) has in
+      let bare = subst IsPlain (sym known) plain in
+      unchanged_keeps old new (subst (FailsToShow old new sql h.0 (timed params h.0.formats h.1.now) e) bare.0 h.2).3
+
+  module _ (q : Query) (names : List (List ℕ)) (is : command_of (understood schema sql) ≡ Select (record { lets = []; body = q }) names) (unlisted : reads_listing schema sql ≡ false) where
+    pub answers : (rows : List Row) → Shown sql params old new rows → IsAnswer q (overlay old.now.trees []) params rows
+    answers rows h = (reads_as sql params old new schema has (Select (record { lets = []; body = q }) names) is plain unlisted rows h).answer Null
+
+all-map : {X Y : Type 0} (P : Y → Type 0) (f : X → Y) (xs : List X) → AllByRecursion (λ x. P (f x)) xs → AllByRecursion P (map f xs)
+all-map P f [] h = tt
+all-map P f (x ∷ xs) h = (h.0, all-map P f xs h.1)
+
+-- each row of the answer is that of a row with the name
+found_one : (trees : Trees) (d : Dictionary) (name : List ℕ) (row : Row) → Has (trees (tree_of d)) row
+    → AllByRecursion (λ env. IsNumberOf trees d name (output (name_query (tree_of d)) env).1)
+    (cond (list_all (holds ((word d name ∷ []) ∷ row ∷ [])) (name_query (tree_of d)).filter) (((word d name ∷ []) ∷ row ∷ []) ∷ []) [])
+found_one trees d name row has = go (is_true (binary (Compare Eq Binary) (column row 2) (word d name))) refl
+  where
+    go : (b : Bool) → is_true (binary (Compare Eq Binary) (column row 2) (word d name)) ≡ b
+        → AllByRecursion (λ env. IsNumberOf trees d name (output (name_query (tree_of d)) env).1) (cond (b && true) (((word d name ∷ []) ∷ row ∷ []) ∷ []) [])
+    go true e = ((row, has, refl, word_tied d (column row 2) name e), tt)
+    go false e = tt
+
+as_it_is : (d : Dictionary) (trees : Trees) → overlay trees [] (tree_of d) ≡ trees (tree_of d)
+as_it_is Client trees = refl
+as_it_is FileSet trees = refl
+as_it_is Media trees = refl
+as_it_is Path trees = refl
+as_it_is Filename trees = refl
+
+pub numbers_found : (trees : Trees) (d : Dictionary) (name : List ℕ) (rows : List Row) → IsAnswer (name_query (tree_of d)) (overlay trees []) (word d name ∷ []) rows
+    → AllByRecursion (IsNumberOf trees d name) rows
+numbers_found trees d name rows a =
+    let q = name_query (tree_of d) in
+    let P = λ (env : Env). IsNumberOf trees d name (output q env).1 in
+    let Q = λ (o : Output). IsNumberOf trees d name o.1 in
+    let look = λ (row : Row). cond (list_all (holds ((word d name ∷ []) ∷ row ∷ [])) q.filter) (((word d name ∷ []) ∷ row ∷ []) ∷ []) [] in
+    let matched = subst (λ rows. AllByRecursion P (flat_map look rows)) (sym (as_it_is d trees)) (all-flat_map P look (trees (tree_of d)) (all_from _ (trees (tree_of d)) (λ row has. found_one trees d name row has))) in
+    let staged : AllByRecursion P a.staged = subst (AllByRecursion P) (sym a.grouped) matched in
+    let kept : AllByRecursion Q a.kept = subst (AllByRecursion Q) (sym a.distinct) (all-map Q (output q) a.staged staged) in
+    let ordered = all-permutation Q a.kept a.ordered a.same kept in
+    subst (AllByRecursion (IsNumberOf trees d name)) (sym a.shown) (all-map (IsNumberOf trees d name) (λ (o : Output). o.1) a.ordered ordered)
+
+pub first_is_name : (trees : Trees) (d : Dictionary) (name : List ℕ) (rows : List Row) → AllByRecursion (IsNumberOf trees d name) rows → (o : Option ℕ)
+    → IfSome o (λ id. (row : Row) × Has rows row × (column row 0 ≡ Int (pos id))) → IfSome o (IsName trees d name)
+first_is_name trees d name rows all None h = tt
+first_is_name trees d name rows all (Some id) h =
+    let it = all_has (IsNumberOf trees d name) rows h.0 all h.1 in
+    (it.0, it.1, ap (λ r. column r 0) (sym it.2) ∙ h.2, it.3)

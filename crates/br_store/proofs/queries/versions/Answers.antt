@@ -1,0 +1,36 @@
+use Rattle.std.proofs.Common.{[], inl, arith, subst, sym}
+use Rattle.sqlite.proofs.StateLemmas.{survives_weaker}
+use Rattle.sqlite.proofs.Callers.{IsPlain, never_commits}
+use Rattle.sqlite.specs.Listing.{understood}
+use Rattle.std.proofs.lemmas.Result.{IfOk-weaker, IfErr-weaker}
+use Rattle.sqlite.specs.Held.{state}
+use Rattle.br_schema.specs.Tables.{store_schema}
+use Rattle.br_store.proofs.RowTexts.{select_versions, select_versions_is, versions_query, version_names}
+use Rattle.br_store.proofs.Selects.{shown_same, failure_keeps, answers}
+use Rattle.br_store.proofs.Loads.{versions_shown}
+use Rattle.br_store.proofs.queries.versions.Goals as goal
+
+pub returns-clause-rows : goal.returns-clause-rows
+returns-clause-rows g c clean =
+    let old = state g.S.Store c.args.conn.now in
+    let new = state g.S.Store c.query_all.new.self in
+    let stands = c.requires (omega (arith, clean, c.query_all.ensures.survives.clean)) in
+    IfOk-weaker c.query_all.result _ _ (λ rows shown.
+    versions_shown old.now rows.items stands (answers store_schema select_versions [] old new stands.schema select_versions_is.plain versions_query version_names select_versions_is.command select_versions_is.unlisted rows.items shown))
+    (c.query_all.ensures.ok clean)
+
+pub returns-clause-same : goal.returns-clause-same
+returns-clause-same g c clean =
+    IfOk-weaker c.query_all.result _ _ (λ rows shown. shown_same store_schema select_versions [] (state g.S.Store c.args.conn.now) (state g.S.Store c.query_all.new.self) (c.requires (omega (arith, clean, c.query_all.ensures.survives.clean))).schema select_versions_is.plain rows.items shown) (c.query_all.ensures.ok clean)
+
+pub returns-clause-kept : goal.returns-clause-kept
+returns-clause-kept g c clean =
+    IfErr-weaker c.query_all.result _ _ (λ e failed. failure_keeps store_schema select_versions [] (state g.S.Store c.args.conn.now) (state g.S.Store c.query_all.new.self) (c.requires (omega (arith, clean, c.query_all.ensures.survives.clean))).schema select_versions_is.plain e (inl failed)) (c.query_all.ensures.err clean)
+
+pub returns-clause-survives : goal.returns-clause-survives
+returns-clause-survives g c =
+    let old = state g.S.Store c.args.conn.now in
+    let new = state g.S.Store c.query_all.new.self in
+    survives_weaker old new _ (λ _. ⊥) (λ clean db committed.
+    let stands = c.requires (omega (arith, clean, c.query_all.ensures.survives.clean)) in
+    absurd (never_commits select_versions [] old db (subst (λ s. IsPlain (understood s select_versions)) (sym stands.schema) select_versions_is.plain) committed)) c.query_all.ensures.survives

@@ -1,0 +1,16 @@
+use Rattle.sqlite.specs.Held.{state}
+use Rattle.br_store.proofs.Inserts.{puts_version}
+use Rattle.br_store.proofs.Creates.{made_version}
+use Rattle.br_store.proofs.tables.put_version.Goals as goal
+
+pub returns-clause-made : goal.returns-clause-made
+returns-clause-made g c clean inside was =
+    let old = state g.S.Store c.args.tx.now.conn.now in
+    let new = state g.S.Store c.execute.new.self.conn.now in
+    let ran = c.in_ok-execute.ensures.runs clean inside in
+    record {
+      was_open = λ up. ran.1.was_open;
+      mode = ran.1.mode;
+      committed = ran.1.committed_is;
+      made = made_version old.now new.now was (puts_version old new c.in_ok-execute.field-0 was.is ran.0);
+    }

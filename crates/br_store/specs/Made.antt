@@ -1,0 +1,38 @@
+-- A catalogue that is being made.
+use Rattle.std.specs.Prelude.{◌≡◌, ◌⊎◌, [], IsTrue}
+use Rattle.std.specs.List.{AllByRecursion}
+use Rattle.sqlite.specs.Table.{Table}
+use Rattle.sqlite.specs.Schema.{Schema}
+use Rattle.sqlite.specs.Effect.{Database, IsDatabase}
+use Rattle.sqlite.specs.State.{State}
+use Rattle.br_rows.specs.Rows.{no_rows}
+use Rattle.br_schema.specs.Tables.{no_schema}
+use Rattle.br_store.specs.Held.{Stands, rows_in}
+
+-- a sound database with these tables, which have no row
+pub record HasEmptied (schema : Schema) (db : Database) : Type 0 where
+  pub is : db.schema ≡ schema
+  pub empty : AllByRecursion (λ (t : Table). db.trees t.tree ≡ []) schema.tables
+
+-- the transaction goes on with these tables, and nothing is committed
+pub record MakesTables (schema : Schema) (old new : State) : Type 0 where
+  pub was_open : IsTrue new.is_open → IsTrue old.is_open
+  pub mode : IsTrue new.in_transaction
+  pub committed : new.committed ≡ old.committed
+  pub emptied : HasEmptied schema new.now
+
+-- a catalogue of version 1 with no job
+pub record IsMade (db : Database) : Type 0 where
+  pub stands : Stands db
+  pub rows : rows_in db.trees ≡ no_rows
+
+-- the transaction goes on with such a catalogue, and nothing is committed
+pub record HasMade (old new : State) : Type 0 where
+  pub was_open : IsTrue new.is_open → IsTrue old.is_open
+  pub mode : IsTrue new.in_transaction
+  pub committed : new.committed ≡ old.committed
+  pub made : IsMade new.now
+
+-- what an open finds is kept as it was, or was a database with no table, and is now a catalogue with no job
+abbrev pub Finds : Database → Database → Type 0
+Finds before after = (after.trees ≡ before.trees) ⊎ (IsDatabase (record before { schema = no_schema }) × IsMade after)
