@@ -1,5 +1,5 @@
 -- A run of the console step by step: what each step says of the whole.
-use Rattle.std.proofs.Common.{◌≡◌, ℕ, Bool, true, false, cond, List, map, Option, Some, None, Result, Ok, Err, refl, ap, sym, ◌∙◌}
+use Rattle.std.proofs.Common.{◌≡◌, ℕ, Bool, true, false, cond, List, map, Option, Some, None, Result, Ok, Err, refl, ap, sym, subst, ◌∙◌}
 use Rattle.std.specs.Prelude.{Vec, option_map, IfSome}
 use Rattle.std.specs.Global.{Global}
 use Rattle.std.specs.Io.KnownBytes.{Appends, Keeps}
@@ -30,7 +30,7 @@ use Rattle.br_engine.specs.Restoring.{Outcomes, RestoredOver, restored_files}
 use Rattle.br_engine.specs.Extracting.{are_files}
 use Rattle.br_console.specs.Fault.{Refusal, OfPlan, OfPiece, IsFree, IsNoPiece, cause, fault_number}
 use Rattle.br_console.specs.Talking.{TalksOver, LeavesOver}
-use Rattle.br_console.specs.Running.{opening, begun, with_files, run_from, console_run, RefusesRun, RunsOver, MarksOver, WritesPlan, Begins, BeginsOver, Delivers, DeliversOver, StopsAt, WritesSome, TellsOver}
+use Rattle.br_console.specs.Running.{opening, begun, with_files, run_from, console_run, RefusesRun, RunsOver, MarksOver, WritesPlan, Begins, BeginsOver, Said, OverPlan, Gives, WritesManifest, StopsAt, TellsOver, files_in, run_to, RestoresOver}
 use Rattle.br_console.specs.declared.console_fault.ConsoleFault.{ConsoleFault}
 use Rattle.br_console.specs.declared.console_fault.ConsoleFault.TheVariants as fault
 use Rattle.br_console.specs.declared.talking.Talk.{Talk}
@@ -138,31 +138,35 @@ begins_planned (Some text) before now after history q s clean marks plan opened 
 
 -- ---- over the volumes of a drive
 
-pub delivers_files : (earlier later : Option (List Volume)) (before after : Option (List ℕ)) (plan : Plan) (os : Outcomes) (whole : Bool)
-    → RestoredOver earlier later plan.groups (Some plan.names) (Ok os) → whole ≡ are_files (map restored os.items) → Appends before after (manifest (map restored os.items))
-    → DeliversOver earlier later before after plan (Ok whole)
-delivers_files None later before after plan os whole given are written = tt
-delivers_files (Some a) None before after plan os whole given are written = tt
-delivers_files (Some a) (Some b) before after plan os whole given are written = λ volumes stands. (map restored os.items, given volumes stands, are, written)
+pub over_implied : (earlier later : Option (List Volume)) (plan : Plan) (P Q : Said) → ((r : Result (List Restored) model.PieceFault) → P r → Q r) → OverPlan earlier later plan P → OverPlan earlier later plan Q
+over_implied None later plan P Q step h = tt
+over_implied (Some a) None plan P Q step h = tt
+over_implied (Some a) (Some b) plan P Q step h = λ volumes stands. step (restored_files plan.groups (Some plan.names) volumes) (h volumes stands)
 
-pub delivers_refused : (earlier later : Option (List Volume)) (before after : Option (List ℕ)) (plan : Plan) (why : PieceFault) → RestoredOver earlier later plan.groups (Some plan.names) (Err why)
-    → DeliversOver earlier later before after plan (Err (fault.Piece why))
-delivers_refused None later before after plan why given = tt
-delivers_refused (Some a) None before after plan why given = tt
-delivers_refused (Some a) (Some b) before after plan why given = λ volumes stands. go volumes (piece.cause why) (given volumes stands)
+-- the outcomes of a restore by a plan
+pub gives_files : (earlier later : Option (List Volume)) (plan : Plan) (os : Outcomes) → RestoredOver earlier later plan.groups (Some plan.names) (Ok os) → OverPlan earlier later plan (Gives (Ok os))
+gives_files None later plan os given = tt
+gives_files (Some a) None plan os given = tt
+gives_files (Some a) (Some b) plan os given = λ volumes stands. given volumes stands
+
+pub gives_refused : (earlier later : Option (List Volume)) (plan : Plan) (why : PieceFault) → RestoredOver earlier later plan.groups (Some plan.names) (Err why)
+    → OverPlan earlier later plan (Gives (Err (fault.Piece why)))
+gives_refused None later plan why given = tt
+gives_refused (Some a) None plan why given = tt
+gives_refused (Some a) (Some b) plan why given = λ volumes stands. go volumes (piece.cause why) (given volumes stands)
   where
     go : (volumes : List Volume) (r : Option model.PieceFault) → IsRefusal r (restored_files plan.groups (Some plan.names) volumes)
         → IsRefusal (option_map OfPiece r) (refused_as OfPiece (restored_files plan.groups (Some plan.names) volumes))
     go volumes None h = tt
     go volumes (Some e) h = rw h refl
 
-pub delivers_free : (earlier later : Option (List Volume)) (before after : Option (List ℕ)) (plan : Plan) (why : ConsoleFault) → IsFree why → DeliversOver earlier later before after plan (Err why)
-delivers_free None later before after plan why free = tt
-delivers_free (Some a) None before after plan why free = tt
-delivers_free (Some a) (Some b) before after plan fault.Memory free = λ volumes stands. tt
-delivers_free (Some a) (Some b) before after plan (fault.Plan why) free = absurd free
-delivers_free (Some a) (Some b) before after plan (fault.Piece why) free = absurd free
-delivers_free (Some a) (Some b) before after plan (fault.Io why) free = λ volumes stands. tt
+pub gives_free : (earlier later : Option (List Volume)) (plan : Plan) (why : ConsoleFault) → IsFree why → OverPlan earlier later plan (Gives (Err why))
+gives_free None later plan why free = tt
+gives_free (Some a) None plan why free = tt
+gives_free (Some a) (Some b) plan fault.Memory free = λ volumes stands. tt
+gives_free (Some a) (Some b) plan (fault.Plan why) free = absurd free
+gives_free (Some a) (Some b) plan (fault.Piece why) free = absurd free
+gives_free (Some a) (Some b) plan (fault.Io why) free = λ volumes stands. tt
 
 pub stops_free : (before after : Option (List ℕ)) (why : ConsoleFault) → IsFree why → StopsAt before after why
 stops_free before after fault.Memory free = tt
@@ -228,19 +232,19 @@ runs_undone (Some text) (Some a) (Some b) before after history q clean begins = 
     rw begins.1 (ap (λ (c : Bool). Ok (record { is_clean = c; restored = None })) begins.0, begins.2)
 
 -- the manifest behind the bootstrap
-pub runs_restored : (known : Option (List ℕ)) (earlier later : Option (List Volume)) (before now after : Option (List ℕ)) (history : List JobRows) (q : Request) (clean : Bool) (plan : Plan) (whole : Bool)
-    → BeginsOver known before now history q (Ok (clean, Some plan)) → DeliversOver earlier later now after plan (Ok whole)
-    → RunsOver known earlier later before after history q (Ok (record { is_clean = clean; restored = Some whole }))
+pub runs_restored : (known : Option (List ℕ)) (earlier later : Option (List Volume)) (before now after : Option (List ℕ)) (history : List JobRows) (q : Request) (clean : Bool) (plan : Plan) (os : Outcomes)
+    → BeginsOver known before now history q (Ok (clean, Some plan)) → OverPlan earlier later plan (Gives (Ok os)) → WritesManifest now after os
+    → RunsOver known earlier later before after history q (run_to (Ok (clean, Some os)))
 unfolding console_run
-runs_restored None earlier later before now after history q clean plan whole begins delivers = tt
-runs_restored (Some text) None later before now after history q clean plan whole begins delivers = tt
-runs_restored (Some text) (Some a) None before now after history q clean plan whole begins delivers = tt
-runs_restored (Some text) (Some a) (Some b) before now after history q clean plan whole begins delivers = λ volumes stands.
-    let files = delivers volumes (stands plan begins.1) in
-    rw (begins.1, files.1) (
-      ap (λ (c : Bool). Ok (record { is_clean = c; restored = Some (are_files files.0) })) begins.0
-          ∙ ap (λ (w : Bool). Ok (record { is_clean = clean; restored = Some w })) (sym files.2),
-      Appends-trans before now after (begun history q text).text (manifest files.0) begins.2 files.3,
+runs_restored None earlier later before now after history q clean plan os begins given written = tt
+runs_restored (Some text) None later before now after history q clean plan os begins given written = tt
+runs_restored (Some text) (Some a) None before now after history q clean plan os begins given written = tt
+runs_restored (Some text) (Some a) (Some b) before now after history q clean plan os begins given written = λ volumes stands.
+    let rs : List Restored = map restored os.items in
+    let files : restored_files plan.groups (Some plan.names) volumes ≡ Ok rs = given volumes (stands plan begins.1) in
+    rw (begins.1, files) (
+      ap (λ (c : Bool). Ok (record { is_clean = c; restored = Some (are_files rs) })) begins.0,
+      Appends-trans before now after (begun history q text).text (manifest rs) begins.2 written,
     )
 
 -- the fault of a piece, and nothing behind the bootstrap
@@ -253,14 +257,14 @@ stopped text clean (Err e) why h = (go h, refl)
     go p = cc
 
 pub runs_stopped : (known : Option (List ℕ)) (earlier later : Option (List Volume)) (before now after : Option (List ℕ)) (history : List JobRows) (q : Request) (clean : Bool) (plan : Plan) (why : ConsoleFault)
-    → BeginsOver known before now history q (Ok (clean, Some plan)) → DeliversOver earlier later now after plan (Err why) → StopsAt now after why
+    → BeginsOver known before now history q (Ok (clean, Some plan)) → OverPlan earlier later plan (Gives (Err why)) → StopsAt now after why
     → RunsOver known earlier later before after history q (Err why)
 unfolding console_run
-runs_stopped None earlier later before now after history q clean plan why begins delivers stops = tt
-runs_stopped (Some text) None later before now after history q clean plan why begins delivers stops = tt
-runs_stopped (Some text) (Some a) None before now after history q clean plan why begins delivers stops = tt
-runs_stopped (Some text) (Some a) (Some b) before now after history q clean plan why begins delivers stops = λ volumes stands.
-    by_fault volumes why (delivers volumes (stands plan begins.1)) stops
+runs_stopped None earlier later before now after history q clean plan why begins given stops = tt
+runs_stopped (Some text) None later before now after history q clean plan why begins given stops = tt
+runs_stopped (Some text) (Some a) None before now after history q clean plan why begins given stops = tt
+runs_stopped (Some text) (Some a) (Some b) before now after history q clean plan why begins given stops = λ volumes stands.
+    by_fault volumes why (given volumes (stands plan begins.1)) stops
   where
     go : (volumes : List Volume) (r : Option model.PieceFault) → IsRefusal (option_map OfPiece r) (refused_as OfPiece (restored_files plan.groups (Some plan.names) volumes)) → Keeps now after
         → RefusesRun before after (run_from (begun history q text) volumes) (option_map OfPiece r)
@@ -269,7 +273,7 @@ runs_stopped (Some text) (Some a) (Some b) before now after history q clean plan
         let both = stopped (begun history q text).text (begun history q text).is_clean (restored_files plan.groups (Some plan.names) volumes) (OfPiece e) h in
         rw (begins.1, both.1) (both.0, Appends-kept before now after (begun history q text).text begins.2 kept)
 
-    by_fault : (volumes : List Volume) (w : ConsoleFault) → Delivers now after (Err w) (restored_files plan.groups (Some plan.names) volumes) → StopsAt now after w
+    by_fault : (volumes : List Volume) (w : ConsoleFault) → Gives (Err w) (restored_files plan.groups (Some plan.names) volumes) → StopsAt now after w
         → RefusesRun before after (run_from (begun history q text) volumes) (cause w)
     by_fault volumes fault.Memory h s = tt
     by_fault volumes (fault.Plan w) h s = absurd s
@@ -291,11 +295,11 @@ pub tells_undone : (known before after : Option (List ℕ)) (history : List JobR
 tells_undone None before after history q clean begins = tt
 tells_undone (Some text) before after history q clean begins = (begins.0, (begins.1, begins.2))
 
-pub tells_restored : (known before now after : Option (List ℕ)) (history : List JobRows) (q : Request) (clean : Bool) (plan : Plan) (whole : Bool) → BeginsOver known before now history q (Ok (clean, Some plan))
-    → WritesSome now after whole → TellsOver known before after history q (Ok (record { is_clean = clean; restored = Some whole }))
-tells_restored None before now after history q clean plan whole begins writes = tt
-tells_restored (Some text) before now after history q clean plan whole begins writes =
-    (begins.0, (plan, writes.0, begins.1, writes.1, Appends-trans before now after (begun history q text).text (manifest writes.0) begins.2 writes.2))
+pub tells_restored : (known before now after : Option (List ℕ)) (history : List JobRows) (q : Request) (clean : Bool) (plan : Plan) (os : Outcomes) → BeginsOver known before now history q (Ok (clean, Some plan))
+    → WritesManifest now after os → TellsOver known before after history q (run_to (Ok (clean, Some os)))
+tells_restored None before now after history q clean plan os begins written = tt
+tells_restored (Some text) before now after history q clean plan os begins written =
+    (begins.0, (plan, map restored os.items, begins.1, refl, Appends-trans before now after (begun history q text).text (manifest (map restored os.items)) begins.2 written))
 
 pub tells_stopped : (known before now after : Option (List ℕ)) (history : List JobRows) (q : Request) (clean : Bool) (plan : Plan) (why : ConsoleFault) → BeginsOver known before now history q (Ok (clean, Some plan))
     → StopsAt now after why → TellsOver known before after history q (Err why)
@@ -305,3 +309,34 @@ tells_stopped (Some text) before now after history q clean plan (fault.Plan why)
 tells_stopped (Some text) before now after history q clean plan (fault.Piece why) begins stops =
     (plan, begins.1, Appends-kept before now after (begun history q text).text begins.2 stops)
 tells_stopped (Some text) before now after history q clean plan (fault.Io why) begins stops = tt
+
+-- ---- up to the manifest
+
+pub restores_undone : (known : Option (List ℕ)) (earlier later : Option (List Volume)) (before after : Option (List ℕ)) (history : List JobRows) (q : Request) (clean : Bool)
+    → BeginsOver known before after history q (Ok (clean, None)) → RestoresOver known earlier later before after history q clean None
+restores_undone None earlier later before after history q clean begins = tt
+restores_undone (Some text) earlier later before after history q clean begins = (begins.0, (begins.1, begins.2))
+
+pub restores_files : (known : Option (List ℕ)) (earlier later : Option (List Volume)) (before now after : Option (List ℕ)) (history : List JobRows) (q : Request) (clean : Bool) (plan : Plan) (os : Outcomes)
+    → BeginsOver known before now history q (Ok (clean, Some plan)) → OverPlan earlier later plan (Gives (Ok os)) → WritesManifest now after os
+    → RestoresOver known earlier later before after history q clean (files_in (Some os))
+restores_files None earlier later before now after history q clean plan os begins given written = tt
+restores_files (Some text) earlier later before now after history q clean plan os begins given written = (
+  begins.0,
+  (
+    plan,
+    begins.1,
+    over_implied earlier later plan _ _ (λ r h. h) given,
+    Appends-trans before now after (begun history q text).text (manifest (map restored os.items)) begins.2 written,
+  ),
+)
+
+-- what is said of the run up to the manifest holds of what is told of it
+pub told_none : (P : Result ConsoleRun ConsoleFault → Type 0) (clean : Bool) (outcomes : Option Outcomes) → outcomes ≡ None → P (run_to (Ok (clean, outcomes)))
+    → P (Ok (record { is_clean = clean; restored = None }))
+told_none P clean outcomes none h = subst (λ (o : Option Outcomes). P (run_to (Ok (clean, o)))) none h
+
+pub told_files : (P : Result ConsoleRun ConsoleFault → Type 0) (clean : Bool) (outcomes : Option Outcomes) (os : Outcomes) (whole : Bool) → outcomes ≡ Some os
+    → whole ≡ are_files (map restored os.items) → P (run_to (Ok (clean, outcomes))) → P (Ok (record { is_clean = clean; restored = Some whole }))
+told_files P clean outcomes os whole found is h =
+    subst (λ (w : Bool). P (Ok (record { is_clean = clean; restored = Some w }))) (sym is) (subst (λ (o : Option Outcomes). P (run_to (Ok (clean, o)))) found h)

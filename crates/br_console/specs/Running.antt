@@ -1,6 +1,6 @@
 -- A run of the console: from a history and the lines of a dialogue to a bootstrap, and over volumes to a manifest; what is written
 -- behind what the writer held, and what is answered or refused.
-use Rattle.std.specs.Prelude.{◌≡◌, ℕ, Bool, true, List, [], ◌++◌, Vec, Option, Some, None, option_map, IfSome, Result, Ok, Err, ⊤}
+use Rattle.std.specs.Prelude.{◌≡◌, ℕ, Bool, true, List, [], ◌++◌, map, Vec, Option, Some, None, option_map, IfSome, Result, Ok, Err, ⊤}
 use Rattle.std.specs.Global.{Global}
 use Rattle.std.specs.Io.KnownBytes.{Appends, Keeps}
 use Rattle.br_model.specs.Answer.{◌>>=◌, refused_as, IsRefusal}
@@ -17,7 +17,8 @@ use Rattle.br_model.specs.Console.{at_start, console_lines, dialogue, marks_at_d
 use Rattle.br_model.specs.Plan.{Plan, plan_of}
 use Rattle.br_plan.specs.Fault as plan
 use Rattle.br_mark.specs.Seen.{Situation}
-use Rattle.br_engine.specs.Restoring.{StandsForEach, restored_files}
+use Rattle.br_join.specs.Outcome.{restored}
+use Rattle.br_engine.specs.Restoring.{Outcomes, StandsForEach, restored_files}
 use Rattle.br_engine.specs.Extracting.{are_files}
 use Rattle.br_console.specs.Fault.{Refusal, OfPlan, OfPiece, cause}
 use Rattle.br_console.specs.Talking.{are_answered}
@@ -112,10 +113,6 @@ RunsOver (Some text) (Some earlier) None before after history q result = ⊤
 
 -- ---- a run over any drive
 
--- the manifest of some files was written, and the answer is whether each of them is a file
-abbrev pub WritesSome : Option (List ℕ) → Option (List ℕ) → Bool → Type 0
-WritesSome before after whole = (rs : List Restored) × (whole ≡ are_files rs) × Appends before after (manifest rs)
-
 -- without a plan nothing more was written than what stands before a drive is asked, else the manifest of some files behind it, and
 -- the answer is whether each of them is a file
 abbrev pub Ends : Option (List ℕ) → Option (List ℕ) → Begun → Option Bool → Type 0
@@ -180,18 +177,25 @@ abbrev pub BeginsOver : Option (List ℕ) → Option (List ℕ) → Option (List
 BeginsOver (Some text) before after history q result = Begins before after (begun history q text) result
 BeginsOver None before after history q result = ⊤
 
--- the manifest of the files was written, and the answer is whether each is a file; or the refusal is the fault of a piece
-abbrev pub Delivers : Option (List ℕ) → Option (List ℕ) → Result Bool ConsoleFault → Result (List Restored) model.PieceFault → Type 0
-Delivers before after (Ok whole) expected = (rs : List Restored) × (expected ≡ Ok rs) × (whole ≡ are_files rs) × Appends before after (manifest rs)
-Delivers before after (Err why) expected = IsRefusal (cause why) (refused_as OfPiece expected)
+-- what is said of the files that a plan gives, or of the fault of a piece
+abbrev pub Said : Type 1
+Said = Result (List Restored) model.PieceFault → Type 0
 
--- where the drive tells its volumes, the files are those of the plan over all volumes that it may be taken to show
-abbrev pub DeliversOver : Option (List Volume) → Option (List Volume) → Option (List ℕ) → Option (List ℕ) → Plan → Result Bool ConsoleFault → Type 0
-DeliversOver (Some earlier) (Some later) before after plan result =
-    (volumes : List Volume) → StandsForEach earlier later (pieces_of plan.groups) volumes
-    → Delivers before after result (restored_files plan.groups (Some plan.names) volumes)
-DeliversOver None later before after plan result = ⊤
-DeliversOver (Some earlier) None before after plan result = ⊤
+-- where the drive tells its volumes, this holds of what a plan gives over all volumes that it may be taken to show
+abbrev pub OverPlan : Option (List Volume) → Option (List Volume) → Plan → Said → Type 0
+OverPlan (Some earlier) (Some later) plan holds =
+    (volumes : List Volume) → StandsForEach earlier later (pieces_of plan.groups) volumes → holds (restored_files plan.groups (Some plan.names) volumes)
+OverPlan None later plan holds = ⊤
+OverPlan (Some earlier) None plan holds = ⊤
+
+-- the outcomes are the files; or the refusal is the fault of a piece
+abbrev pub Gives : Result Outcomes ConsoleFault → Result (List Restored) model.PieceFault → Type 0
+Gives (Ok os) expected = expected ≡ Ok (map restored os.items)
+Gives (Err why) expected = IsRefusal (cause why) (refused_as OfPiece expected)
+
+-- the manifest of these outcomes was written
+abbrev pub WritesManifest : Option (List ℕ) → Option (List ℕ) → Outcomes → Type 0
+WritesManifest before after os = Appends before after (manifest (map restored os.items))
 
 -- behind the fault of a piece nothing was written
 abbrev pub StopsAt : Option (List ℕ) → Option (List ℕ) → ConsoleFault → Type 0
@@ -199,3 +203,27 @@ StopsAt before after fault.Memory = ⊤
 StopsAt before after (fault.Plan why) = ⊥
 StopsAt before after (fault.Piece why) = Keeps before after
 StopsAt before after (fault.Io why) = ⊤
+
+-- ---- up to the manifest
+
+-- the files of the outcomes, where there are any
+abbrev pub files_in : Option Outcomes → Option (List Restored)
+files_in outcomes = option_map (λ (os : Outcomes). map restored os.items) outcomes
+
+-- the run that came to these outcomes
+abbrev pub run_to : Result (Bool × Option Outcomes) ConsoleFault → Result ConsoleRun ConsoleFault
+run_to (Ok made) = Ok (record { is_clean = made.0; restored = option_map are_files (files_in made.1) })
+run_to (Err why) = Err why
+
+-- without files the dialogue did not end by `done`, and what stands before a drive is asked was written; else these are the files
+-- of the plan, and their manifest was written behind it
+abbrev pub Restores : Option (List Volume) → Option (List Volume) → Option (List ℕ) → Option (List ℕ) → Begun → Option (List Restored) → Type 0
+Restores earlier later before after b None = (b.plan ≡ Ok None) × Appends before after b.text
+Restores earlier later before after b (Some rs) =
+    (plan : Plan) × (b.plan ≡ Ok (Some plan)) × OverPlan earlier later plan (λ expected. expected ≡ Ok rs) × Appends before after (b.text ++ manifest rs)
+
+-- the same where the reader tells its bytes, and whether no line was refused
+abbrev pub RestoresOver : Option (List ℕ) → Option (List Volume) → Option (List Volume) → Option (List ℕ) → Option (List ℕ) → List JobRows → Request → Bool → Option (List Restored) → Type 0
+RestoresOver (Some text) earlier later before after history q clean files =
+    ((begun history q text).is_clean ≡ clean) × Restores earlier later before after (begun history q text) files
+RestoresOver None earlier later before after history q clean files = ⊤

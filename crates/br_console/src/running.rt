@@ -5,7 +5,7 @@ ghost use Rattle.br_model.specs.Plan.{plan_of};
 ghost use Rattle.br_plan.specs.Fault.{cause};
 ghost use Rattle.br_volume.specs.Drive.{OnlyGrows};
 ghost use Rattle.br_console.specs.Fault.{IsFree, IsNoPiece, fault_number};
-ghost use Rattle.br_console.specs.Running.{opening, MarksOver, WritesPlan, BeginsOver, DeliversOver, StopsAt, RunsOver, WritesSome, TellsOver};
+ghost use Rattle.br_console.specs.Running.{opening, MarksOver, WritesPlan, BeginsOver, OverPlan, Gives, WritesManifest, StopsAt, files_in, run_to, RunsOver, TellsOver, RestoresOver};
 
 use crate::console_fault::ConsoleFault;
 use crate::talking::{converse, show};
@@ -13,11 +13,12 @@ use br_bsr::write_bootstrap;
 use br_choose::choose;
 use br_engine::{all_files, restore};
 use br_history::History;
+use br_join::Outcome;
 use br_mark::Console;
 use br_plan::{Plan, PlanFault, Request};
 use br_sink::manifest;
 use br_tree::Tree;
-use br_types::Path;
+use br_types::{FileKey, Path};
 use br_view::View;
 use br_volume::Drive;
 use std::alloc::Global;
@@ -108,15 +109,15 @@ fn prepare<R: BufRead + Drop, W: Write + Drop>(
     Ok((is_clean, Some(plan)))
 }
 
-/// Restores by a plan and writes the manifest. The answer is whether each outcome is a file.
-fn deliver<D: Drive, W: Write>(
+/// Restores by a plan, and writes the manifest of the outcomes that it answers.
+fn write_files<D: Drive, W: Write>(
     alloc: Global,
     plan: Plan,
     drive: &mut D,
     writer: &mut W,
-) -> Result<bool, ConsoleFault>
-    ensures delivers { DeliversOver (D.shows drive.old) (D.shows drive.new) (W.contents writer.old) (W.contents writer.new) plan result }
-    ensures writes { IfOk result (WritesSome (W.contents writer.old) (W.contents writer.new)) }
+) -> Result<Vec<(FileKey, Outcome)>, ConsoleFault>
+    ensures gives { OverPlan (D.shows drive.old) (D.shows drive.new) plan (Gives result) }
+    ensures writes { IfOk result (WritesManifest (W.contents writer.old) (W.contents writer.new)) }
     ensures stops { IfErr result (StopsAt (W.contents writer.old) (W.contents writer.new)) }
     ensures grows { OnlyGrows (D.shows drive.old) (D.shows drive.new) }
     ensures counted { D.failures drive.old ≤ D.failures drive.new }
@@ -126,7 +127,33 @@ fn deliver<D: Drive, W: Write>(
     let outcomes = restore(alloc, &bootstrap, Some(names), drive)?;
     let text = manifest(alloc, &outcomes)?;
     writer.write_all(&text)?;
-    Ok(all_files(&outcomes))
+    Ok(outcomes)
+}
+
+/// Runs the console up to the manifest: whether no line was refused, and the outcomes where the talk ended by `done`.
+pub(crate) fn run_to_manifest<R: BufRead + Drop, D: Drive, W: Write + Drop>(
+    alloc: Global,
+    history: &History,
+    request: &Request,
+    reader: &mut R,
+    drive: &mut D,
+    writer: &mut W,
+) -> Result<(bool, Option<Vec<(FileKey, Outcome)>>), ConsoleFault>
+    ensures runs { RunsOver (R.remaining reader.old) (D.shows drive.old) (D.shows drive.new) (W.contents writer.old) (W.contents writer.new) history.now request.now (run_to result) }
+    ensures tells { TellsOver (R.remaining reader.old) (W.contents writer.old) (W.contents writer.new) history.now request.now (run_to result) }
+    ensures restores { IfOk result (λ made. RestoresOver (R.remaining reader.old) (D.shows drive.old) (D.shows drive.new) (W.contents writer.old) (W.contents writer.new) history.now request.now made.0 (files_in made.1)) }
+    ensures chosen { IfOk result (λ _. (n : ℕ) → model.choose history.now request.now ≡ Err n → ⊥) }
+    ensures untouched { (n : ℕ) → model.choose history.now request.now ≡ Err n → (reader.new ≡ reader.old) × (drive.new ≡ drive.old) × (writer.new ≡ writer.old) }
+    ensures grows { OnlyGrows (D.shows drive.old) (D.shows drive.new) }
+    ensures counted { D.failures drive.old ≤ D.failures drive.new }
+    ensures failed { IfErr result (λ fault. fault_number fault ≡ Some 13 → D.failures drive.old < D.failures drive.new) }
+{
+    let (is_clean, plan) = prepare(alloc, history, request, reader, writer)?;
+    let Some(plan) = plan else {
+        return Ok((is_clean, None));
+    };
+    let outcomes = write_files(alloc, plan, drive, writer)?;
+    Ok((is_clean, Some(outcomes)))
 }
 
 /// Runs the console over a history: chooses the jobs of a request, talks over their view as `converse`, from a console at `/`
@@ -152,16 +179,15 @@ pub fn run_console<R: BufRead + Drop, D: Drive, W: Write + Drop>(
     ensures counted { D.failures drive.old ≤ D.failures drive.new }
     ensures failed { IfErr result (λ fault. fault_number fault ≡ Some 13 → D.failures drive.old < D.failures drive.new) }
 {
-    let (is_clean, plan) = prepare(alloc, history, request, reader, writer)?;
-    let Some(plan) = plan else {
+    let (is_clean, outcomes) = run_to_manifest(alloc, history, request, reader, drive, writer)?;
+    let Some(outcomes) = outcomes else {
         return Ok(ConsoleRun {
             is_clean,
             restored: None,
         });
     };
-    let whole = deliver(alloc, plan, drive, writer)?;
     Ok(ConsoleRun {
         is_clean,
-        restored: Some(whole),
+        restored: Some(all_files(&outcomes)),
     })
 }

@@ -12,7 +12,7 @@ use std::io::{self, BufRead, BufReader, BufWriter, Error, ErrorKind, Read, Write
 use std::test::Fail;
 
 /// A row of File: path and index.
-type Shape<'s> = (&'s [u8], u32);
+pub(crate) type Shape<'s> = (&'s [u8], u32);
 
 /// Two directories with three files.
 const FILES: &[Shape<'static>] = &[
@@ -36,7 +36,7 @@ fn file_row(alloc: Global, path: &[u8], index: u32) -> Result<FileRow, Fail> {
     })
 }
 
-fn file_rows(alloc: Global, shapes: &[Shape<'_>]) -> Result<Vec<FileRow>, Fail> {
+pub(crate) fn file_rows(alloc: Global, shapes: &[Shape<'_>]) -> Result<Vec<FileRow>, Fail> {
     let mut files = Vec::new(alloc);
     for (path, index) in shapes {
         files.push(file_row(alloc, path, *index)?)?;
@@ -45,7 +45,7 @@ fn file_rows(alloc: Global, shapes: &[Shape<'_>]) -> Result<Vec<FileRow>, Fail> 
 }
 
 /// The row of a good backup of this number, level and start.
-fn job_row(alloc: Global, id: u32, level: u8, start: u64) -> Result<JobRow, Fail> {
+pub(crate) fn job_row(alloc: Global, id: u32, level: u8, start: u64) -> Result<JobRow, Fail> {
     Ok(JobRow {
         id: JobId::new(id).ok_or("a number")?,
         kind: letter(b'B')?,

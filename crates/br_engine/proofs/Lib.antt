@@ -2,3 +2,4 @@ pub mod GrowthLaws
 pub mod ReadyLaws
 pub mod JoinLaws
 pub mod ExtractLaws
+pub mod DeliverLaws

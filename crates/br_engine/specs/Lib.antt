@@ -1,3 +1,4 @@
 pub mod Restoring
 pub mod Fault
 pub mod Extracting
+pub mod Delivering

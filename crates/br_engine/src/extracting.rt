@@ -1,9 +1,11 @@
-ghost use Rattle.std.specs.Prelude.{◌≡◌, is_ok, ◌<◌, ◌≤◌, None, Some, map, IfOk, IfErr, IfSome};
+ghost use Rattle.std.specs.Prelude.{◌≡◌, is_ok, ◌<◌, ◌≤◌, Some, map, IfOk, IfErr, IfSome};
 ghost use Rattle.std.specs.List.{list_all};
+ghost use Rattle.std.specs.Io.KnownBytes.{Appends};
+ghost use Rattle.br_model.specs.Manifest as model;
 ghost use Rattle.br_volume.specs.Drive.{OnlyGrows};
 ghost use Rattle.br_join.specs.Outcome.{restored, shown};
 ghost use Rattle.br_engine.specs.Fault.{IsFree, fault_number};
-ghost use Rattle.br_engine.specs.Extracting.{are_files, ExtractsOver, RunsOver, WritesNothing};
+ghost use Rattle.br_engine.specs.Extracting.{are_files, ExtractsOver, GivesOver, RunsOver, WritesNothing};
 
 use crate::fault::ExtractFault;
 use crate::restoring::restore;
@@ -38,7 +40,7 @@ pub fn all_files(outcomes: &[(FileKey, Outcome)]) -> bool
 }
 
 /// All that a reader has left.
-fn read_text<R: Read>(alloc: Global, reader: &mut R) -> Result<Vec<u8>, ExtractFault>
+pub(crate) fn read_text<R: Read>(alloc: Global, reader: &mut R) -> Result<Vec<u8>, ExtractFault>
     ensures text { IfOk result (λ text. IfSome (R.remaining reader.old) (λ bytes. text.items ≡ bytes)) }
     ensures free { IfErr result IsFree }
 {
@@ -60,6 +62,26 @@ fn read_text<R: Read>(alloc: Global, reader: &mut R) -> Result<Vec<u8>, ExtractF
     Err(ExtractFault::Io(Error::new(ErrorKind::TimedOut, "the input has no end")))
 }
 
+/// Restores by a bootstrap, and writes the manifest of the outcomes that it answers.
+pub(crate) fn write_restored<D: Drive, W: Write>(
+    alloc: Global,
+    bootstrap: &Bootstrap,
+    drive: &mut D,
+    writer: &mut W,
+) -> Result<Vec<(FileKey, Outcome)>, ExtractFault>
+    ensures gives { GivesOver (D.shows drive.old) (D.shows drive.new) bootstrap.now result }
+    ensures written { IfOk result (λ os. Appends (W.contents writer.old) (W.contents writer.new) (model.manifest (map restored os.items))) }
+    ensures nothing { IfErr result (WritesNothing (W.contents writer.old) (W.contents writer.new)) }
+    ensures grows { OnlyGrows (D.shows drive.old) (D.shows drive.new) }
+    ensures counted { D.failures drive.old ≤ D.failures drive.new }
+    ensures failed { IfErr result (λ fault. fault_number fault ≡ Some 13 → D.failures drive.old < D.failures drive.new) }
+{
+    let outcomes = restore(alloc, bootstrap, None, drive)?;
+    let text = manifest(alloc, &outcomes)?;
+    writer.write_all(&text)?;
+    Ok(outcomes)
+}
+
 /// Restores by a bootstrap and writes the manifest of what came of it. The answer is whether each outcome is a file.
 ///
 /// Refused as `restore`, with `Piece`; then nothing is written. `Memory` also where the manifest wants memory. `Io` where the
@@ -76,9 +98,7 @@ pub fn extract<D: Drive, W: Write>(
     ensures counted { D.failures drive.old ≤ D.failures drive.new }
     ensures failed { IfErr result (λ fault. fault_number fault ≡ Some 13 → D.failures drive.old < D.failures drive.new) }
 {
-    let outcomes = restore(alloc, bootstrap, None, drive)?;
-    let text = manifest(alloc, &outcomes)?;
-    writer.write_all(&text)?;
+    let outcomes = write_restored(alloc, bootstrap, drive, writer)?;
     Ok(all_files(&outcomes))
 }
 

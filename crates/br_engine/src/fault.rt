@@ -2,18 +2,19 @@ ghost use Rattle.std.specs.Prelude.{◌≡◌, ◌++◌, ◌∷◌, ℕ, List, d
 ghost use Rattle.br_model.specs.Text.{line, refused_line, escaped};
 ghost use Rattle.br_model.specs.Refusal.{line_fault, piece_fault};
 ghost use Rattle.br_bsr.specs.Fault.{cause};
-ghost use Rattle.br_engine.specs.declared.fault.ExtractFault.TheVariants.{Memory, Bootstrap, Piece, Io};
+ghost use Rattle.br_engine.specs.declared.fault.ExtractFault.TheVariants.{Memory, Bootstrap, Piece, Io, Sink};
 ghost use Rattle.br_engine.specs.Fault.{fault_number, fault_text, bootstrap_text, piece_text};
 
 use br_bsr::BsrFault;
 use br_match::PieceFault;
+use br_sink::SinkStop;
 use br_types::push_escaped;
 use itoa::Buffer;
 use std::alloc::AllocError;
 use std::io;
 use thiserror::Error;
 
-/// Why a run gave no manifest, or not the whole of it.
+/// Why a run gave no manifest, or not the whole of it, or did not deliver all files.
 #[derive(Debug, Drop, Error)]
 pub enum ExtractFault {
     #[error("out of memory")]
@@ -27,6 +28,9 @@ pub enum ExtractFault {
     /// Reading the bootstrap or writing the manifest failed.
     #[error("{0}")]
     Io(io::Error),
+    /// The delivery of the files stopped behind the manifest.
+    #[error("{0}")]
+    Sink(SinkStop),
 }
 
 impl From<AllocError> for ExtractFault {
@@ -58,6 +62,14 @@ impl From<io::Error> for ExtractFault {
 
     fn from(fault: io::Error) -> ExtractFault {
         ExtractFault::Io(fault)
+    }
+}
+
+impl From<SinkStop> for ExtractFault {
+    ghost from_gives = { λ fault e. e ≡ Sink fault };
+
+    fn from(fault: SinkStop) -> ExtractFault {
+        ExtractFault::Sink(fault)
     }
 }
 
@@ -131,8 +143,8 @@ pub fn push_piece_line(text: &mut Vec<u8>, fault: &PieceFault) -> Result<(), All
 }
 
 impl ExtractFault {
-    /// The number of the refusal: 1 want of memory, 10 to 14 a volume, 30 to 34 a line of the bootstrap. A fault of reading or
-    /// writing is no refusal.
+    /// The number of the refusal: 1 want of memory, 10 to 14 a volume, 30 to 34 a line of the bootstrap, 80 and 81 a delivery that
+    /// stopped. A fault of reading or writing is no refusal.
     pub fn number(&self) -> Option<u32>
         ensures { result ≡ fault_number self.now }
     {
@@ -141,11 +153,13 @@ impl ExtractFault {
             ExtractFault::Bootstrap(fault) => Some(fault.number()),
             ExtractFault::Piece(fault) => Some(fault.number()),
             ExtractFault::Io(_) => None,
+            ExtractFault::Sink(stop) => Some(stop.number()),
         }
     }
 
     /// Writes the line of the refusal: `refused N line K` for a line of the bootstrap, counted from 1; `refused N VOLUME ADDRESS`
-    /// for 10 to 14, with the volume escaped; `refused 1` for want of memory. Nothing for a fault of reading or writing.
+    /// for 10 to 14, with the volume escaped; `refused N` for want of memory and for a delivery that stopped. Nothing for a fault of
+    /// reading or writing.
     ///
     /// Where memory is short, a part of the line may stand there.
     pub fn push_line(&self, text: &mut Vec<u8>) -> Result<(), AllocError>
@@ -156,6 +170,7 @@ impl ExtractFault {
             ExtractFault::Bootstrap(fault) => push_bootstrap_line(text, *fault),
             ExtractFault::Piece(fault) => push_piece_line(text, fault),
             ExtractFault::Io(_) => Ok(()),
+            ExtractFault::Sink(stop) => push_refused_line(text, stop.number()),
         }
     }
 }

@@ -1,15 +1,17 @@
 //! Sessions that were written are restored, whatever the order in which their pieces are read.
+use crate::run_extract_into;
 use br_attr::Stat;
 use br_bsr::read_bootstrap;
 use br_join::Joiner;
 use br_match::match_piece;
 use br_piece::{Piece, split};
 use br_session::{Place, SavedFile, write_session};
-use br_sink::manifest;
+use br_sink::{FolderSink, manifest};
 use br_types::{Path, SessionKey, VolName};
 use br_volume::{MemDrive, MemStore, VolumeStore};
 use std::alloc::Global;
 use std::test::Fail;
+use std::{env, fs, process};
 
 /// A session of `message digest` under a path, in blocks of at most 64 bytes: one on the first volume, the others on the second.
 fn write(
@@ -94,5 +96,36 @@ fn pieces_are_taken_in_any_order(rt: HostRuntime) -> Result<(), Fail> {
     assert_eq!(rt; text.as_slice(), MANIFEST);
     let text = restored(alloc, &pieces, &[0, 1, 0])?;
     assert_eq!(rt; text.as_slice(), MANIFEST);
+    Ok(())
+}
+
+/// Delivers the files of both sessions into a new folder. The manifest.
+fn delivered(rt: &HostRuntime, folder: &str) -> Result<Vec<u8>, Fail> {
+    fs::create_dir(rt, folder)?;
+    let mut sink = FolderSink::new(rt.alloc(), rt, folder)?;
+    let mut drive = drive(rt.alloc())?;
+    let mut text = TEXT;
+    let mut written = Vec::new(rt.alloc());
+    run_extract_into(rt.alloc(), &mut text, &mut drive, &mut written, &mut sink)?;
+    Ok(written)
+}
+
+/// Whether a file of a folder has the bytes that were saved.
+fn has_saved(rt: &HostRuntime, folder: &str, name: &str) -> Result<bool, Fail> {
+    let path = format!(in rt.alloc(); "{folder}/{name}")?;
+    let found = fs::read(rt, path.as_str())?;
+    Ok(found.as_slice() == b"message digest".as_slice())
+}
+
+#[test]
+fn what_was_saved_is_delivered_into_a_folder(rt: HostRuntime) -> Result<(), Fail> {
+    let temporary = env::temp_dir(&rt)?;
+    let id = process::id(rt.process());
+    let folder = format!(in rt.alloc(); "{}/br_engine_saved_{id}", temporary.display())?;
+    let written = delivered(&rt, folder.as_str())?;
+    assert_eq!(rt; written.as_slice(), MANIFEST);
+    assert!(rt; has_saved(&rt, folder.as_str(), "a")?);
+    assert!(rt; has_saved(&rt, folder.as_str(), "b")?);
+    fs::remove_dir_all(&rt, folder.as_str())?;
     Ok(())
 }

@@ -2,6 +2,7 @@ use super::*;
 use br_bsr::{Bootstrap, BsrFault, read_bootstrap};
 use br_join::Outcome;
 use br_match::{PieceCause, PieceFault};
+use br_sink::{Item, MemSink};
 use br_types::VolName;
 use br_volume::MemDrive;
 use std::io::{self, Error, ErrorKind, Read, Write};
@@ -76,6 +77,41 @@ fn the_manifest_goes_behind_what_was_written(rt: HostRuntime) -> Result<(), Fail
         written.as_slice(),
         b"X 1 100 1 63\ntotal 0 1 0\n".as_slice()
     );
+    Ok(())
+}
+
+/// Whether this is the file `/a` with the bytes `hello`, alone.
+fn are_hello(items: &[Item]) -> bool {
+    match items {
+        [item] => {
+            item.path.bytes() == b"/a".as_slice() && item.bytes.bytes() == b"hello".as_slice()
+        }
+        _ => false,
+    }
+}
+
+#[test]
+fn the_files_are_put_behind_the_manifest(rt: HostRuntime) -> Result<(), Fail> {
+    let bootstrap = bootstrap(&rt, b"Volume=V1\n")?;
+    let (mut written, mut sink) = (Vec::new(rt.alloc()), MemSink::new(rt.alloc()));
+    let mut drive = drive(&rt)?;
+    let all = extract_into(rt.alloc(), &bootstrap, &mut drive, &mut written, &mut sink)?;
+    assert!(rt; all);
+    assert_eq!(rt; written.as_slice(), MANIFEST);
+    assert!(rt; are_hello(sink.items()));
+    Ok(())
+}
+
+#[test]
+fn a_delivery_stops_behind_the_manifest(rt: HostRuntime) -> Result<(), Fail> {
+    let mut text = b"Volume=V1\n".as_slice();
+    let (mut written, mut sink) = (Vec::new(rt.alloc()), MemSink::failing_at(rt.alloc(), 1));
+    let mut drive = drive(&rt)?;
+    let run = run_extract_into(rt.alloc(), &mut text, &mut drive, &mut written, &mut sink);
+    let mut line = Vec::new(rt.alloc());
+    run.err().ok_or("a stop")?.push_line(&mut line)?;
+    assert_eq!(rt; line.as_slice(), b"refused 80\n".as_slice());
+    assert_eq!(rt; written.as_slice(), MANIFEST);
     Ok(())
 }
 
@@ -159,5 +195,30 @@ fn reading_or_writing_fails(rt: HostRuntime) -> Result<(), Fail> {
     let mut text = b"Volume=V1\n".as_slice();
     let run = run_extract(rt.alloc(), &mut text, &mut drive(&rt)?, &mut Broken);
     assert!(rt; matches!(&run, Err(ExtractFault::Io(_))));
+    Ok(())
+}
+
+/// What takes bytes and can't be flushed.
+#[derive(Drop)]
+struct Clogged;
+
+impl Write for Clogged {
+    fn write(&mut self, buf: &[u8]) -> io::Result<usize> {
+        Ok(buf.len())
+    }
+
+    fn flush(&mut self) -> io::Result<()> {
+        Err(Error::new(ErrorKind::BrokenPipe, "broken"))
+    }
+}
+
+#[test]
+fn nothing_is_put_where_the_manifest_is_not_flushed(rt: HostRuntime) -> Result<(), Fail> {
+    let bootstrap = bootstrap(&rt, b"Volume=V1\n")?;
+    let mut sink = MemSink::new(rt.alloc());
+    let mut drive = drive(&rt)?;
+    let run = extract_into(rt.alloc(), &bootstrap, &mut drive, &mut Clogged, &mut sink);
+    assert!(rt; matches!(&run, Err(ExtractFault::Io(_))));
+    assert!(rt; sink.items().is_empty());
     Ok(())
 }

@@ -1,110 +1,59 @@
-use Rattle.std.proofs.Common.{Option, Ok, refl, subst}
+use Rattle.std.proofs.Common.{Result, ap, map, ◌∙◌}
 use Rattle.std.proofs.lemmas.Result.{err_from_is_err_and}
-use Rattle.br_model.specs.Plan.{Plan}
-use Rattle.br_console.specs.Running.{BeginsOver}
-use Rattle.br_console.proofs.RunLaws.{drive_fails_in_piece, runs_refused, runs_undone, runs_restored, runs_stopped, tells_refused, tells_undone, tells_restored, tells_stopped}
+use Rattle.br_join.specs.Outcome.{restored}
+use Rattle.br_engine.specs.Extracting.{are_files}
+use Rattle.br_console.specs.Running.{RunsOver, TellsOver}
+use Rattle.br_console.specs.declared.console_fault.ConsoleFault.{ConsoleFault}
+use Rattle.br_console.specs.declared.running.ConsoleRun.{ConsoleRun}
+use Rattle.br_console.proofs.RunLaws.{told_none, told_files}
 use Rattle.br_console.proofs.running.run_console.Goals as goal
 
 pub returns-in_err-is_clean-clause-runs : goal.returns-in_err-is_clean-clause-runs
 returns-in_err-is_clean-clause-runs g c =
     let p = err_from_is_err_and c.from_residual.result c.from_residual.ensures.1 in
-    let shown = g.D.Drive.shows c.args.drive.now in
-    rw (p.1, p.2)
-    (runs_refused (g.R.Read.remaining c.args.reader.now) shown shown (g.W.Write.contents c.args.writer.now) (g.W.Write.contents c.prepare.new.writer)
-    c.args.history.now c.args.request.now c.in_err-is_clean.field-0.0 c.in_err-is_clean.ensures.begins)
-
-pub returns-in_err-is_clean-clause-failed : goal.returns-in_err-is_clean-clause-failed
-returns-in_err-is_clean-clause-failed g c =
-    let p = err_from_is_err_and c.from_residual.result c.from_residual.ensures.1 in
-    rw (p.1, p.2) (λ is. absurd (drive_fails_in_piece c.in_err-is_clean.field-0.0 c.in_err-is_clean.ensures.driveless is))
-
-pub returns-in_default-clause-runs : goal.returns-in_default-clause-runs
-returns-in_default-clause-runs g c =
-    let known = g.R.Read.remaining c.args.reader.now in
-    let before = g.W.Write.contents c.args.writer.now in
-    let after = g.W.Write.contents c.prepare.new.writer in
-    let clean = c.in_ok-is_clean.is_clean in
-    let shown = g.D.Drive.shows c.args.drive.now in
-    runs_undone known shown shown before after c.args.history.now c.args.request.now clean
-    (subst (λ (plan : Option Plan). BeginsOver known before after c.args.history.now c.args.request.now (Ok (clean, plan))) c.in_default.is c.in_ok-is_clean.ensures.begins)
-
-pub returns-in_err-whole-clause-runs : goal.returns-in_err-whole-clause-runs
-returns-in_err-whole-clause-runs g c =
-    let p = err_from_is_err_and c.from_residual-in_err-whole.result c.from_residual-in_err-whole.ensures.1 in
-    let known = g.R.Read.remaining c.args.reader.now in
-    let before = g.W.Write.contents c.args.writer.now in
-    let now = g.W.Write.contents c.prepare.new.writer in
-    let after = g.W.Write.contents c.deliver.new.writer in
-    let clean = c.in_ok-is_clean.is_clean in
-    rw (p.1, p.2)
-    (runs_stopped known (g.D.Drive.shows c.args.drive.now) (g.D.Drive.shows c.deliver.new.drive) before now after c.args.history.now c.args.request.now clean c.in-Some.plan c.in_err-whole.field-0.0
-    (subst (λ (plan : Option Plan). BeginsOver known before now c.args.history.now c.args.request.now (Ok (clean, plan))) c.in-Some.is c.in_ok-is_clean.ensures.begins)
-    c.in_err-whole.ensures.delivers c.in_err-whole.ensures.stops)
-
-pub returns-in_err-whole-clause-failed : goal.returns-in_err-whole-clause-failed
-returns-in_err-whole-clause-failed g c =
-    let p = err_from_is_err_and c.from_residual-in_err-whole.result c.from_residual-in_err-whole.ensures.1 in
-    rw (p.1, p.2) c.in_err-whole.ensures.failed
-
-pub returns-clause-runs : goal.returns-clause-runs
-returns-clause-runs g c =
-    let known = g.R.Read.remaining c.args.reader.now in
-    let before = g.W.Write.contents c.args.writer.now in
-    let now = g.W.Write.contents c.prepare.new.writer in
-    let after = g.W.Write.contents c.deliver.new.writer in
-    let clean = c.in_ok-is_clean.is_clean in
-    runs_restored known (g.D.Drive.shows c.args.drive.now) (g.D.Drive.shows c.deliver.new.drive) before now after c.args.history.now c.args.request.now clean c.in-Some.plan c.in_ok-whole.whole
-    (subst (λ (plan : Option Plan). BeginsOver known before now c.args.history.now c.args.request.now (Ok (clean, plan))) c.in-Some.is c.in_ok-is_clean.ensures.begins)
-    c.in_ok-whole.ensures.delivers
+    rw (p.1, p.2) c.in_err-is_clean.ensures.runs
 
 pub returns-in_err-is_clean-clause-tells : goal.returns-in_err-is_clean-clause-tells
 returns-in_err-is_clean-clause-tells g c =
     let p = err_from_is_err_and c.from_residual.result c.from_residual.ensures.1 in
-    rw (p.1, p.2)
-    (tells_refused (g.R.Read.remaining c.args.reader.now) (g.W.Write.contents c.args.writer.now) (g.W.Write.contents c.prepare.new.writer) c.args.history.now c.args.request.now
-    c.in_err-is_clean.field-0.0 c.in_err-is_clean.ensures.begins)
+    rw (p.1, p.2) c.in_err-is_clean.ensures.tells
+
+pub returns-in_err-is_clean-clause-failed : goal.returns-in_err-is_clean-clause-failed
+returns-in_err-is_clean-clause-failed g c =
+    let p = err_from_is_err_and c.from_residual.result c.from_residual.ensures.1 in
+    rw (p.1, p.2) c.in_err-is_clean.ensures.failed
+
+pub returns-in_err-is_clean-clause-untouched : goal.returns-in_err-is_clean-clause-untouched
+returns-in_err-is_clean-clause-untouched g c = c.in_err-is_clean.ensures.untouched
+
+pub returns-in_default-clause-runs : goal.returns-in_default-clause-runs
+returns-in_default-clause-runs g c =
+    told_none (λ (run : Result ConsoleRun ConsoleFault). RunsOver (g.R.Read.remaining c.args.reader.now) (g.D.Drive.shows c.args.drive.now) (g.D.Drive.shows c.run_to_manifest.new.drive)
+    (g.W.Write.contents c.args.writer.now) (g.W.Write.contents c.run_to_manifest.new.writer) c.args.history.now c.args.request.now run)
+    c.in_ok-is_clean.is_clean c.in_ok-is_clean.outcomes c.in_default.is c.in_ok-is_clean.ensures.runs
 
 pub returns-in_default-clause-tells : goal.returns-in_default-clause-tells
 returns-in_default-clause-tells g c =
-    let known = g.R.Read.remaining c.args.reader.now in
-    let before = g.W.Write.contents c.args.writer.now in
-    let after = g.W.Write.contents c.prepare.new.writer in
-    let clean = c.in_ok-is_clean.is_clean in
-    tells_undone known before after c.args.history.now c.args.request.now clean
-    (subst (λ (plan : Option Plan). BeginsOver known before after c.args.history.now c.args.request.now (Ok (clean, plan))) c.in_default.is c.in_ok-is_clean.ensures.begins)
-
-pub returns-in_err-whole-clause-tells : goal.returns-in_err-whole-clause-tells
-returns-in_err-whole-clause-tells g c =
-    let p = err_from_is_err_and c.from_residual-in_err-whole.result c.from_residual-in_err-whole.ensures.1 in
-    let known = g.R.Read.remaining c.args.reader.now in
-    let before = g.W.Write.contents c.args.writer.now in
-    let now = g.W.Write.contents c.prepare.new.writer in
-    let clean = c.in_ok-is_clean.is_clean in
-    rw (p.1, p.2)
-    (tells_stopped known before now (g.W.Write.contents c.deliver.new.writer) c.args.history.now c.args.request.now clean c.in-Some.plan c.in_err-whole.field-0.0
-    (subst (λ (plan : Option Plan). BeginsOver known before now c.args.history.now c.args.request.now (Ok (clean, plan))) c.in-Some.is c.in_ok-is_clean.ensures.begins)
-    c.in_err-whole.ensures.stops)
-
-pub returns-clause-tells : goal.returns-clause-tells
-returns-clause-tells g c =
-    let known = g.R.Read.remaining c.args.reader.now in
-    let before = g.W.Write.contents c.args.writer.now in
-    let now = g.W.Write.contents c.prepare.new.writer in
-    let clean = c.in_ok-is_clean.is_clean in
-    tells_restored known before now (g.W.Write.contents c.deliver.new.writer) c.args.history.now c.args.request.now clean c.in-Some.plan c.in_ok-whole.whole
-    (subst (λ (plan : Option Plan). BeginsOver known before now c.args.history.now c.args.request.now (Ok (clean, plan))) c.in-Some.is c.in_ok-is_clean.ensures.begins)
-    c.in_ok-whole.ensures.writes
-
-pub returns-in_err-is_clean-clause-untouched : goal.returns-in_err-is_clean-clause-untouched
-returns-in_err-is_clean-clause-untouched g c = λ n refused.
-    let same = c.in_err-is_clean.ensures.untouched n refused in
-    (same.0, refl, same.1)
+    told_none (λ (run : Result ConsoleRun ConsoleFault). TellsOver (g.R.Read.remaining c.args.reader.now)
+    (g.W.Write.contents c.args.writer.now) (g.W.Write.contents c.run_to_manifest.new.writer) c.args.history.now c.args.request.now run)
+    c.in_ok-is_clean.is_clean c.in_ok-is_clean.outcomes c.in_default.is c.in_ok-is_clean.ensures.tells
 
 pub returns-in_default-clause-untouched : goal.returns-in_default-clause-untouched
 returns-in_default-clause-untouched g c = λ n refused. absurd (c.in_ok-is_clean.ensures.chosen n refused)
 
-pub returns-in_err-whole-clause-untouched : goal.returns-in_err-whole-clause-untouched
-returns-in_err-whole-clause-untouched g c = λ n refused. absurd (c.in_ok-is_clean.ensures.chosen n refused)
+pub returns-clause-runs : goal.returns-clause-runs
+returns-clause-runs g c =
+    told_files (λ (run : Result ConsoleRun ConsoleFault). RunsOver (g.R.Read.remaining c.args.reader.now) (g.D.Drive.shows c.args.drive.now) (g.D.Drive.shows c.run_to_manifest.new.drive)
+    (g.W.Write.contents c.args.writer.now) (g.W.Write.contents c.run_to_manifest.new.writer) c.args.history.now c.args.request.now run)
+    c.in_ok-is_clean.is_clean c.in_ok-is_clean.outcomes c.in-Some.outcomes c.all_files.result c.in-Some.is
+    (c.all_files.ensures ∙ ap (λ os. are_files (map restored os)) c.deref.ensures.value) c.in_ok-is_clean.ensures.runs
+
+pub returns-clause-tells : goal.returns-clause-tells
+returns-clause-tells g c =
+    told_files (λ (run : Result ConsoleRun ConsoleFault). TellsOver (g.R.Read.remaining c.args.reader.now)
+    (g.W.Write.contents c.args.writer.now) (g.W.Write.contents c.run_to_manifest.new.writer) c.args.history.now c.args.request.now run)
+    c.in_ok-is_clean.is_clean c.in_ok-is_clean.outcomes c.in-Some.outcomes c.all_files.result c.in-Some.is
+    (c.all_files.ensures ∙ ap (λ os. are_files (map restored os)) c.deref.ensures.value) c.in_ok-is_clean.ensures.tells
 
 pub returns-clause-untouched : goal.returns-clause-untouched
 returns-clause-untouched g c = λ n refused. absurd (c.in_ok-is_clean.ensures.chosen n refused)

@@ -3,20 +3,21 @@ use Rattle.std.proofs.lemmas.Result.{err_from_is_err_and}
 use Rattle.br_model.specs.Answer.{IsRefusal}
 use Rattle.br_model.specs.BootstrapText.{read_bootstrap}
 use Rattle.br_bsr.specs.Fault.{cause}
-use Rattle.br_engine.proofs.ExtractLaws.{runs_groups, runs_refused}
+use Rattle.br_engine.specs.Extracting.{Extracts}
+use Rattle.br_engine.proofs.ExtractLaws.{over_no_text, over_text}
 use Rattle.br_engine.proofs.extracting.run_extract.Goals as goal
 
 pub returns-in_err-bootstrap-clause-runs : goal.returns-in_err-bootstrap-clause-runs
 returns-in_err-bootstrap-clause-runs g c =
     let p = err_from_is_err_and c.from_residual-in_err-bootstrap.result c.from_residual-in_err-bootstrap.ensures.1 in
     let fault = c.in_err-bootstrap.field-0.0 in
-    let contents = g.W.Write.contents c.args.writer.now in
     rw (p.1, p.2)
-    (runs_refused (g.R.Read.remaining c.args.reader.now) (g.D.Drive.shows c.args.drive.now) (g.D.Drive.shows c.args.drive.now) contents contents c.in_ok-text.text.items fault c.in_ok-text.ensures.text
+    (over_no_text (g.R.Read.remaining c.args.reader.now) (g.D.Drive.shows c.args.drive.now) (g.D.Drive.shows c.args.drive.now) c.in_ok-text.text.items fault c.in_ok-text.ensures.text
     (subst (λ text. IsRefusal (cause fault) (read_bootstrap text)) c.deref.ensures.value c.in_err-bootstrap.ensures.exact))
 
 pub returns-clause-runs : goal.returns-clause-runs
 returns-clause-runs g c =
-    runs_groups (g.R.Read.remaining c.args.reader.now) (g.D.Drive.shows c.args.drive.now) (g.D.Drive.shows c.extract.new.drive)
-    (g.W.Write.contents c.args.writer.now) (g.W.Write.contents c.extract.new.writer) c.in_ok-text.text.items c.in_ok-bootstrap.bootstrap c.extract.result c.in_ok-text.ensures.text
-    (ap read_bootstrap (sym c.deref.ensures.value) ∙ c.in_ok-bootstrap.ensures.exact) c.extract.ensures.extracts
+    over_text (g.R.Read.remaining c.args.reader.now) (g.D.Drive.shows c.args.drive.now) (g.D.Drive.shows c.extract.new.drive)
+    c.in_ok-text.text.items c.in_ok-bootstrap.bootstrap
+    (Extracts (g.W.Write.contents c.args.writer.now) (g.W.Write.contents c.extract.new.writer) c.extract.result)
+    c.in_ok-text.ensures.text (ap read_bootstrap (sym c.deref.ensures.value) ∙ c.in_ok-bootstrap.ensures.exact) c.extract.ensures.extracts

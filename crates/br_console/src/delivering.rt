@@ -1,0 +1,84 @@
+ghost use Rattle.std.specs.Prelude.{◌≡◌, ◌<◌, ◌≤◌, ℕ, map, Some, Err, IfOk, IfErr, IfSome};
+ghost use Rattle.br_model.specs.Choice as model;
+ghost use Rattle.br_volume.specs.Drive.{OnlyGrows};
+ghost use Rattle.br_join.specs.Outcome.{restored};
+ghost use Rattle.br_console.specs.Fault.{fault_number};
+ghost use Rattle.br_console.specs.Running.{RunsOver, TellsOver};
+ghost use Rattle.br_console.specs.Delivering.{DeliversInto, IsPut, run_of};
+
+use crate::console_fault::ConsoleFault;
+use crate::running::{ConsoleRun, run_to_manifest};
+use br_engine::all_files;
+use br_history::History;
+use br_join::Outcome;
+use br_plan::Request;
+use br_sink::{Sink, SinkStop, deliver};
+use br_types::FileKey;
+use br_volume::Drive;
+use std::alloc::Global;
+use std::io::{BufRead, Write};
+
+/// What came of a run of the console that also delivers.
+#[derive(Debug, Drop)]
+pub struct ConsoleDelivery {
+    /// What came of the run up to the manifest.
+    pub run: ConsoleRun,
+    /// Where the delivery behind the manifest stopped, if it did.
+    pub stop: Option<SinkStop>,
+}
+
+/// Puts the files into a sink. The answer is where that stopped, if it did.
+fn put_files<S: Sink>(
+    alloc: Global,
+    outcomes: &[(FileKey, Outcome)],
+    sink: &mut S,
+) -> Option<SinkStop>
+    ensures puts { IsPut (S.has sink.old) (S.has sink.new) result (Some (map restored outcomes.now)) }
+    ensures counted { S.failures sink.old ≤ S.failures sink.new }
+    ensures failed { IfSome result (λ stop. stop.number ≡ 80 → S.failures sink.old < S.failures sink.new) }
+{
+    deliver(alloc, outcomes, sink).err()
+}
+
+/// Runs the console as `run_console`, flushes the writer behind the manifest, and then puts the restored files into a sink in the
+/// order of the manifest. A delivery that stops is told beside the run, since the manifest is written by then: the files before the
+/// stop are in the sink, so many as the stop says. Where the talk ended by `quit` or with the lines, nothing is put.
+///
+/// Refused as `run_console`, and then nothing is put. `Memory` and `Io` also where the flush failed.
+pub fn run_console_into<R: BufRead + Drop, D: Drive, W: Write + Drop, S: Sink>(
+    alloc: Global,
+    history: &History,
+    request: &Request,
+    reader: &mut R,
+    drive: &mut D,
+    writer: &mut W,
+    sink: &mut S,
+) -> Result<ConsoleDelivery, ConsoleFault>
+    ensures delivers { DeliversInto (R.remaining reader.old) (D.shows drive.old) (D.shows drive.new) (W.contents writer.old) (W.contents writer.new) (S.has sink.old) (S.has sink.new) history.now request.now result }
+    ensures runs { RunsOver (R.remaining reader.old) (D.shows drive.old) (D.shows drive.new) (W.contents writer.old) (W.contents writer.new) history.now request.now (run_of result) }
+    ensures tells { TellsOver (R.remaining reader.old) (W.contents writer.old) (W.contents writer.new) history.now request.now (run_of result) }
+    ensures untouched { (n : ℕ) → model.choose history.now request.now ≡ Err n → (reader.new ≡ reader.old) × (drive.new ≡ drive.old) × (writer.new ≡ writer.old) × (sink.new ≡ sink.old) }
+    ensures grows { OnlyGrows (D.shows drive.old) (D.shows drive.new) }
+    ensures counted { D.failures drive.old ≤ D.failures drive.new }
+    ensures failed { IfErr result (λ fault. fault_number fault ≡ Some 13 → D.failures drive.old < D.failures drive.new) }
+    ensures sink_counted { S.failures sink.old ≤ S.failures sink.new }
+    ensures sink_failed { IfOk result (λ made. IfSome made.stop (λ stop. stop.number ≡ 80 → S.failures sink.old < S.failures sink.new)) }
+{
+    let (is_clean, outcomes) = run_to_manifest(alloc, history, request, reader, drive, writer)?;
+    let Some(outcomes) = outcomes else {
+        return Ok(ConsoleDelivery {
+            run: ConsoleRun {
+                is_clean,
+                restored: None,
+            },
+            stop: None,
+        });
+    };
+    writer.flush()?;
+    let stop = put_files(alloc, &outcomes, sink);
+    let run = ConsoleRun {
+        is_clean,
+        restored: Some(all_files(&outcomes)),
+    };
+    Ok(ConsoleDelivery { run, stop })
+}

@@ -1,0 +1,257 @@
+use super::*;
+use crate::talk_tests::{file_rows, job_row};
+use br_history::{History, JobRows};
+use br_plan::Request;
+use br_session::Span;
+use br_sink::{Item, MemSink};
+use br_types::{Name, VolName};
+use br_volume::MemDrive;
+use std::alloc::Global;
+use std::io::{self, Error, ErrorKind, Write};
+use std::test::Fail;
+
+/// A block of 143 bytes of session 1, 7, with the file `/a` of the bytes `hello` and the hard link `/b` to it.
+const LINKED: &[u8] = b"\0\0\0\0\0\0\0\x8f\0\0\0\0BB02\0\0\0\x01\0\0\0\x07\
+    \0\0\0\x01\0\0\0\x01\0\0\0\x261 3 /a\0A A IGk B A A A F A A A A A A\0\0\
+    \0\0\0\x01\0\0\0\x02\0\0\0\x05hello\
+    \0\0\0\x02\0\0\0\x01\0\0\0\x282 1 /b\0A A IGk B A A A F A A A A A B\0/a\0";
+
+/// One of 160 bytes, with the same file and `/a/b` of the bytes `world`.
+const BELOW: &[u8] = b"\0\0\0\0\0\0\0\xa0\0\0\0\0BB02\0\0\0\x01\0\0\0\x07\
+    \0\0\0\x01\0\0\0\x01\0\0\0\x261 3 /a\0A A IGk B A A A F A A A A A A\0\0\
+    \0\0\0\x01\0\0\0\x02\0\0\0\x05hello\
+    \0\0\0\x02\0\0\0\x01\0\0\0\x282 3 /a/b\0A A IGk B A A A F A A A A A A\0\0\
+    \0\0\0\x02\0\0\0\x02\0\0\0\x05world";
+
+const LINKED_TEXT: &[u8] = b"2 marked\n\
+    Volume=\"V\"\nVolSessionId=1\nVolSessionTime=7\nVolAddr=0-142\nFileIndex=1-2\n\
+    F 1 7 1 3 /a 0,0,33188,1,0,0,0,5,0,0,0,0,0,0 = 5 5d41402abc4b2a76b9719d911017c592\n\
+    F 1 7 2 1 /b 0,0,33188,1,0,0,0,5,0,0,0,0,0,1 =/a 0 d41d8cd98f00b204e9800998ecf8427e\n\
+    total 2 0 0\n";
+
+const BELOW_TEXT: &[u8] = b"2 marked\n\
+    Volume=\"V\"\nVolSessionId=1\nVolSessionTime=7\nVolAddr=0-159\nFileIndex=1-2\n\
+    F 1 7 1 3 /a 0,0,33188,1,0,0,0,5,0,0,0,0,0,0 = 5 5d41402abc4b2a76b9719d911017c592\n\
+    F 1 7 2 3 /a/b 0,0,33188,1,0,0,0,5,0,0,0,0,0,0 = 5 7d793037a0760186574b0282f2f435e7\n\
+    total 2 0 0\n";
+
+/// Path and bytes of a file.
+type Put<'p> = (&'p [u8], &'p [u8]);
+
+/// What a run that delivers is given, and what comes of it.
+#[derive(Clone, Copy)]
+struct Case<'a> {
+    /// The volume of the one job.
+    block: &'a [u8],
+    /// The path of its second file.
+    second: &'a [u8],
+    lines: &'a [u8],
+    /// The how manieth put fails, 0 for none.
+    fails_at: u64,
+    text: &'a [u8],
+    run: ConsoleRun,
+    /// Number and count of the stop.
+    stop: Option<(u32, u64)>,
+    put: &'a [Put<'a>],
+}
+
+const DELIVERED: Case<'static> = Case {
+    block: LINKED,
+    second: b"/b",
+    lines: b"mark *\ndone\n",
+    fails_at: 0,
+    text: LINKED_TEXT,
+    run: ConsoleRun {
+        is_clean: true,
+        restored: Some(true),
+    },
+    stop: None,
+    put: &[(b"/a", b"hello"), (b"/b", b"")],
+};
+
+const QUIT: Case<'static> = Case {
+    lines: b"frob\nmark *\nquit\n",
+    text: b"refused 55\n2 marked\n",
+    run: ConsoleRun {
+        is_clean: false,
+        restored: None,
+    },
+    put: &[],
+    ..DELIVERED
+};
+
+const FAILED: Case<'static> = Case {
+    fails_at: 2,
+    stop: Some((80, 1)),
+    put: &[(b"/a", b"hello")],
+    ..DELIVERED
+};
+
+const IN_THE_WAY: Case<'static> = Case {
+    block: BELOW,
+    second: b"/a/b",
+    text: BELOW_TEXT,
+    stop: Some((81, 1)),
+    put: &[(b"/a", b"hello")],
+    ..DELIVERED
+};
+
+/// The visit of the job to its volume.
+fn spans(alloc: Global, block: &[u8]) -> Result<Vec<Span>, Fail> {
+    let mut spans = Vec::new(alloc);
+    spans.push(Span {
+        vol: VolName::new(alloc, b"V")?,
+        first: 1,
+        last: 2,
+        start: 0,
+        end: u64::try_from(block.len())?.saturating_sub(1),
+        vol_index: 1,
+    })?;
+    Ok(spans)
+}
+
+/// A Full of two files.
+fn rows(alloc: Global, case: &Case<'_>) -> Result<JobRows, Fail> {
+    Ok(JobRows::new(
+        job_row(alloc, 1, b'F', 100)?,
+        file_rows(alloc, &[(b"/a", 1), (case.second, 2)])?,
+        spans(alloc, case.block)?,
+    )?)
+}
+
+fn history(alloc: Global, case: &Case<'_>) -> Result<History, Fail> {
+    let mut history = History::new(alloc);
+    history.push(rows(alloc, case)?)?;
+    Ok(history)
+}
+
+fn drive(alloc: Global, block: &[u8]) -> Result<MemDrive, Fail> {
+    let mut volumes = Vec::new(alloc);
+    let block = Vec::from_slice(alloc, block)?;
+    volumes.push((VolName::new(alloc, b"V")?, block))?;
+    Ok(MemDrive::new(volumes))
+}
+
+fn request(alloc: Global) -> Result<Request, Fail> {
+    Ok(Request {
+        client: Name::new(alloc, b"mars")?,
+        fileset: Name::new(alloc, b"home")?,
+        moment: 101,
+    })
+}
+
+/// A history, a request of its job, and the drive over its volume.
+#[derive(Drop)]
+struct World {
+    history: History,
+    request: Request,
+    drive: MemDrive,
+}
+
+fn world_of(alloc: Global, case: &Case<'_>) -> Result<World, Fail> {
+    Ok(World {
+        history: history(alloc, case)?,
+        request: request(alloc)?,
+        drive: drive(alloc, case.block)?,
+    })
+}
+
+/// Runs the console on these lines.
+fn ran<W: Write + Drop>(
+    alloc: Global,
+    world: &mut World,
+    mut lines: &[u8],
+    writer: &mut W,
+    sink: &mut MemSink,
+) -> Result<ConsoleDelivery, ConsoleFault> {
+    let World {
+        history,
+        request,
+        drive,
+    } = world;
+    run_console_into(alloc, history, request, &mut lines, drive, writer, sink)
+}
+
+fn is_made(made: &ConsoleDelivery, case: &Case<'_>) -> bool {
+    let is_stop = match &made.stop {
+        None => case.stop.is_none(),
+        Some(stop) => case.stop == Some((stop.number(), stop.done())),
+    };
+    is_stop && made.run == case.run
+}
+
+/// Whether these are the files.
+fn are_put(items: &[Item], put: &[Put<'_>]) -> bool {
+    items.len() == put.len()
+        && items.iter().zip(put).all(|(item, file)| item.path.bytes() == file.0
+            && item.bytes.bytes() == file.1)
+}
+
+/// Whether a run over this world answers and writes as expected.
+fn is_told(
+    alloc: Global,
+    world: &mut World,
+    case: &Case<'_>,
+    sink: &mut MemSink,
+) -> Result<bool, Fail> {
+    let mut text = Vec::new(alloc);
+    let made = ran(alloc, world, case.lines, &mut text, sink)?;
+    Ok(is_made(&made, case) && text.as_slice() == case.text)
+}
+
+/// Whether a run is as expected, and what it puts is.
+fn holds(alloc: Global, case: &Case<'_>) -> Result<bool, Fail> {
+    let mut world = world_of(alloc, case)?;
+    let mut sink = MemSink::failing_at(alloc, case.fails_at);
+    let is_told = is_told(alloc, &mut world, case, &mut sink)?;
+    Ok(is_told && are_put(sink.items(), case.put))
+}
+
+#[test]
+fn the_files_of_the_manifest_are_put(rt: HostRuntime) -> Result<(), Fail> {
+    assert!(rt; holds(rt.alloc(), &DELIVERED)?);
+    assert!(rt; holds(rt.alloc(), &QUIT)?);
+    Ok(())
+}
+
+#[test]
+fn a_delivery_that_stops_is_told_beside_the_run(rt: HostRuntime) -> Result<(), Fail> {
+    assert!(rt; holds(rt.alloc(), &FAILED)?);
+    assert!(rt; holds(rt.alloc(), &IN_THE_WAY)?);
+    Ok(())
+}
+
+/// What takes bytes and can be flushed so many times.
+#[derive(Drop)]
+struct Clogging(u32);
+
+impl Write for Clogging {
+    fn write(&mut self, buf: &[u8]) -> io::Result<usize> {
+        Ok(buf.len())
+    }
+
+    fn flush(&mut self) -> io::Result<()> {
+        if self.0 == 0 {
+            return Err(Error::new(ErrorKind::BrokenPipe, "clogged"));
+        }
+        self.0 -= 1;
+        Ok(())
+    }
+}
+
+/// Whether a run comes to its end with so many flushes, and how many files it puts.
+fn put_with(alloc: Global, flushes: u32) -> Result<(bool, usize), Fail> {
+    let mut world = world_of(alloc, &DELIVERED)?;
+    let mut sink = MemSink::new(alloc);
+    let mut writer = Clogging(flushes);
+    let run = ran(alloc, &mut world, DELIVERED.lines, &mut writer, &mut sink);
+    Ok((run.is_ok(), sink.items().len()))
+}
+
+/// The two lines and the bootstrap are flushed before the manifest is.
+#[test]
+fn nothing_is_put_where_the_manifest_is_not_flushed(rt: HostRuntime) -> Result<(), Fail> {
+    assert_eq!(rt; put_with(rt.alloc(), 3)?, (false, 0));
+    assert_eq!(rt; put_with(rt.alloc(), 4)?, (true, 2));
+    Ok(())
+}
