@@ -8,4 +8,6 @@ mod generated_tests;
 #[cfg(test)]
 mod restore_tests;
 #[cfg(test)]
+mod stored_tests;
+#[cfg(test)]
 mod test_data;

@@ -10,9 +10,9 @@ use std::test::Fail;
 
 /// Volumes and the history of the jobs that wrote them.
 #[derive(Drop)]
-struct World {
-    store: MemStore,
-    history: History,
+pub(crate) struct World {
+    pub(crate) store: MemStore,
+    pub(crate) history: History,
 }
 
 fn empty(alloc: Global) -> World {
@@ -72,7 +72,7 @@ const SIZE_14: &str = "A A IGk B A A A O A A A A A A";
 
 /// What is asked of a run, said to it, and expected of it.
 #[derive(Clone, Copy)]
-struct Case {
+pub(crate) struct Case {
     asked: Asked<'static>,
     lines: &'static [u8],
     /// The lines that stay unread.
@@ -83,7 +83,12 @@ struct Case {
 }
 
 /// Whether a run over these volumes is as expected.
-fn runs(alloc: Global, history: &History, drive: &mut MemDrive, case: &Case) -> Result<bool, Fail> {
+pub(crate) fn runs(
+    alloc: Global,
+    history: &History,
+    drive: &mut MemDrive,
+    case: &Case,
+) -> Result<bool, Fail> {
     let told = tell(alloc, history, drive, case.asked, case.lines)?;
     let is_written = told.text.as_slice() == case.text;
     Ok(told.run == case.run && is_written && told.left == case.left)
@@ -97,7 +102,7 @@ fn holds(alloc: Global, world: World, case: &Case) -> Result<bool, Fail> {
 }
 
 /// A Full and an Incremental of a file each, in blocks of 64 bytes that both go over two volumes.
-fn two_jobs(alloc: Global) -> Result<World, Fail> {
+pub(crate) fn two_jobs(alloc: Global) -> Result<World, Fail> {
     let mut world = empty(alloc);
     let files = [file("/a", SIZE_14, "message digest")];
     commit(
@@ -123,7 +128,7 @@ fn two_jobs(alloc: Global) -> Result<World, Fail> {
 /// Client, file set and moment at which both jobs count.
 const BOTH: Asked<'static> = ("c", "f", 250);
 
-const TWO_JOBS: Case = Case {
+pub(crate) const TWO_JOBS: Case = Case {
     asked: BOTH,
     lines: b"mark *\ndone\n",
     left: b"",

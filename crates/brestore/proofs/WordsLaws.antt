@@ -23,14 +23,14 @@ use Rattle.clap.specs.declared.parser.matches.SubCommand.{SubCommand}
 use Rattle.clap.proofs.FaultLemmas.{first_fails}
 use Rattle.clap.proofs.WalkLemmas.{first_value-rows}
 use Rattle.clap.proofs.OnLiterals.{clap_on_literals}
-use Rattle.brestore.specs.Words.{Asked, Extract, asked_by, extract_app, extract_asked, program_app, required_rule, words_asked, words_fault}
+use Rattle.brestore.specs.Words.{Asked, Extract, asked_by, console_app, console_jobs_app, console_start_app, extract_app, extract_asked, program_app, value_rule, words_asked, words_fault}
 
 program_is_simple : is_simple program_app ≡ true
-unfolding program_app extract_app clap_on_literals
+unfolding program_app extract_app console_start_app console_jobs_app console_app clap_on_literals
 program_is_simple = refl
 
 program_is_free : is_simple_and_free program_app ≡ true
-unfolding program_app extract_app clap_on_literals
+unfolding program_app extract_app console_start_app console_jobs_app console_app clap_on_literals
 program_is_free = refl
 
 -- what clap finds in words is what they ask for
@@ -93,17 +93,52 @@ module _ (f : Found) (bsr volumes : Option (Bor Text)) (bsr_is : option_map (λ 
     unfolding extract_asked
     volumes_missing b some none = rw (bsr_row, volumes_row, some, none) refl
 
-    pub both_found : (b v : Bor Text) → bsr ≡ Some b → volumes ≡ Some v → extract_asked (rows_of f) ≡ Some (Extract b.now v.now)
-    unfolding extract_asked
-    both_found b v some too = rw (bsr_row, volumes_row, some, too) refl
+    module _ (into : Option (Bor Text)) (into_is : option_map (λ s. s.now) into ≡ first_value f (codes "into")) where
+      into_row : first_of (codes "into") (rows_of f) ≡ option_map (λ s. s.now) into
+      into_row = sym (first_value-rows f (codes "into")) ∙ sym into_is
 
--- `extract` by its two options
-pub extract_added : (start first last : Command) (bsr volumes : Arg) → app_of start ≡ new_app (codes "extract") → AddsArg start bsr first → AddsArg first volumes last
-    → rule_of bsr ≡ required_rule (codes "bsr") → bsr.global ≡ false → rule_of volumes ≡ required_rule (codes "volumes") → volumes.global ≡ false
+      pub all_found : (b v : Bor Text) → bsr ≡ Some b → volumes ≡ Some v
+          → extract_asked (rows_of f) ≡ Some (Extract b.now v.now (option_map (λ s. s.now) into))
+      unfolding extract_asked
+      all_found b v some too = rw (bsr_row, volumes_row, into_row, some, too) refl
+
+-- `extract` by its three options
+pub extract_added : (start first second last : Command) (bsr volumes into : Arg) → app_of start ≡ new_app (codes "extract")
+    → AddsArg start bsr first → AddsArg first volumes second → AddsArg second into last
+    → rule_of bsr ≡ value_rule (codes "bsr") true → bsr.global ≡ false
+    → rule_of volumes ≡ value_rule (codes "volumes") true → volumes.global ≡ false
+    → rule_of into ≡ value_rule (codes "into") false → into.global ≡ false
     → app_of last ≡ extract_app
 unfolding extract_app
-extract_added start first last bsr volumes named one two bsr_is bsr_local volumes_is volumes_local =
-    two.shape volumes_local ∙ ap₂ with_rule (one.shape bsr_local ∙ ap₂ with_rule named bsr_is) volumes_is
+extract_added start first second last bsr volumes into named one two three bsr_is bsr_local volumes_is volumes_local into_is into_local =
+    three.shape into_local
+    ∙ ap₂ with_rule (two.shape volumes_local ∙ ap₂ with_rule (one.shape bsr_local ∙ ap₂ with_rule named bsr_is) volumes_is) into_is
+
+-- the first two options of `console`
+pub console_begun : (start first last : Command) (db volumes : Arg) → app_of start ≡ new_app (codes "console") → AddsArg start db first → AddsArg first volumes last
+    → rule_of db ≡ value_rule (codes "db") true → db.global ≡ false → rule_of volumes ≡ value_rule (codes "volumes") true → volumes.global ≡ false
+    → app_of last ≡ console_start_app
+unfolding console_start_app
+console_begun start first last db volumes named one two db_is db_local volumes_is volumes_local =
+    two.shape volumes_local ∙ ap₂ with_rule (one.shape db_local ∙ ap₂ with_rule named db_is) volumes_is
+
+-- the other three that have to be there
+pub console_jobs_added : (start first second last : Command) (client fileset before : Arg) → app_of start ≡ console_start_app
+    → AddsArg start client first → AddsArg first fileset second → AddsArg second before last
+    → rule_of client ≡ value_rule (codes "client") true → client.global ≡ false
+    → rule_of fileset ≡ value_rule (codes "fileset") true → fileset.global ≡ false
+    → rule_of before ≡ value_rule (codes "before") true → before.global ≡ false
+    → app_of last ≡ console_jobs_app
+unfolding console_jobs_app
+console_jobs_added start first second last client fileset before begun one two three client_is client_local fileset_is fileset_local before_is before_local =
+    three.shape before_local
+    ∙ ap₂ with_rule (two.shape fileset_local ∙ ap₂ with_rule (one.shape client_local ∙ ap₂ with_rule begun client_is) fileset_is) before_is
+
+-- and the one that may be left out
+pub console_added : (start last : Command) (into : Arg) → app_of start ≡ console_jobs_app → AddsArg start into last → rule_of into ≡ value_rule (codes "into") false → into.global ≡ false
+    → app_of last ≡ console_app
+unfolding console_app
+console_added start last into begun one into_is into_local = one.shape into_local ∙ ap₂ with_rule begun into_is
 
 -- a command with a version
 abbrev pub with_version : App → App
@@ -112,12 +147,17 @@ with_version = on_top (λ s. record s { has_version = true })
 pub of_version : (f g : Command-F Command) (version : Bor Text) → g ≡ record f { version = Some version } → app_of_fields g ≡ with_version (app_of_fields f)
 of_version f g version is = ap app_of_fields is
 
--- the program by its two commands
-pub program_added : (start first last extract serve : Command) → app_of start ≡ with_version (new_app (codes "brestore"))
-    → AddsSubcommand start extract first → AddsSubcommand first serve last
-    → app_of extract ≡ extract_app → (out-Command extract).has_globals ≡ false → app_of serve ≡ new_app (codes "serve") → (out-Command serve).has_globals ≡ false
+-- the program by its three commands
+pub program_added : (start first second last extract console serve : Command) → app_of start ≡ with_version (new_app (codes "brestore"))
+    → AddsSubcommand start extract first → AddsSubcommand first console second → AddsSubcommand second serve last
+    → app_of extract ≡ extract_app → (out-Command extract).has_globals ≡ false
+    → app_of console ≡ console_app → (out-Command console).has_globals ≡ false
+    → app_of serve ≡ new_app (codes "serve") → (out-Command serve).has_globals ≡ false
     → app_of last ≡ program_app
 unfolding program_app
-program_added start first last extract serve named one two extract_is extract_local serve_is serve_local =
-    two.shape serve_local
-    ∙ ap₂ with_subcommand (one.shape extract_local ∙ ap₂ with_subcommand named (ap (λ (a : App). a.top) extract_is)) (ap (λ (a : App). a.top) serve_is)
+program_added start first second last extract console serve named one two three extract_is extract_local console_is console_local serve_is serve_local =
+    three.shape serve_local
+    ∙ ap₂ with_subcommand
+    (two.shape console_local
+    ∙ ap₂ with_subcommand (one.shape extract_local ∙ ap₂ with_subcommand named (ap (λ (a : App). a.top) extract_is)) (ap (λ (a : App). a.top) console_is))
+    (ap (λ (a : App). a.top) serve_is)

@@ -1,9 +1,11 @@
 //! The command `extract`.
 ghost use Rattle.std.specs.Prelude.{◌≡◌, Some, IfOk, IfErr};
+ghost use Rattle.br_engine.specs.Delivering.{DeliversText};
 ghost use Rattle.br_engine.specs.Extracting.{RunsOver, WritesNothing};
 ghost use Rattle.brestore.specs.Ending.{run_refusal, run_status};
 
-use br_engine::{ExtractFault, run_extract};
+use br_engine::{ExtractFault, run_extract, run_extract_into};
+use br_sink::{FolderSink, Sink};
 use br_volume::{Drive, FolderDrive};
 use std::alloc::{AllocError, Global};
 use std::fs;
@@ -65,6 +67,20 @@ pub(crate) fn run_through<D: Drive, W: Write + Drop>(
     Ok(are_files)
 }
 
+/// The same, and delivers the files into a sink once the manifest is written through.
+pub(crate) fn run_into<D: Drive, W: Write + Drop, S: Sink>(
+    alloc: Global,
+    text: &[u8],
+    drive: &mut D,
+    writer: &mut W,
+    sink: &mut S,
+) -> Result<bool, ExtractFault>
+    ensures delivers { DeliversText (Some text.now) (D.shows drive.old) (D.shows drive.new) (W.contents writer.old) (W.contents writer.new) (S.has sink.old) (S.has sink.new) result }
+{
+    let mut reader = text;
+    run_extract_into(alloc, &mut reader, drive, writer, sink)
+}
+
 /// Tells the operator how a run ended, on standard error. The exit status.
 fn report<R: Eprint + AllocGlobal>(rt: &R, run: Result<bool, ExtractFault>) -> io::Result<u8> {
     let ending = ending_of(rt.alloc(), &run)?;
@@ -79,12 +95,20 @@ fn report<R: Eprint + AllocGlobal>(rt: &R, run: Result<bool, ExtractFault>) -> i
     Ok(ending.status)
 }
 
-/// Runs the bootstrap in the file `bsr` over the volumes in the folder `volumes`. The manifest goes to standard output, and what is
-/// refused to standard error. The exit status: 0 where nothing was refused and each outcome is a file, 1 where something was
-/// refused or some outcome is not a file, 3 where the bootstrap could not be read or the manifest not be written.
-///
-/// An error for want of memory, or where standard error failed.
-pub(crate) fn extract_files<R: Files + Print + Eprint + AllocGlobal>(
+/// The text in the file of a bootstrap; none where it could not be read, which is told on standard error.
+fn read_bsr<R: Files + Eprint + AllocGlobal>(rt: &R, bsr: &str) -> io::Result<Option<Vec<u8>>> {
+    match fs::read(rt, bsr) {
+        Ok(text) => Ok(Some(text)),
+        Err(e) if e.kind() == ErrorKind::OutOfMemory => Err(e),
+        Err(e) => {
+            eprintln!(rt; "brestore: {bsr}: {e}")?;
+            Ok(None)
+        }
+    }
+}
+
+/// Runs the bootstrap, and prints the manifest. The exit status.
+fn print_manifest<R: Files + Print + Eprint + AllocGlobal>(
     rt: &R,
     bsr: &str,
     volumes: &str,
@@ -92,16 +116,60 @@ pub(crate) fn extract_files<R: Files + Print + Eprint + AllocGlobal>(
 where
     R::File: FileExt,
 {
-    let text = match fs::read(rt, bsr) {
-        Ok(text) => text,
-        Err(e) if e.kind() == ErrorKind::OutOfMemory => return Err(e),
-        Err(e) => {
-            eprintln!(rt; "brestore: {bsr}: {e}")?;
-            return Ok(BAD_STREAM);
-        }
+    let Some(text) = read_bsr(rt, bsr)? else {
+        return Ok(BAD_STREAM);
     };
     let mut drive = FolderDrive::new(rt.alloc(), rt, volumes)?;
     let mut writer = BufWriter::new(rt.alloc(), io::writer(rt))?;
     let run = run_through(rt.alloc(), &text, &mut drive, &mut writer);
     report(rt, run)
+}
+
+/// The same, and delivers the files into a sink behind it.
+fn fill_sink<R: Files + Print + Eprint + AllocGlobal, S: Sink>(
+    rt: &R,
+    bsr: &str,
+    volumes: &str,
+    sink: &mut S,
+) -> io::Result<u8>
+where
+    R::File: FileExt,
+{
+    let Some(text) = read_bsr(rt, bsr)? else {
+        return Ok(BAD_STREAM);
+    };
+    let mut drive = FolderDrive::new(rt.alloc(), rt, volumes)?;
+    let mut writer = BufWriter::new(rt.alloc(), io::writer(rt))?;
+    let run = run_into(rt.alloc(), &text, &mut drive, &mut writer, sink);
+    report(rt, run)
+}
+
+/// Runs the bootstrap in the file `bsr` over the volumes in the folder `volumes`, and puts the restored files into the folder
+/// `into` where there is one. The manifest goes to standard output, and what is refused to standard error. The exit status: 0
+/// where nothing was refused and each outcome is a file, 1 where something was refused or some outcome is not a file, 3 where the
+/// bootstrap could not be read or the manifest not be written.
+///
+/// The folder `into` has to be there and empty, else it is refused (81) before anything is read. The manifest is printed before
+/// anything is put.
+///
+/// An error for want of memory, or where standard error failed.
+pub(crate) fn extract_files<R: Files + Print + Eprint + AllocGlobal>(
+    rt: &R,
+    bsr: &str,
+    volumes: &str,
+    into: Option<&str>,
+) -> io::Result<u8>
+where
+    R::File: FileExt,
+{
+    let Some(folder) = into else {
+        return print_manifest(rt, bsr, volumes);
+    };
+    match FolderSink::new(rt.alloc(), rt, folder) {
+        Ok(mut sink) => fill_sink(rt, bsr, volumes, &mut sink),
+        Err(fault) => {
+            eprintln!(rt; "refused {}", fault.number())?;
+            Ok(REFUSED)
+        }
+    }
 }

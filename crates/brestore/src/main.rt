@@ -1,9 +1,12 @@
 //! The restoring half of a Bacula Director, with the volume reading that a restore needs.
 //!
-//! `extract` runs a bootstrap over the volumes of a folder. Without a command the program reads a script from standard input and
-//! works it off over volumes in memory.
+//! `extract` runs a bootstrap over the volumes of a folder. `console` lets the operator mark files as they were at a moment, and
+//! restores them. Both put the restored files into another folder, if one is given. Without a command the program reads a script
+//! from standard input and works it off over volumes in memory.
 #![tactic(auto)]
 
+mod asking;
+mod console;
 mod extract;
 mod fields;
 mod input;
@@ -13,13 +16,13 @@ mod script;
 mod tests;
 mod words;
 
+use crate::console::restore_marked;
 use crate::extract::{BAD_STREAM, CLEAN, REFUSED, extract_files};
 use crate::script::run_script;
 use crate::words::{Request, read_words};
 use std::io::{self, BufReader, BufWriter, ErrorKind, Write};
-use std::os::unix::fs::FileExt;
 use std::process::ExitCode;
-use std::rt::{Env, Files};
+use std::rt::Env;
 
 /// The exit status for a fault of the command line.
 const BAD_COMMAND: u8 = 2;
@@ -54,17 +57,15 @@ fn serve<R: Input + Print + AllocGlobal>(rt: &R) -> io::Result<u8> {
 }
 
 /// Carries out what the command line asks for. The exit status.
-fn run<R: Env + Files + Input + Print + Eprint + AllocGlobal>(rt: &R) -> io::Result<u8>
-where
-    R::File: FileExt,
-{
+fn run(rt: &HostRuntime) -> io::Result<u8> {
     let Some(words) = words_of(rt)? else {
         eprintln!(rt; "brestore: an argument is not UTF-8")?;
         return Ok(BAD_COMMAND);
     };
     match read_words(rt.alloc(), &words) {
         Ok(Request::Serve) => serve(rt),
-        Ok(Request::Extract { bsr, volumes }) => extract_files(rt, bsr, volumes),
+        Ok(Request::Extract { bsr, volumes, into }) => extract_files(rt, bsr, volumes, into),
+        Ok(Request::Console(given)) => restore_marked(rt, &given),
         Err(fault) if fault.kind() == clap::error::ErrorKind::OutOfMemory => {
             Err(ErrorKind::OutOfMemory.into())
         }

@@ -1,4 +1,7 @@
 mod bacula;
+mod console;
+mod console_into;
+mod into;
 mod words;
 
 use crate::script::run_script;

@@ -1,3 +1,4 @@
+use crate::console::Given;
 use crate::words::{Request, read_words};
 use clap::error::ErrorKind;
 use std::alloc::Global;
@@ -36,6 +37,7 @@ fn a_bootstrap_is_asked_for(rt: HostRuntime) -> Result<(), Fail> {
     let extract = Request::Extract {
         bsr: "x.bsr",
         volumes: "sets/V",
+        into: None,
     };
     for line in [
         "brestore extract --bsr x.bsr --volumes sets/V",
@@ -44,6 +46,66 @@ fn a_bootstrap_is_asked_for(rt: HostRuntime) -> Result<(), Fail> {
         let words = words_of(rt.alloc(), line)?;
         let request = read_words(rt.alloc(), &words).ok();
         assert_eq!(rt; request, Some(extract), "{line}");
+    }
+    Ok(())
+}
+
+#[test]
+fn a_folder_to_deliver_into_is_asked_for(rt: HostRuntime) -> Result<(), Fail> {
+    let extract = Request::Extract {
+        bsr: "x",
+        volumes: "d",
+        into: Some("e"),
+    };
+    for line in [
+        "brestore extract --bsr x --volumes d --into e",
+        "brestore extract --into=e --volumes d --bsr x",
+    ] {
+        let words = words_of(rt.alloc(), line)?;
+        let request = read_words(rt.alloc(), &words).ok();
+        assert_eq!(rt; request, Some(extract), "{line}");
+    }
+    Ok(())
+}
+
+#[test]
+fn a_console_is_asked_for(rt: HostRuntime) -> Result<(), Fail> {
+    let console = Request::Console(Given {
+        db: "j.db",
+        volumes: "d",
+        client: "mars",
+        fileset: "home",
+        before: "2026-11-22",
+        into: None,
+    });
+    for line in [
+        "brestore console --db j.db --volumes d --client mars --fileset home --before 2026-11-22",
+        "brestore console --before=2026-11-22 --fileset=home --client=mars --volumes=d --db=j.db",
+    ] {
+        let words = words_of(rt.alloc(), line)?;
+        let request = read_words(rt.alloc(), &words).ok();
+        assert_eq!(rt; request, Some(console), "{line}");
+    }
+    Ok(())
+}
+
+#[test]
+fn a_console_that_delivers_is_asked_for(rt: HostRuntime) -> Result<(), Fail> {
+    let console = Request::Console(Given {
+        db: "j.db",
+        volumes: "d",
+        client: "mars",
+        fileset: "home",
+        before: "2026-11-22",
+        into: Some("e"),
+    });
+    for line in [
+        "brestore console --db j.db --volumes d --client mars --fileset home --before 2026-11-22 --into e",
+        "brestore console --into=e --before=2026-11-22 --fileset=home --client=mars --volumes=d --db=j.db",
+    ] {
+        let words = words_of(rt.alloc(), line)?;
+        let request = read_words(rt.alloc(), &words).ok();
+        assert_eq!(rt; request, Some(console), "{line}");
     }
     Ok(())
 }
@@ -61,8 +123,19 @@ fn other_words_are_refused(rt: HostRuntime) -> Result<(), Fail> {
         "brestore extract --bsr x --volumes=",
         "brestore extract --bsr x --volumes d e",
         "brestore extract --bsr x --volumes d --bsr y",
-        "brestore extract --bsr x --volumes d --into e",
+        "brestore extract --bsr x --volumes d --into=",
+        "brestore extract --bsr x --volumes d --into e --into f",
         "brestore extract --bsr x --volumes d --drives 2",
+        "brestore console",
+        "brestore console --db j.db --volumes d --client mars --fileset home",
+        "brestore console --db j.db --volumes d --client mars --before 2026-11-22",
+        "brestore console --db j.db --volumes d --fileset home --before 2026-11-22",
+        "brestore console --db j.db --client mars --fileset home --before 2026-11-22",
+        "brestore console --volumes d --client mars --fileset home --before 2026-11-22",
+        "brestore console --db j.db --volumes d --client= --fileset home --before 2026-11-22",
+        "brestore console --db j.db --volumes d --client mars --fileset home --before 2026-11-22 --bsr x",
+        "brestore console --db j.db --volumes d --client mars --fileset home --before 2026-11-22 --into=",
+        "brestore console --db j.db --volumes d --client mars --fileset home --into e",
     ] {
         let fault = fault_of(rt.alloc(), line)?.ok_or("a fault")?;
         assert_eq!(rt; fault.1, 2, "{line}");
@@ -76,6 +149,7 @@ fn help_is_given(rt: HostRuntime) -> Result<(), Fail> {
         ("brestore --help", ErrorKind::DisplayHelp),
         ("brestore help", ErrorKind::DisplayHelp),
         ("brestore extract --help", ErrorKind::DisplayHelp),
+        ("brestore console --help", ErrorKind::DisplayHelp),
         ("brestore --version", ErrorKind::DisplayVersion),
     ] {
         let answer = fault_of(rt.alloc(), line)?;

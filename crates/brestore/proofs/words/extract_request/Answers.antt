@@ -1,5 +1,5 @@
 use Rattle.std.proofs.Common.{◌≡◌, None, rules, sym}
-use Rattle.brestore.proofs.WordsLaws.{both_found, bsr_missing, volumes_missing}
+use Rattle.brestore.proofs.WordsLaws.{all_found, bsr_missing, volumes_missing}
 use Rattle.clap.specs.Matches.{found_of}
 use Rattle.brestore.proofs.words.extract_request.Goals as goal
 
@@ -17,5 +17,5 @@ returns-in_err-get_str-2 c =
 
 pub returns : goal.returns
 returns c =
-    sym (both_found (found_of c.args.found.now) c.get_str.result c.get_str-2.result c.get_str.ensures c.get_str-2.ensures c.in_ok-get_str.field-0 c.in_ok-get_str-2.field-0
-    (search rules) (search rules))
+    sym (all_found (found_of c.args.found.now) c.get_str.result c.get_str-2.result c.get_str.ensures c.get_str-2.ensures c.get_str-3.result c.get_str-3.ensures
+    c.in_ok-get_str.field-0 c.in_ok-get_str-2.field-0 (search rules) (search rules))

@@ -1,0 +1,135 @@
+//! The command `console`: what it refuses before a line is read, and a catalogue in a file.
+use crate::asking::{RequestFault, read_request};
+use crate::console::{Given, prepare, restore_marked};
+use crate::tests::into::new_place;
+use std::alloc::Global;
+use std::test::Fail;
+use std::{env, fs, process};
+
+/// A request that is fine, for a catalogue and volumes that are not there.
+const GIVEN: Given<'static> = Given {
+    db: "/no/such/catalogue.db",
+    volumes: "/no/such/folder",
+    client: "mars",
+    fileset: "home",
+    before: "2026-11-22 00:00:00",
+    into: None,
+};
+
+/// Why a request is refused, if it is.
+fn fault_of(alloc: Global, given: &Given<'_>) -> Option<u32> {
+    match read_request(alloc, given.client, given.fileset, given.before) {
+        Ok(_) => None,
+        Err(fault) => Some(fault.number()),
+    }
+}
+
+const BAD_CLIENT: Given<'static> = Given {
+    client: "",
+    before: "today",
+    ..GIVEN
+};
+
+const BAD_FILESET: Given<'static> = Given {
+    fileset: "a/b",
+    before: "today",
+    ..GIVEN
+};
+
+const BAD_MOMENT: Given<'static> = Given {
+    before: "2026-11-22",
+    ..GIVEN
+};
+
+/// The request for a file set of mars before the 22nd of November 2026.
+fn is_read(alloc: Global) -> Result<bool, RequestFault> {
+    let request = read_request(alloc, GIVEN.client, GIVEN.fileset, GIVEN.before)?;
+    Ok(
+        request.moment == 1_795_305_600
+            && request.client.bytes() == b"mars".as_slice()
+            && request.fileset.bytes() == b"home".as_slice(),
+    )
+}
+
+#[test]
+fn names_and_moment_are_tested(rt: HostRuntime) -> Result<(), Fail> {
+    assert!(rt; is_read(rt.alloc()) == Ok(true));
+    assert_eq!(rt; fault_of(rt.alloc(), &BAD_CLIENT), Some(2));
+    assert_eq!(rt; fault_of(rt.alloc(), &BAD_FILESET), Some(2));
+    assert_eq!(rt; fault_of(rt.alloc(), &BAD_MOMENT), Some(52));
+    Ok(())
+}
+
+/// The path of a file for one test.
+fn path_of(rt: &HostRuntime, name: &str) -> Result<String, Fail> {
+    let temporary = env::temp_dir(rt)?;
+    let id = process::id(rt.process());
+    Ok(format!(in rt.alloc(); "{}/brestore_{name}_{id}.db", temporary.display())?)
+}
+
+/// The status of a run over a catalogue.
+fn status_over(rt: &HostRuntime, db: &str) -> Result<u8, Fail> {
+    Ok(restore_marked(rt, &Given { db, ..GIVEN })?)
+}
+
+/// Whether a run over a file with these bytes is refused, and the file stays as it was.
+fn is_kept(rt: &HostRuntime, bytes: &[u8]) -> Result<bool, Fail> {
+    let path = path_of(rt, "kept")?;
+    fs::write(rt, path.as_str(), bytes)?;
+    let status = status_over(rt, path.as_str())?;
+    let after = fs::read(rt, path.as_str())?;
+    fs::remove_file(rt, path.as_str())?;
+    Ok(status == 1 && after.as_slice() == bytes)
+}
+
+#[test]
+fn a_file_that_is_no_catalogue_is_refused(rt: HostRuntime) -> Result<(), Fail> {
+    let missing = path_of(&rt, "missing")?;
+    assert_eq!(rt; status_over(&rt, missing.as_str())?, 1);
+    assert!(rt; fs::metadata(&rt, missing.as_str()).is_err());
+    assert!(rt;
+        is_kept(
+            &rt,
+            b"these bytes are not a database of SQLite, and are long enough to have a header like one of its own"
+        )?
+    );
+    Ok(())
+}
+
+/// Why a talk does not begin, 0 where it does.
+fn refusal_of(rt: &HostRuntime, given: &Given<'_>) -> u32 {
+    match prepare(rt, given) {
+        Ok(_) => 0,
+        Err(number) => number,
+    }
+}
+
+/// The refusals of a delivery into this folder: of a bad moment, of a catalogue that is not there, and the status of a run.
+fn refusals_into(rt: &HostRuntime, folder: &str) -> Result<(u32, u32, u8), Fail> {
+    let given = Given {
+        into: Some(folder),
+        ..GIVEN
+    };
+    let moment = Given {
+        into: Some(folder),
+        ..BAD_MOMENT
+    };
+    Ok((
+        refusal_of(rt, &moment),
+        refusal_of(rt, &given),
+        restore_marked(rt, &given)?,
+    ))
+}
+
+#[test]
+fn the_folder_is_tested_behind_the_moment_and_before_the_catalogue(
+    rt: HostRuntime,
+) -> Result<(), Fail> {
+    let place = new_place(&rt, "tested", b"/d/b")?;
+    let filled = format!(in rt.alloc(); "{place}/volumes")?;
+    let empty = format!(in rt.alloc(); "{place}/into")?;
+    assert_eq!(rt; refusals_into(&rt, filled.as_str())?, (52, 81, 1));
+    assert_eq!(rt; refusals_into(&rt, empty.as_str())?, (52, 45, 1));
+    fs::remove_dir_all(&rt, place.as_str())?;
+    Ok(())
+}
