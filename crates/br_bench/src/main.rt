@@ -1,14 +1,16 @@
-//! Makes a history of backups in memory, and goes through the steps of a selection over it, so that each can be measured.
+//! Makes a history of backups in memory, and goes through the steps of a selection over it, or stores it, so that each can be measured.
 //!
 //! `br_bench STAGE PATHS JOBS ROWS` prints what each step up to the stage found, so that it can be checked by hand, and on standard
-//! error how many microseconds of the processor each step took.
+//! error how many microseconds of the processor each step took. `br_bench store FILE PATHS JOBS ROWS` stores such a history into
+//! the catalogue in a file, and `br_bench load FILE` loads it.
 #![tactic(auto)]
 
 mod making;
+mod storing;
 mod words;
 
 use crate::making::{CLIENT, FILESET, Size, history_of};
-use crate::words::{Stage, read_words};
+use crate::words::{Stage, Task, read_words};
 use anyhow::{Context, Result};
 use br_choose::choose;
 use br_history::History;
@@ -19,7 +21,6 @@ use br_types::{Name, Path};
 use br_view::View;
 use std::alloc::Global;
 use std::io;
-use std::rt::Env;
 use std::time::{CpuClock, Duration};
 
 /// Tells how long a step took that began at this time. The time now.
@@ -250,11 +251,17 @@ fn measure<R: Print + Eprint + CpuClock>(
 }
 
 /// Does what the words of the command line ask for.
-fn run<R: Env + Print + Eprint + CpuClock + AllocGlobal>(rt: &R) -> Result<()> {
+fn run(rt: &HostRuntime) -> Result<()> {
     let alloc = rt.alloc();
     let words: Vec<String> = std::env::args(rt)?.collect(alloc)?;
-    let (stage, size) = read_words(&words).context("br_bench STAGE PATHS JOBS ROWS")?;
-    measure(rt, alloc, stage, size)
+    let task = read_words(&words).context(
+        "br_bench STAGE PATHS JOBS ROWS, store FILE PATHS JOBS ROWS or load FILE",
+    )?;
+    match task {
+        Task::Select(stage, size) => measure(rt, alloc, stage, size),
+        Task::Store(file, size) => storing::store(rt, file, size),
+        Task::Load(file) => storing::load(rt, file),
+    }
 }
 
 fn main(rt: HostRuntime) -> Result<()> {

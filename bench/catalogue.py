@@ -1,0 +1,142 @@
+#!/usr/bin/env python3
+"""Restores from a catalogue that the real sqlite3 made, and has sqlite3 look at a catalogue that the program made.
+
+    bench/catalogue.py                    wants sqlite3, and the program in crates/brestore/out
+    bench/catalogue.py --program FILE     another program
+
+The status is 1 where something is not as expected.
+"""
+
+import argparse
+import os
+import subprocess
+import sys
+import tempfile
+
+HERE = os.path.dirname(os.path.abspath(__file__))
+PROGRAM = os.path.join(os.path.dirname(HERE), "crates", "brestore", "out", "brestore")
+VOLUMES = os.path.join(HERE, "sets", "order")
+SQL = os.path.join(HERE, "catalogues", "order.sql")
+TABLES = "Client File FileSet Filename Job JobMedia Media Path Version".split()
+
+
+def manifest_of(case):
+    with open(os.path.join(HERE, "cases", case, "expected")) as text:
+        return text.read().splitlines(keepends=True)
+
+
+def group(session, time, ends, indexes):
+    lines = [f'Volume="Vol-0001"', f"VolSessionId={session}", f"VolSessionTime={time}", f"VolAddr={ends}"]
+    return "".join(f"{line}\n" for line in lines + [f"FileIndex={it}" for it in indexes])
+
+
+# What Bacula's own bootstraps ask of the volume: the Full, the Differential, the Incremental.
+FULL, DIFFERENTIAL, INCREMENTAL = (1, 1795302931, "206-1172"), (2, 1795302931, "1173-1655"), (1, 1795302940, "1656-2149")
+
+
+def answers():
+    """For each moment what is printed after `mark *` and `done`."""
+    written = manifest_of("order-written")
+    full, newest, differential = written[:5], written[5:6], written[6:7]
+    kept = full[:2] + full[3:5]
+    total = ["total 5 0 0\n"]
+    text = lambda groups, lines: "5 marked\n" + "".join(groups) + "".join(lines + total)
+    return {
+        "2026-11-21 23:15:34": text([group(*FULL, ["1-5"])], full),
+        "2026-11-21 23:15:45": text([group(*FULL, ["1-2", "4-5"]), group(*DIFFERENTIAL, ["1"])], kept + differential),
+        "2026-11-21 23:15:46": text([group(*FULL, ["1-2", "4-5"]), group(*INCREMENTAL, ["1"])], kept + newest),
+    }
+
+
+class Checks:
+    def __init__(self, program):
+        self.program, self.failed = program, 0
+
+    def check(self, name, found, expected):
+        well = found == expected
+        self.failed += not well
+        print(f"{name}: {'as expected' if well else f'{found!r}, and not {expected!r}'}")
+
+    def console(self, db, client="peer-fd", fileset="Peer", before="2026-11-22 00:00:00", lines="mark *\ndone\n"):
+        words = ["console", "--db", db, "--volumes", VOLUMES, "--client", client, "--fileset", fileset, "--before", before]
+        ran = subprocess.run([self.program, *words], input=lines, capture_output=True, text=True)
+        return ran.returncode, ran.stdout, ran.stderr
+
+
+def sqlite3(db, text):
+    return subprocess.run(["sqlite3", db], input=text, capture_output=True, text=True, check=True).stdout
+
+
+def restores(checks, folder):
+    """A catalogue that sqlite3 made."""
+    db = os.path.join(folder, "order.db")
+    with open(SQL) as text:
+        sqlite3(db, text.read())
+    for before, text in answers().items():
+        checks.check(f"restore of what was before {before}", checks.console(db, before=before), (0, text, ""))
+    last = answers()["2026-11-21 23:15:46"].split("\n", 5)[-1]
+    checks.check("the manifest of Bacula's own bootstrap", last.endswith("".join(manifest_of("order-inc"))), True)
+    refusals = [
+        ("client of no name", {"client": ""}, 2),
+        ("client with a slash", {"client": "a/b"}, 2),
+        ("moment without a time", {"before": "2026-11-22"}, 52),
+        ("another client", {"client": "other"}, 53),
+        ("another file set", {"fileset": "other"}, 54),
+        ("moment before the Full", {"before": "2026-11-21 23:15:33"}, 50),
+        ("nothing marked", {"lines": "done\n"}, 51),
+    ]
+    for name, words, number in refusals:
+        status, _, err = checks.console(db, **words)
+        expected = (2, "") if name == "client of no name" else (1, f"refused {number}\n")
+        checks.check(name, (status, err if status == 1 else ""), expected)
+    checks.check("a refused line", checks.console(db, lines="frob\nquit\n"), (1, "refused 55\n", ""))
+
+
+def refuses(checks, folder):
+    """Files that are no catalogue."""
+    for name, sql, number in [
+        ("a catalogue of version 3", "UPDATE Version SET VersionId = 3;", 47),
+        ("two versions", "INSERT INTO Version VALUES (1);", 47),
+        ("a span number that skips", "UPDATE JobMedia SET VolIndex = 2 WHERE JobId = 3;", 47),
+        ("a digest of 31 digits", "UPDATE File SET MD5 = substr(MD5, 2) WHERE FileId = 1;", 47),
+        ("numbers that are twelve", "UPDATE File SET LStat = 'A A A A A A A A A A A A' WHERE FileId = 1;", 47),
+        ("a moment after the year 9999", "UPDATE Job SET StartTime = 253402300800 WHERE JobId = 1;", 47),
+        ("a row that points nowhere", "DELETE FROM Path WHERE PathId = 1;", 45),
+        ("a missing column", "ALTER TABLE Media DROP COLUMN MediaType;", 45),
+        ("a missing table", "DROP TABLE Media;", 45),
+    ]:
+        db = os.path.join(folder, "other.db")
+        with open(SQL) as text:
+            sqlite3(db, text.read())
+        sqlite3(db, sql)
+        checks.check(name, checks.console(db), (1, "", f"refused {number}\n"))
+        os.remove(db)
+    missing = os.path.join(folder, "missing.db")
+    checks.check("a file that is not there", checks.console(missing), (1, "", "refused 45\n"))
+    checks.check("and is not made", os.path.exists(missing), False)
+
+
+def makes(checks, folder):
+    """A catalogue that the program makes of an empty file."""
+    db = os.path.join(folder, "empty.db")
+    open(db, "w").close()
+    checks.check("an empty file", checks.console(db), (1, "", "refused 53\n"))
+    checks.check("PRAGMA integrity_check", sqlite3(db, "PRAGMA integrity_check;"), "ok\n")
+    names = sqlite3(db, "SELECT name FROM sqlite_master WHERE type = 'table' ORDER BY name;").split()
+    checks.check("its tables", names, TABLES)
+    checks.check("its version", sqlite3(db, "SELECT * FROM Version;"), "1\n")
+
+
+def main():
+    parser = argparse.ArgumentParser(description="Restores from catalogues that sqlite3 made.")
+    parser.add_argument("--program", default=PROGRAM, help="the program (default: %(default)s)")
+    checks = Checks(parser.parse_args().program)
+    with tempfile.TemporaryDirectory() as folder:
+        restores(checks, folder)
+        refuses(checks, folder)
+        makes(checks, folder)
+    return 1 if checks.failed else 0
+
+
+if __name__ == "__main__":
+    sys.exit(main())
