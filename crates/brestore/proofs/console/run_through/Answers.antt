@@ -18,4 +18,4 @@ pub returns-clause-runs : goal.returns-clause-runs
 returns-clause-runs g c =
     runs_kept (g.R.Read.remaining c.args.reader.now) (g.D.Drive.shows c.args.drive.now) (g.D.Drive.shows c.run_console.new.drive)
     (g.W.Write.contents c.args.writer.now) (g.W.Write.contents c.run_console.new.writer) (g.W.Write.contents c.flush.new.self)
-    c.args.history.now c.args.request.now c.in_ok-run.run c.in_ok-run.ensures.runs c.flush.ensures.bytes
+    c.args.history.now c.args.request.now c.in_ok-run.run' c.in_ok-run.ensures.runs c.flush.ensures.bytes
