@@ -1,5 +1,6 @@
 #!/usr/bin/env python3
-"""Restores from a catalogue that the real sqlite3 made, and has sqlite3 look at a catalogue that the program made.
+"""Restores from a catalogue that the real sqlite3 made, with a delivery into a folder and without, and has sqlite3 look at a catalogue
+that the program made.
 
     bench/catalogue.py                    wants sqlite3, and the program in crates/brestore/out
     bench/catalogue.py --program FILE     another program
@@ -12,6 +13,8 @@ import os
 import subprocess
 import sys
 import tempfile
+
+from cases import delivery, tree_of
 
 HERE = os.path.dirname(os.path.abspath(__file__))
 PROGRAM = os.path.join(os.path.dirname(HERE), "crates", "brestore", "out", "brestore")
@@ -57,8 +60,9 @@ class Checks:
         self.failed += not well
         print(f"{name}: {'as expected' if well else f'{found!r}, and not {expected!r}'}")
 
-    def console(self, db, client="peer-fd", fileset="Peer", before="2026-11-22 00:00:00", lines="mark *\ndone\n"):
+    def console(self, db, client="peer-fd", fileset="Peer", before="2026-11-22 00:00:00", lines="mark *\ndone\n", into=None):
         words = ["console", "--db", db, "--volumes", VOLUMES, "--client", client, "--fileset", fileset, "--before", before]
+        words += ["--into", into] if into else []
         ran = subprocess.run([self.program, *words], input=lines, capture_output=True, text=True)
         return ran.returncode, ran.stdout, ran.stderr
 
@@ -90,6 +94,31 @@ def restores(checks, folder):
         expected = (2, "") if name == "client of no name" else (1, f"refused {number}\n")
         checks.check(name, (status, err if status == 1 else ""), expected)
     checks.check("a refused line", checks.console(db, lines="frob\nquit\n"), (1, "refused 55\n", ""))
+
+
+def delivers(checks, folder):
+    """What was marked, put into a folder."""
+    db, missing = os.path.join(folder, "delivered.db"), os.path.join(folder, "missing")
+    with open(SQL) as text:
+        sqlite3(db, text.read())
+    for place, (before, text) in enumerate(answers().items()):
+        into = os.path.join(folder, f"into{place}")
+        os.mkdir(into)
+        tree, stop = delivery(text.encode())
+        checks.check(f"delivery of what was before {before}", checks.console(db, before=before, into=into), (0, text, ""))
+        checks.check("and its files", (tree_of(into), stop, len(tree) > 5), (tree, None, True))
+    refused = (1, "", "refused 81\n")
+    checks.check("a second delivery", checks.console(db, before=before, into=into), refused)
+    checks.check("changes nothing", tree_of(into), tree)
+    checks.check("a filled folder and no catalogue", checks.console(missing, into=into), refused)
+    checks.check("a filled folder and a moment without a time", checks.console(missing, before="2026-11-22", into=into), (1, "", "refused 52\n"))
+    checks.check("a folder that is not there", checks.console(db, into=missing), refused)
+    checks.check("and is not made", os.path.exists(missing), False)
+    empty = os.path.join(folder, "empty")
+    os.mkdir(empty)
+    checks.check("an empty folder and no catalogue", checks.console(missing, into=empty), (1, "", "refused 45\n"))
+    checks.check("a talk that is quit", checks.console(db, lines="mark *\nquit\n", into=empty), (0, "5 marked\n", ""))
+    checks.check("delivers nothing", os.listdir(empty), [])
 
 
 def refuses(checks, folder):
@@ -133,6 +162,7 @@ def main():
     checks = Checks(parser.parse_args().program)
     with tempfile.TemporaryDirectory() as folder:
         restores(checks, folder)
+        delivers(checks, folder)
         refuses(checks, folder)
         makes(checks, folder)
     return 1 if checks.failed else 0
