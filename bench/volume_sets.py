@@ -1,7 +1,8 @@
 """Makes sets of volumes with a bootstrap, and says what a restore by it must give.
 
-The format of blocks, records and attributes is that of docs/formats.md. All bytes come from a seeded generator, so a set of the
-same kind, size and seed is the same anywhere.
+The format of blocks, records and attributes is that of docs/formats.md. Labels and the blocks' checksums, which our reader passes over,
+have the form that Bacula gives them (see the volumes in sets/), so that Bacula's own tools read the volumes too. All bytes come from
+a seeded generator, so a set of the same kind, size and seed is the same anywhere.
 
 A set is a folder:
 
@@ -16,6 +17,7 @@ import json
 import os
 import random
 import struct
+import zlib
 
 BLOCK_LIMIT = 64_512
 BLOCK_HEADER = struct.Struct(">III4sII")
@@ -28,6 +30,7 @@ MIB = 1 << 20
 LEAST_LARGE_FILE = 256 * MIB
 GREATEST_FILE = 1 << 30
 FILES_IN_FOLDER = 128
+LABEL_FRONT = b"Bacula 1.0 immortal\n\0" + struct.pack(">I", 11)
 DIGITS = "ABCDEFGHIJKLMNOPQRSTUVWXYZabcdefghijklmnopqrstuvwxyz0123456789+/"
 
 
@@ -45,6 +48,20 @@ def escaped(name):
     return "".join(
         chr(byte) if 0x21 <= byte <= 0x7E and byte != 0x5C else f"\\x{byte:02x}" for byte in name
     )
+
+
+def volume_label(name):
+    """What a volume's label holds: when it was made and written, and the names of volume, pool, kind, host and program."""
+    times = struct.pack(">qqdd", 0, 0, 0.0, 0.0)
+    names = (name, "", "Bench", "Backup", "File", "bench", "bench", "Ver. 1", "Build 1")
+    return LABEL_FRONT + times + "".join(it + "\0" for it in names).encode()
+
+
+def session_label(number, time):
+    """What both labels of a session begin with: job, time, the names of pool, client, job and file set, and a full backup."""
+    front = struct.pack(">Iqd", number, time * 1_000_000, 0.0)
+    names = ("Bench", "Backup", "Bench", "bench", f"Bench.{number}", "Bench")
+    return LABEL_FRONT + front + "".join(it + "\0" for it in names).encode() + struct.pack(">II", ord("B"), ord("F")) + b"\0"
 
 
 class Volumes:
@@ -66,8 +83,8 @@ class Volumes:
         self.names.append(f"{self.prefix}-{len(self.names) + 1:04}")
         self.file = open(os.path.join(self.folder, self.names[-1]), "wb", buffering=4 * MIB)
         self.at = 0
-        label = RECORD_HEADER.pack(VOLUME_LABEL, 0, 200) + bytes(200)
-        self.put([label], len(label), 0, 0, 0)
+        label = volume_label(self.names[-1])
+        self.put([RECORD_HEADER.pack(VOLUME_LABEL, 0, len(label)), label], RECORD_HEADER.size + len(label), 0, 0, 0)
 
     def end(self):
         if self.file is not None:
@@ -82,8 +99,11 @@ class Volumes:
     def put(self, parts, length, number, session_id, session_time):
         """Puts a block behind the others, and says where its last byte stands."""
         size = BLOCK_HEADER.size + length
-        header = BLOCK_HEADER.pack(0, size, number, b"BB02", session_id, session_time)
-        self.file.write(header)
+        header = BLOCK_HEADER.pack(0, size, number, b"BB02", session_id, session_time)[4:]
+        checksum = zlib.crc32(header)
+        for part in parts:
+            checksum = zlib.crc32(part, checksum)
+        self.file.write(struct.pack(">I", checksum) + header)
         self.file.writelines(parts)
         self.at += size
         self.bytes += size
@@ -138,7 +158,7 @@ class Session:
         self.lines = []
         self.spans = []
         self.empty_block()
-        self.put(START_OF_SESSION, session_id, bytes(120))
+        self.put(START_OF_SESSION, session_id, session_label(session_id, session_time))
 
     def empty_block(self):
         self.parts = []
@@ -179,7 +199,8 @@ class Session:
         self.empty_block()
 
     def close(self):
-        self.put(END_OF_SESSION, self.id, bytes(140))
+        ended = struct.pack(">IQIIIIII", self.files, self.bytes, 0, 0, 0, 0, 0, ord("T"))
+        self.put(END_OF_SESSION, self.id, session_label(self.id, self.time) + ended)
         self.close_block()
 
     def begin_file(self, kind, path, size, link=b""):
@@ -307,6 +328,7 @@ def fill_large(sessions, size, source):
 KINDS = {
     "small": (fill_small, 2, 4, Volumes),
     "large": (fill_large, 1, 5, Volumes),
+    "one-session": (fill_small, 1, 4, Volumes),
     "many-volumes": (fill_small, 2, 2000, Volumes),
     "many-visits": (fill_small, 1, 2, VolumesInTurns),
 }
