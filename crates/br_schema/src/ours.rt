@@ -1,19 +1,20 @@
 //! Whether a schema is the catalogue's.
 
-ghost use Rattle.std.specs.Prelude.{◌≡◌, false, codes, Bool, IsTrue, [], ◌∷◌, Some, None};
+ghost use Rattle.std.specs.Prelude.{◌≡◌, ◌↔◌, false, codes, Bool, IsTrue, [], ◌∷◌, Some, None};
 ghost use Rattle.sqlite.specs.Kind.TheVariants.{Text, Integer, Any};
 ghost use Rattle.sqlite_value.specs.declared.value.Value.TheVariants.{Null};
 ghost use Rattle.sqlite_value.specs.declared.keys.Collation.TheVariants.{Binary};
 ghost use Rattle.sqlite_schema.specs.declared.schema.Action.TheVariants.{NoAction};
 ghost use Rattle.br_schema.specs.Tables.{version, client, fileset, media, path, filename, job, job_media, file, client_index, fileset_index, media_index, path_index, filename_index, job_index, job_media_index, key_column, column, no_schema, refers, store_schema, unique_index};
 
-use sqlite_schema::schema::{Action, Column, Index, Kind, Reference, Schema, Table};
+use sqlite_schema::code::Terms;
+use sqlite_schema::schema::{Action, Column, Index, Kind, Reference, Schema, Stamps, Table};
 use sqlite_value::keys::{Collation, Order};
 use sqlite_value::value::{Bytes, Value};
 
 /// Whether a column that isn't strict has this name and kind.
 fn is_column(column: &Column, name: &[u8], kind: Kind, not_null: bool) -> bool
-    ensures { IsTrue result → column.now ≡ record { name = name.now; kind = kind; is_strict = false; not_null = not_null; default = Null; collation = Binary } }
+    ensures { IsTrue result ↔ (column.now ≡ record { name = name.now; kind = kind; is_strict = false; not_null = not_null; default = Null; collation = Binary }) }
 {
     column.name.as_slice() == name
         && column.kind == kind
@@ -24,7 +25,7 @@ fn is_column(column: &Column, name: &[u8], kind: Kind, not_null: bool) -> bool
 }
 
 fn are_version_columns(columns: &[Column]) -> bool
-    ensures { IsTrue result → columns.now ≡ column (codes "VersionId") Integer ∷ [] }
+    ensures { IsTrue result ↔ (columns.now ≡ column (codes "VersionId") Integer ∷ []) }
 {
     match columns {
         [a] => { is_column(a, b"VersionId", Kind::Integer, true) }
@@ -33,7 +34,7 @@ fn are_version_columns(columns: &[Column]) -> bool
 }
 
 fn are_client_columns(columns: &[Column]) -> bool
-    ensures { IsTrue result → columns.now ≡ key_column (codes "ClientId") ∷ column (codes "Name") Text ∷ [] }
+    ensures { IsTrue result ↔ (columns.now ≡ key_column (codes "ClientId") ∷ column (codes "Name") Text ∷ []) }
 {
     match columns {
         [a, b] => {
@@ -45,7 +46,7 @@ fn are_client_columns(columns: &[Column]) -> bool
 }
 
 fn are_fileset_columns(columns: &[Column]) -> bool
-    ensures { IsTrue result → columns.now ≡ key_column (codes "FileSetId") ∷ column (codes "FileSet") Text ∷ [] }
+    ensures { IsTrue result ↔ (columns.now ≡ key_column (codes "FileSetId") ∷ column (codes "FileSet") Text ∷ []) }
 {
     match columns {
         [a, b] => {
@@ -57,7 +58,7 @@ fn are_fileset_columns(columns: &[Column]) -> bool
 }
 
 fn are_media_columns(columns: &[Column]) -> bool
-    ensures { IsTrue result → columns.now ≡ key_column (codes "MediaId") ∷ column (codes "VolumeName") Text ∷ column (codes "MediaType") Text ∷ [] }
+    ensures { IsTrue result ↔ (columns.now ≡ key_column (codes "MediaId") ∷ column (codes "VolumeName") Text ∷ column (codes "MediaType") Text ∷ []) }
 {
     match columns {
         [a, b, c] => {
@@ -70,7 +71,7 @@ fn are_media_columns(columns: &[Column]) -> bool
 }
 
 fn are_path_columns(columns: &[Column]) -> bool
-    ensures { IsTrue result → columns.now ≡ key_column (codes "PathId") ∷ column (codes "Path") Any ∷ [] }
+    ensures { IsTrue result ↔ (columns.now ≡ key_column (codes "PathId") ∷ column (codes "Path") Any ∷ []) }
 {
     match columns {
         [a, b] => {
@@ -81,7 +82,7 @@ fn are_path_columns(columns: &[Column]) -> bool
 }
 
 fn are_filename_columns(columns: &[Column]) -> bool
-    ensures { IsTrue result → columns.now ≡ key_column (codes "FilenameId") ∷ column (codes "Name") Any ∷ [] }
+    ensures { IsTrue result ↔ (columns.now ≡ key_column (codes "FilenameId") ∷ column (codes "Name") Any ∷ []) }
 {
     match columns {
         [a, b] => {
@@ -93,7 +94,7 @@ fn are_filename_columns(columns: &[Column]) -> bool
 }
 
 fn are_job_columns_3(columns: &[Column]) -> bool
-    ensures { IsTrue result → columns.now ≡ column (codes "FileSetId") Integer ∷ column (codes "VolSessionId") Integer ∷ column (codes "VolSessionTime") Integer ∷ [] }
+    ensures { IsTrue result ↔ (columns.now ≡ column (codes "FileSetId") Integer ∷ column (codes "VolSessionId") Integer ∷ column (codes "VolSessionTime") Integer ∷ []) }
 {
     match columns {
         [a, b, c] => {
@@ -106,7 +107,7 @@ fn are_job_columns_3(columns: &[Column]) -> bool
 }
 
 fn are_job_columns_2(columns: &[Column]) -> bool
-    ensures { IsTrue result → columns.now ≡ column (codes "ClientId") Integer ∷ column (codes "JobStatus") Text ∷ column (codes "StartTime") Integer ∷ column (codes "FileSetId") Integer ∷ column (codes "VolSessionId") Integer ∷ column (codes "VolSessionTime") Integer ∷ [] }
+    ensures { IsTrue result ↔ (columns.now ≡ column (codes "ClientId") Integer ∷ column (codes "JobStatus") Text ∷ column (codes "StartTime") Integer ∷ column (codes "FileSetId") Integer ∷ column (codes "VolSessionId") Integer ∷ column (codes "VolSessionTime") Integer ∷ []) }
 {
     match columns {
         [a, b, c, rest @ ..] => {
@@ -120,7 +121,7 @@ fn are_job_columns_2(columns: &[Column]) -> bool
 }
 
 fn are_job_columns(columns: &[Column]) -> bool
-    ensures { IsTrue result → columns.now ≡ key_column (codes "JobId") ∷ column (codes "Type") Text ∷ column (codes "Level") Text ∷ column (codes "ClientId") Integer ∷ column (codes "JobStatus") Text ∷ column (codes "StartTime") Integer ∷ column (codes "FileSetId") Integer ∷ column (codes "VolSessionId") Integer ∷ column (codes "VolSessionTime") Integer ∷ [] }
+    ensures { IsTrue result ↔ (columns.now ≡ key_column (codes "JobId") ∷ column (codes "Type") Text ∷ column (codes "Level") Text ∷ column (codes "ClientId") Integer ∷ column (codes "JobStatus") Text ∷ column (codes "StartTime") Integer ∷ column (codes "FileSetId") Integer ∷ column (codes "VolSessionId") Integer ∷ column (codes "VolSessionTime") Integer ∷ []) }
 {
     match columns {
         [a, b, c, rest @ ..] => {
@@ -134,7 +135,7 @@ fn are_job_columns(columns: &[Column]) -> bool
 }
 
 fn are_job_media_columns_4(columns: &[Column]) -> bool
-    ensures { IsTrue result → columns.now ≡ column (codes "VolIndex") Integer ∷ [] }
+    ensures { IsTrue result ↔ (columns.now ≡ column (codes "VolIndex") Integer ∷ []) }
 {
     match columns {
         [a] => { is_column(a, b"VolIndex", Kind::Integer, true) }
@@ -143,7 +144,7 @@ fn are_job_media_columns_4(columns: &[Column]) -> bool
 }
 
 fn are_job_media_columns_3(columns: &[Column]) -> bool
-    ensures { IsTrue result → columns.now ≡ column (codes "EndFile") Integer ∷ column (codes "StartBlock") Integer ∷ column (codes "EndBlock") Integer ∷ column (codes "VolIndex") Integer ∷ [] }
+    ensures { IsTrue result ↔ (columns.now ≡ column (codes "EndFile") Integer ∷ column (codes "StartBlock") Integer ∷ column (codes "EndBlock") Integer ∷ column (codes "VolIndex") Integer ∷ []) }
 {
     match columns {
         [a, b, c, rest @ ..] => {
@@ -157,7 +158,7 @@ fn are_job_media_columns_3(columns: &[Column]) -> bool
 }
 
 fn are_job_media_columns_2(columns: &[Column]) -> bool
-    ensures { IsTrue result → columns.now ≡ column (codes "FirstIndex") Integer ∷ column (codes "LastIndex") Integer ∷ column (codes "StartFile") Integer ∷ column (codes "EndFile") Integer ∷ column (codes "StartBlock") Integer ∷ column (codes "EndBlock") Integer ∷ column (codes "VolIndex") Integer ∷ [] }
+    ensures { IsTrue result ↔ (columns.now ≡ column (codes "FirstIndex") Integer ∷ column (codes "LastIndex") Integer ∷ column (codes "StartFile") Integer ∷ column (codes "EndFile") Integer ∷ column (codes "StartBlock") Integer ∷ column (codes "EndBlock") Integer ∷ column (codes "VolIndex") Integer ∷ []) }
 {
     match columns {
         [a, b, c, rest @ ..] => {
@@ -171,7 +172,7 @@ fn are_job_media_columns_2(columns: &[Column]) -> bool
 }
 
 fn are_job_media_columns(columns: &[Column]) -> bool
-    ensures { IsTrue result → columns.now ≡ key_column (codes "JobMediaId") ∷ column (codes "JobId") Integer ∷ column (codes "MediaId") Integer ∷ column (codes "FirstIndex") Integer ∷ column (codes "LastIndex") Integer ∷ column (codes "StartFile") Integer ∷ column (codes "EndFile") Integer ∷ column (codes "StartBlock") Integer ∷ column (codes "EndBlock") Integer ∷ column (codes "VolIndex") Integer ∷ [] }
+    ensures { IsTrue result ↔ (columns.now ≡ key_column (codes "JobMediaId") ∷ column (codes "JobId") Integer ∷ column (codes "MediaId") Integer ∷ column (codes "FirstIndex") Integer ∷ column (codes "LastIndex") Integer ∷ column (codes "StartFile") Integer ∷ column (codes "EndFile") Integer ∷ column (codes "StartBlock") Integer ∷ column (codes "EndBlock") Integer ∷ column (codes "VolIndex") Integer ∷ []) }
 {
     match columns {
         [a, b, c, rest @ ..] => {
@@ -185,7 +186,7 @@ fn are_job_media_columns(columns: &[Column]) -> bool
 }
 
 fn are_file_columns_3(columns: &[Column]) -> bool
-    ensures { IsTrue result → columns.now ≡ column (codes "MD5") Text ∷ [] }
+    ensures { IsTrue result ↔ (columns.now ≡ column (codes "MD5") Text ∷ []) }
 {
     match columns {
         [a] => { is_column(a, b"MD5", Kind::Text, true) }
@@ -194,7 +195,7 @@ fn are_file_columns_3(columns: &[Column]) -> bool
 }
 
 fn are_file_columns_2(columns: &[Column]) -> bool
-    ensures { IsTrue result → columns.now ≡ column (codes "PathId") Integer ∷ column (codes "FilenameId") Integer ∷ column (codes "LStat") Text ∷ column (codes "MD5") Text ∷ [] }
+    ensures { IsTrue result ↔ (columns.now ≡ column (codes "PathId") Integer ∷ column (codes "FilenameId") Integer ∷ column (codes "LStat") Text ∷ column (codes "MD5") Text ∷ []) }
 {
     match columns {
         [a, b, c, rest @ ..] => {
@@ -208,7 +209,7 @@ fn are_file_columns_2(columns: &[Column]) -> bool
 }
 
 fn are_file_columns(columns: &[Column]) -> bool
-    ensures { IsTrue result → columns.now ≡ key_column (codes "FileId") ∷ column (codes "FileIndex") Integer ∷ column (codes "JobId") Integer ∷ column (codes "PathId") Integer ∷ column (codes "FilenameId") Integer ∷ column (codes "LStat") Text ∷ column (codes "MD5") Text ∷ [] }
+    ensures { IsTrue result ↔ (columns.now ≡ key_column (codes "FileId") ∷ column (codes "FileIndex") Integer ∷ column (codes "JobId") Integer ∷ column (codes "PathId") Integer ∷ column (codes "FilenameId") Integer ∷ column (codes "LStat") Text ∷ column (codes "MD5") Text ∷ []) }
 {
     match columns {
         [a, b, c, rest @ ..] => {
@@ -222,7 +223,7 @@ fn are_file_columns(columns: &[Column]) -> bool
 }
 
 fn is_one(places: &[usize], place: usize) -> bool
-    ensures { IsTrue result → places.now ≡ place ∷ [] }
+    ensures { IsTrue result ↔ (places.now ≡ place ∷ []) }
 {
     match places {
         [a] => *a == place,
@@ -231,7 +232,7 @@ fn is_one(places: &[usize], place: usize) -> bool
 }
 
 fn is_pair(places: &[usize], first: usize, second: usize) -> bool
-    ensures { IsTrue result → places.now ≡ first ∷ second ∷ [] }
+    ensures { IsTrue result ↔ (places.now ≡ first ∷ second ∷ []) }
 {
     match places {
         [a, b] => *a == first && *b == second,
@@ -240,7 +241,7 @@ fn is_pair(places: &[usize], first: usize, second: usize) -> bool
 }
 
 fn is_plain(orders: &[Order]) -> bool
-    ensures { IsTrue result → orders.now ≡ record { digits = 0 } ∷ [] }
+    ensures { IsTrue result ↔ (orders.now ≡ record { digits = 0 } ∷ []) }
 {
     match orders {
         [a] => a.digits == 0,
@@ -249,7 +250,7 @@ fn is_plain(orders: &[Order]) -> bool
 }
 
 fn does_nothing(reference: &Reference) -> bool
-    ensures { IsTrue result → (reference.now.on_delete ≡ NoAction) × (reference.now.on_update ≡ NoAction) × (reference.now.is_deferred ≡ false) }
+    ensures { IsTrue result ↔ ((reference.now.on_delete ≡ NoAction) × (reference.now.on_update ≡ NoAction) × (reference.now.is_deferred ≡ false)) }
 {
     reference.on_delete == Action::NoAction
         && reference.on_update == Action::NoAction
@@ -257,13 +258,13 @@ fn does_nothing(reference: &Reference) -> bool
 }
 
 fn is_name(bytes: &Bytes, name: &[u8]) -> bool
-    ensures { IsTrue result → bytes.now ≡ name.now }
+    ensures { IsTrue result ↔ (bytes.now ≡ name.now) }
 {
     bytes.as_slice() == name
 }
 
 fn names_one(names: &[Bytes], name: &[u8]) -> bool
-    ensures { IsTrue result → names.now ≡ name.now ∷ [] }
+    ensures { IsTrue result ↔ (names.now ≡ name.now ∷ []) }
 {
     match names {
         [a] => is_name(a, name),
@@ -272,7 +273,7 @@ fn names_one(names: &[Bytes], name: &[u8]) -> bool
 }
 
 fn refers_to(reference: &Reference, place: usize, parent: &[u8], name: &[u8]) -> bool
-    ensures { IsTrue result → reference.now ≡ refers place parent.now name.now }
+    ensures { IsTrue result ↔ (reference.now ≡ refers place parent.now name.now) }
 {
     is_one(reference.columns.as_slice(), place)
         && is_name(&reference.parent, parent)
@@ -281,7 +282,7 @@ fn refers_to(reference: &Reference, place: usize, parent: &[u8], name: &[u8]) ->
 }
 
 fn are_job_references(references: &[Reference]) -> bool
-    ensures { IsTrue result → references.now ≡ refers 4 (codes "Client") (codes "ClientId") ∷ refers 7 (codes "FileSet") (codes "FileSetId") ∷ [] }
+    ensures { IsTrue result ↔ (references.now ≡ refers 4 (codes "Client") (codes "ClientId") ∷ refers 7 (codes "FileSet") (codes "FileSetId") ∷ []) }
 {
     match references {
         [a, b] => {
@@ -292,7 +293,7 @@ fn are_job_references(references: &[Reference]) -> bool
 }
 
 fn are_job_media_references(references: &[Reference]) -> bool
-    ensures { IsTrue result → references.now ≡ refers 2 (codes "Job") (codes "JobId") ∷ refers 3 (codes "Media") (codes "MediaId") ∷ [] }
+    ensures { IsTrue result ↔ (references.now ≡ refers 2 (codes "Job") (codes "JobId") ∷ refers 3 (codes "Media") (codes "MediaId") ∷ []) }
 {
     match references {
         [a, b] => { refers_to(a, 2, b"Job", b"JobId") && refers_to(b, 3, b"Media", b"MediaId") }
@@ -301,7 +302,7 @@ fn are_job_media_references(references: &[Reference]) -> bool
 }
 
 fn are_file_references(references: &[Reference]) -> bool
-    ensures { IsTrue result → references.now ≡ refers 3 (codes "Job") (codes "JobId") ∷ refers 4 (codes "Path") (codes "PathId") ∷ refers 5 (codes "Filename") (codes "FilenameId") ∷ [] }
+    ensures { IsTrue result ↔ (references.now ≡ refers 3 (codes "Job") (codes "JobId") ∷ refers 4 (codes "Path") (codes "PathId") ∷ refers 5 (codes "Filename") (codes "FilenameId") ∷ []) }
 {
     match references {
         [a, b, c] => {
@@ -313,44 +314,48 @@ fn are_file_references(references: &[Reference]) -> bool
     }
 }
 
+fn has_none(terms: &Terms) -> bool
+    ensures { IsTrue result ↔ (terms.now ≡ []) }
+{
+    terms.roots.is_empty()
+}
+
+fn reads_no_time(stamps: &Stamps) -> bool
+    ensures { IsTrue result ↔ (stamps.now ≡ record { places = []; terms = []; formats = [] }) }
+{
+    stamps.places.is_empty() && has_none(&stamps.terms) && stamps.formats.is_empty()
+}
+
 /// A table with a key, and with no check, no default that is computed and no count.
 fn is_bare(table: &Table, name: &[u8], tree: u32) -> bool
-    ensures named { IsTrue result → (table.now.name ≡ name.now) × (table.now.tree ≡ tree) }
-    ensures keyed { IsTrue result → (table.now.key ≡ Some 0) × (table.now.primary ≡ 0 ∷ []) }
-    ensures bare { IsTrue result → (table.now.checks ≡ []) × (table.now.computed ≡ []) × (table.now.stamps ≡ record { places = []; terms = []; formats = [] }) × (table.now.is_counted ≡ false) }
+    ensures { IsTrue result ↔ (table.now ≡ record table.now { name = name.now; tree = tree; key = Some 0; primary = 0 ∷ []; checks = []; computed = []; stamps = record { places = []; terms = []; formats = [] }; is_counted = false }) }
 {
     table.name.as_slice() == name
         && table.tree == tree
         && table.key == Some(0)
         && is_one(table.primary.as_slice(), 0)
-        && table.checks.roots.is_empty()
+        && has_none(&table.checks)
         && table.computed.is_empty()
-        && table.stamps.places.is_empty()
-        && table.stamps.terms.roots.is_empty()
-        && table.stamps.formats.is_empty()
+        && reads_no_time(&table.stamps)
         && !table.is_counted
 }
 
 /// A table with no key, no check, no default that is computed, no count and no rule.
 fn is_keyless(table: &Table, name: &[u8], tree: u32) -> bool
-    ensures named { IsTrue result → (table.now.name ≡ name.now) × (table.now.tree ≡ tree) }
-    ensures keyed { IsTrue result → (table.now.key ≡ None) × (table.now.primary ≡ []) }
-    ensures bare { IsTrue result → (table.now.checks ≡ []) × (table.now.computed ≡ []) × (table.now.stamps ≡ record { places = []; terms = []; formats = [] }) × (table.now.is_counted ≡ false) }
+    ensures { IsTrue result ↔ (table.now ≡ record table.now { name = name.now; tree = tree; key = None; primary = []; checks = []; computed = []; stamps = record { places = []; terms = []; formats = [] }; is_counted = false }) }
 {
     table.name.as_slice() == name
         && table.tree == tree
         && table.key.is_none()
         && table.primary.is_empty()
-        && table.checks.roots.is_empty()
+        && has_none(&table.checks)
         && table.computed.is_empty()
-        && table.stamps.places.is_empty()
-        && table.stamps.terms.roots.is_empty()
-        && table.stamps.formats.is_empty()
+        && reads_no_time(&table.stamps)
         && !table.is_counted
 }
 
 fn is_version(table: &Table) -> bool
-    ensures { IsTrue result → table.now ≡ version }
+    ensures { IsTrue result ↔ (table.now ≡ version) }
 {
     is_keyless(table, b"Version", 0)
         && are_version_columns(table.columns.as_slice())
@@ -360,7 +365,7 @@ fn is_version(table: &Table) -> bool
 }
 
 fn is_client(table: &Table) -> bool
-    ensures { IsTrue result → table.now ≡ client }
+    ensures { IsTrue result ↔ (table.now ≡ client) }
 {
     is_bare(table, b"Client", 1)
         && are_client_columns(table.columns.as_slice())
@@ -373,7 +378,7 @@ fn is_client(table: &Table) -> bool
 }
 
 fn is_fileset(table: &Table) -> bool
-    ensures { IsTrue result → table.now ≡ fileset }
+    ensures { IsTrue result ↔ (table.now ≡ fileset) }
 {
     is_bare(table, b"FileSet", 3)
         && are_fileset_columns(table.columns.as_slice())
@@ -386,7 +391,7 @@ fn is_fileset(table: &Table) -> bool
 }
 
 fn is_media(table: &Table) -> bool
-    ensures { IsTrue result → table.now ≡ media }
+    ensures { IsTrue result ↔ (table.now ≡ media) }
 {
     is_bare(table, b"Media", 5)
         && are_media_columns(table.columns.as_slice())
@@ -399,7 +404,7 @@ fn is_media(table: &Table) -> bool
 }
 
 fn is_path(table: &Table) -> bool
-    ensures { IsTrue result → table.now ≡ path }
+    ensures { IsTrue result ↔ (table.now ≡ path) }
 {
     is_bare(table, b"Path", 7)
         && are_path_columns(table.columns.as_slice())
@@ -412,7 +417,7 @@ fn is_path(table: &Table) -> bool
 }
 
 fn is_filename(table: &Table) -> bool
-    ensures { IsTrue result → table.now ≡ filename }
+    ensures { IsTrue result ↔ (table.now ≡ filename) }
 {
     is_bare(table, b"Filename", 9)
         && are_filename_columns(table.columns.as_slice())
@@ -425,7 +430,7 @@ fn is_filename(table: &Table) -> bool
 }
 
 fn is_job(table: &Table) -> bool
-    ensures { IsTrue result → table.now ≡ job }
+    ensures { IsTrue result ↔ (table.now ≡ job) }
 {
     is_bare(table, b"Job", 11)
         && are_job_columns(table.columns.as_slice())
@@ -438,7 +443,7 @@ fn is_job(table: &Table) -> bool
 }
 
 fn is_job_media(table: &Table) -> bool
-    ensures { IsTrue result → table.now ≡ job_media }
+    ensures { IsTrue result ↔ (table.now ≡ job_media) }
 {
     is_bare(table, b"JobMedia", 13)
         && are_job_media_columns(table.columns.as_slice())
@@ -451,7 +456,7 @@ fn is_job_media(table: &Table) -> bool
 }
 
 fn is_file(table: &Table) -> bool
-    ensures { IsTrue result → table.now ≡ file }
+    ensures { IsTrue result ↔ (table.now ≡ file) }
 {
     is_bare(table, b"File", 15)
         && are_file_columns(table.columns.as_slice())
@@ -461,7 +466,7 @@ fn is_file(table: &Table) -> bool
 }
 
 fn is_index(index: &Index, name: &[u8], tree: u32, table: u32) -> bool
-    ensures { IsTrue result → index.now ≡ unique_index name.now tree table index.now.columns }
+    ensures { IsTrue result ↔ (index.now ≡ unique_index name.now tree table index.now.columns) }
 {
     index.name.as_slice() == name
         && index.tree == tree
@@ -471,62 +476,62 @@ fn is_index(index: &Index, name: &[u8], tree: u32, table: u32) -> bool
 }
 
 fn is_client_index(index: &Index) -> bool
-    ensures { IsTrue result → index.now ≡ client_index }
+    ensures { IsTrue result ↔ (index.now ≡ client_index) }
 {
     is_index(index, b"sqlite_autoindex_Client_1", 2, 1) && is_one(index.columns.as_slice(), 2)
 }
 
 fn is_fileset_index(index: &Index) -> bool
-    ensures { IsTrue result → index.now ≡ fileset_index }
+    ensures { IsTrue result ↔ (index.now ≡ fileset_index) }
 {
     is_index(index, b"sqlite_autoindex_FileSet_1", 4, 3) && is_one(index.columns.as_slice(), 2)
 }
 
 fn is_media_index(index: &Index) -> bool
-    ensures { IsTrue result → index.now ≡ media_index }
+    ensures { IsTrue result ↔ (index.now ≡ media_index) }
 {
     is_index(index, b"sqlite_autoindex_Media_1", 6, 5) && is_one(index.columns.as_slice(), 2)
 }
 
 fn is_path_index(index: &Index) -> bool
-    ensures { IsTrue result → index.now ≡ path_index }
+    ensures { IsTrue result ↔ (index.now ≡ path_index) }
 {
     is_index(index, b"sqlite_autoindex_Path_1", 8, 7) && is_one(index.columns.as_slice(), 2)
 }
 
 fn is_filename_index(index: &Index) -> bool
-    ensures { IsTrue result → index.now ≡ filename_index }
+    ensures { IsTrue result ↔ (index.now ≡ filename_index) }
 {
     is_index(index, b"sqlite_autoindex_Filename_1", 10, 9) && is_one(index.columns.as_slice(), 2)
 }
 
 fn is_job_index(index: &Index) -> bool
-    ensures { IsTrue result → index.now ≡ job_index }
+    ensures { IsTrue result ↔ (index.now ≡ job_index) }
 {
     is_index(index, b"sqlite_autoindex_Job_1", 12, 11) && is_pair(index.columns.as_slice(), 8, 9)
 }
 
 fn is_job_media_index(index: &Index) -> bool
-    ensures { IsTrue result → index.now ≡ job_media_index }
+    ensures { IsTrue result ↔ (index.now ≡ job_media_index) }
 {
     is_index(index, b"sqlite_autoindex_JobMedia_1", 14, 13)
         && is_pair(index.columns.as_slice(), 2, 10)
 }
 
 fn are_first_indexes(a: &Index, b: &Index, c: &Index, d: &Index) -> bool
-    ensures { IsTrue result → (a.now ≡ client_index) × (b.now ≡ fileset_index) × (c.now ≡ media_index) × (d.now ≡ path_index) }
+    ensures { IsTrue result ↔ ((a.now ≡ client_index) × (b.now ≡ fileset_index) × (c.now ≡ media_index) × (d.now ≡ path_index)) }
 {
     is_client_index(a) && is_fileset_index(b) && is_media_index(c) && is_path_index(d)
 }
 
 fn are_last_indexes(e: &Index, f: &Index, g: &Index) -> bool
-    ensures { IsTrue result → (e.now ≡ filename_index) × (f.now ≡ job_index) × (g.now ≡ job_media_index) }
+    ensures { IsTrue result ↔ ((e.now ≡ filename_index) × (f.now ≡ job_index) × (g.now ≡ job_media_index)) }
 {
     is_filename_index(e) && is_job_index(f) && is_job_media_index(g)
 }
 
 fn are_indexes(indexes: &[Index]) -> bool
-    ensures { IsTrue result → indexes.now ≡ client_index ∷ fileset_index ∷ media_index ∷ path_index ∷ filename_index ∷ job_index ∷ job_media_index ∷ [] }
+    ensures { IsTrue result ↔ (indexes.now ≡ client_index ∷ fileset_index ∷ media_index ∷ path_index ∷ filename_index ∷ job_index ∷ job_media_index ∷ []) }
 {
     match indexes {
         [a, b, c, d, e, f, g] => are_first_indexes(a, b, c, d) && are_last_indexes(e, f, g),
@@ -535,7 +540,7 @@ fn are_indexes(indexes: &[Index]) -> bool
 }
 
 fn are_row_tables(tables: &[Table]) -> bool
-    ensures { IsTrue result → tables.now ≡ job ∷ job_media ∷ file ∷ [] }
+    ensures { IsTrue result ↔ (tables.now ≡ job ∷ job_media ∷ file ∷ []) }
 {
     match tables {
         [a, b, c] => { is_job(a) && is_job_media(b) && is_file(c) }
@@ -544,7 +549,7 @@ fn are_row_tables(tables: &[Table]) -> bool
 }
 
 fn are_name_tables(tables: &[Table]) -> bool
-    ensures { IsTrue result → tables.now ≡ media ∷ path ∷ filename ∷ job ∷ job_media ∷ file ∷ [] }
+    ensures { IsTrue result ↔ (tables.now ≡ media ∷ path ∷ filename ∷ job ∷ job_media ∷ file ∷ []) }
 {
     match tables {
         [a, b, c, rest @ ..] => {
@@ -555,7 +560,7 @@ fn are_name_tables(tables: &[Table]) -> bool
 }
 
 fn are_tables(tables: &[Table]) -> bool
-    ensures { IsTrue result → tables.now ≡ version ∷ client ∷ fileset ∷ media ∷ path ∷ filename ∷ job ∷ job_media ∷ file ∷ [] }
+    ensures { IsTrue result ↔ (tables.now ≡ version ∷ client ∷ fileset ∷ media ∷ path ∷ filename ∷ job ∷ job_media ∷ file ∷ []) }
 {
     match tables {
         [a, b, c, rest @ ..] => {
@@ -567,7 +572,8 @@ fn are_tables(tables: &[Table]) -> bool
 
 /// Whether it is the catalogue's schema.
 pub fn is_ours(schema: &Schema) -> bool
-    ensures { IsTrue result → schema.now ≡ store_schema }
+    ensures ours { IsTrue result → schema.now ≡ store_schema }
+    ensures known { schema.now ≡ store_schema → IsTrue result }
 {
     are_tables(schema.tables.as_slice())
         && are_indexes(schema.indexes.as_slice())
@@ -576,7 +582,8 @@ pub fn is_ours(schema: &Schema) -> bool
 
 /// Whether it has nothing.
 pub fn is_empty(schema: &Schema) -> bool
-    ensures { IsTrue result → schema.now ≡ no_schema }
+    ensures empty { IsTrue result → schema.now ≡ no_schema }
+    ensures known { schema.now ≡ no_schema → IsTrue result }
 {
     schema.tables.is_empty() && schema.indexes.is_empty() && schema.views.is_empty()
 }

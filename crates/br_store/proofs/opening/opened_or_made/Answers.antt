@@ -17,7 +17,7 @@ returns-then-is_empty-clause-finds g c clean =
     let new = state g.S.Store c.create.new.conn in
     let clean_now : HasCleanDisk now = omega (arith, clean, c.create.ensures.crash.clean) in
     let found = c.in_ok-conn.ensures.found clean_now in
-    let schema : now.now.schema ≡ no_schema = sym c.schema.ensures.value ∙ c.is_empty.ensures c.if-is_empty.true in
+    let schema : now.now.schema ≡ no_schema = sym c.schema.ensures.value ∙ c.is_empty.ensures.empty c.if-is_empty.true in
     finds_made (state g.S.Store c.args.conn).committed now.now new.now found.0 found.1 schema (c.in_ok-create.ensures.made clean).0
 
 pub returns-then-is_empty-clause-fresh : goal.returns-then-is_empty-clause-fresh
@@ -26,7 +26,7 @@ returns-then-is_empty-clause-fresh g c clean none = (c.in_ok-create.ensures.made
 pub returns-then-is_ours-clause-catalogue : goal.returns-then-is_ours-clause-catalogue
 returns-then-is_ours-clause-catalogue g c =
     let now = state g.S.Store c.in_ok-conn.conn in
-    let schema : now.now.schema ≡ store_schema = sym c.schema-2.ensures.value ∙ c.is_ours.ensures c.if-is_ours.true in
+    let schema : now.now.schema ≡ store_schema = sym c.schema-2.ensures.value ∙ c.is_ours.ensures.ours c.if-is_ours.true in
     record { idle = c.in_ok-conn.ensures.idle; stands = λ clean up. c.in_ok-conn.ensures.stands clean schema }
 
 pub returns-then-is_ours-clause-open : goal.returns-then-is_ours-clause-open
@@ -42,5 +42,5 @@ returns-then-is_ours-clause-finds g c clean =
 pub returns-then-is_ours-clause-fresh : goal.returns-then-is_ours-clause-fresh
 returns-then-is_ours-clause-fresh g c clean none =
     let now = state g.S.Store c.in_ok-conn.conn in
-    let schema : now.now.schema ≡ store_schema = sym c.schema-2.ensures.value ∙ c.is_ours.ensures c.if-is_ours.true in
+    let schema : now.now.schema ≡ store_schema = sym c.schema-2.ensures.value ∙ c.is_ours.ensures.ours c.if-is_ours.true in
     not_fresh _ now.now (c.in_ok-conn.ensures.found clean).0 schema (c.in_ok-conn.ensures.fresh clean none)
