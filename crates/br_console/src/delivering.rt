@@ -17,6 +17,7 @@ use br_types::FileKey;
 use br_volume::Drive;
 use std::alloc::Global;
 use std::io::{BufRead, Write};
+use std::thread::Threads;
 
 /// What came of a run of the console that also delivers.
 #[derive(Debug, Drop)]
@@ -46,6 +47,7 @@ fn put_files<S: Sink>(
 ///
 /// Refused as `run_console`, and then nothing is put. `Memory` and `Io` also where the flush failed.
 pub fn run_console_into<R: BufRead + Drop, D: Drive, W: Write + Drop, S: Sink>(
+    rt: &(impl Threads + Sync),
     alloc: Global,
     history: &History,
     request: &Request,
@@ -64,7 +66,7 @@ pub fn run_console_into<R: BufRead + Drop, D: Drive, W: Write + Drop, S: Sink>(
     ensures sink_counted { S.failures sink.old ≤ S.failures sink.new }
     ensures sink_failed { IfOk result (λ made. IfSome made.stop (λ stop. stop.number ≡ 80 → S.failures sink.old < S.failures sink.new)) }
 {
-    let (is_clean, outcomes) = run_to_manifest(alloc, history, request, reader, drive, writer)?;
+    let (is_clean, outcomes) = run_to_manifest(rt, alloc, history, request, reader, drive, writer)?;
     let Some(outcomes) = outcomes else {
         return Ok(ConsoleDelivery {
             run: ConsoleRun {

@@ -9,6 +9,7 @@ use br_volume::MemDrive;
 use std::alloc::Global;
 use std::io::{self, Error, ErrorKind, Write};
 use std::test::Fail;
+use std::thread::Threads;
 
 /// A block of 143 bytes of session 1, 7, with the file `/a` of the bytes `hello` and the hard link `/b` to it.
 const LINKED: &[u8] = b"\0\0\0\0\0\0\0\x8f\0\0\0\0BB02\0\0\0\x01\0\0\0\x07\
@@ -158,6 +159,7 @@ fn world_of(alloc: Global, case: &Case<'_>) -> Result<World, Fail> {
 
 /// Runs the console on these lines.
 fn ran<W: Write + Drop>(
+    rt: &(impl Threads + Sync),
     alloc: Global,
     world: &mut World,
     mut lines: &[u8],
@@ -169,7 +171,7 @@ fn ran<W: Write + Drop>(
         request,
         drive,
     } = world;
-    run_console_into(alloc, history, request, &mut lines, drive, writer, sink)
+    run_console_into(rt, alloc, history, request, &mut lines, drive, writer, sink)
 }
 
 fn is_made(made: &ConsoleDelivery, case: &Case<'_>) -> bool {
@@ -189,35 +191,36 @@ fn are_put(items: &[Item], put: &[Put<'_>]) -> bool {
 
 /// Whether a run over this world answers and writes as expected.
 fn is_told(
+    rt: &(impl Threads + Sync),
     alloc: Global,
     world: &mut World,
     case: &Case<'_>,
     sink: &mut MemSink,
 ) -> Result<bool, Fail> {
     let mut text = Vec::new(alloc);
-    let made = ran(alloc, world, case.lines, &mut text, sink)?;
+    let made = ran(rt, alloc, world, case.lines, &mut text, sink)?;
     Ok(is_made(&made, case) && text.as_slice() == case.text)
 }
 
 /// Whether a run is as expected, and what it puts is.
-fn holds(alloc: Global, case: &Case<'_>) -> Result<bool, Fail> {
+fn holds(rt: &(impl Threads + Sync), alloc: Global, case: &Case<'_>) -> Result<bool, Fail> {
     let mut world = world_of(alloc, case)?;
     let mut sink = MemSink::failing_at(alloc, case.fails_at);
-    let is_told = is_told(alloc, &mut world, case, &mut sink)?;
+    let is_told = is_told(rt, alloc, &mut world, case, &mut sink)?;
     Ok(is_told && are_put(sink.items(), case.put))
 }
 
 #[test]
 fn the_files_of_the_manifest_are_put(rt: HostRuntime) -> Result<(), Fail> {
-    assert!(rt; holds(rt.alloc(), &DELIVERED)?);
-    assert!(rt; holds(rt.alloc(), &QUIT)?);
+    assert!(rt; holds(&rt, rt.alloc(), &DELIVERED)?);
+    assert!(rt; holds(&rt, rt.alloc(), &QUIT)?);
     Ok(())
 }
 
 #[test]
 fn a_delivery_that_stops_is_told_beside_the_run(rt: HostRuntime) -> Result<(), Fail> {
-    assert!(rt; holds(rt.alloc(), &FAILED)?);
-    assert!(rt; holds(rt.alloc(), &IN_THE_WAY)?);
+    assert!(rt; holds(&rt, rt.alloc(), &FAILED)?);
+    assert!(rt; holds(&rt, rt.alloc(), &IN_THE_WAY)?);
     Ok(())
 }
 
@@ -240,18 +243,29 @@ impl Write for Clogging {
 }
 
 /// Whether a run comes to its end with so many flushes, and how many files it puts.
-fn put_with(alloc: Global, flushes: u32) -> Result<(bool, usize), Fail> {
+fn put_with(
+    rt: &(impl Threads + Sync),
+    alloc: Global,
+    flushes: u32,
+) -> Result<(bool, usize), Fail> {
     let mut world = world_of(alloc, &DELIVERED)?;
     let mut sink = MemSink::new(alloc);
     let mut writer = Clogging(flushes);
-    let run = ran(alloc, &mut world, DELIVERED.lines, &mut writer, &mut sink);
+    let run = ran(
+        rt,
+        alloc,
+        &mut world,
+        DELIVERED.lines,
+        &mut writer,
+        &mut sink,
+    );
     Ok((run.is_ok(), sink.items().len()))
 }
 
 /// The two lines and the bootstrap are flushed before the manifest is.
 #[test]
 fn nothing_is_put_where_the_manifest_is_not_flushed(rt: HostRuntime) -> Result<(), Fail> {
-    assert_eq!(rt; put_with(rt.alloc(), 3)?, (false, 0));
-    assert_eq!(rt; put_with(rt.alloc(), 4)?, (true, 2));
+    assert_eq!(rt; put_with(&rt, rt.alloc(), 3)?, (false, 0));
+    assert_eq!(rt; put_with(&rt, rt.alloc(), 4)?, (true, 2));
     Ok(())
 }

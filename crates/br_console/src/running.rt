@@ -23,6 +23,7 @@ use br_view::View;
 use br_volume::Drive;
 use std::alloc::Global;
 use std::io::{BufRead, Write};
+use std::thread::Threads;
 
 /// What came of a run of the console.
 #[derive(Clone, Copy, Debug, PartialEq, Eq)]
@@ -111,6 +112,7 @@ fn prepare<R: BufRead + Drop, W: Write + Drop>(
 
 /// Restores by a plan, and writes the manifest of the outcomes that it answers.
 fn write_files<D: Drive, W: Write>(
+    rt: &(impl Threads + Sync),
     alloc: Global,
     plan: Plan,
     drive: &mut D,
@@ -124,7 +126,7 @@ fn write_files<D: Drive, W: Write>(
     ensures failed { IfErr result (λ fault. fault_number fault ≡ Some 13 → D.failures drive.old < D.failures drive.new) }
 {
     let (bootstrap, names) = plan.into_parts();
-    let outcomes = restore(alloc, &bootstrap, Some(names), drive)?;
+    let outcomes = restore(rt, alloc, &bootstrap, Some(names), drive)?;
     let text = manifest(alloc, &outcomes)?;
     writer.write_all(&text)?;
     Ok(outcomes)
@@ -132,6 +134,7 @@ fn write_files<D: Drive, W: Write>(
 
 /// Runs the console up to the manifest: whether no line was refused, and the outcomes where the talk ended by `done`.
 pub(crate) fn run_to_manifest<R: BufRead + Drop, D: Drive, W: Write + Drop>(
+    rt: &(impl Threads + Sync),
     alloc: Global,
     history: &History,
     request: &Request,
@@ -152,7 +155,7 @@ pub(crate) fn run_to_manifest<R: BufRead + Drop, D: Drive, W: Write + Drop>(
     let Some(plan) = plan else {
         return Ok((is_clean, None));
     };
-    let outcomes = write_files(alloc, plan, drive, writer)?;
+    let outcomes = write_files(rt, alloc, plan, drive, writer)?;
     Ok((is_clean, Some(outcomes)))
 }
 
@@ -165,6 +168,7 @@ pub(crate) fn run_to_manifest<R: BufRead + Drop, D: Drive, W: Write + Drop>(
 /// marked (51). `Piece` behind the bootstrap for the first volume that can't be read. `Memory` and `Io` as in a talk, at any time;
 /// then a part of a text may be written.
 pub fn run_console<R: BufRead + Drop, D: Drive, W: Write + Drop>(
+    rt: &(impl Threads + Sync),
     alloc: Global,
     history: &History,
     request: &Request,
@@ -179,7 +183,7 @@ pub fn run_console<R: BufRead + Drop, D: Drive, W: Write + Drop>(
     ensures counted { D.failures drive.old ≤ D.failures drive.new }
     ensures failed { IfErr result (λ fault. fault_number fault ≡ Some 13 → D.failures drive.old < D.failures drive.new) }
 {
-    let (is_clean, outcomes) = run_to_manifest(alloc, history, request, reader, drive, writer)?;
+    let (is_clean, outcomes) = run_to_manifest(rt, alloc, history, request, reader, drive, writer)?;
     let Some(outcomes) = outcomes else {
         return Ok(ConsoleRun {
             is_clean,

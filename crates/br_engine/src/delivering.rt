@@ -10,6 +10,7 @@ use br_sink::{Sink, deliver};
 use br_volume::Drive;
 use std::alloc::Global;
 use std::io::{Read, Write};
+use std::thread::Threads;
 
 /// Restores by a bootstrap, writes the manifest and flushes it, and then puts the files into a sink in the order of the manifest.
 /// The answer is whether each outcome is a file.
@@ -17,6 +18,7 @@ use std::io::{Read, Write};
 /// Refused as `extract`, and then nothing is put. `Sink` where the delivery stopped: the manifest is written, and the files before
 /// the stop are in the sink, so many as the stop says.
 pub fn extract_into<D: Drive, W: Write, S: Sink>(
+    rt: &(impl Threads + Sync),
     alloc: Global,
     bootstrap: &Bootstrap,
     drive: &mut D,
@@ -30,7 +32,7 @@ pub fn extract_into<D: Drive, W: Write, S: Sink>(
     ensures sink_counted { S.failures sink.old ≤ S.failures sink.new }
     ensures sink_failed { IfErr result (λ fault. fault_number fault ≡ Some 80 → S.failures sink.old < S.failures sink.new) }
 {
-    let outcomes = write_restored(alloc, bootstrap, drive, writer)?;
+    let outcomes = write_restored(rt, alloc, bootstrap, drive, writer)?;
     writer.flush()?;
     deliver(alloc, &outcomes, sink)?;
     Ok(all_files(&outcomes))
@@ -41,6 +43,7 @@ pub fn extract_into<D: Drive, W: Write, S: Sink>(
 ///
 /// Refused as `run_extract`, and then nothing is put. `Sink` as `extract_into`.
 pub fn run_extract_into<R: Read + Drop, D: Drive, W: Write + Drop, S: Sink>(
+    rt: &(impl Threads + Sync),
     alloc: Global,
     reader: &mut R,
     drive: &mut D,
@@ -56,5 +59,5 @@ pub fn run_extract_into<R: Read + Drop, D: Drive, W: Write + Drop, S: Sink>(
 {
     let text = read_text(alloc, reader)?;
     let bootstrap = read_bootstrap(alloc, &text)?;
-    extract_into(alloc, &bootstrap, drive, writer, sink)
+    extract_into(rt, alloc, &bootstrap, drive, writer, sink)
 }

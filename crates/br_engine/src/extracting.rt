@@ -16,6 +16,7 @@ use br_types::FileKey;
 use br_volume::Drive;
 use std::alloc::Global;
 use std::io::{Error, ErrorKind, Read, Write};
+use std::thread::Threads;
 
 /// How often an input is read before its end has to come.
 const MAX_TURNS: u64 = 1 << 40;
@@ -64,6 +65,7 @@ pub(crate) fn read_text<R: Read>(alloc: Global, reader: &mut R) -> Result<Vec<u8
 
 /// Restores by a bootstrap, and writes the manifest of the outcomes that it answers.
 pub(crate) fn write_restored<D: Drive, W: Write>(
+    rt: &(impl Threads + Sync),
     alloc: Global,
     bootstrap: &Bootstrap,
     drive: &mut D,
@@ -76,7 +78,7 @@ pub(crate) fn write_restored<D: Drive, W: Write>(
     ensures counted { D.failures drive.old ≤ D.failures drive.new }
     ensures failed { IfErr result (λ fault. fault_number fault ≡ Some 13 → D.failures drive.old < D.failures drive.new) }
 {
-    let outcomes = restore(alloc, bootstrap, None, drive)?;
+    let outcomes = restore(rt, alloc, bootstrap, None, drive)?;
     let text = manifest(alloc, &outcomes)?;
     writer.write_all(&text)?;
     Ok(outcomes)
@@ -87,6 +89,7 @@ pub(crate) fn write_restored<D: Drive, W: Write>(
 /// Refused as `restore`, with `Piece`; then nothing is written. `Memory` also where the manifest wants memory. `Io` where the
 /// writer failed, which may have taken a part of the manifest. The writer is not flushed.
 pub fn extract<D: Drive, W: Write>(
+    rt: &(impl Threads + Sync),
     alloc: Global,
     bootstrap: &Bootstrap,
     drive: &mut D,
@@ -98,7 +101,7 @@ pub fn extract<D: Drive, W: Write>(
     ensures counted { D.failures drive.old ≤ D.failures drive.new }
     ensures failed { IfErr result (λ fault. fault_number fault ≡ Some 13 → D.failures drive.old < D.failures drive.new) }
 {
-    let outcomes = write_restored(alloc, bootstrap, drive, writer)?;
+    let outcomes = write_restored(rt, alloc, bootstrap, drive, writer)?;
     Ok(all_files(&outcomes))
 }
 
@@ -108,6 +111,7 @@ pub fn extract<D: Drive, W: Write>(
 /// `Bootstrap` for a refused line, then refused as `extract`. `Io` also where the reader failed, or has not come to its end after
 /// 2^40 reads.
 pub fn run_extract<R: Read + Drop, D: Drive, W: Write + Drop>(
+    rt: &(impl Threads + Sync),
     alloc: Global,
     reader: &mut R,
     drive: &mut D,
@@ -121,5 +125,5 @@ pub fn run_extract<R: Read + Drop, D: Drive, W: Write + Drop>(
 {
     let text = read_text(alloc, reader)?;
     let bootstrap = read_bootstrap(alloc, &text)?;
-    extract(alloc, &bootstrap, drive, writer)
+    extract(rt, alloc, &bootstrap, drive, writer)
 }

@@ -14,6 +14,7 @@ use br_piece::{Piece, split};
 use br_types::{FileKey, Names};
 use br_volume::Drive;
 use std::alloc::Global;
+use std::thread::Threads;
 
 /// The refusal of what a joiner did not take, though it has the piece.
 fn want_of_memory(fault: JoinFault) -> PieceFault
@@ -58,7 +59,10 @@ fn joined<D: Drive>(
 ///
 /// The refusal is that of the first volume that can't be read: `UnknownVolume`, or `Truncated`, `BadId` or `BadBlockSize` at a
 /// block; `DriveFault` where the drive failed. `Memory` where memory ran out.
+///
+/// The files are made in as many threads as there are processors, and the answer is that of one thread.
 pub fn restore<D: Drive>(
+    rt: &(impl Threads + Sync),
     alloc: Global,
     bootstrap: &Bootstrap,
     names: Option<Names>,
@@ -73,7 +77,7 @@ pub fn restore<D: Drive>(
         return Err(PieceFault::Memory);
     };
     let mut joiner = joined(alloc, &pieces, names, drive)?;
-    match joiner.finish() {
+    match joiner.finish(rt) {
         Ok(outcomes) => Ok(outcomes),
         Err(_) => Err(PieceFault::Memory),
     }

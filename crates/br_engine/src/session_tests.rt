@@ -10,7 +10,9 @@ use br_sink::{FolderSink, manifest};
 use br_types::{Path, SessionKey, VolName};
 use br_volume::{MemDrive, MemStore, VolumeStore};
 use std::alloc::Global;
+use std::rt::Files;
 use std::test::Fail;
+use std::thread::Threads;
 use std::{env, fs, process};
 
 /// A session of `message digest` under a path, in blocks of at most 64 bytes: one on the first volume, the others on the second.
@@ -62,7 +64,12 @@ fn drive(alloc: Global) -> Result<MemDrive, Fail> {
 }
 
 /// The manifest of the pieces, taken in this order.
-fn restored(alloc: Global, pieces: &[Piece], order: &[usize]) -> Result<Vec<u8>, Fail> {
+fn restored(
+    rt: &(impl Threads + Sync),
+    alloc: Global,
+    pieces: &[Piece],
+    order: &[usize],
+) -> Result<Vec<u8>, Fail> {
     let mut drive = drive(alloc)?;
     let mut joiner = Joiner::new(alloc, pieces, None)?;
     for place in order {
@@ -75,7 +82,7 @@ fn restored(alloc: Global, pieces: &[Piece], order: &[usize]) -> Result<Vec<u8>,
     if !joiner.ready() {
         return Err(Fail::new("an open piece"));
     }
-    let outcomes = joiner.finish()?;
+    let outcomes = joiner.finish(rt)?;
     Ok(manifest(alloc, &outcomes)?)
 }
 
@@ -92,21 +99,31 @@ fn pieces_are_taken_in_any_order(rt: HostRuntime) -> Result<(), Fail> {
     let bootstrap = read_bootstrap(alloc, TEXT)?;
     let pieces = split(alloc, &bootstrap)?;
     assert_eq!(rt; pieces.len(), 2);
-    let text = restored(alloc, &pieces, &[1, 0])?;
+    let text = restored(&rt, alloc, &pieces, &[1, 0])?;
     assert_eq!(rt; text.as_slice(), MANIFEST);
-    let text = restored(alloc, &pieces, &[0, 1, 0])?;
+    let text = restored(&rt, alloc, &pieces, &[0, 1, 0])?;
     assert_eq!(rt; text.as_slice(), MANIFEST);
     Ok(())
 }
 
 /// Delivers the files of both sessions into a new folder. The manifest.
-fn delivered(rt: &HostRuntime, folder: &str) -> Result<Vec<u8>, Fail> {
+fn delivered(
+    rt: &(impl Files + AllocGlobal + Threads + Sync),
+    folder: &str,
+) -> Result<Vec<u8>, Fail> {
     fs::create_dir(rt, folder)?;
     let mut sink = FolderSink::new(rt.alloc(), rt, folder)?;
     let mut drive = drive(rt.alloc())?;
     let mut text = TEXT;
     let mut written = Vec::new(rt.alloc());
-    run_extract_into(rt.alloc(), &mut text, &mut drive, &mut written, &mut sink)?;
+    run_extract_into(
+        rt,
+        rt.alloc(),
+        &mut text,
+        &mut drive,
+        &mut written,
+        &mut sink,
+    )?;
     Ok(written)
 }
 

@@ -31,7 +31,7 @@ fn bootstrap(rt: &HostRuntime, text: &[u8]) -> Result<Bootstrap, Fail> {
 #[test]
 fn a_file_is_restored(rt: HostRuntime) -> Result<(), Fail> {
     let bootstrap = bootstrap(&rt, b"Volume=V1\nFileIndex=1\n")?;
-    let outcomes = restore(rt.alloc(), &bootstrap, None, &mut drive(&rt)?)?;
+    let outcomes = restore(&rt, rt.alloc(), &bootstrap, None, &mut drive(&rt)?)?;
     assert_eq!(rt; outcomes.len(), 1);
     let (key, outcome) = &outcomes[0];
     assert_eq!(rt;
@@ -51,7 +51,7 @@ fn a_file_is_restored(rt: HostRuntime) -> Result<(), Fail> {
 #[test]
 fn a_restore_stops_at_the_first_piece_that_is_refused(rt: HostRuntime) -> Result<(), Fail> {
     let bootstrap = bootstrap(&rt, b"Volume=V1\nVolume=Q\nVolume=P\n")?;
-    let fault = restore(rt.alloc(), &bootstrap, None, &mut drive(&rt)?)
+    let fault = restore(&rt, rt.alloc(), &bootstrap, None, &mut drive(&rt)?)
         .err()
         .ok_or("a refusal")?;
     let mut line = Vec::new(rt.alloc());
@@ -64,14 +64,14 @@ fn a_restore_stops_at_the_first_piece_that_is_refused(rt: HostRuntime) -> Result
 fn the_manifest_goes_behind_what_was_written(rt: HostRuntime) -> Result<(), Fail> {
     let mut text = b"Volume=V1\n".as_slice();
     let mut written = Vec::from_slice(rt.alloc(), b"before\n")?;
-    let all = run_extract(rt.alloc(), &mut text, &mut drive(&rt)?, &mut written)?;
+    let all = run_extract(&rt, rt.alloc(), &mut text, &mut drive(&rt)?, &mut written)?;
     assert!(rt; all);
     let behind = written.get(7..).ok_or("too short")?;
     assert_eq!(rt; behind, MANIFEST);
 
     let bootstrap = bootstrap(&rt, b"Volume=V1\nStream=2\n")?;
     let mut written = Vec::new(rt.alloc());
-    let all = extract(rt.alloc(), &bootstrap, &mut drive(&rt)?, &mut written)?;
+    let all = extract(&rt, rt.alloc(), &bootstrap, &mut drive(&rt)?, &mut written)?;
     assert!(rt; !all);
     assert_eq!(rt;
         written.as_slice(),
@@ -95,7 +95,14 @@ fn the_files_are_put_behind_the_manifest(rt: HostRuntime) -> Result<(), Fail> {
     let bootstrap = bootstrap(&rt, b"Volume=V1\n")?;
     let (mut written, mut sink) = (Vec::new(rt.alloc()), MemSink::new(rt.alloc()));
     let mut drive = drive(&rt)?;
-    let all = extract_into(rt.alloc(), &bootstrap, &mut drive, &mut written, &mut sink)?;
+    let all = extract_into(
+        &rt,
+        rt.alloc(),
+        &bootstrap,
+        &mut drive,
+        &mut written,
+        &mut sink,
+    )?;
     assert!(rt; all);
     assert_eq!(rt; written.as_slice(), MANIFEST);
     assert!(rt; are_hello(sink.items()));
@@ -107,7 +114,14 @@ fn a_delivery_stops_behind_the_manifest(rt: HostRuntime) -> Result<(), Fail> {
     let mut text = b"Volume=V1\n".as_slice();
     let (mut written, mut sink) = (Vec::new(rt.alloc()), MemSink::failing_at(rt.alloc(), 1));
     let mut drive = drive(&rt)?;
-    let run = run_extract_into(rt.alloc(), &mut text, &mut drive, &mut written, &mut sink);
+    let run = run_extract_into(
+        &rt,
+        rt.alloc(),
+        &mut text,
+        &mut drive,
+        &mut written,
+        &mut sink,
+    );
     let mut line = Vec::new(rt.alloc());
     run.err().ok_or("a stop")?.push_line(&mut line)?;
     assert_eq!(rt; line.as_slice(), b"refused 80\n".as_slice());
@@ -188,12 +202,12 @@ impl Write for Broken {
 fn reading_or_writing_fails(rt: HostRuntime) -> Result<(), Fail> {
     let mut written = Vec::new(rt.alloc());
     let mut text = b"Volume=V1\n".as_slice().chain(Broken);
-    let run = run_extract(rt.alloc(), &mut text, &mut drive(&rt)?, &mut written);
+    let run = run_extract(&rt, rt.alloc(), &mut text, &mut drive(&rt)?, &mut written);
     assert!(rt; matches!(&run, Err(ExtractFault::Io(_))));
     assert!(rt; written.is_empty());
 
     let mut text = b"Volume=V1\n".as_slice();
-    let run = run_extract(rt.alloc(), &mut text, &mut drive(&rt)?, &mut Broken);
+    let run = run_extract(&rt, rt.alloc(), &mut text, &mut drive(&rt)?, &mut Broken);
     assert!(rt; matches!(&run, Err(ExtractFault::Io(_))));
     Ok(())
 }
@@ -217,7 +231,14 @@ fn nothing_is_put_where_the_manifest_is_not_flushed(rt: HostRuntime) -> Result<(
     let bootstrap = bootstrap(&rt, b"Volume=V1\n")?;
     let mut sink = MemSink::new(rt.alloc());
     let mut drive = drive(&rt)?;
-    let run = extract_into(rt.alloc(), &bootstrap, &mut drive, &mut Clogged, &mut sink);
+    let run = extract_into(
+        &rt,
+        rt.alloc(),
+        &bootstrap,
+        &mut drive,
+        &mut Clogged,
+        &mut sink,
+    );
     assert!(rt; matches!(&run, Err(ExtractFault::Io(_))));
     assert!(rt; sink.items().is_empty());
     Ok(())

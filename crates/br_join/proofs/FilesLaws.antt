@@ -1,9 +1,8 @@
 -- The files of hits in order, run by run.
-use Rattle.std.proofs.Common.{◌≡◌, ℕ, ◌<◌, length, Bool, true, false, cond, List, [], ◌∷◌, ◌++◌, map, filter, Some, None, refl, sym, ap, subst, ◌∙◌, arith, append_assoc, length-append}
-use Rattle.std.proofs.lemmas.List.{map_push}
+use Rattle.std.proofs.Common.{◌≡◌, ℕ, ◌<◌, length, Bool, true, false, cond, List, [], ◌∷◌, ◌++◌, map, filter, Some, None, Result, Ok, Err, IfOk, MatchResult, refl, sym, ap, subst, ◌∙◌, arith, append_assoc, length-append}
 use mathlib.Core.List.{map-map}
 use Rattle.std.specs.Prelude.{slice_get, T}
-use Rattle.std.specs.List.{AllByRecursion}
+use Rattle.std.specs.List.{AllByRecursion, AllZip}
 use Rattle.std.specs.List.Sorted.{IsStrictlySortedBy}
 use Rattle.std.specs.Cmp.{tied_itself}
 use Rattle.std.specs.Ordering.{ordering_reverse, is_eq}
@@ -227,8 +226,28 @@ planned_files_are es names =
 -- ---- one more file
 
 -- files so far and those that are left, as one goes from the one list to the other
-pub more_files : (done new : List (FileKey × Outcome)) (item : FileKey × Outcome) (left rest all : List Restored) → new ≡ done ++ item ∷ []
-    → map restored done ++ left ≡ all → left ≡ restored item ∷ rest → map restored new ++ rest ≡ all
+pub more_files : (done new : List Restored) (item : Restored) (left rest all : List Restored) → new ≡ done ++ item ∷ []
+    → done ++ left ≡ all → left ≡ item ∷ rest → new ++ rest ≡ all
 more_files done new item left rest all pushed so_far next =
-    ap (λ (xs : List Restored). xs ++ rest) (ap (map restored) pushed ∙ map_push restored done item) ∙ append_assoc (map restored done) (restored item ∷ []) rest
-    ∙ ap (λ (xs : List Restored). map restored done ++ xs) (sym next) ∙ so_far
+    ap (λ (xs : List Restored). xs ++ rest) pushed ∙ append_assoc done (item ∷ []) rest
+    ∙ ap (λ (xs : List Restored). done ++ xs) (sym next) ∙ so_far
+
+-- ---- files that were made of runs
+
+-- where a file was made of each run, they are the files of the runs
+all_made : (E : Type 0) (runs : List Restored) (files : List (FileKey × Outcome))
+    → AllZip (λ (run : Restored) (made : Result (FileKey × Outcome) E). IfOk made (λ f. restored f ≡ run)) runs (map Ok files) → map restored files ≡ runs
+all_made E [] [] h = refl
+all_made E [] (f ∷ fs) h = absurd h
+all_made E (r ∷ rs) [] h = absurd h
+all_made E (r ∷ rs) (f ∷ fs) h = λ i. h.0 i ∷ all_made E rs fs h.1 i
+
+-- what came of making a file of each run
+pub answer_made : (V E : Type 0) (items : V → List (FileKey × Outcome)) (runs : List Restored) (made : List (Result (FileKey × Outcome) E)) (r : Result V E) (Q : E → Type 0)
+    → AllZip (λ (run : Restored) (made : Result (FileKey × Outcome) E). IfOk made (λ f. restored f ≡ run)) runs made
+    → MatchResult r (λ v. (files : List (FileKey × Outcome)) × (made ≡ map Ok files) × (items v ≡ files)) Q → IfOk r (λ v. map restored (items v) ≡ runs)
+answer_made V E items runs made (Err e) Q each from = tt
+answer_made V E items runs made (Ok v) Q each from =
+    let were_made : AllZip (λ (run : Restored) (m : Result (FileKey × Outcome) E). IfOk m (λ f. restored f ≡ run)) runs (map Ok from.0) =
+    subst (AllZip (λ (run : Restored) (m : Result (FileKey × Outcome) E). IfOk m (λ f. restored f ≡ run)) runs) from.1 each in
+    ap (map restored) from.2 ∙ all_made E runs from.0 were_made

@@ -18,6 +18,7 @@ use br_types::{FileKey, Names};
 use std::alloc::{AllocError, Global};
 use std::collections::BTreeMap;
 use std::marker::Model;
+use std::thread::Threads;
 
 #[cfg(test)]
 mod tests;
@@ -153,7 +154,12 @@ impl Joiner {
     /// one of which nothing was found. The joiner keeps its names, and is empty again, its pieces open.
     ///
     /// `AllocError` where memory is short: the joiner is unchanged. The time is n log n in the number of hits and names.
-    pub fn finish(&mut self) -> Result<Vec<(FileKey, Outcome)>, AllocError>
+    ///
+    /// The files are made in as many threads as there are processors, and the answer is that of one thread.
+    pub fn finish(
+        &mut self,
+        rt: &(impl Threads + Sync),
+    ) -> Result<Vec<(FileKey, Outcome)>, AllocError>
         requires { is_ready self.old ≡ true }
         ensures ok { OnOk result (self.new ≡ emptied self.old) }
         ensures err { OnErr result (self.new ≡ self.old) }
@@ -161,7 +167,7 @@ impl Joiner {
     {
         settle(&mut self.hits)?;
         let alloc = *self.hits.allocator();
-        let outcomes = files_of(alloc, self.hits.as_slice(), self.names.as_ref())?;
+        let outcomes = files_of(rt, alloc, self.hits.as_slice(), self.names.as_ref())?;
         self.hits.clear();
         open_again(&mut self.pieces);
         Ok(outcomes)

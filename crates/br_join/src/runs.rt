@@ -1,18 +1,72 @@
-ghost use Rattle.std.specs.Prelude.{◌≡◌, ◌++◌, map, option_map, IfOk, OnOk};
+ghost use Rattle.std.specs.Prelude.{◌≡◌, ◌++◌, All, map, option_map, IfOk, OnOk};
 ghost use Rattle.std.specs.List.{AllByRecursion};
 ghost use Rattle.std.specs.Option.{option_copied};
 ghost use Rattle.std.specs.declared.cmp.Ordering.TheVariants.{Less};
 ghost use Rattle.br_model.specs.Name.{key_cmp};
 ghost use Rattle.br_model.specs.Meaning as model;
 ghost use Rattle.br_model.specs.Restored.{files_found, files_planned, files_listed, planned_in};
-ghost use Rattle.br_join.specs.Outcome.{restored};
-ghost use Rattle.br_join.specs.Runs.{AreListed, listed};
+ghost use Rattle.br_join.specs.Outcome.{restored, shown};
+ghost use Rattle.br_join.specs.Runs.{AreListed, file_of_run, listed};
+ghost use Rattle.br_join.specs.Runs as run;
 
 use crate::item::Outcome;
 use crate::making::{outcome_of, under_name};
 use br_match::Hit;
-use br_types::{FileKey, Names};
+use br_types::{FileKey, Names, Path};
+use rayon::prelude::*;
 use std::alloc::{AllocError, Global};
+use std::marker::Model;
+use std::thread::Threads;
+
+/// The hits of one file, in order of place, and the path under which it was planned, if it was.
+#[derive(Debug, Drop)]
+struct Run<'h> {
+    key: FileKey,
+    path: Option<&'h Path>,
+    hits: &'h [Hit],
+}
+
+impl<'h> Model for Run<'h> {
+    ghost use Rattle.std.specs.Prelude.{◌≡◌, All};
+    ghost use Rattle.std.specs.Option.{option_copied};
+    ghost use Rattle.br_model.specs.Meaning as meaning;
+    ghost use Rattle.br_model.specs.Restored.{Restored};
+    ghost use Rattle.br_join.specs.Runs.{file_of_run};
+
+    ghost Value = { Restored };
+
+    ghost view = { λ r. file_of_run r.key (option_copied r.path) r.hits.now };
+
+    ghost invariant = { λ r. All (λ (h : meaning.Hit). h.key ≡ r.key) r.hits.now };
+}
+
+/// The outcome of a file under its planned path, if it has one.
+fn named(path: Option<&Path>, outcome: Outcome) -> Outcome
+    ensures { shown result ≡ run.named (option_copied path.entry) (shown outcome) }
+{
+    match path {
+        None => outcome,
+        Some(path) => under_name(path, outcome),
+    }
+}
+
+impl<'h> Run<'h> {
+    /// The run of these hits.
+    fn new(key: FileKey, path: Option<&'h Path>, hits: &'h [Hit]) -> Run<'h>
+        requires { All (λ (h : model.Hit). h.key ≡ key) hits.now }
+        ensures { result ≡ file_of_run key (option_copied path.entry) hits.now }
+    {
+        Run { key, path, hits }
+    }
+
+    /// The file, with its outcome.
+    fn made(&self, alloc: Global) -> Result<(FileKey, Outcome), AllocError>
+        ensures { IfOk result (λ file. restored file ≡ self.now) }
+    {
+        let outcome = outcome_of(alloc, self.key, self.hits)?;
+        Ok((self.key, named(self.path, outcome)))
+    }
+}
 
 /// Puts hits in order of file and place. Of those at one place of one file the first stays.
 pub(crate) fn settle(hits: &mut Vec<Hit>) -> Result<(), AllocError>
@@ -37,43 +91,62 @@ fn around(hits: &[Hit], key: FileKey) -> (&[Hit], &[Hit], &[Hit])
     (before, run, behind)
 }
 
-/// The files of the hits, in order of key.
-fn found_files(alloc: Global, hits: &[Hit]) -> Result<Vec<(FileKey, Outcome)>, AllocError>
+/// The runs of the files that were hit, in order of key.
+fn found_runs<'h>(alloc: Global, hits: &'h [Hit]) -> Result<Vec<Run<'h>>, AllocError>
     requires { AreListed hits.now }
-    ensures { IfOk result (λ outcomes. map restored outcomes.items ≡ files_found (listed hits.now)) }
+    ensures { IfOk result (λ runs. runs.items ≡ files_found (listed hits.now)) }
 {
-    let mut outcomes = Vec::new(alloc);
+    let mut runs = Vec::new(alloc);
     let mut rest = hits;
     while let Some(first) = rest.first() {
         let key = first.key;
         let (_, run, behind) = around(rest, key);
-        outcomes.push((key, outcome_of(alloc, key, run)?))?;
+        runs.push(Run::new(key, None, run))?;
         rest = behind;
     }
-    Ok(outcomes)
+    Ok(runs)
 }
 
-/// The planned files, in order of key.
-fn planned_files(
+/// The runs of the planned files, in order of key; of a file that was not hit the run is empty.
+fn planned_runs<'h>(
     alloc: Global,
-    hits: &[Hit],
-    names: &Names,
-) -> Result<Vec<(FileKey, Outcome)>, AllocError>
+    hits: &'h [Hit],
+    names: &'h Names,
+) -> Result<Vec<Run<'h>>, AllocError>
     requires { AreListed hits.now }
-    ensures { IfOk result (λ outcomes. map restored outcomes.items ≡ files_planned (listed hits.now) (planned_in names.now)) }
+    ensures { IfOk result (λ runs. runs.items ≡ files_planned (listed hits.now) (planned_in names.now)) }
 {
-    let mut outcomes = Vec::new(alloc);
+    let mut runs = Vec::new(alloc);
     for (key, path) in names.iter() {
         let (_, run, _) = around(hits, *key);
-        let outcome = outcome_of(alloc, *key, run)?;
-        outcomes.push((*key, under_name(path, outcome)))?;
+        runs.push(Run::new(*key, Some(path), run))?;
     }
-    Ok(outcomes)
+    Ok(runs)
+}
+
+/// The files of runs, in their order, made in as many threads as there are processors.
+fn made(
+    rt: &(impl Threads + Sync),
+    alloc: Global,
+    runs: &[Run<'_>],
+) -> Result<Vec<(FileKey, Outcome)>, AllocError>
+    ensures { IfOk result (λ outcomes. map restored outcomes.items ≡ runs.now) }
+{
+    // Files differ in size, and making one is worth a thread.
+    runs.par_iter()
+        .with_min_len(1)
+        .map(
+            |run: &Run<'_>| -> Result<(FileKey, Outcome), AllocError>
+                ensures { IfOk result (λ file. restored file ≡ run.now) }
+            { run.made(alloc) },
+        )
+        .collect::<Result<Vec<(FileKey, Outcome)>, AllocError>>(rt, alloc)?
 }
 
 /// The files of hits that are in order: the planned ones where there is a plan, else those that were found.
 #[tactic(auto, unfolding(br_model::specs::Restored::files_listed))]
 pub(crate) fn files_of(
+    rt: &(impl Threads + Sync),
     alloc: Global,
     hits: &[Hit],
     names: Option<&Names>,
@@ -82,7 +155,7 @@ pub(crate) fn files_of(
     ensures { IfOk result (λ outcomes. map restored outcomes.items ≡ files_listed (listed hits.now) (option_map planned_in (option_copied names.entry))) }
 {
     match names {
-        None => found_files(alloc, hits),
-        Some(names) => planned_files(alloc, hits, names),
+        None => made(rt, alloc, &found_runs(alloc, hits)?),
+        Some(names) => made(rt, alloc, &planned_runs(alloc, hits, names)?),
     }
 }

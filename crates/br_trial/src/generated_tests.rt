@@ -10,6 +10,7 @@ use std::collections::BTreeMap;
 use std::fmt::Write;
 use std::str;
 use std::test::Fail;
+use std::thread::Threads;
 
 /// The file of each path: the number of the job that saved it, and its index there.
 type Folder = BTreeMap<&'static [u8], (u32, u32)>;
@@ -340,6 +341,7 @@ fn lines_of(wish: Wish) -> &'static [u8] {
 
 /// Whether a run for a wish has this answer, or is refused by this number, and writes this.
 fn is_told(
+    rt: &(impl Threads + Sync),
     alloc: Global,
     history: &History,
     drive: &mut MemDrive,
@@ -348,12 +350,13 @@ fn is_told(
     text: &str,
 ) -> Result<bool, Fail> {
     let asked: Asked<'_> = (wish.client, "f", wish.moment);
-    let told = tell(alloc, history, drive, asked, lines_of(wish))?;
+    let told = tell(rt, alloc, history, drive, asked, lines_of(wish))?;
     Ok(is_answer(told.run, number) && told.text.as_slice() == text.as_bytes())
 }
 
 /// Whether a wish is granted as expected.
 fn is_granted(
+    rt: &(impl Threads + Sync),
     alloc: Global,
     drawn: Drawn<'_>,
     drive: &mut MemDrive,
@@ -361,11 +364,12 @@ fn is_granted(
 ) -> Result<bool, Fail> {
     let mut text = String::new(alloc);
     let number = expected(alloc, &mut text, drawn.jobs, wish)?;
-    is_told(alloc, drawn.history, drive, wish, number, &text)
+    is_told(rt, alloc, drawn.history, drive, wish, number, &text)
 }
 
 /// Whether all files of a client, and those below `/l/` alone, are restored as expected before a moment.
 fn are_granted_before(
+    rt: &(impl Threads + Sync),
     alloc: Global,
     drawn: Drawn<'_>,
     drive: &mut MemDrive,
@@ -382,13 +386,14 @@ fn are_granted_before(
         moment,
         is_all: false,
     };
-    let first = is_granted(alloc, drawn, drive, whole)?;
-    let second = is_granted(alloc, drawn, drive, links)?;
+    let first = is_granted(rt, alloc, drawn, drive, whole)?;
+    let second = is_granted(rt, alloc, drawn, drive, links)?;
     Ok(first && second)
 }
 
 /// Whether the wishes for a client are granted as expected before several moments.
 fn are_granted(
+    rt: &(impl Threads + Sync),
     alloc: Global,
     drawn: Drawn<'_>,
     drive: &mut MemDrive,
@@ -396,41 +401,51 @@ fn are_granted(
 ) -> Result<bool, Fail> {
     let mut all = true;
     for moment in [100, 111, 150, 200, 250, 300] {
-        all &= are_granted_before(alloc, drawn, drive, client, moment)?;
+        all &= are_granted_before(rt, alloc, drawn, drive, client, moment)?;
     }
     Ok(all)
 }
 
 /// Whether the wishes for each client are granted as expected.
-fn all_granted(alloc: Global, drawn: Drawn<'_>, drive: &mut MemDrive) -> Result<bool, Fail> {
-    let first = are_granted(alloc, drawn, drive, "c")?;
-    let second = are_granted(alloc, drawn, drive, "d")?;
-    let third = are_granted(alloc, drawn, drive, "e")?;
+fn all_granted(
+    rt: &(impl Threads + Sync),
+    alloc: Global,
+    drawn: Drawn<'_>,
+    drive: &mut MemDrive,
+) -> Result<bool, Fail> {
+    let first = are_granted(rt, alloc, drawn, drive, "c")?;
+    let second = are_granted(rt, alloc, drawn, drive, "d")?;
+    let third = are_granted(rt, alloc, drawn, drive, "e")?;
     Ok(first && second && third)
 }
 
 /// Whether the jobs, which wrote these volumes, are restored as expected.
-fn are_restored(alloc: Global, jobs: &[Job], store: MemStore) -> Result<bool, Fail> {
+fn are_restored(
+    rt: &(impl Threads + Sync),
+    alloc: Global,
+    jobs: &[Job],
+    store: MemStore,
+) -> Result<bool, Fail> {
     let history = history_of(alloc, jobs)?;
     let mut drive = MemDrive::new(store.into_volumes());
     let drawn = Drawn {
         jobs,
         history: &history,
     };
-    all_granted(alloc, drawn, &mut drive)
+    all_granted(rt, alloc, drawn, &mut drive)
 }
 
-fn is_restored(alloc: Global, seed: u32) -> Result<bool, Fail> {
+fn is_restored(rt: &(impl Threads + Sync), alloc: Global, seed: u32) -> Result<bool, Fail> {
     let mut dice = Dice { state: seed };
     let mut store = MemStore::new(alloc);
     let jobs = draw_jobs(alloc, &mut dice, &mut store)?;
-    are_restored(alloc, &jobs, store)
+    are_restored(rt, alloc, &jobs, store)
 }
 
 #[test]
 fn drawn_histories_are_restored(rt: HostRuntime) -> Result<(), Fail> {
-    assert!(rt; is_restored(rt.alloc(), 1)?);
-    assert!(rt; is_restored(rt.alloc(), 2)?);
-    assert!(rt; is_restored(rt.alloc(), 3)?);
+    assert!(rt; is_restored(&rt, rt.alloc(), 1)?);
+    assert!(rt; is_restored(&rt, rt.alloc(), 2)?);
+    assert!(rt; is_restored(&rt, rt.alloc(), 3)?);
     Ok(())
 }

@@ -7,6 +7,7 @@ use br_types::{SessionKey, VolName};
 use br_volume::{MemDrive, MemStore, VolumeStore};
 use std::alloc::Global;
 use std::test::Fail;
+use std::thread::Threads;
 
 /// Volumes and the history of the jobs that wrote them.
 #[derive(Drop)]
@@ -84,21 +85,27 @@ pub(crate) struct Case {
 
 /// Whether a run over these volumes is as expected.
 pub(crate) fn runs(
+    rt: &(impl Threads + Sync),
     alloc: Global,
     history: &History,
     drive: &mut MemDrive,
     case: &Case,
 ) -> Result<bool, Fail> {
-    let told = tell(alloc, history, drive, case.asked, case.lines)?;
+    let told = tell(rt, alloc, history, drive, case.asked, case.lines)?;
     let is_written = told.text.as_slice() == case.text;
     Ok(told.run == case.run && is_written && told.left == case.left)
 }
 
 /// Whether a run is as expected.
-fn holds(alloc: Global, world: World, case: &Case) -> Result<bool, Fail> {
+fn holds(
+    rt: &(impl Threads + Sync),
+    alloc: Global,
+    world: World,
+    case: &Case,
+) -> Result<bool, Fail> {
     let World { store, history } = world;
     let mut drive = MemDrive::new(store.into_volumes());
-    runs(alloc, &history, &mut drive, case)
+    runs(rt, alloc, &history, &mut drive, case)
 }
 
 /// A Full and an Incremental of a file each, in blocks of 64 bytes that both go over two volumes.
@@ -144,8 +151,8 @@ total 2 0 0\n",
 };
 
 /// Whether a run over two jobs is as expected.
-fn holds_of_two(alloc: Global, case: &Case) -> Result<bool, Fail> {
-    holds(alloc, two_jobs(alloc)?, case)
+fn holds_of_two(rt: &(impl Threads + Sync), alloc: Global, case: &Case) -> Result<bool, Fail> {
+    holds(rt, alloc, two_jobs(alloc)?, case)
 }
 
 /// Puts a spoilt block behind both volumes, and behind it a sound one of a third session.
@@ -172,16 +179,22 @@ fn two_spoilt_jobs(alloc: Global) -> Result<World, Fail> {
 }
 
 /// Whether what stands behind the planned bytes is not read.
-fn spoilt_blocks_are_not_read(alloc: Global) -> Result<bool, Fail> {
-    holds(alloc, two_spoilt_jobs(alloc)?, &TWO_JOBS)
+fn spoilt_blocks_are_not_read(rt: &(impl Threads + Sync), alloc: Global) -> Result<bool, Fail> {
+    holds(rt, alloc, two_spoilt_jobs(alloc)?, &TWO_JOBS)
 }
 
 /// The number of the refusal of reading the spoilt volumes whole.
-fn refusal_of_all(alloc: Global) -> Result<u32, Fail> {
+fn refusal_of_all(rt: &(impl Threads + Sync), alloc: Global) -> Result<u32, Fail> {
     let world = two_spoilt_jobs(alloc)?;
     let mut drive = MemDrive::new(world.store.into_volumes());
     let mut text = Vec::new(alloc);
-    let run = run_extract(alloc, &mut b"Volume=A\n".as_slice(), &mut drive, &mut text);
+    let run = run_extract(
+        rt,
+        alloc,
+        &mut b"Volume=A\n".as_slice(),
+        &mut drive,
+        &mut text,
+    );
     match run {
         Ok(_) => Ok(0),
         Err(fault) => Ok(fault.number().unwrap_or(0)),
@@ -190,9 +203,9 @@ fn refusal_of_all(alloc: Global) -> Result<u32, Fail> {
 
 #[test]
 fn the_planned_bytes_alone_of_two_volumes_are_read(rt: HostRuntime) -> Result<(), Fail> {
-    assert!(rt; holds_of_two(rt.alloc(), &TWO_JOBS)?);
-    assert!(rt; spoilt_blocks_are_not_read(rt.alloc())?);
-    assert_eq!(rt; refusal_of_all(rt.alloc())?, 10);
+    assert!(rt; holds_of_two(&rt, rt.alloc(), &TWO_JOBS)?);
+    assert!(rt; spoilt_blocks_are_not_read(&rt, rt.alloc())?);
+    assert_eq!(rt; refusal_of_all(&rt, rt.alloc())?, 10);
     Ok(())
 }
 
@@ -218,7 +231,12 @@ const ENDED: Case = Case {
 };
 
 /// Whether a request is refused by this number with nothing read and nothing written.
-fn is_refused(alloc: Global, asked: Asked<'static>, number: u32) -> Result<bool, Fail> {
+fn is_refused(
+    rt: &(impl Threads + Sync),
+    alloc: Global,
+    asked: Asked<'static>,
+    number: u32,
+) -> Result<bool, Fail> {
     let case = Case {
         asked,
         lines: b"mark *\ndone\n",
@@ -226,16 +244,16 @@ fn is_refused(alloc: Global, asked: Asked<'static>, number: u32) -> Result<bool,
         run: Err(number),
         text: b"",
     };
-    holds_of_two(alloc, &case)
+    holds_of_two(rt, alloc, &case)
 }
 
 #[test]
 fn nothing_is_restored_without_done_or_without_jobs(rt: HostRuntime) -> Result<(), Fail> {
-    assert!(rt; holds_of_two(rt.alloc(), &QUIT)?);
-    assert!(rt; holds_of_two(rt.alloc(), &ENDED)?);
-    assert!(rt; is_refused(rt.alloc(), ("d", "f", 250), 53)?);
-    assert!(rt; is_refused(rt.alloc(), ("c", "g", 250), 54)?);
-    assert!(rt; is_refused(rt.alloc(), ("c", "f", 100), 50)?);
+    assert!(rt; holds_of_two(&rt, rt.alloc(), &QUIT)?);
+    assert!(rt; holds_of_two(&rt, rt.alloc(), &ENDED)?);
+    assert!(rt; is_refused(&rt, rt.alloc(), ("d", "f", 250), 53)?);
+    assert!(rt; is_refused(&rt, rt.alloc(), ("c", "g", 250), 54)?);
+    assert!(rt; is_refused(&rt, rt.alloc(), ("c", "f", 100), 50)?);
     Ok(())
 }
 
@@ -256,17 +274,17 @@ const FAILED: Case = Case {
 };
 
 /// Whether a run without volumes is refused behind the bootstrap.
-fn runs_without_volumes(alloc: Global) -> Result<bool, Fail> {
+fn runs_without_volumes(rt: &(impl Threads + Sync), alloc: Global) -> Result<bool, Fail> {
     let World { history, .. } = two_jobs(alloc)?;
     let mut drive = MemDrive::new(Vec::new(alloc));
-    runs(alloc, &history, &mut drive, &NO_VOLUMES)
+    runs(rt, alloc, &history, &mut drive, &NO_VOLUMES)
 }
 
 /// Whether a run with a drive that fails at its third call is refused behind the bootstrap.
-fn runs_with_a_failing_drive(alloc: Global) -> Result<bool, Fail> {
+fn runs_with_a_failing_drive(rt: &(impl Threads + Sync), alloc: Global) -> Result<bool, Fail> {
     let World { store, history } = two_jobs(alloc)?;
     let mut drive = MemDrive::failing_from(store.into_volumes(), 3);
-    runs(alloc, &history, &mut drive, &FAILED)
+    runs(rt, alloc, &history, &mut drive, &FAILED)
 }
 
 /// A Full with `/a` and `/b`, an Incremental that notes `/a` as deleted, and one that has `/a` again.
@@ -302,7 +320,12 @@ fn three_jobs(alloc: Global) -> Result<World, Fail> {
 }
 
 /// Whether all of the three jobs before a moment are restored so.
-fn are_restored(alloc: Global, moment: u64, text: &'static [u8]) -> Result<bool, Fail> {
+fn are_restored(
+    rt: &(impl Threads + Sync),
+    alloc: Global,
+    moment: u64,
+    text: &'static [u8],
+) -> Result<bool, Fail> {
     let case = Case {
         asked: ("c", "f", moment),
         lines: b"find *\nmark *\ndone\n",
@@ -310,7 +333,7 @@ fn are_restored(alloc: Global, moment: u64, text: &'static [u8]) -> Result<bool,
         run: Ok(RESTORED),
         text,
     };
-    holds(alloc, three_jobs(alloc)?, &case)
+    holds(rt, alloc, three_jobs(alloc)?, &case)
 }
 
 const BEFORE_DELETION: &[u8] = b" /a\n /b\n2 marked\n\
@@ -333,9 +356,9 @@ total 2 0 0\n";
 
 #[test]
 fn the_newest_copies_before_the_moment_are_restored(rt: HostRuntime) -> Result<(), Fail> {
-    assert!(rt; are_restored(rt.alloc(), 200, BEFORE_DELETION)?);
-    assert!(rt; are_restored(rt.alloc(), 250, DELETED)?);
-    assert!(rt; are_restored(rt.alloc(), 301, SAVED_AGAIN)?);
+    assert!(rt; are_restored(&rt, rt.alloc(), 200, BEFORE_DELETION)?);
+    assert!(rt; are_restored(&rt, rt.alloc(), 250, DELETED)?);
+    assert!(rt; are_restored(&rt, rt.alloc(), 301, SAVED_AGAIN)?);
     Ok(())
 }
 
@@ -373,8 +396,8 @@ total 2 0 0\n",
 };
 
 /// Whether a hard link brings its file.
-fn a_link_brings_its_file(alloc: Global) -> Result<bool, Fail> {
-    holds(alloc, linked(alloc)?, &LINKED)
+fn a_link_brings_its_file(rt: &(impl Threads + Sync), alloc: Global) -> Result<bool, Fail> {
+    holds(rt, alloc, linked(alloc)?, &LINKED)
 }
 
 /// A Full with two directories and three files.
@@ -429,15 +452,19 @@ total 1 0 0\n",
 };
 
 /// Whether a run over the directories is as expected.
-fn holds_of_directories(alloc: Global, case: &Case) -> Result<bool, Fail> {
-    holds(alloc, directories(alloc)?, case)
+fn holds_of_directories(
+    rt: &(impl Threads + Sync),
+    alloc: Global,
+    case: &Case,
+) -> Result<bool, Fail> {
+    holds(rt, alloc, directories(alloc)?, case)
 }
 
 #[test]
 fn what_is_marked_is_restored(rt: HostRuntime) -> Result<(), Fail> {
-    assert!(rt; a_link_brings_its_file(rt.alloc())?);
-    assert!(rt; holds_of_directories(rt.alloc(), &UNMARKED)?);
-    assert!(rt; holds_of_directories(rt.alloc(), &DIRECTORY)?);
+    assert!(rt; a_link_brings_its_file(&rt, rt.alloc())?);
+    assert!(rt; holds_of_directories(&rt, rt.alloc(), &UNMARKED)?);
+    assert!(rt; holds_of_directories(&rt, rt.alloc(), &DIRECTORY)?);
     Ok(())
 }
 
@@ -469,14 +496,14 @@ X 1 100 1 69\nX 1 100 2 63\ntotal 0 2 0\n",
 };
 
 /// Whether volumes that differ from the rows are told in the manifest.
-fn differences_are_told(alloc: Global) -> Result<bool, Fail> {
-    holds(alloc, disagreeing(alloc)?, &DISAGREEING)
+fn differences_are_told(rt: &(impl Threads + Sync), alloc: Global) -> Result<bool, Fail> {
+    holds(rt, alloc, disagreeing(alloc)?, &DISAGREEING)
 }
 
 #[test]
 fn faults_of_volumes_are_told_behind_the_bootstrap(rt: HostRuntime) -> Result<(), Fail> {
-    assert!(rt; runs_without_volumes(rt.alloc())?);
-    assert!(rt; runs_with_a_failing_drive(rt.alloc())?);
-    assert!(rt; differences_are_told(rt.alloc())?);
+    assert!(rt; runs_without_volumes(&rt, rt.alloc())?);
+    assert!(rt; runs_with_a_failing_drive(&rt, rt.alloc())?);
+    assert!(rt; differences_are_told(&rt, rt.alloc())?);
     Ok(())
 }

@@ -6,6 +6,7 @@ use br_volume::MemDrive;
 use sqlite::{Alter, Connection};
 use std::alloc::Global;
 use std::test::Fail;
+use std::thread::Threads;
 
 /// Stores the jobs of a history, the last one first.
 fn store_all<S: Alter>(store: &mut Store<S>, jobs: &[JobRows]) -> Result<(), Fail> {
@@ -31,15 +32,15 @@ fn are_in_order(jobs: &[JobRows]) -> bool {
 }
 
 /// Whether two jobs are loaded in order of their numbers, and restored.
-fn two_stored_jobs_are_restored(alloc: Global) -> Result<bool, Fail> {
+fn two_stored_jobs_are_restored(rt: &(impl Threads + Sync), alloc: Global) -> Result<bool, Fail> {
     let World { store, history } = two_jobs(alloc)?;
     let loaded = stored(alloc, &history)?;
     let mut drive = MemDrive::new(store.into_volumes());
-    Ok(are_in_order(loaded.jobs()) && runs(alloc, &loaded, &mut drive, &TWO_JOBS)?)
+    Ok(are_in_order(loaded.jobs()) && runs(rt, alloc, &loaded, &mut drive, &TWO_JOBS)?)
 }
 
 #[test]
 fn stored_jobs_are_restored(rt: HostRuntime) -> Result<(), Fail> {
-    assert!(rt; two_stored_jobs_are_restored(rt.alloc())?);
+    assert!(rt; two_stored_jobs_are_restored(&rt, rt.alloc())?);
     Ok(())
 }

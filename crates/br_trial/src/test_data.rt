@@ -11,6 +11,7 @@ use br_types::{JobId, Letter, Name, Path, SessionKey, VolName};
 use br_volume::{MemDrive, MemStore, VolumeStore};
 use std::alloc::{AllocError, Global};
 use std::test::Fail;
+use std::thread::Threads;
 
 /// A file that is saved: its path, type, numbers, link text and bytes, and whether a digest is saved too.
 #[derive(Clone, Copy)]
@@ -272,6 +273,7 @@ fn answer(run: Result<ConsoleRun, ConsoleFault>) -> Result<ConsoleRun, u32> {
 
 /// Runs the console on these lines for a request.
 fn ran<'a>(
+    rt: &(impl Threads + Sync),
     alloc: Global,
     history: &History,
     drive: &mut MemDrive,
@@ -280,7 +282,7 @@ fn ran<'a>(
 ) -> Told<'a> {
     let mut left = lines;
     let mut text = Vec::new(alloc);
-    let run = run_console(alloc, history, request, &mut left, drive, &mut text);
+    let run = run_console(rt, alloc, history, request, &mut left, drive, &mut text);
     Told {
         run: answer(run),
         text,
@@ -290,6 +292,7 @@ fn ran<'a>(
 
 /// Runs the console on these lines for what is asked.
 pub(crate) fn tell<'a>(
+    rt: &(impl Threads + Sync),
     alloc: Global,
     history: &History,
     drive: &mut MemDrive,
@@ -297,7 +300,7 @@ pub(crate) fn tell<'a>(
     lines: &'a [u8],
 ) -> Result<Told<'a>, Fail> {
     let request = request(alloc, asked)?;
-    Ok(ran(alloc, history, drive, &request, lines))
+    Ok(ran(rt, alloc, history, drive, &request, lines))
 }
 
 /// A run in which no line was refused and each outcome is a file.

@@ -6,6 +6,7 @@ ghost use Rattle.brestore.specs.ConsoleEnding.{clean_status, delivery_status, ru
 
 use crate::asking::read_request;
 use crate::extract::{BAD_STREAM, CLEAN, Ending, REFUSED};
+use br_command::Given;
 use br_console::{ConsoleDelivery, ConsoleFault, ConsoleRun, run_console, run_console_into};
 use br_engine::push_refused_line;
 use br_history::History;
@@ -20,18 +21,7 @@ use std::fs;
 use std::io::{self, BufRead, BufReader, BufWriter, ErrorKind, Write};
 use std::os::unix::fs::FileExt;
 use std::rt::Files;
-
-/// What the command line gives to the console: the file of the catalogue, the folder of the volumes, client, file set and moment as
-/// text, and the folder to deliver into, if any.
-#[derive(Clone, Copy, Debug, PartialEq, Eq)]
-pub(crate) struct Given<'a> {
-    pub(crate) db: &'a str,
-    pub(crate) volumes: &'a str,
-    pub(crate) client: &'a str,
-    pub(crate) fileset: &'a str,
-    pub(crate) before: &'a str,
-    pub(crate) into: Option<&'a str>,
-}
+use std::thread::Threads;
 
 /// The status of a run that was not broken off: whether no line was refused, and each outcome is a file.
 fn status_of(run: &ConsoleRun) -> u8
@@ -88,6 +78,7 @@ pub(crate) fn ending_of(
 
 /// Runs the console and writes the manifest through, and delivers nothing.
 fn run_through<R: BufRead + Drop, D: Drive, W: Write + Drop>(
+    threads: &(impl Threads + Sync),
     alloc: Global,
     history: &History,
     request: &Request,
@@ -98,7 +89,7 @@ fn run_through<R: BufRead + Drop, D: Drive, W: Write + Drop>(
     ensures runs { RunsOver (R.remaining reader.old) (D.shows drive.old) (D.shows drive.new) (W.contents writer.old) (W.contents writer.new) history.now request.now (run_of result) }
     ensures delivers { IfOk result (λ made. made.stop ≡ None) }
 {
-    let run = run_console(alloc, history, request, reader, drive, writer)?;
+    let run = run_console(threads, alloc, history, request, reader, drive, writer)?;
     writer.flush()?;
     Ok(ConsoleDelivery { run, stop: None })
 }
@@ -192,6 +183,7 @@ pub(crate) fn prepare<'r>(rt: &'r HostRuntime, given: &Given<'_>) -> Result<Read
 /// one. The exit status.
 fn talk<R: Files + Input + Print + Eprint + AllocGlobal, S: Sink>(
     rt: &R,
+    threads: &(impl Threads + Sync),
     history: &History,
     request: &Request,
     volumes: &str,
@@ -206,6 +198,7 @@ where
     let mut writer = BufWriter::new(alloc, io::writer(rt))?;
     let run = match sink {
         None => run_through(
+            threads,
             alloc,
             history,
             request,
@@ -214,6 +207,7 @@ where
             &mut writer,
         ),
         Some(sink) => run_console_into(
+            threads,
             alloc,
             history,
             request,
@@ -236,7 +230,11 @@ where
 /// this order before a line is read. The manifest is printed before anything is put.
 ///
 /// An error for want of memory, or where standard error failed.
-pub(crate) fn restore_marked(rt: &HostRuntime, given: &Given<'_>) -> io::Result<u8> {
+pub(crate) fn restore_marked(
+    rt: &HostRuntime,
+    threads: &(impl Threads + Sync),
+    given: &Given<'_>,
+) -> io::Result<u8> {
     match prepare(rt, given) {
         Ok(
             Ready {
@@ -244,7 +242,14 @@ pub(crate) fn restore_marked(rt: &HostRuntime, given: &Given<'_>) -> io::Result<
                 mut sink,
                 history,
             },
-        ) => talk(rt, &history, &request, given.volumes, sink.as_mut()),
+        ) => talk(
+            rt,
+            threads,
+            &history,
+            &request,
+            given.volumes,
+            sink.as_mut(),
+        ),
         Err(number) => refuse(rt, number),
     }
 }

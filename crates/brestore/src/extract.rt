@@ -12,6 +12,7 @@ use std::fs;
 use std::io::{self, BufWriter, Error, ErrorKind, Write};
 use std::os::unix::fs::FileExt;
 use std::rt::Files;
+use std::thread::Threads;
 
 /// The exit status where all was carried out.
 pub(crate) const CLEAN: u8 = 0;
@@ -53,6 +54,7 @@ pub(crate) fn ending_of(
 
 /// Runs the text of a bootstrap over a drive, and writes the manifest through.
 pub(crate) fn run_through<D: Drive, W: Write + Drop>(
+    threads: &(impl Threads + Sync),
     alloc: Global,
     text: &[u8],
     drive: &mut D,
@@ -62,13 +64,14 @@ pub(crate) fn run_through<D: Drive, W: Write + Drop>(
     ensures nothing { IfErr result (WritesNothing (W.contents writer.old) (W.contents writer.new)) }
 {
     let mut reader = text;
-    let are_files = run_extract(alloc, &mut reader, drive, writer)?;
+    let are_files = run_extract(threads, alloc, &mut reader, drive, writer)?;
     writer.flush()?;
     Ok(are_files)
 }
 
 /// The same, and delivers the files into a sink once the manifest is written through.
 pub(crate) fn run_into<D: Drive, W: Write + Drop, S: Sink>(
+    threads: &(impl Threads + Sync),
     alloc: Global,
     text: &[u8],
     drive: &mut D,
@@ -78,7 +81,7 @@ pub(crate) fn run_into<D: Drive, W: Write + Drop, S: Sink>(
     ensures delivers { DeliversText (Some text.now) (D.shows drive.old) (D.shows drive.new) (W.contents writer.old) (W.contents writer.new) (S.has sink.old) (S.has sink.new) result }
 {
     let mut reader = text;
-    run_extract_into(alloc, &mut reader, drive, writer, sink)
+    run_extract_into(threads, alloc, &mut reader, drive, writer, sink)
 }
 
 /// Tells the operator how a run ended, on standard error. The exit status.
@@ -110,6 +113,7 @@ fn read_bsr<R: Files + Eprint + AllocGlobal>(rt: &R, bsr: &str) -> io::Result<Op
 /// Runs the bootstrap, and prints the manifest. The exit status.
 fn print_manifest<R: Files + Print + Eprint + AllocGlobal>(
     rt: &R,
+    threads: &(impl Threads + Sync),
     bsr: &str,
     volumes: &str,
 ) -> io::Result<u8>
@@ -121,13 +125,14 @@ where
     };
     let mut drive = FolderDrive::new(rt.alloc(), rt, volumes)?;
     let mut writer = BufWriter::new(rt.alloc(), io::writer(rt))?;
-    let run = run_through(rt.alloc(), &text, &mut drive, &mut writer);
+    let run = run_through(threads, rt.alloc(), &text, &mut drive, &mut writer);
     report(rt, run)
 }
 
 /// The same, and delivers the files into a sink behind it.
 fn fill_sink<R: Files + Print + Eprint + AllocGlobal, S: Sink>(
     rt: &R,
+    threads: &(impl Threads + Sync),
     bsr: &str,
     volumes: &str,
     sink: &mut S,
@@ -140,7 +145,7 @@ where
     };
     let mut drive = FolderDrive::new(rt.alloc(), rt, volumes)?;
     let mut writer = BufWriter::new(rt.alloc(), io::writer(rt))?;
-    let run = run_into(rt.alloc(), &text, &mut drive, &mut writer, sink);
+    let run = run_into(threads, rt.alloc(), &text, &mut drive, &mut writer, sink);
     report(rt, run)
 }
 
@@ -155,6 +160,7 @@ where
 /// An error for want of memory, or where standard error failed.
 pub(crate) fn extract_files<R: Files + Print + Eprint + AllocGlobal>(
     rt: &R,
+    threads: &(impl Threads + Sync),
     bsr: &str,
     volumes: &str,
     into: Option<&str>,
@@ -163,10 +169,10 @@ where
     R::File: FileExt,
 {
     let Some(folder) = into else {
-        return print_manifest(rt, bsr, volumes);
+        return print_manifest(rt, threads, bsr, volumes);
     };
     match FolderSink::new(rt.alloc(), rt, folder) {
-        Ok(mut sink) => fill_sink(rt, bsr, volumes, &mut sink),
+        Ok(mut sink) => fill_sink(rt, threads, bsr, volumes, &mut sink),
         Err(fault) => {
             eprintln!(rt; "refused {}", fault.number())?;
             Ok(REFUSED)

@@ -8,21 +8,17 @@
 mod asking;
 mod console;
 mod extract;
-mod fields;
-mod input;
-mod line;
-mod script;
 #[cfg(test)]
 mod tests;
-mod words;
 
 use crate::console::restore_marked;
 use crate::extract::{BAD_STREAM, CLEAN, REFUSED, extract_files};
-use crate::script::run_script;
-use crate::words::{Request, read_words};
+use br_command::{Request, read_words};
+use br_script::run_script;
 use std::io::{self, BufReader, BufWriter, ErrorKind, Write};
 use std::process::ExitCode;
 use std::rt::Env;
+use std::thread::Threads;
 
 /// The exit status for a fault of the command line.
 const BAD_COMMAND: u8 = 2;
@@ -37,17 +33,23 @@ fn words_of<R: Env + AllocGlobal>(rt: &R) -> io::Result<Option<Vec<String>>> {
 }
 
 /// Works off the script of standard input, and writes the answers to standard output. The exit status.
-fn work_off<R: Input + Print + AllocGlobal>(rt: &R) -> io::Result<u8> {
+fn work_off<R: Input + Print + AllocGlobal>(
+    rt: &R,
+    threads: &(impl Threads + Sync),
+) -> io::Result<u8> {
     let mut reader = BufReader::new(rt.alloc(), rt.reader())?;
     let mut writer = BufWriter::new(rt.alloc(), io::writer(rt))?;
-    let clean = run_script(rt.alloc(), &mut reader, &mut writer);
+    let clean = run_script(threads, rt.alloc(), &mut reader, &mut writer);
     writer.flush()?;
     Ok(if clean? { CLEAN } else { REFUSED })
 }
 
 /// The same, where want of memory is a refusal of the script.
-fn serve<R: Input + Print + AllocGlobal>(rt: &R) -> io::Result<u8> {
-    match work_off(rt) {
+fn serve<R: Input + Print + AllocGlobal>(
+    rt: &R,
+    threads: &(impl Threads + Sync),
+) -> io::Result<u8> {
+    match work_off(rt, threads) {
         Err(e) if e.kind() == ErrorKind::OutOfMemory => {
             println!(rt; "refused 1")?;
             Ok(REFUSED)
@@ -56,16 +58,18 @@ fn serve<R: Input + Print + AllocGlobal>(rt: &R) -> io::Result<u8> {
     }
 }
 
-/// Carries out what the command line asks for. The exit status.
-fn run(rt: &HostRuntime) -> io::Result<u8> {
+/// Carries out what the command line asks for, in as many threads as `threads` starts. The exit status.
+fn run(rt: &HostRuntime, threads: &(impl Threads + Sync)) -> io::Result<u8> {
     let Some(words) = words_of(rt)? else {
         eprintln!(rt; "brestore: an argument is not UTF-8")?;
         return Ok(BAD_COMMAND);
     };
     match read_words(rt.alloc(), &words) {
-        Ok(Request::Serve) => serve(rt),
-        Ok(Request::Extract { bsr, volumes, into }) => extract_files(rt, bsr, volumes, into),
-        Ok(Request::Console(given)) => restore_marked(rt, &given),
+        Ok(Request::Serve) => serve(rt, threads),
+        Ok(Request::Extract { bsr, volumes, into }) => extract_files(
+            rt, threads, bsr, volumes, into,
+        ),
+        Ok(Request::Console(given)) => restore_marked(rt, threads, &given),
         Err(fault) if fault.kind() == clap::error::ErrorKind::OutOfMemory => {
             Err(ErrorKind::OutOfMemory.into())
         }
@@ -83,7 +87,7 @@ fn run(rt: &HostRuntime) -> io::Result<u8> {
 /// The exit status is 0 where nothing was refused and every outcome is a file, else 1; 2 for a fault of the command line, and 3
 /// where the program's own files or streams failed.
 fn main(rt: HostRuntime) -> ExitCode {
-    match run(&rt) {
+    match run(&rt, &rt) {
         Ok(status) => ExitCode::from(status),
         Err(e) if e.kind() == ErrorKind::OutOfMemory => {
             let _ = eprintln!(rt; "refused 1");

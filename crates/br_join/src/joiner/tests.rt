@@ -5,8 +5,10 @@ use br_bsr::read_bootstrap;
 use br_match::{Found, Hit, Spot};
 use br_piece::{Piece, split};
 use br_types::{FileIndex, FileKey, Names, Path, SessionKey};
+use md5::{Digest, Md5};
 use std::alloc::Global;
 use std::test::Fail;
+use std::thread::Threads;
 
 /// The attributes of the files 1 and 2, which are /a and /b.
 const FIRST: &[u8] = b"1 3 /a\0A A IGk B A A A O A A A A A A\0\0";
@@ -70,6 +72,7 @@ fn is_file(file: &(FileKey, Outcome), index: u32, path: &[u8], bytes: &[u8]) -> 
             file.0.index.get() == index
                 && item.path.bytes() == path
                 && item.bytes.bytes() == bytes
+                && item.bytes.digest() == Md5::digest(bytes)
                 && item.skipped == 0
         }
         Outcome::Fault { .. } => false,
@@ -96,9 +99,13 @@ fn take_piece(alloc: Global, joiner: &mut Joiner, piece: u32) -> Result<(), Fail
 }
 
 /// The files, none where a piece is open.
-fn finished(alloc: Global, joiner: &mut Joiner) -> Result<Vec<(FileKey, Outcome)>, Fail> {
+fn finished(
+    rt: &(impl Threads + Sync),
+    alloc: Global,
+    joiner: &mut Joiner,
+) -> Result<Vec<(FileKey, Outcome)>, Fail> {
     if joiner.ready() {
-        Ok(joiner.finish()?)
+        Ok(joiner.finish(rt)?)
     } else {
         Ok(Vec::new(alloc))
     }
@@ -152,16 +159,27 @@ fn readiness(
 }
 
 /// Whether a joiner is ready just behind both pieces, and makes both files of them.
-fn joins(alloc: Global, joiner: &mut Joiner, first: u32, second: u32) -> Result<bool, Fail> {
+fn joins(
+    rt: &(impl Threads + Sync),
+    alloc: Global,
+    joiner: &mut Joiner,
+    first: u32,
+    second: u32,
+) -> Result<bool, Fail> {
     let ready = readiness(alloc, joiner, first, second)?;
-    let files = finished(alloc, joiner)?;
+    let files = finished(rt, alloc, joiner)?;
     Ok(ready == [false, false, true] && are_both(&files))
 }
 
 /// The same of a new joiner.
-fn joins_anew(alloc: Global, first: u32, second: u32) -> Result<bool, Fail> {
+fn joins_anew(
+    rt: &(impl Threads + Sync),
+    alloc: Global,
+    first: u32,
+    second: u32,
+) -> Result<bool, Fail> {
     let mut joiner = new_joiner(alloc)?;
-    joins(alloc, &mut joiner, first, second)
+    joins(rt, alloc, &mut joiner, first, second)
 }
 
 /// Takes that nothing is found of a piece.
@@ -180,18 +198,22 @@ fn readiness_of_nothing(alloc: Global, joiner: &mut Joiner) -> Result<[bool; 3],
 }
 
 /// Whether a joiner is ready just behind both pieces, of which nothing is found, and makes no file of them.
-fn joins_nothing(alloc: Global, joiner: &mut Joiner) -> Result<bool, Fail> {
+fn joins_nothing(
+    rt: &(impl Threads + Sync),
+    alloc: Global,
+    joiner: &mut Joiner,
+) -> Result<bool, Fail> {
     let ready = readiness_of_nothing(alloc, joiner)?;
-    let files = finished(alloc, joiner)?;
+    let files = finished(rt, alloc, joiner)?;
     Ok(ready == [false, false, true] && files.is_empty())
 }
 
 #[test]
 fn joins_in_any_order_and_is_then_empty_and_open(rt: HostRuntime) -> Result<(), Fail> {
     let mut joiner = new_joiner(rt.alloc())?;
-    assert!(rt; joins(rt.alloc(), &mut joiner, 0, 1)?);
-    assert!(rt; joins_nothing(rt.alloc(), &mut joiner)?);
-    assert!(rt; joins_anew(rt.alloc(), 1, 0)?);
+    assert!(rt; joins(&rt, rt.alloc(), &mut joiner, 0, 1)?);
+    assert!(rt; joins_nothing(&rt, rt.alloc(), &mut joiner)?);
+    assert!(rt; joins_anew(&rt, rt.alloc(), 1, 0)?);
     Ok(())
 }
 
@@ -215,7 +237,7 @@ fn found_at_taken_place(alloc: Global) -> Result<Found, Fail> {
 fn a_repeat_changes_nothing(rt: HostRuntime) -> Result<(), Fail> {
     let mut joiner = new_joiner(rt.alloc())?;
     take_repeats(rt.alloc(), &mut joiner)?;
-    assert!(rt; are_both(&finished(rt.alloc(), &mut joiner)?));
+    assert!(rt; are_both(&finished(&rt, rt.alloc(), &mut joiner)?));
     Ok(())
 }
 
@@ -266,6 +288,68 @@ fn restores_what_was_planned(rt: HostRuntime) -> Result<(), Fail> {
     let mut joiner = planned_joiner(rt.alloc())?;
     take_piece(rt.alloc(), &mut joiner, 0)?;
     take_piece(rt.alloc(), &mut joiner, 1)?;
-    assert!(rt; are_planned(&finished(rt.alloc(), &mut joiner)?, key(3)?));
+    assert!(rt; are_planned(&finished(&rt, rt.alloc(), &mut joiner)?, key(3)?));
+    Ok(())
+}
+
+/// The bytes of the file of this index among the many, of which no two are of one length.
+fn bytes_of_many(alloc: Global, index: u32) -> Result<Vec<u8>, Fail> {
+    let mut bytes = Vec::new(alloc);
+    for place in 0..index.wrapping_mul(613) % 997 {
+        bytes.push((place.wrapping_add(index) % 251) as u8)?;
+    }
+    Ok(bytes)
+}
+
+/// The fragments of one of the many files.
+fn push_one_of_many(alloc: Global, hits: &mut Vec<Hit>, index: u32) -> Result<(), Fail> {
+    let attributes = format!(in alloc; "{index} 3 /{index}\0A A IGk B A A A O A A A A A A\0\0")?;
+    let bytes = bytes_of_many(alloc, index)?;
+    hits.push(hit(alloc, index, (0, 1), 2, &bytes)?)?;
+    hits.push(hit(alloc, index, (0, 0), 1, attributes.as_bytes())?)?;
+    Ok(())
+}
+
+/// Of piece 0 the files 1 to 100, out of order.
+fn found_many(alloc: Global) -> Result<Found, Fail> {
+    let mut hits = Vec::new(alloc);
+    for turn in 1..101u32 {
+        push_one_of_many(alloc, &mut hits, turn.wrapping_mul(37) % 101)?;
+    }
+    Ok(Found { piece: 0, hits })
+}
+
+/// Whether the file is that of this index among the many.
+fn is_one_of_many(alloc: Global, file: &(FileKey, Outcome), index: u32) -> Result<bool, Fail> {
+    let path = format!(in alloc; "/{index}")?;
+    let bytes = bytes_of_many(alloc, index)?;
+    Ok(is_file(file, index, path.as_bytes(), &bytes))
+}
+
+/// The first of the files 1 to 100 that is not in its place with its own bytes and digest, none where all are.
+fn wrong_of_many(alloc: Global, files: &[(FileKey, Outcome)]) -> Result<Option<u32>, Fail> {
+    if files.len() != 100 {
+        return Ok(Some(0));
+    }
+    for (index, file) in (1..101u32).zip(files) {
+        if !is_one_of_many(alloc, file, index)? {
+            return Ok(Some(index));
+        }
+    }
+    Ok(None)
+}
+
+/// The files that a joiner makes where many are found.
+fn many_files(rt: &(impl Threads + Sync), alloc: Global) -> Result<Vec<(FileKey, Outcome)>, Fail> {
+    let mut joiner = new_joiner(alloc)?;
+    take(&mut joiner, found_many(alloc)?)?;
+    take_nothing(alloc, &mut joiner, 1)?;
+    finished(rt, alloc, &mut joiner)
+}
+
+#[test]
+fn many_files_come_in_order_with_their_own_bytes(rt: HostRuntime) -> Result<(), Fail> {
+    let files = many_files(&rt, rt.alloc())?;
+    assert_eq!(rt; wrong_of_many(rt.alloc(), &files)?, None);
     Ok(())
 }

@@ -4,6 +4,7 @@ use br_types::VolName;
 use br_volume::MemDrive;
 use std::process::Abort;
 use std::test::Fail;
+use std::thread::Threads;
 
 /// A case: the volume, the bootstrap, and what is expected.
 #[derive(Clone, Copy)]
@@ -16,13 +17,14 @@ struct Case {
 }
 
 /// Runs the bootstrap of a case over its volume.
-fn runs<R: Abort + AllocGlobal>(rt: &R, case: Case) -> Result<(), Fail> {
+fn runs<R: Abort + AllocGlobal + Threads + Sync>(rt: &R, case: Case) -> Result<(), Fail> {
     let alloc = rt.alloc();
     let mut volumes = Vec::new(alloc);
     let name = VolName::new(alloc, b"Vol-0001")?;
     volumes.push((name, Vec::from_slice(alloc, case.volume)?))?;
     let mut written = Vec::new(alloc);
     let run = run_through(
+        rt,
         alloc,
         case.bootstrap,
         &mut MemDrive::new(volumes),

@@ -1,9 +1,11 @@
 //! The command `console`: what it refuses before a line is read, and a catalogue in a file.
 use crate::asking::{RequestFault, read_request};
-use crate::console::{Given, prepare, restore_marked};
+use crate::console::{prepare, restore_marked};
 use crate::tests::into::new_place;
+use br_command::Given;
 use std::alloc::Global;
 use std::test::Fail;
+use std::thread::Threads;
 use std::{env, fs, process};
 
 /// A request that is fine, for a catalogue and volumes that are not there.
@@ -68,15 +70,15 @@ fn path_of(rt: &HostRuntime, name: &str) -> Result<String, Fail> {
 }
 
 /// The status of a run over a catalogue.
-fn status_over(rt: &HostRuntime, db: &str) -> Result<u8, Fail> {
-    Ok(restore_marked(rt, &Given { db, ..GIVEN })?)
+fn status_over(rt: &HostRuntime, threads: &(impl Threads + Sync), db: &str) -> Result<u8, Fail> {
+    Ok(restore_marked(rt, threads, &Given { db, ..GIVEN })?)
 }
 
 /// Whether a run over a file with these bytes is refused, and the file stays as it was.
-fn is_kept(rt: &HostRuntime, bytes: &[u8]) -> Result<bool, Fail> {
+fn is_kept(rt: &HostRuntime, threads: &(impl Threads + Sync), bytes: &[u8]) -> Result<bool, Fail> {
     let path = path_of(rt, "kept")?;
     fs::write(rt, path.as_str(), bytes)?;
-    let status = status_over(rt, path.as_str())?;
+    let status = status_over(rt, threads, path.as_str())?;
     let after = fs::read(rt, path.as_str())?;
     fs::remove_file(rt, path.as_str())?;
     Ok(status == 1 && after.as_slice() == bytes)
@@ -85,10 +87,11 @@ fn is_kept(rt: &HostRuntime, bytes: &[u8]) -> Result<bool, Fail> {
 #[test]
 fn a_file_that_is_no_catalogue_is_refused(rt: HostRuntime) -> Result<(), Fail> {
     let missing = path_of(&rt, "missing")?;
-    assert_eq!(rt; status_over(&rt, missing.as_str())?, 1);
+    assert_eq!(rt; status_over(&rt, &rt, missing.as_str())?, 1);
     assert!(rt; fs::metadata(&rt, missing.as_str()).is_err());
     assert!(rt;
         is_kept(
+            &rt,
             &rt,
             b"these bytes are not a database of SQLite, and are long enough to have a header like one of its own"
         )?
@@ -105,7 +108,11 @@ fn refusal_of(rt: &HostRuntime, given: &Given<'_>) -> u32 {
 }
 
 /// The refusals of a delivery into this folder: of a bad moment, of a catalogue that is not there, and the status of a run.
-fn refusals_into(rt: &HostRuntime, folder: &str) -> Result<(u32, u32, u8), Fail> {
+fn refusals_into(
+    rt: &HostRuntime,
+    threads: &(impl Threads + Sync),
+    folder: &str,
+) -> Result<(u32, u32, u8), Fail> {
     let given = Given {
         into: Some(folder),
         ..GIVEN
@@ -117,7 +124,7 @@ fn refusals_into(rt: &HostRuntime, folder: &str) -> Result<(u32, u32, u8), Fail>
     Ok((
         refusal_of(rt, &moment),
         refusal_of(rt, &given),
-        restore_marked(rt, &given)?,
+        restore_marked(rt, threads, &given)?,
     ))
 }
 
@@ -128,8 +135,8 @@ fn the_folder_is_tested_behind_the_moment_and_before_the_catalogue(
     let place = new_place(&rt, "tested", b"/d/b")?;
     let filled = format!(in rt.alloc(); "{place}/volumes")?;
     let empty = format!(in rt.alloc(); "{place}/into")?;
-    assert_eq!(rt; refusals_into(&rt, filled.as_str())?, (52, 81, 1));
-    assert_eq!(rt; refusals_into(&rt, empty.as_str())?, (52, 45, 1));
+    assert_eq!(rt; refusals_into(&rt, &rt, filled.as_str())?, (52, 81, 1));
+    assert_eq!(rt; refusals_into(&rt, &rt, empty.as_str())?, (52, 45, 1));
     fs::remove_dir_all(&rt, place.as_str())?;
     Ok(())
 }

@@ -12,6 +12,7 @@ use br_volume::FolderDrive;
 use std::alloc::Global;
 use std::fs;
 use std::test::Fail;
+use std::thread::Threads;
 
 /// A delivery of two files, and what comes of it.
 #[derive(Clone, Copy)]
@@ -136,6 +137,7 @@ fn request(alloc: Global) -> Result<Request, Fail> {
 /// How a run over these jobs into a folder ends, and what is written.
 fn ended(
     rt: &HostRuntime,
+    threads: &(impl Threads + Sync),
     history: &History,
     volumes: &str,
     into: &str,
@@ -146,6 +148,7 @@ fn ended(
     let mut drive = FolderDrive::new(rt.alloc(), rt, volumes)?;
     let mut lines = b"mark *\ndone\n".as_slice();
     let run = run_console_into(
+        threads,
         rt.alloc(),
         history,
         &request,
@@ -158,12 +161,24 @@ fn ended(
 }
 
 /// Whether a run in a place ends with this status, this line and this text.
-fn ends(rt: &HostRuntime, place: &str, case: &Case) -> Result<bool, Fail> {
+fn ends(
+    rt: &HostRuntime,
+    threads: &(impl Threads + Sync),
+    place: &str,
+    case: &Case,
+) -> Result<bool, Fail> {
     let history = history_of(rt.alloc(), case.second)?;
     let volumes = format!(in rt.alloc(); "{place}/volumes")?;
     let into = format!(in rt.alloc(); "{place}/into")?;
     let mut text = Vec::new(rt.alloc());
-    let ending = ended(rt, &history, volumes.as_str(), into.as_str(), &mut text)?;
+    let ending = ended(
+        rt,
+        threads,
+        &history,
+        volumes.as_str(),
+        into.as_str(),
+        &mut text,
+    )?;
     Ok(
         ending.status == case.status
             && ending.refusal.as_slice() == case.refusal
@@ -181,9 +196,9 @@ fn are_there(rt: &HostRuntime, place: &str, case: &Case) -> Result<bool, Fail> {
 }
 
 /// Whether a delivery is as expected.
-fn holds(rt: &HostRuntime, case: &Case) -> Result<bool, Fail> {
+fn holds(rt: &HostRuntime, threads: &(impl Threads + Sync), case: &Case) -> Result<bool, Fail> {
     let place = new_place(rt, case.name, case.second)?;
-    let ends = ends(rt, place.as_str(), case)?;
+    let ends = ends(rt, threads, place.as_str(), case)?;
     let are_there = are_there(rt, place.as_str(), case)?;
     fs::remove_dir_all(rt, place.as_str())?;
     Ok(ends && are_there)
@@ -191,13 +206,13 @@ fn holds(rt: &HostRuntime, case: &Case) -> Result<bool, Fail> {
 
 #[test]
 fn what_was_marked_is_delivered(rt: HostRuntime) -> Result<(), Fail> {
-    assert!(rt; holds(&rt, &DELIVERED)?);
+    assert!(rt; holds(&rt, &rt, &DELIVERED)?);
     Ok(())
 }
 
 #[test]
 fn a_stop_is_told_behind_the_manifest(rt: HostRuntime) -> Result<(), Fail> {
-    assert!(rt; holds(&rt, &IN_THE_WAY)?);
-    assert!(rt; holds(&rt, &NO_TEXT)?);
+    assert!(rt; holds(&rt, &rt, &IN_THE_WAY)?);
+    assert!(rt; holds(&rt, &rt, &NO_TEXT)?);
     Ok(())
 }

@@ -3,6 +3,7 @@ use crate::extract::{Ending, REFUSED, ending_of, extract_files, run_into};
 use br_sink::FolderSink;
 use br_volume::FolderDrive;
 use std::test::Fail;
+use std::thread::Threads;
 use std::{env, fs, process};
 
 /// A block of 160 bytes up to the path of its second file. Its first file is `/a` with the bytes `hello`, of session 1, 100.
@@ -71,24 +72,37 @@ const TWO_VOLUMES: &[u8] =
     Volume=A\nVolSessionId=2\nVolSessionTime=200\nVolAddr=64-171\nFileIndex=1\n";
 
 /// Delivers by a bootstrap from the volumes into the folder of a place: how it ended, and the manifest.
-fn delivered(rt: &HostRuntime, place: &str, text: &[u8]) -> Result<(Ending, Vec<u8>), Fail> {
+fn delivered(
+    rt: &HostRuntime,
+    threads: &(impl Threads + Sync),
+    place: &str,
+    text: &[u8],
+) -> Result<(Ending, Vec<u8>), Fail> {
     let volumes = format!(in rt.alloc(); "{place}/volumes")?;
     let into = format!(in rt.alloc(); "{place}/into")?;
     let mut sink = FolderSink::new(rt.alloc(), rt, into.as_str())?;
     let mut drive = FolderDrive::new(rt.alloc(), rt, volumes.as_str())?;
     let mut written = Vec::new(rt.alloc());
-    let run = run_into(rt.alloc(), text, &mut drive, &mut written, &mut sink);
+    let run = run_into(
+        threads,
+        rt.alloc(),
+        text,
+        &mut drive,
+        &mut written,
+        &mut sink,
+    );
     Ok((ending_of(rt.alloc(), &run)?, written))
 }
 
 /// Whether a delivery ends with this status, this line of a refusal and this manifest.
 fn ends(
     rt: &HostRuntime,
+    threads: &(impl Threads + Sync),
     place: &str,
     text: &[u8],
     (status, refusal, manifest): (u8, &[u8], &[u8]),
 ) -> Result<bool, Fail> {
-    let (ending, written) = delivered(rt, place, text)?;
+    let (ending, written) = delivered(rt, threads, place, text)?;
     Ok(
         ending.status == status
             && ending.refusal.as_slice() == refusal
@@ -109,7 +123,7 @@ fn files_and_their_folders_are_delivered(rt: HostRuntime) -> Result<(), Fail> {
     let manifest =
         b"F 1 100 1 3 /a 0,0,33188,1,0,0,0,5,0,0,0,0,0,0 = 5 5d41402abc4b2a76b9719d911017c592\n\
         F 1 100 2 3 /d/b 0,0,33188,1,0,0,0,5,0,0,0,0,0,0 = 5 7d793037a0760186574b0282f2f435e7\ntotal 2 0 0\n";
-    assert!(rt; ends(&rt, place.as_str(), b"Volume=V\n", (0, b"", manifest))?);
+    assert!(rt; ends(&rt, &rt, place.as_str(), b"Volume=V\n", (0, b"", manifest))?);
     assert!(rt; has(&rt, place.as_str(), "into/a", b"hello")?);
     assert!(rt; has(&rt, place.as_str(), "into/d/b", b"world")?);
     fs::remove_dir_all(&rt, place.as_str())?;
@@ -124,7 +138,7 @@ fn files_that_go_on_over_volumes_are_delivered(rt: HostRuntime) -> Result<(), Fa
     let manifest =
         b"F 1 100 1 3 /a 0,0,33188,1,0,0,0,14,0,0,0,0,0,0 = 14 f96b697d7cb7938d525a2f31aaf161d0\n\
         F 2 200 1 3 /b 0,0,33188,1,0,0,0,14,0,0,0,0,0,0 = 14 f96b697d7cb7938d525a2f31aaf161d0\ntotal 2 0 0\n";
-    assert!(rt; ends(&rt, place.as_str(), TWO_VOLUMES, (0, b"", manifest))?);
+    assert!(rt; ends(&rt, &rt, place.as_str(), TWO_VOLUMES, (0, b"", manifest))?);
     assert!(rt; has(&rt, place.as_str(), "into/a", b"message digest")?);
     assert!(rt; has(&rt, place.as_str(), "into/b", b"message digest")?);
     fs::remove_dir_all(&rt, place.as_str())?;
@@ -139,6 +153,7 @@ fn a_path_in_the_way_stops_behind_the_manifest(rt: HostRuntime) -> Result<(), Fa
         F 1 100 2 3 /a/b 0,0,33188,1,0,0,0,5,0,0,0,0,0,0 = 5 7d793037a0760186574b0282f2f435e7\ntotal 2 0 0\n";
     assert!(rt;
         ends(
+            &rt,
             &rt,
             place.as_str(),
             b"Volume=V\n",
@@ -159,6 +174,7 @@ fn a_path_that_is_no_text_stops_behind_the_manifest(rt: HostRuntime) -> Result<(
     assert!(rt;
         ends(
             &rt,
+            &rt,
             place.as_str(),
             b"Volume=V\n",
             (1, b"refused 80\n", manifest)
@@ -177,6 +193,7 @@ fn a_folder_that_is_not_empty_is_refused_before_anything_is_read(
     let place = new_place(&rt, "full", b"/d/b")?;
     let volumes = format!(in rt.alloc(); "{place}/volumes")?;
     let status = extract_files(
+        &rt,
         &rt,
         "/no/such.bsr",
         volumes.as_str(),

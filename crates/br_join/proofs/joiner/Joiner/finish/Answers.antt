@@ -9,7 +9,7 @@ use Rattle.br_join.proofs.SortLaws.{listed_is}
 use Rattle.br_join.proofs.joiner.Joiner.finish.Goals as goal
 
 pub returns-clause-ok : goal.returns-clause-ok
-returns-clause-ok c =
+returns-clause-ok g c =
     let inside = c.self.inside in
     let step : record { pieces = as_map c.open_again.new.pieces; names = inside.names; hits = hits_of c.clear.new.self.items } ≡ emptied (record { pieces = as_map inside.pieces; names = inside.names; hits = hits_of inside.hits.items }) =
     λ i. record { pieces = c.open_again.ensures i; names = inside.names; hits = hits_of (c.clear.ensures.items i) } in
@@ -17,7 +17,7 @@ returns-clause-ok c =
 
 pub returns-clause-files : goal.returns-clause-files
 unfolding files
-returns-clause-files c =
+returns-clause-files g c =
     let names = c.self.inside.names in
     let settled = c.settle.new.hits.items in
     c.in_ok-outcomes.ensures ∙ (λ i. files_listed (listed (c.as_slice.ensures.value i)) (option_map planned_in (c.as_ref.ensures.value i)))

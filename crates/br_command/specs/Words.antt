@@ -1,0 +1,102 @@
+-- What the words of a command line ask for, by the definitions of clap.
+use Rattle.std.specs.Prelude.{if◌then◌else◌, List, [], ◌∷◌, Bool, bytes_eq, codes, is_some, Option, Some, None, option_and_then, option_map, false, true}
+use Rattle.clap.specs.Kinds.{Kinds, or_else}
+use Rattle.clap.specs.Simple.{App, new_app, new_rule, on_top, subcommand_of, with_rule, with_subcommand}
+use Rattle.clap.specs.Walk.{Row, Rule, Text, first_of}
+use Rattle.clap.specs.Faults.{fault_of}
+use Rattle.clap.specs.declared.builder.action.ArgAction.TheVariants.{Set}
+use Rattle.clap.specs.declared.builder.value_parser.ValueParser.TheVariants.{NonEmptyString}
+use Rattle.clap.specs.declared.error.kind.ErrorKind.TheVariants.{MissingRequiredArgument}
+use Rattle.br_command.specs.declared.words.Request.{Request}
+use Rattle.br_command.specs.declared.words.Request.TheVariants as requests
+
+-- a command of the program: a script; a bootstrap's file, the folder of the volumes, and the folder to deliver into, if any; or a
+-- catalogue's file, the folder of the volumes, client, file set and moment, and the folder to deliver into, if any
+pub data Asked : Type 0 where
+  Serve : Asked
+  Extract : Text → Text → Option Text → Asked
+  Console : Text → Text → Text → Text → Text → Option Text → Asked
+
+-- what the program holds of a command line
+abbrev pub asked : Request → Asked
+asked requests.Serve = Serve
+asked (requests.Extract bsr volumes into) = Extract bsr.now volumes.now (option_map (λ s. s.now) into)
+asked (requests.Console given) =
+    Console given.db.now given.volumes.now given.client.now given.fileset.now given.before.now (option_map (λ s. s.now) given.into)
+
+-- an option `--name VALUE` with a value that is not empty, and whether it has to be there
+abbrev pub value_rule : Text → Bool → Rule
+value_rule name is_required = record (new_rule name) {
+  long = Some name;
+  action = Some Set;
+  value_names = 1;
+  parser = Some NonEmptyString;
+  required = is_required;
+}
+
+-- `extract --bsr FILE --volumes DIR`, and `--into DIR`, which may be left out
+unfoldable pub extract_app : App
+extract_app =
+    with_rule (with_rule (with_rule (new_app (codes "extract")) (value_rule (codes "bsr") true)) (value_rule (codes "volumes") true))
+    (value_rule (codes "into") false)
+
+-- `console --db FILE --volumes DIR`, which is not all of it
+unfoldable pub console_start_app : App
+console_start_app = with_rule (with_rule (new_app (codes "console")) (value_rule (codes "db") true)) (value_rule (codes "volumes") true)
+
+-- `console --db FILE --volumes DIR --client NAME --fileset NAME --before MOMENT`
+unfoldable pub console_jobs_app : App
+console_jobs_app =
+    with_rule (with_rule (with_rule console_start_app (value_rule (codes "client") true)) (value_rule (codes "fileset") true))
+    (value_rule (codes "before") true)
+
+-- the same, and `--into DIR`, which may be left out
+unfoldable pub console_app : App
+console_app = with_rule console_jobs_app (value_rule (codes "into") false)
+
+-- the program has a version, and the commands `extract`, `console` and `serve`
+unfoldable pub program_app : App
+program_app =
+    with_subcommand
+    (with_subcommand
+    (with_subcommand (on_top (λ s. record s { has_version = true }) (new_app (codes "brestore")))
+    extract_app.top)
+    console_app.top)
+    (new_app (codes "serve")).top
+
+-- the command `extract` by the values that were found for its options
+unfoldable pub extract_asked : List Row → Option Asked
+extract_asked rows =
+    option_and_then (λ bsr. option_map (λ volumes. Extract bsr volumes (first_of (codes "into") rows)) (first_of (codes "volumes") rows))
+    (first_of (codes "bsr") rows)
+
+-- the command `console` by the values that were found for its options
+unfoldable pub console_asked : List Row → Option Asked
+console_asked rows =
+    option_and_then (λ db.
+    option_and_then (λ volumes.
+    option_and_then (λ client.
+    option_and_then (λ fileset. option_map (λ before. Console db volumes client fileset before (first_of (codes "into") rows)) (first_of (codes "before") rows))
+    (first_of (codes "fileset") rows))
+    (first_of (codes "client") rows))
+    (first_of (codes "volumes") rows))
+    (first_of (codes "db") rows)
+
+-- the command by the name of the subcommand and what was found for its options; with no subcommand it is a script
+unfoldable pub asked_by : Option (Text × List Row) → Option Asked
+asked_by None = Some Serve
+asked_by (Some (name, rows)) =
+    if bytes_eq name (codes "extract") then extract_asked rows
+    else if bytes_eq name (codes "console") then console_asked rows
+    else if bytes_eq name (codes "serve") then Some Serve
+    else None
+
+-- the command that words ask for, the first of which is the program's name
+unfoldable pub words_asked : List Text → Option Asked
+words_asked words = asked_by (subcommand_of program_app words)
+
+-- the kinds of fault that words have, none where they are taken
+unfoldable pub words_fault : List Text → Kinds
+words_fault words =
+    or_else (fault_of program_app words)
+    (if is_some (words_asked words) then [] else MissingRequiredArgument ∷ [])

@@ -1,0 +1,11 @@
+//! Scripts, which fill volumes in memory line by line and run bootstraps over them.
+#![tactic(auto)]
+
+mod fields;
+mod input;
+mod line;
+mod script;
+#[cfg(test)]
+mod tests;
+
+pub use script::run_script;

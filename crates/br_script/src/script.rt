@@ -1,0 +1,237 @@
+ghost use Rattle.std.specs.Prelude.{◌≡◌, bytes_eq, position, OnOk, OnErr};
+ghost use Rattle.br_volume.specs.Memory.{volumes_of};
+ghost use Rattle.br_script.specs.Store.{with_bytes};
+
+use crate::input::{Lines, MAX_TURNS, Reading, no_end};
+use crate::line::{LineFault, MAX_LINE, ScriptLine, read_line};
+use br_bsr::{Bootstrap, read_bootstrap};
+use br_engine::{ExtractFault, extract};
+use br_types::VolName;
+use br_volume::MemDrive;
+use std::alloc::{AllocError, Global};
+use std::io::{self, BufRead, Write};
+use std::mem;
+use std::thread::Threads;
+
+/// What a script has made so far.
+#[derive(Drop)]
+struct Script {
+    alloc: Global,
+    volumes: Vec<(VolName, Vec<u8>)>,
+    kept: Option<Bootstrap>,
+    /// Nothing was refused, and every outcome was a file.
+    is_clean: bool,
+}
+
+/// The lines of a bootstrap in a script.
+enum BootstrapLines {
+    /// The text up to the line `.`.
+    Text(Vec<u8>),
+    NoMemory,
+    /// The input ended before `.`.
+    Unended,
+}
+
+/// Puts a line and its LF behind a text, if memory was there so far. Whether it was there for the line too.
+fn push_line(text: &mut Vec<u8>, line: &[u8], reading: Reading, had_memory: bool) -> bool {
+    had_memory
+        && reading == Reading::Line
+        && text.extend_from_slice(line).is_ok()
+        && text.push(b'\n').is_ok()
+}
+
+/// The lines up to a line `.`, or to the input's end.
+fn read_bootstrap_lines<R: BufRead>(
+    alloc: Global,
+    lines: &mut Lines<R>,
+) -> io::Result<BootstrapLines> {
+    let (mut text, mut line) = (Vec::new(alloc), Vec::new(alloc));
+    let mut has_memory = true;
+    for _ in 0..MAX_TURNS {
+        let reading = lines.read(&mut line, usize::MAX)?;
+        if reading == Reading::End {
+            return Ok(BootstrapLines::Unended);
+        }
+        if reading == Reading::Line && line.as_slice() == b".".as_slice() {
+            return Ok(if has_memory {
+                BootstrapLines::Text(text)
+            } else {
+                BootstrapLines::NoMemory
+            });
+        }
+        has_memory = push_line(&mut text, &line, reading, has_memory);
+    }
+    Err(no_end())
+}
+
+/// The place of the volume of this name, if it is there.
+fn place_of(volumes: &[(VolName, Vec<u8>)], name: &VolName) -> Option<usize>
+    ensures { result ≡ position (λ v. bytes_eq v.0 name.now) volumes.now }
+{
+    volumes
+        .iter()
+        .position(|volume| volume.0.bytes() == name.bytes())
+}
+
+/// Puts bytes behind those of a volume, and makes the volume if it is not there. Where memory is short nothing is changed.
+fn append(
+    alloc: Global,
+    volumes: &mut Vec<(VolName, Vec<u8>)>,
+    name: VolName,
+    bytes: &[u8],
+) -> Result<(), AllocError>
+    ensures ok { OnOk result (volumes_of volumes.new.items ≡ with_bytes (volumes_of volumes.old.items) name bytes.now) }
+    ensures err { OnErr result (volumes_of volumes.new.items ≡ volumes_of volumes.old.items) }
+{
+    match place_of(volumes, &name) {
+        Some(place) => volumes[place].1.extend_from_slice(bytes),
+        None => {
+            let bytes = Vec::from_slice(alloc, bytes)?;
+            volumes.push((name, bytes))?;
+            Ok(())
+        }
+    }
+}
+
+impl Script {
+    fn new(alloc: Global) -> Script {
+        Script {
+            alloc,
+            volumes: Vec::new(alloc),
+            kept: None,
+            is_clean: true,
+        }
+    }
+
+    fn refuse<W: Write>(&mut self, number: u32, writer: &mut W) -> io::Result<()> {
+        self.is_clean = false;
+        writeln!(writer, "refused {number}")
+    }
+
+    fn refuse_line<W: Write>(
+        &mut self,
+        fault: LineFault,
+        number: u64,
+        writer: &mut W,
+    ) -> io::Result<()> {
+        match fault {
+            LineFault::Memory => self.refuse(1, writer),
+            LineFault::BadScript => {
+                self.is_clean = false;
+                writeln!(writer, "refused 90 line {number}")
+            }
+        }
+    }
+
+    fn refuse_extract<W: Write>(&mut self, fault: ExtractFault, writer: &mut W) -> io::Result<()> {
+        if let ExtractFault::Io(e) = fault {
+            return Err(e);
+        }
+        let mut text = Vec::new(self.alloc);
+        match fault.push_line(&mut text) {
+            Ok(()) => {
+                self.is_clean = false;
+                writer.write_all(&text)
+            }
+            Err(_) => self.refuse(1, writer),
+        }
+    }
+
+    fn append<W: Write>(&mut self, name: VolName, bytes: &[u8], writer: &mut W) -> io::Result<()> {
+        match append(self.alloc, &mut self.volumes, name, bytes) {
+            Ok(()) => Ok(()),
+            Err(_) => self.refuse(44, writer),
+        }
+    }
+
+    /// Reads the lines up to `.` as a bootstrap, which is kept in place of the one before; none is kept where it is refused.
+    fn keep_bootstrap<R: BufRead, W: Write>(
+        &mut self,
+        lines: &mut Lines<R>,
+        writer: &mut W,
+    ) -> io::Result<()> {
+        let text = match read_bootstrap_lines(self.alloc, lines)? {
+            BootstrapLines::Text(text) => text,
+            BootstrapLines::NoMemory => {
+                self.kept = None;
+                return self.refuse(1, writer);
+            }
+            BootstrapLines::Unended => return Ok(()),
+        };
+        match read_bootstrap(self.alloc, &text) {
+            Ok(bootstrap) => {
+                self.kept = Some(bootstrap);
+                Ok(())
+            }
+            Err(fault) => {
+                self.kept = None;
+                self.refuse_extract(ExtractFault::Bootstrap(fault), writer)
+            }
+        }
+    }
+
+    /// Runs the kept bootstrap over the volumes, and writes the manifest.
+    fn run_kept<W: Write>(
+        &mut self,
+        rt: &(impl Threads + Sync),
+        number: u64,
+        writer: &mut W,
+    ) -> io::Result<()> {
+        let Some(bootstrap) = &self.kept else {
+            return self.refuse_line(LineFault::BadScript, number, writer);
+        };
+        let volumes = mem::replace(&mut self.volumes, Vec::new(self.alloc));
+        let mut drive = MemDrive::new(volumes);
+        let run = extract(rt, self.alloc, bootstrap, &mut drive, writer);
+        self.volumes = drive.into_volumes();
+        match run {
+            Ok(are_files) => {
+                self.is_clean = self.is_clean && are_files;
+                Ok(())
+            }
+            Err(fault) => self.refuse_extract(fault, writer),
+        }
+    }
+
+    fn carry_out<R: BufRead, W: Write>(
+        &mut self,
+        rt: &(impl Threads + Sync),
+        line: &[u8],
+        lines: &mut Lines<R>,
+        writer: &mut W,
+    ) -> io::Result<()> {
+        match read_line(self.alloc, line) {
+            Ok(ScriptLine::Volume { name, bytes }) => self.append(name, &bytes, writer),
+            Ok(ScriptLine::Bsr) => self.keep_bootstrap(lines, writer),
+            Ok(ScriptLine::Extract) => self.run_kept(rt, lines.number(), writer),
+            Err(fault) => self.refuse_line(fault, lines.number(), writer),
+        }
+    }
+}
+
+/// Works off a script line by line over volumes in memory, and writes the answers. The answer is whether nothing was refused and
+/// every outcome was a file.
+///
+/// `volume NAME HEX` puts bytes behind those of a volume. The lines between `bsr` and `.` are a bootstrap, which is kept until the
+/// next one. `extract` runs the kept bootstrap and writes the manifest. A line that is refused is answered by `refused N`, and
+/// what it asks for is not done.
+///
+/// An error where reading or writing failed, or where the reader has not come to its end after 2^40 turns.
+pub fn run_script<R: BufRead, W: Write>(
+    rt: &(impl Threads + Sync),
+    alloc: Global,
+    reader: &mut R,
+    writer: &mut W,
+) -> io::Result<bool> {
+    let mut lines = Lines::new(reader);
+    let mut script = Script::new(alloc);
+    let mut line = Vec::new(alloc);
+    for _ in 0..MAX_TURNS {
+        match lines.read(&mut line, MAX_LINE + 1)? {
+            Reading::Line => script.carry_out(rt, &line, &mut lines, writer)?,
+            Reading::NoMemory => script.refuse(1, writer)?,
+            Reading::End => return Ok(script.is_clean),
+        }
+    }
+    Err(no_end())
+}

@@ -1,3 +1,0 @@
-pub mod SpellingLaws
-pub mod StoreLaws
-pub mod WordsLaws
