@@ -4,8 +4,8 @@
     bench/cases.py [EXECUTABLE] [CASE..]
 
 The executable is crates/brestore/out/brestore where none is given: `rt run` in crates/brestore leaves it there. Each case is run
-once for its manifest alone, and once with `--into` and a new folder, which is then held against the expected manifest: each file's
-length and digest, and each folder. A third run, into the folder that is filled now, has to be refused and to change nothing. The
+once for its manifest alone, once more by sixteen drives, and once with `--into` and a new folder, which is then held against the expected
+manifest: each file's length and digest, and each folder. A last run, into the folder that is filled now, has to be refused and to change nothing. The
 status is 0 where each case has the expected exit status, standard output and standard error, byte for byte, and the folder has what
 it should and nothing else. README.md tells what the cases are.
 """
@@ -114,6 +114,8 @@ def faults(executable, case, folder):
         (case / "stderr").read_bytes(),
     )
     wrong = differences(words, status, manifest, refusals)
+    many = differences([*words, "--drives", "16"], status, manifest, refusals)
+    wrong += [f"{name} with 16 drives" for name in many]
     tree, stop = delivery(manifest)
     if stop is not None:
         status, refusals = 1, refusals + b"refused %d\n" % stop

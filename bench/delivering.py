@@ -25,6 +25,7 @@ journal makes new files slowly for six minutes where many were deleted. So wait 
     bench/delivering.py --folder DIR       keeps the sets there, and takes those that are there already
     bench/delivering.py --program FILE     another program than crates/brestore/out/brestore
     bench/delivering.py --bextract FILE    another program than the bextract of the system
+    bench/delivering.py --drives N         brestore reads with so many drives
     bench/delivering.py --unchecked        bextract doesn't compare the blocks' checksums
 
 The status is 1 where a program failed or delivered other files, and with --strict where a target was missed.
@@ -45,6 +46,8 @@ from extract import MIB, PROGRAM, Best, make, run, same_bytes
 # The sets by the names that are shown.
 KINDS = {"small": "one-session", "large": "large"}
 MOST_TIME = {"small": 1.5, "large": 1.0}
+# As many as the larger set has volumes.
+DRIVES = 6
 CONFIGURATION = """
 Director {{
   Name = bench-dir
@@ -83,6 +86,7 @@ def read_options():
     parser.add_argument("--quick", action="store_true", help="sets of 16 MiB")
     parser.add_argument("--repeats", type=int, default=3, metavar="N", help="runs of each, of which the best counts (default: %(default)s)")
     parser.add_argument("--kind", choices=KINDS, action="append", help="these sets only (default: all)")
+    parser.add_argument("--drives", type=int, default=DRIVES, metavar="N", help="how many drives brestore reads with (default: %(default)s)")
     parser.add_argument("--unchecked", action="store_true", help="have bextract compare no checksums")
     parser.add_argument("--seed", type=int, default=1, help="of the files' bytes")
     parser.add_argument("--folder", help="where the sets are made and stay, and the files are delivered (default: a temporary folder)")
@@ -146,7 +150,7 @@ class Delivery:
         os.makedirs(own, exist_ok=True)
         with open(os.path.join(own, "conf"), "w") as file:
             file.write(CONFIGURATION.format(own=own, volumes=volumes, checksum="no" if options.unchecked else "yes"))
-        extract = [options.program, "extract", "--bsr", bootstrap, "--volumes", volumes]
+        extract = [options.program, "extract", "--bsr", bootstrap, "--volumes", volumes, "--drives", str(options.drives)]
         self.commands = {
             "brestore": [*extract, "--into"],
             "bextract": [options.bextract, "-c", os.path.join(own, "conf"), "-b", bootstrap, "Folder"],

@@ -1,15 +1,19 @@
 -- From what clap finds in words to the command that they ask for.
-use Rattle.std.proofs.Common.{◌≡◌, ◌∙◌, List, [], Option, Some, None, Result, option_map, ap, ap₂, codes, refl, sym, subst, true, false, inl, inr}
-use Rattle.std.specs.Prelude.{Box}
+use Rattle.std.proofs.Common.{◌≡◌, ◌∙◌, ◌≤◌, ◌&&◌, if◌then◌else◌, nat_le, ℕ, Bool, List, [], Option, Some, None, Result, option_and_then, option_map, ap, ap₂, codes, refl, sym, subst, true, false, inl, inr}
+use Rattle.std.specs.Prelude.{Box, Ok, Err}
 use Rattle.std.specs.Borrow.{Bor}
 use Rattle.std.specs.Box.{box_value}
+use Rattle.std.specs.Str.Parse.{ExplainsUnsignedError, HasUnsignedDigitsIfOk, ParsesUnsigned}
+use Rattle.std.proofs.lemmas.Bool.{le-leb, leb-true, true≢false}
 use Rattle.clap.specs.Kinds.{FailsBy, HasKind}
 use Rattle.clap.specs.Faults.{fault_of, is_simple_and_free}
 use Rattle.clap.specs.Simple.{App, HasMatchesOf, app_of, app_of_fields, is_simple, new_app, on_top, with_rule, with_subcommand, subcommand_rows, subcommand_rows_of}
-use Rattle.clap.specs.Walk.{Text, first_of, rows_of, rule_of}
+use Rattle.clap.specs.Walk.{Rule, Text, rows_of, rule_of}
 use Rattle.clap.specs.Built.{AddsArg, AddsSubcommand}
-use Rattle.clap.specs.Matches.{first_value, found_of}
-use Rattle.clap.specs.Values.{kind_of}
+use Rattle.clap.specs.Matches.{ReadsOne, found_of, one_text}
+use Rattle.clap.specs.Values.{IsUnsignedIn, kind_of}
+use Rattle.clap.specs.ValueTests.{is_unsigned_in}
+use Rattle.clap.specs.declared.builder.value_parser.ValueParser.TheVariants.{Unsigned}
 use Rattle.clap.specs.declared.builder.arg.Arg.{Arg}
 use Rattle.clap.specs.declared.builder.command.Command.{Command}
 use Rattle.clap.specs.declared.builder.command.Command.TheOpen.{Command-F}
@@ -21,9 +25,10 @@ use Rattle.clap.specs.declared.parser.matches.ArgMatches.{ArgMatches}
 use Rattle.clap.specs.declared.parser.matches.ArgMatches.TheViews.{out-SubCommand}
 use Rattle.clap.specs.declared.parser.matches.SubCommand.{SubCommand}
 use Rattle.clap.proofs.FaultLemmas.{first_fails}
-use Rattle.clap.proofs.WalkLemmas.{first_value-rows}
+use Rattle.clap.proofs.WalkLemmas.{both, one_text-rows}
+use Rattle.clap.proofs.ValueTestLemmas.{Accepts-accepts, accepts-Accepts}
 use Rattle.clap.proofs.OnLiterals.{clap_on_literals}
-use Rattle.br_command.specs.Words.{Asked, Extract, asked_by, console_app, console_jobs_app, console_start_app, extract_app, extract_asked, program_app, value_rule, words_asked, words_fault}
+use Rattle.br_command.specs.Words.{Asked, asked_by, console_app, console_jobs_app, console_start_app, drive_count, drives_asked, extract_app, program_app, value_rule, words_asked, words_fault}
 
 program_is_simple : is_simple program_app ≡ true
 unfolding program_app extract_app console_start_app console_jobs_app console_app clap_on_literals
@@ -76,53 +81,63 @@ module _ {Z : Type 0} where
       let r : rows_of (found_of p.1.now) ≡ rows_of (found_of (out-SubCommand (box_value b)).matches) = cc in
       rw (n, r) refl
 
--- the values that were found for the options of `extract`
-module _ (f : Found) (bsr volumes : Option (Bor Text)) (bsr_is : option_map (λ s. s.now) bsr ≡ first_value f (codes "bsr")) where
-  bsr_row : first_of (codes "bsr") (rows_of f) ≡ option_map (λ s. s.now) bsr
-  bsr_row = sym (first_value-rows f (codes "bsr")) ∙ sym bsr_is
+-- the number, where it is one of drives
+abbrev pub in_bounds : ℕ → Option ℕ
+in_bounds n = if nat_le 1 n && nat_le n 16 then Some n else None
 
-  pub bsr_missing : bsr ≡ None → extract_asked (rows_of f) ≡ None
-  unfolding extract_asked
-  bsr_missing none = rw (bsr_row, none) refl
+pub bounds_kept : (n : ℕ) → 1 ≤ n → n ≤ 16 → in_bounds n ≡ Some n
+bounds_kept n least most = rw (le-leb _ _ least, le-leb _ _ most) refl
 
-  module _ (volumes_are : option_map (λ s. s.now) volumes ≡ first_value f (codes "volumes")) where
-    volumes_row : first_of (codes "volumes") (rows_of f) ≡ option_map (λ s. s.now) volumes
-    volumes_row = sym (first_value-rows f (codes "volumes")) ∙ sym volumes_are
+pub bounds_missed : (n : ℕ) → (1 ≤ n → n ≤ 16 → ⊥) → in_bounds n ≡ None
+bounds_missed n out = go (nat_le 1 n && nat_le n 16) refl
+  where
+    go : (b : Bool) → (nat_le 1 n && nat_le n 16) ≡ b → in_bounds n ≡ None
+    go false e = rw e refl
+    go true e =
+        let p = both _ _ e in
+        absurd (out (leb-true _ _ p.0) (leb-true _ _ p.1))
 
-    pub volumes_missing : (b : Bor Text) → bsr ≡ Some b → volumes ≡ None → extract_asked (rows_of f) ≡ None
-    unfolding extract_asked
-    volumes_missing b some none = rw (bsr_row, volumes_row, some, none) refl
+-- a number that was read of a text is the number of drives that the text is, where it is one of drives
+module _ {E : Type 0} (G : Text → Result ℕ E → Type 0) (only : (u : Text) (r : Result ℕ E) → G u r → ParsesUnsigned 64 10 u r) where
+  count_read : (text : Text) (r : Option ℕ) → ReadsOne G text r → drive_count text ≡ option_and_then in_bounds r
+  count_read text r h = go (is_unsigned_in 1 16 text) refl r h
+    where
+      go : (b : Bool) → is_unsigned_in 1 16 text ≡ b → (r : Option ℕ) → ReadsOne G text r → drive_count text ≡ option_and_then in_bounds r
+      go true e (Some n) h =
+          let a : IsUnsignedIn 1 16 text = accepts-Accepts false (Unsigned 1 16) text e in
+          let p = only text (Ok n) h in
+          rw (e, p.1) (sym (bounds_kept _ a.2 a.3))
+      go true e None h =
+          let a : IsUnsignedIn 1 16 text = accepts-Accepts false (Unsigned 1 16) text e in
+          absurd (only text (Err h.0) h.1 (a.0, a.1))
+      go false e (Some n) h =
+          let p = only text (Ok n) h in
+          let never : 1 ≤ n → n ≤ 16 → ⊥ = λ least most.
+          true≢false (sym (Accepts-accepts false (Unsigned 1 16) text (p.0.0, p.0.1, subst (λ m. 1 ≤ m) p.1 least, subst (λ m. m ≤ 16) p.1 most)) ∙ e) in
+          rw e (sym (bounds_missed n never))
+      go false e None h = rw e refl
 
-    module _ (into : Option (Bor Text)) (into_is : option_map (λ s. s.now) into ≡ first_value f (codes "into")) where
-      into_row : first_of (codes "into") (rows_of f) ≡ option_map (λ s. s.now) into
-      into_row = sym (first_value-rows f (codes "into")) ∙ sym into_is
+-- the same of what `get_one` reads
+pub drives_read : (f : Found) (r : Option ℕ) → (one_text f (codes "drives") ≡ None → r ≡ None)
+    → ((text : Text) → one_text f (codes "drives") ≡ Some text
+    → ReadsOne (λ bs n. ParsesUnsigned 64 10 bs n × ExplainsUnsignedError 10 bs n × HasUnsignedDigitsIfOk bs n) text r)
+    → drives_asked (rows_of f) ≡ option_and_then in_bounds r
+unfolding drives_asked
+drives_read f r none value = ap (option_and_then drive_count) (sym (one_text-rows f (codes "drives"))) ∙ go (one_text f (codes "drives")) refl
+  where
+    go : (o : Option Text) → one_text f (codes "drives") ≡ o → option_and_then drive_count o ≡ option_and_then in_bounds r
+    go None e = rw (none e) refl
+    go (Some text) e =
+        count_read (λ bs n. ParsesUnsigned 64 10 bs n × ExplainsUnsignedError 10 bs n × HasUnsignedDigitsIfOk bs n) (λ u n h. h.0) text r (value text e)
 
-      pub all_found : (b v : Bor Text) → bsr ≡ Some b → volumes ≡ Some v
-          → extract_asked (rows_of f) ≡ Some (Extract b.now v.now (option_map (λ s. s.now) into))
-      unfolding extract_asked
-      all_found b v some too = rw (bsr_row, volumes_row, into_row, some, too) refl
+-- two options more
+pub two_added : (start first last : Command) (one two : Arg) (app : App) (r s : Rule) → app_of start ≡ app → AddsArg start one first → AddsArg first two last
+    → rule_of one ≡ r → one.global ≡ false → rule_of two ≡ s → two.global ≡ false
+    → app_of last ≡ with_rule (with_rule app r) s
+two_added start first last one two app r s is adds adds_too one_is one_local two_is two_local =
+    adds_too.shape two_local ∙ ap₂ with_rule (adds.shape one_local ∙ ap₂ with_rule is one_is) two_is
 
--- `extract` by its three options
-pub extract_added : (start first second last : Command) (bsr volumes into : Arg) → app_of start ≡ new_app (codes "extract")
-    → AddsArg start bsr first → AddsArg first volumes second → AddsArg second into last
-    → rule_of bsr ≡ value_rule (codes "bsr") true → bsr.global ≡ false
-    → rule_of volumes ≡ value_rule (codes "volumes") true → volumes.global ≡ false
-    → rule_of into ≡ value_rule (codes "into") false → into.global ≡ false
-    → app_of last ≡ extract_app
-unfolding extract_app
-extract_added start first second last bsr volumes into named one two three bsr_is bsr_local volumes_is volumes_local into_is into_local =
-    three.shape into_local
-    ∙ ap₂ with_rule (two.shape volumes_local ∙ ap₂ with_rule (one.shape bsr_local ∙ ap₂ with_rule named bsr_is) volumes_is) into_is
-
--- the first two options of `console`
-pub console_begun : (start first last : Command) (db volumes : Arg) → app_of start ≡ new_app (codes "console") → AddsArg start db first → AddsArg first volumes last
-    → rule_of db ≡ value_rule (codes "db") true → db.global ≡ false → rule_of volumes ≡ value_rule (codes "volumes") true → volumes.global ≡ false
-    → app_of last ≡ console_start_app
-unfolding console_start_app
-console_begun start first last db volumes named one two db_is db_local volumes_is volumes_local =
-    two.shape volumes_local ∙ ap₂ with_rule (one.shape db_local ∙ ap₂ with_rule named db_is) volumes_is
-
--- the other three that have to be there
+-- the options of `console` that have to be there, behind the first two
 pub console_jobs_added : (start first second last : Command) (client fileset before : Arg) → app_of start ≡ console_start_app
     → AddsArg start client first → AddsArg first fileset second → AddsArg second before last
     → rule_of client ≡ value_rule (codes "client") true → client.global ≡ false
@@ -132,13 +147,7 @@ pub console_jobs_added : (start first second last : Command) (client fileset bef
 unfolding console_jobs_app
 console_jobs_added start first second last client fileset before begun one two three client_is client_local fileset_is fileset_local before_is before_local =
     three.shape before_local
-    ∙ ap₂ with_rule (two.shape fileset_local ∙ ap₂ with_rule (one.shape client_local ∙ ap₂ with_rule begun client_is) fileset_is) before_is
-
--- and the one that may be left out
-pub console_added : (start last : Command) (into : Arg) → app_of start ≡ console_jobs_app → AddsArg start into last → rule_of into ≡ value_rule (codes "into") false → into.global ≡ false
-    → app_of last ≡ console_app
-unfolding console_app
-console_added start last into begun one into_is into_local = one.shape into_local ∙ ap₂ with_rule begun into_is
+    ∙ ap₂ with_rule (two_added start first second client fileset _ _ _ begun one two client_is client_local fileset_is fileset_local) before_is
 
 -- a command with a version
 abbrev pub with_version : App → App

@@ -1,28 +1,36 @@
 -- What the words of a command line ask for, by the definitions of clap.
-use Rattle.std.specs.Prelude.{if◌then◌else◌, List, [], ◌∷◌, Bool, bytes_eq, codes, is_some, Option, Some, None, option_and_then, option_map, false, true}
+use Rattle.std.specs.Prelude.{if◌then◌else◌, ℕ, ◌≤◌, ⊤, List, [], ◌∷◌, Bool, bytes_eq, codes, is_some, Option, Some, None, option_and_then, option_map, false, true}
+use Rattle.std.specs.Str.Parse.{digits_value, without_leading_plus}
 use Rattle.clap.specs.Kinds.{Kinds, or_else}
 use Rattle.clap.specs.Simple.{App, new_app, new_rule, on_top, subcommand_of, with_rule, with_subcommand}
-use Rattle.clap.specs.Walk.{Row, Rule, Text, first_of}
+use Rattle.clap.specs.ValueTests.{is_unsigned_in}
+use Rattle.clap.specs.Walk.{Row, Rule, Text, first_of, one_of}
 use Rattle.clap.specs.Faults.{fault_of}
 use Rattle.clap.specs.declared.builder.action.ArgAction.TheVariants.{Set}
-use Rattle.clap.specs.declared.builder.value_parser.ValueParser.TheVariants.{NonEmptyString}
+use Rattle.clap.specs.declared.builder.value_parser.ValueParser.TheVariants.{NonEmptyString, Unsigned}
 use Rattle.clap.specs.declared.error.kind.ErrorKind.TheVariants.{MissingRequiredArgument}
 use Rattle.br_command.specs.declared.words.Request.{Request}
 use Rattle.br_command.specs.declared.words.Request.TheVariants as requests
 
--- a command of the program: a script; a bootstrap's file, the folder of the volumes, and the folder to deliver into, if any; or a
--- catalogue's file, the folder of the volumes, client, file set and moment, and the folder to deliver into, if any
+-- a command of the program: a script; a bootstrap's file, the folder of the volumes, the folder to deliver into, if any, and how many
+-- drives read at once; or a catalogue's file, the folder of the volumes, client, file set and moment, and the same two
 pub data Asked : Type 0 where
   Serve : Asked
-  Extract : Text → Text → Option Text → Asked
-  Console : Text → Text → Text → Text → Text → Option Text → Asked
+  Extract : Text → Text → Option Text → ℕ → Asked
+  Console : Text → Text → Text → Text → Text → Option Text → ℕ → Asked
 
 -- what the program holds of a command line
 abbrev pub asked : Request → Asked
 asked requests.Serve = Serve
-asked (requests.Extract bsr volumes into) = Extract bsr.now volumes.now (option_map (λ s. s.now) into)
+asked (requests.Extract bsr volumes into drives) = Extract bsr.now volumes.now (option_map (λ s. s.now) into) drives
 asked (requests.Console given) =
-    Console given.db.now given.volumes.now given.client.now given.fileset.now given.before.now (option_map (λ s. s.now) given.into)
+    Console given.db.now given.volumes.now given.client.now given.fileset.now given.before.now (option_map (λ s. s.now) given.into) given.drives
+
+-- from 1 to 16 drives read at once, where a command reads volumes
+abbrev pub HasDrives : Request → Type 0
+HasDrives requests.Serve = ⊤
+HasDrives (requests.Extract bsr volumes into drives) = (1 ≤ drives) × (drives ≤ 16)
+HasDrives (requests.Console given) = (1 ≤ given.drives) × (given.drives ≤ 16)
 
 -- an option `--name VALUE` with a value that is not empty, and whether it has to be there
 abbrev pub value_rule : Text → Bool → Rule
@@ -34,11 +42,18 @@ value_rule name is_required = record (new_rule name) {
   required = is_required;
 }
 
--- `extract --bsr FILE --volumes DIR`, and `--into DIR`, which may be left out
+-- `--drives N`, a number from 1 to 16, which is 1 where the option is left out
+abbrev pub drives_rule : Rule
+drives_rule = record (value_rule (codes "drives") false) { parser = Some (Unsigned 1 16); defaults = codes "1" ∷ [] }
+
+-- a command with `--into DIR` and `--drives N`, which may be left out
+abbrev pub with_run_rules : App → App
+with_run_rules app = with_rule (with_rule app (value_rule (codes "into") false)) drives_rule
+
+-- `extract --bsr FILE --volumes DIR`, and the options that may be left out
 unfoldable pub extract_app : App
 extract_app =
-    with_rule (with_rule (with_rule (new_app (codes "extract")) (value_rule (codes "bsr") true)) (value_rule (codes "volumes") true))
-    (value_rule (codes "into") false)
+    with_run_rules (with_rule (with_rule (new_app (codes "extract")) (value_rule (codes "bsr") true)) (value_rule (codes "volumes") true))
 
 -- `console --db FILE --volumes DIR`, which is not all of it
 unfoldable pub console_start_app : App
@@ -50,9 +65,9 @@ console_jobs_app =
     with_rule (with_rule (with_rule console_start_app (value_rule (codes "client") true)) (value_rule (codes "fileset") true))
     (value_rule (codes "before") true)
 
--- the same, and `--into DIR`, which may be left out
+-- the same, and the options that may be left out
 unfoldable pub console_app : App
-console_app = with_rule console_jobs_app (value_rule (codes "into") false)
+console_app = with_run_rules console_jobs_app
 
 -- the program has a version, and the commands `extract`, `console` and `serve`
 unfoldable pub program_app : App
@@ -64,10 +79,19 @@ program_app =
     console_app.top)
     (new_app (codes "serve")).top
 
+-- the number of drives that a text is, if it is one from 1 to 16
+abbrev pub drive_count : Text → Option ℕ
+drive_count text = if is_unsigned_in 1 16 text then Some (digits_value 10 (without_leading_plus text)) else None
+
+-- how many drives read at once, by the values that were found for the options
+unfoldable pub drives_asked : List Row → Option ℕ
+drives_asked rows = option_and_then drive_count (one_of (codes "drives") rows)
+
 -- the command `extract` by the values that were found for its options
 unfoldable pub extract_asked : List Row → Option Asked
 extract_asked rows =
-    option_and_then (λ bsr. option_map (λ volumes. Extract bsr volumes (first_of (codes "into") rows)) (first_of (codes "volumes") rows))
+    option_and_then (λ bsr.
+    option_and_then (λ volumes. option_map (Extract bsr volumes (first_of (codes "into") rows)) (drives_asked rows)) (first_of (codes "volumes") rows))
     (first_of (codes "bsr") rows)
 
 -- the command `console` by the values that were found for its options
@@ -76,7 +100,9 @@ console_asked rows =
     option_and_then (λ db.
     option_and_then (λ volumes.
     option_and_then (λ client.
-    option_and_then (λ fileset. option_map (λ before. Console db volumes client fileset before (first_of (codes "into") rows)) (first_of (codes "before") rows))
+    option_and_then (λ fileset.
+    option_and_then (λ before. option_map (Console db volumes client fileset before (first_of (codes "into") rows)) (drives_asked rows))
+    (first_of (codes "before") rows))
     (first_of (codes "fileset") rows))
     (first_of (codes "client") rows))
     (first_of (codes "volumes") rows))

@@ -12,6 +12,16 @@ fn words_of(alloc: Global, line: &str) -> Result<Vec<String>, Fail> {
     Ok(words)
 }
 
+/// How many drives a command line asks for, if it asks for any.
+fn drives_of(alloc: Global, line: &str) -> Result<Option<usize>, Fail> {
+    let words = words_of(alloc, line)?;
+    match read_words(alloc, &words) {
+        Ok(Request::Extract { drives, .. }) => Ok(Some(drives)),
+        Ok(Request::Console(given)) => Ok(Some(given.drives)),
+        _ => Ok(None),
+    }
+}
+
 /// What a command line is not taken for, if it is not taken.
 fn fault_of(alloc: Global, line: &str) -> Result<Option<(ErrorKind, i32)>, Fail> {
     let words = words_of(alloc, line)?;
@@ -19,6 +29,34 @@ fn fault_of(alloc: Global, line: &str) -> Result<Option<(ErrorKind, i32)>, Fail>
         Ok(_) => Ok(None),
         Err(e) => Ok(Some((e.kind(), e.exit_code()))),
     }
+}
+
+/// The first of the command lines that asks for another number of drives, or for none.
+fn first_with_others<'l>(
+    alloc: Global,
+    lines: &[&'l str],
+    drives: usize,
+) -> Result<Option<&'l str>, Fail> {
+    for line in lines {
+        if drives_of(alloc, *line)? != Some(drives) {
+            return Ok(Some(*line));
+        }
+    }
+    Ok(None)
+}
+
+/// The first of the command lines that is taken, or refused with an error of another kind.
+fn first_with_another_fault<'l>(
+    alloc: Global,
+    lines: &[&'l str],
+    kind: ErrorKind,
+) -> Result<Option<&'l str>, Fail> {
+    for line in lines {
+        if fault_of(alloc, *line)? != Some((kind, 2)) {
+            return Ok(Some(*line));
+        }
+    }
+    Ok(None)
 }
 
 #[test]
@@ -37,6 +75,7 @@ fn a_bootstrap_is_asked_for(rt: HostRuntime) -> Result<(), Fail> {
         bsr: "x.bsr",
         volumes: "sets/V",
         into: None,
+        drives: 1,
     };
     for line in [
         "brestore extract --bsr x.bsr --volumes sets/V",
@@ -55,6 +94,7 @@ fn a_folder_to_deliver_into_is_asked_for(rt: HostRuntime) -> Result<(), Fail> {
         bsr: "x",
         volumes: "d",
         into: Some("e"),
+        drives: 1,
     };
     for line in [
         "brestore extract --bsr x --volumes d --into e",
@@ -76,6 +116,7 @@ fn a_console_is_asked_for(rt: HostRuntime) -> Result<(), Fail> {
         fileset: "home",
         before: "2026-11-22",
         into: None,
+        drives: 1,
     });
     for line in [
         "brestore console --db j.db --volumes d --client mars --fileset home --before 2026-11-22",
@@ -97,6 +138,7 @@ fn a_console_that_delivers_is_asked_for(rt: HostRuntime) -> Result<(), Fail> {
         fileset: "home",
         before: "2026-11-22",
         into: Some("e"),
+        drives: 1,
     });
     for line in [
         "brestore console --db j.db --volumes d --client mars --fileset home --before 2026-11-22 --into e",
@@ -106,6 +148,72 @@ fn a_console_that_delivers_is_asked_for(rt: HostRuntime) -> Result<(), Fail> {
         let request = read_words(rt.alloc(), &words).ok();
         assert_eq!(rt; request, Some(console), "{line}");
     }
+    Ok(())
+}
+
+#[test]
+fn one_drive_is_asked_for(rt: HostRuntime) -> Result<(), Fail> {
+    let lines = [
+        "brestore extract --bsr x --volumes d",
+        "brestore extract --bsr x --volumes d --drives 1",
+        "brestore console --db j --volumes d --client c --fileset f --before b --into e",
+        "brestore console --db j --volumes d --client c --fileset f --before b --drives=1",
+    ];
+    let other = first_with_others(rt.alloc(), &lines, 1)?;
+    assert_eq!(rt; other, None);
+    Ok(())
+}
+
+#[test]
+fn several_drives_are_asked_for(rt: HostRuntime) -> Result<(), Fail> {
+    let four = [
+        "brestore extract --bsr x --volumes d --drives 4",
+        "brestore extract --drives=4 --bsr x --volumes d --into e",
+        "brestore console --db j --volumes d --client c --fileset f --before b --drives 4",
+        "brestore console --drives=4 --db j --volumes d --client c --fileset f --before b",
+    ];
+    let most = [
+        "brestore extract --bsr x --drives 16 --volumes d",
+        "brestore console --db j --volumes d --client c --drives 16 --fileset f --before b",
+    ];
+    let other_than_four = first_with_others(rt.alloc(), &four, 4)?;
+    let other_than_most = first_with_others(rt.alloc(), &most, 16)?;
+    assert_eq!(rt; other_than_four, None);
+    assert_eq!(rt; other_than_most, None);
+    Ok(())
+}
+
+#[test]
+fn other_numbers_of_drives_are_refused(rt: HostRuntime) -> Result<(), Fail> {
+    let lines = [
+        "brestore extract --bsr x --volumes d --drives 0",
+        "brestore extract --bsr x --volumes d --drives 17",
+        "brestore extract --bsr x --volumes d --drives x",
+        "brestore extract --bsr x --volumes d --drives=",
+        "brestore extract --bsr x --volumes d --drives=-1",
+        "brestore console --db j --volumes d --client c --fileset f --before b --drives 0",
+        "brestore console --db j --volumes d --client c --fileset f --before b --drives 17",
+        "brestore console --db j --volumes d --client c --fileset f --before b --drives x",
+        "brestore console --db j --volumes d --client c --fileset f --before b --drives=",
+    ];
+    let other = first_with_another_fault(rt.alloc(), &lines, ErrorKind::ValueValidation)?;
+    assert_eq!(rt; other, None);
+    Ok(())
+}
+
+#[test]
+fn drives_are_named_once_and_where_volumes_are_read(rt: HostRuntime) -> Result<(), Fail> {
+    let twice = [
+        "brestore extract --bsr x --volumes d --drives 2 --drives 3",
+        "brestore console --drives=2 --db j --volumes d --client c --fileset f --before b --drives=2",
+    ];
+    let no_volumes = ["brestore serve --drives 2", "brestore --drives 2"];
+    let not_twice = first_with_another_fault(rt.alloc(), &twice, ErrorKind::ArgumentConflict)?;
+    let known = first_with_another_fault(rt.alloc(), &no_volumes, ErrorKind::UnknownArgument)?;
+    let no_number = fault_of(rt.alloc(), "brestore extract --bsr x --volumes d --drives")?;
+    assert_eq!(rt; not_twice, None);
+    assert_eq!(rt; known, None);
+    assert_eq!(rt; no_number, Some((ErrorKind::InvalidValue, 2)));
     Ok(())
 }
 
@@ -124,7 +232,6 @@ fn other_words_are_refused(rt: HostRuntime) -> Result<(), Fail> {
         "brestore extract --bsr x --volumes d --bsr y",
         "brestore extract --bsr x --volumes d --into=",
         "brestore extract --bsr x --volumes d --into e --into f",
-        "brestore extract --bsr x --volumes d --drives 2",
         "brestore console",
         "brestore console --db j.db --volumes d --client mars --fileset home",
         "brestore console --db j.db --volumes d --client mars --before 2026-11-22",

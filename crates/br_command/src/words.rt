@@ -1,9 +1,9 @@
 //! What the words of a command line ask for.
-ghost use Rattle.std.specs.Prelude.{◌≡◌, codes, Some, true, false, map, option_map, string_bytes, IfOk};
+ghost use Rattle.std.specs.Prelude.{◌≡◌, ◌≤◌, codes, Some, true, false, map, option_map, string_bytes, IfOk, IfSome};
 ghost use Rattle.clap.specs.Walk.{first_of};
 ghost use Rattle.clap.specs.Words.{FailsBy, app_of, fault_of, found_of, rows_of, rule_of, subcommand_rows_of};
 ghost use Rattle.clap.specs.declared.builder.command.Command.TheViews.{out-Command as fields_of};
-ghost use Rattle.br_command.specs.Words.{asked, asked_by, console_app, console_asked, console_jobs_app, console_start_app, extract_app, extract_asked, program_app, value_rule, words_asked, words_fault};
+ghost use Rattle.br_command.specs.Words.{HasDrives, asked, asked_by, console_app, console_asked, console_jobs_app, console_start_app, drives_asked, drives_rule, extract_app, extract_asked, program_app, value_rule, with_run_rules, words_asked, words_fault};
 
 use clap::builder::ValueParser;
 use clap::error::ErrorKind;
@@ -11,7 +11,7 @@ use clap::{Arg, ArgAction, ArgMatches, Command, Error};
 use std::alloc::{AllocError, Global};
 
 /// What the command line gives to the console: the file of the catalogue, the folder of the volumes, client, file set and moment as
-/// text, and the folder to deliver into, if any.
+/// text, the folder to deliver into, if any, and how many drives read the volumes at once, from 1 to 16.
 #[derive(Clone, Copy, Debug, PartialEq, Eq)]
 pub struct Given<'a> {
     pub db: &'a str,
@@ -20,6 +20,7 @@ pub struct Given<'a> {
     pub fileset: &'a str,
     pub before: &'a str,
     pub into: Option<&'a str>,
+    pub drives: usize,
 }
 
 /// A command of the program.
@@ -28,10 +29,12 @@ pub enum Request<'a> {
     /// Works off a script from standard input.
     Serve,
     /// Runs the bootstrap in the file `bsr` over the volumes in the folder `volumes`, and delivers into the folder `into`, if any.
+    /// `drives` says how many drives read the volumes at once, from 1 to 16.
     Extract {
         bsr: &'a str,
         volumes: &'a str,
         into: Option<&'a str>,
+        drives: usize,
     },
     /// Talks about the jobs of a catalogue, restores what was marked, and delivers it, if asked to.
     Console(Given<'a>),
@@ -71,6 +74,31 @@ fn into_option<'a>(alloc: Global) -> Arg<'a>
     )
 }
 
+/// The option for how many drives read the volumes at once, which is 1 where it is left out.
+fn drives_option<'a>(alloc: Global) -> Arg<'a>
+    ensures rule { rule_of result ≡ drives_rule }
+    ensures local { result.global ≡ false }
+{
+    Arg::new(alloc, "drives")
+        .long("drives")
+        .value_name("N")
+        .value_parser(ValueParser::Unsigned(1, 16))
+        .action(ArgAction::Set)
+        .default_value("1")
+        .help("How many drives read the volumes at once, 1 to 16")
+}
+
+/// The command with the options of a run, which may be left out: the folder to deliver into, and how many drives read at once.
+fn with_run_options<'a>(alloc: Global, command: Command<'a>) -> Result<Command<'a>, AllocError>
+    requires { (fields_of command).has_globals ≡ false }
+    ensures app { IfOk result (λ r. app_of r ≡ with_run_rules (app_of command.entry)) }
+    ensures local { IfOk result (λ r. (fields_of r).has_globals ≡ false) }
+{
+    let into = into_option(alloc);
+    let drives = drives_option(alloc);
+    command.arg(into)?.arg(drives)
+}
+
 /// `extract` and its options.
 fn extract_command<'a>(alloc: Global) -> Result<Command<'a>, AllocError>
     ensures app { IfOk result (λ command. app_of command ≡ extract_app) }
@@ -78,12 +106,11 @@ fn extract_command<'a>(alloc: Global) -> Result<Command<'a>, AllocError>
 {
     let bsr = value_option(alloc, "bsr", "FILE", true, "The file of the bootstrap");
     let volumes = value_option(alloc, "volumes", "DIR", true, "The folder of the volumes");
-    let into = into_option(alloc);
-    Command::new(alloc, "extract")
+    let command = Command::new(alloc, "extract")
         .about("Runs a bootstrap over the volumes of a folder and prints the manifest")
         .arg(bsr)?
-        .arg(volumes)?
-        .arg(into)
+        .arg(volumes)?;
+    with_run_options(alloc, command)
 }
 
 /// An option of the console, which has to be there.
@@ -124,12 +151,12 @@ fn console_jobs<'a>(alloc: Global) -> Result<Command<'a>, AllocError>
 }
 
 /// `console` and its options.
+#[tactic(auto, unfolding(crate::specs::Words::console_app))]
 fn console_command<'a>(alloc: Global) -> Result<Command<'a>, AllocError>
     ensures app { IfOk result (λ command. app_of command ≡ console_app) }
     ensures local { IfOk result (λ command. (fields_of command).has_globals ≡ false) }
 {
-    let into = into_option(alloc);
-    console_jobs(alloc)?.arg(into)
+    with_run_options(alloc, console_jobs(alloc)?)
 }
 
 /// The program's commands.
@@ -149,17 +176,6 @@ fn program<'a>(alloc: Global) -> Result<Command<'a>, AllocError>
         .subcommand(serve)
 }
 
-/// The command `extract` by what was found for its options, if both that have to be there were.
-fn extract_request<'a>(found: &ArgMatches<'a>) -> Option<Request<'a>>
-    ensures { option_map asked result ≡ extract_asked (rows_of (found_of found.now)) }
-{
-    Some(Request::Extract {
-        bsr: found.get_str("bsr")?,
-        volumes: found.get_str("volumes")?,
-        into: found.get_str("into"),
-    })
-}
-
 /// What was found for an option, if anything.
 fn value_of<'a>(found: &ArgMatches<'a>, name: &str) -> Option<&'a str>
     ensures { option_map (λ s. s.now) result ≡ first_of name.now (rows_of (found_of found.now)) }
@@ -167,10 +183,42 @@ fn value_of<'a>(found: &ArgMatches<'a>, name: &str) -> Option<&'a str>
     found.get_str(name)
 }
 
+/// How many drives were asked for, if that is a number from 1 to 16.
+fn drives_of(found: &ArgMatches<'_>) -> Option<usize>
+    ensures asked { result ≡ drives_asked (rows_of (found_of found.now)) }
+    ensures drives { IfSome result (λ drives. (1 ≤ drives) × (drives ≤ 16)) }
+{
+    let drives = found.get_one::<usize>("drives")?;
+    if 1 <= drives && drives <= 16 {
+        Some(drives)
+    } else {
+        None
+    }
+}
+
+/// The command `extract` by what was found for its options, if all that have to be there were.
+#[tactic(auto, unfolding(crate::specs::Words::extract_asked))]
+fn extract_request<'a>(found: &ArgMatches<'a>) -> Option<Request<'a>>
+    ensures asked { option_map asked result ≡ extract_asked (rows_of (found_of found.now)) }
+    ensures drives { IfSome result HasDrives }
+{
+    let bsr = value_of(found, "bsr")?;
+    let volumes = value_of(found, "volumes")?;
+    let into = value_of(found, "into");
+    let drives = drives_of(found)?;
+    Some(Request::Extract {
+        bsr,
+        volumes,
+        into,
+        drives,
+    })
+}
+
 /// The command `console` by what was found for its options, if all that have to be there were.
 #[tactic(auto, unfolding(crate::specs::Words::console_asked))]
 fn console_request<'a>(found: &ArgMatches<'a>) -> Option<Request<'a>>
-    ensures { option_map asked result ≡ console_asked (rows_of (found_of found.now)) }
+    ensures asked { option_map asked result ≡ console_asked (rows_of (found_of found.now)) }
+    ensures drives { IfSome result HasDrives }
 {
     Some(Request::Console(Given {
         db: value_of(found, "db")?,
@@ -179,6 +227,7 @@ fn console_request<'a>(found: &ArgMatches<'a>) -> Option<Request<'a>>
         fileset: value_of(found, "fileset")?,
         before: value_of(found, "before")?,
         into: value_of(found, "into"),
+        drives: drives_of(found)?,
     }))
 }
 
@@ -192,7 +241,8 @@ fn found_command<'m, 'a>(matches: &'m ArgMatches<'a>) -> Option<(&'a str, &'m Ar
 /// The command that was found, if each of its options was.
 #[tactic(auto, unfolding(crate::specs::Words::asked_by))]
 fn request_of<'a>(matches: &ArgMatches<'a>) -> Option<Request<'a>>
-    ensures { option_map asked result ≡ asked_by (subcommand_rows_of matches.now) }
+    ensures asked { option_map asked result ≡ asked_by (subcommand_rows_of matches.now) }
+    ensures drives { IfSome result HasDrives }
 {
     match found_command(matches) {
         None => Some(Request::Serve),
@@ -213,14 +263,15 @@ fn parsed<'a>(command: &mut Command<'a>, words: &'a [String]) -> Result<ArgMatch
 }
 
 /// What the words of a command line ask for, of which the first is the program's name: `extract --bsr FILE --volumes DIR` or
-/// `console --db FILE --volumes DIR --client NAME --fileset NAME --before MOMENT`, which `--into DIR` may go with, or `serve`, or
-/// nothing, which is the same as `serve`.
+/// `console --db FILE --volumes DIR --client NAME --fileset NAME --before MOMENT`, which `--into DIR` and `--drives N` may go with, or
+/// `serve`, or nothing, which is the same as `serve`.
 ///
 /// An error is a fault of the command line, with its text for the operator, or a call for help or the version; its kind is
 /// `OutOfMemory` for want of memory.
 pub fn read_words<'a>(alloc: Global, words: &'a [String]) -> Result<Request<'a>, Error>
     ensures asks { IfOk result (λ request. words_asked (map string_bytes words.entry.now) ≡ Some (asked request)) }
     ensures fails { FailsBy (words_fault (map string_bytes words.entry.now)) result }
+    ensures drives { IfOk result HasDrives }
 {
     let mut command = program(alloc)?;
     let matches = parsed(&mut command, words)?;

@@ -6,7 +6,6 @@ use Rattle.std.specs.Io.KnownBytes.{Keeps}
 use Rattle.std.proofs.KnownBytes.{Appends-kept}
 use Rattle.br_model.specs.Answer.{Answers}
 use Rattle.br_model.proofs.AnswerLaws.{bind_ok}
-use Rattle.br_model.specs.Volume.{Volume}
 use Rattle.br_model.specs.File.{Item}
 use Rattle.br_model.specs.Restored.{Restored}
 use Rattle.br_model.specs.Manifest.{Totals, manifest, totals_of}
@@ -15,6 +14,7 @@ use Rattle.br_model.specs.Choice.{Request}
 use Rattle.br_model.specs.Delivery.{Stop, delivery, item_of, put_behind}
 use Rattle.br_sink.specs.Delivery.{IsStopIn, items_put, stop_cause}
 use Rattle.br_sink.specs.Sink.{HasMore}
+use Rattle.br_engine.specs.Restoring.{Told}
 use Rattle.br_engine.specs.Extracting.{are_files}
 use Rattle.br_engine.specs.Delivering.{items_of}
 use Rattle.br_console.specs.Fault.{IsFree}
@@ -46,23 +46,21 @@ ends_kept : (before middle after : Option (List ℕ)) (b : Begun) (restored : Op
 ends_kept before middle after b None h kept = (h.0, Appends-kept before middle after b.text h.1 kept)
 ends_kept before middle after b (Some whole) h kept = (h.0, h.1, h.2, h.3, Appends-kept before middle after (b.text ++ manifest h.1) h.4 kept)
 
-restores_kept : (earlier later : Option (List Volume)) (before middle after : Option (List ℕ)) (b : Begun) (files : Option (List Restored)) → Restores earlier later before middle b files
+restores_kept : (earlier later : Told) (before middle after : Option (List ℕ)) (b : Begun) (files : Option (List Restored)) → Restores earlier later before middle b files
     → Keeps middle after → Restores earlier later before after b files
 restores_kept earlier later before middle after b None h kept = (h.0, Appends-kept before middle after b.text h.1 kept)
 restores_kept earlier later before middle after b (Some rs) h kept = (h.0, h.1, h.2, Appends-kept before middle after (b.text ++ manifest rs) h.3 kept)
 
-over_kept : (known : Option (List ℕ)) (earlier later : Option (List Volume)) (before middle after : Option (List ℕ)) (history : List JobRows) (q : Request) (clean : Bool) (files : Option (List Restored))
+over_kept : (known : Option (List ℕ)) (earlier later : Told) (before middle after : Option (List ℕ)) (history : List JobRows) (q : Request) (clean : Bool) (files : Option (List Restored))
     → RestoresOver known earlier later before middle history q clean files → Keeps middle after → RestoresOver known earlier later before after history q clean files
 over_kept None earlier later before middle after history q clean files h kept = tt
 over_kept (Some text) earlier later before middle after history q clean files h kept =
     (h.0, restores_kept earlier later before middle after (begun history q text) files h.1 kept)
 
-pub runs_kept : (known : Option (List ℕ)) (earlier later : Option (List Volume)) (before middle after : Option (List ℕ)) (history : List JobRows) (q : Request) (run : ConsoleRun)
+pub runs_kept : (known : Option (List ℕ)) (earlier later : Told) (before middle after : Option (List ℕ)) (history : List JobRows) (q : Request) (run : ConsoleRun)
     → RunsOver known earlier later before middle history q (Ok run) → Keeps middle after → RunsOver known earlier later before after history q (Ok run)
 runs_kept None earlier later before middle after history q run runs kept = tt
-runs_kept (Some text) None later before middle after history q run runs kept = tt
-runs_kept (Some text) (Some a) None before middle after history q run runs kept = tt
-runs_kept (Some text) (Some a) (Some b) before middle after history q run runs kept = λ volumes stands.
+runs_kept (Some text) earlier later before middle after history q run runs kept = λ volumes stands.
     let h = runs volumes stands in
     (h.0, Appends-kept before middle after (console_run history q text volumes).text h.1 kept)
 
@@ -72,15 +70,13 @@ tells_kept None before middle after history q run tells kept = tt
 tells_kept (Some text) before middle after history q run tells kept = (tells.0, ends_kept before middle after (begun history q text) run.restored tells.1 kept)
 
 -- want of memory, and a fault of reading or writing, may come at any time
-pub runs_free : (known : Option (List ℕ)) (earlier later : Option (List Volume)) (before after : Option (List ℕ)) (history : List JobRows) (q : Request) (why : ConsoleFault) → IsFree why
+pub runs_free : (known : Option (List ℕ)) (earlier later : Told) (before after : Option (List ℕ)) (history : List JobRows) (q : Request) (why : ConsoleFault) → IsFree why
     → RunsOver known earlier later before after history q (Err why)
 runs_free None earlier later before after history q why free = tt
-runs_free (Some text) None later before after history q why free = tt
-runs_free (Some text) (Some a) None before after history q why free = tt
-runs_free (Some text) (Some a) (Some b) before after history q fault.Memory free = λ volumes stands. tt
-runs_free (Some text) (Some a) (Some b) before after history q (fault.Plan why) free = absurd free
-runs_free (Some text) (Some a) (Some b) before after history q (fault.Piece why) free = absurd free
-runs_free (Some text) (Some a) (Some b) before after history q (fault.Io why) free = λ volumes stands. tt
+runs_free (Some text) earlier later before after history q fault.Memory free = λ volumes stands. tt
+runs_free (Some text) earlier later before after history q (fault.Plan why) free = absurd free
+runs_free (Some text) earlier later before after history q (fault.Piece why) free = absurd free
+runs_free (Some text) earlier later before after history q (fault.Io why) free = λ volumes stands. tt
 
 pub tells_free : (known before after : Option (List ℕ)) (history : List JobRows) (q : Request) (why : ConsoleFault) → IsFree why → TellsOver known before after history q (Err why)
 tells_free None before after history q why free = tt
@@ -92,13 +88,13 @@ tells_free (Some text) before after history q (fault.Io why) free = tt
 -- ---- the whole
 
 -- the dialogue did not end by `done`
-pub delivers_undone : (known : Option (List ℕ)) (earlier later : Option (List Volume)) (before after : Option (List ℕ)) (had : Option (List Item)) (history : List JobRows) (q : Request) (clean : Bool)
+pub delivers_undone : (known : Option (List ℕ)) (earlier later : Told) (before after : Option (List ℕ)) (had : Option (List Item)) (history : List JobRows) (q : Request) (clean : Bool)
     → RestoresOver known earlier later before after history q clean None
     → DeliversInto known earlier later before after had had history q (Ok (record { run = record { is_clean = clean; restored = None }; stop = None }))
 delivers_undone known earlier later before after had history q clean restores = (None, restores, refl, refl)
 
 -- the files of the manifest are put
-pub delivers_files : (known : Option (List ℕ)) (earlier later : Option (List Volume)) (before middle after : Option (List ℕ)) (had has : Option (List Item)) (history : List JobRows) (q : Request) (clean whole : Bool)
+pub delivers_files : (known : Option (List ℕ)) (earlier later : Told) (before middle after : Option (List ℕ)) (had has : Option (List Item)) (history : List JobRows) (q : Request) (clean whole : Bool)
     (rs : List Restored) (stop : Option Stop) → RestoresOver known earlier later before middle history q clean (Some rs) → Keeps middle after → whole ≡ are_files rs → IsPut had has stop (Some rs)
     → DeliversInto known earlier later before after had has history q (Ok (record { run = record { is_clean = clean; restored = Some whole }; stop = stop }))
 delivers_files known earlier later before middle after had has history q clean whole rs stop restores kept is put =

@@ -26,7 +26,7 @@ use Rattle.br_match.specs.declared.fault.PieceFault.{PieceFault}
 use Rattle.br_tree.specs.Marking.{Marking, console_at, unmarked}
 use Rattle.br_mark.specs.Seen.{Situation}
 use Rattle.br_join.specs.Outcome.{restored}
-use Rattle.br_engine.specs.Restoring.{Outcomes, RestoredOver, restored_files}
+use Rattle.br_engine.specs.Restoring.{Told, Outcomes, RestoredOver, restored_files}
 use Rattle.br_engine.specs.Extracting.{are_files}
 use Rattle.br_console.specs.Fault.{Refusal, OfPlan, OfPiece, IsFree, IsNoPiece, cause, fault_number}
 use Rattle.br_console.specs.Talking.{TalksOver, LeavesOver}
@@ -136,37 +136,26 @@ begins_planned (Some text) before now after history q s clean marks plan opened 
     rw (opened, ← talked.marks_are, made.0)
     (sym talked.clean_is, refl, Appends-trans before now after (dialogue s.view s.state (console_lines text)) (canonical plan.groups) talked.written made.1)
 
--- ---- over the volumes of a drive
-
-pub over_implied : (earlier later : Option (List Volume)) (plan : Plan) (P Q : Said) → ((r : Result (List Restored) model.PieceFault) → P r → Q r) → OverPlan earlier later plan P → OverPlan earlier later plan Q
-over_implied None later plan P Q step h = tt
-over_implied (Some a) None plan P Q step h = tt
-over_implied (Some a) (Some b) plan P Q step h = λ volumes stands. step (restored_files plan.groups (Some plan.names) volumes) (h volumes stands)
+-- ---- over the volumes of the drives
 
 -- the outcomes of a restore by a plan
-pub gives_files : (earlier later : Option (List Volume)) (plan : Plan) (os : Outcomes) → RestoredOver earlier later plan.groups (Some plan.names) (Ok os) → OverPlan earlier later plan (Gives (Ok os))
-gives_files None later plan os given = tt
-gives_files (Some a) None plan os given = tt
-gives_files (Some a) (Some b) plan os given = λ volumes stands. given volumes stands
+pub gives_files : (earlier later : Told) (plan : Plan) (os : Outcomes) → RestoredOver earlier later plan.groups (Some plan.names) (Ok os) → OverPlan earlier later plan (Gives (Ok os))
+gives_files earlier later plan os given = λ volumes stands. given volumes stands
 
-pub gives_refused : (earlier later : Option (List Volume)) (plan : Plan) (why : PieceFault) → RestoredOver earlier later plan.groups (Some plan.names) (Err why)
+pub gives_refused : (earlier later : Told) (plan : Plan) (why : PieceFault) → RestoredOver earlier later plan.groups (Some plan.names) (Err why)
     → OverPlan earlier later plan (Gives (Err (fault.Piece why)))
-gives_refused None later plan why given = tt
-gives_refused (Some a) None plan why given = tt
-gives_refused (Some a) (Some b) plan why given = λ volumes stands. go volumes (piece.cause why) (given volumes stands)
+gives_refused earlier later plan why given = λ volumes stands. go volumes (piece.cause why) (given volumes stands)
   where
     go : (volumes : List Volume) (r : Option model.PieceFault) → IsRefusal r (restored_files plan.groups (Some plan.names) volumes)
         → IsRefusal (option_map OfPiece r) (refused_as OfPiece (restored_files plan.groups (Some plan.names) volumes))
     go volumes None h = tt
     go volumes (Some e) h = rw h refl
 
-pub gives_free : (earlier later : Option (List Volume)) (plan : Plan) (why : ConsoleFault) → IsFree why → OverPlan earlier later plan (Gives (Err why))
-gives_free None later plan why free = tt
-gives_free (Some a) None plan why free = tt
-gives_free (Some a) (Some b) plan fault.Memory free = λ volumes stands. tt
-gives_free (Some a) (Some b) plan (fault.Plan why) free = absurd free
-gives_free (Some a) (Some b) plan (fault.Piece why) free = absurd free
-gives_free (Some a) (Some b) plan (fault.Io why) free = λ volumes stands. tt
+pub gives_free : (earlier later : Told) (plan : Plan) (why : ConsoleFault) → IsFree why → OverPlan earlier later plan (Gives (Err why))
+gives_free earlier later plan fault.Memory free = λ volumes stands. tt
+gives_free earlier later plan (fault.Plan why) free = absurd free
+gives_free earlier later plan (fault.Piece why) free = absurd free
+gives_free earlier later plan (fault.Io why) free = λ volumes stands. tt
 
 pub stops_free : (before after : Option (List ℕ)) (why : ConsoleFault) → IsFree why → StopsAt before after why
 stops_free before after fault.Memory free = tt
@@ -202,13 +191,11 @@ drive_fails_in_piece (fault.Io why) none is = absurd cc
 -- ---- the whole
 
 -- nothing comes of what is refused before a drive is asked
-pub runs_refused : (known : Option (List ℕ)) (earlier later : Option (List Volume)) (before after : Option (List ℕ)) (history : List JobRows) (q : Request) (why : ConsoleFault)
+pub runs_refused : (known : Option (List ℕ)) (earlier later : Told) (before after : Option (List ℕ)) (history : List JobRows) (q : Request) (why : ConsoleFault)
     → BeginsOver known before after history q (Err why) → RunsOver known earlier later before after history q (Err why)
 unfolding console_run
 runs_refused None earlier later before after history q why begins = tt
-runs_refused (Some text) None later before after history q why begins = tt
-runs_refused (Some text) (Some a) None before after history q why begins = tt
-runs_refused (Some text) (Some a) (Some b) before after history q why begins = λ volumes stands. by_fault volumes why begins
+runs_refused (Some text) earlier later before after history q why begins = λ volumes stands. by_fault volumes why begins
   where
     go : (volumes : List Volume) (r : Option ℕ) → IfSome r (λ n. ((begun history q text).plan ≡ Err n) × Appends before after (begun history q text).text)
         → RefusesRun before after (run_from (begun history q text) volumes) (option_map OfPlan r)
@@ -222,24 +209,20 @@ runs_refused (Some text) (Some a) (Some b) before after history q why begins = �
     by_fault volumes (fault.Io w) h = tt
 
 -- without a plan nothing more
-pub runs_undone : (known : Option (List ℕ)) (earlier later : Option (List Volume)) (before after : Option (List ℕ)) (history : List JobRows) (q : Request) (clean : Bool)
+pub runs_undone : (known : Option (List ℕ)) (earlier later : Told) (before after : Option (List ℕ)) (history : List JobRows) (q : Request) (clean : Bool)
     → BeginsOver known before after history q (Ok (clean, None)) → RunsOver known earlier later before after history q (Ok (record { is_clean = clean; restored = None }))
 unfolding console_run
 runs_undone None earlier later before after history q clean begins = tt
-runs_undone (Some text) None later before after history q clean begins = tt
-runs_undone (Some text) (Some a) None before after history q clean begins = tt
-runs_undone (Some text) (Some a) (Some b) before after history q clean begins = λ volumes stands.
+runs_undone (Some text) earlier later before after history q clean begins = λ volumes stands.
     rw begins.1 (ap (λ (c : Bool). Ok (record { is_clean = c; restored = None })) begins.0, begins.2)
 
 -- the manifest behind the bootstrap
-pub runs_restored : (known : Option (List ℕ)) (earlier later : Option (List Volume)) (before now after : Option (List ℕ)) (history : List JobRows) (q : Request) (clean : Bool) (plan : Plan) (os : Outcomes)
+pub runs_restored : (known : Option (List ℕ)) (earlier later : Told) (before now after : Option (List ℕ)) (history : List JobRows) (q : Request) (clean : Bool) (plan : Plan) (os : Outcomes)
     → BeginsOver known before now history q (Ok (clean, Some plan)) → OverPlan earlier later plan (Gives (Ok os)) → WritesManifest now after os
     → RunsOver known earlier later before after history q (run_to (Ok (clean, Some os)))
 unfolding console_run
 runs_restored None earlier later before now after history q clean plan os begins given written = tt
-runs_restored (Some text) None later before now after history q clean plan os begins given written = tt
-runs_restored (Some text) (Some a) None before now after history q clean plan os begins given written = tt
-runs_restored (Some text) (Some a) (Some b) before now after history q clean plan os begins given written = λ volumes stands.
+runs_restored (Some text) earlier later before now after history q clean plan os begins given written = λ volumes stands.
     let rs : List Restored = map restored os.items in
     let files : restored_files plan.groups (Some plan.names) volumes ≡ Ok rs = given volumes (stands plan begins.1) in
     rw (begins.1, files) (
@@ -256,14 +239,12 @@ stopped text clean (Err e) why h = (go h, refl)
     go : ◌≡◌ {A = Result (List Restored) Refusal} (Err (OfPiece e)) (Err why) → ◌≡◌ {A = Result ConsoleRun Refusal} (Err (OfPiece e)) (Err why)
     go p = cc
 
-pub runs_stopped : (known : Option (List ℕ)) (earlier later : Option (List Volume)) (before now after : Option (List ℕ)) (history : List JobRows) (q : Request) (clean : Bool) (plan : Plan) (why : ConsoleFault)
+pub runs_stopped : (known : Option (List ℕ)) (earlier later : Told) (before now after : Option (List ℕ)) (history : List JobRows) (q : Request) (clean : Bool) (plan : Plan) (why : ConsoleFault)
     → BeginsOver known before now history q (Ok (clean, Some plan)) → OverPlan earlier later plan (Gives (Err why)) → StopsAt now after why
     → RunsOver known earlier later before after history q (Err why)
 unfolding console_run
 runs_stopped None earlier later before now after history q clean plan why begins given stops = tt
-runs_stopped (Some text) None later before now after history q clean plan why begins given stops = tt
-runs_stopped (Some text) (Some a) None before now after history q clean plan why begins given stops = tt
-runs_stopped (Some text) (Some a) (Some b) before now after history q clean plan why begins given stops = λ volumes stands.
+runs_stopped (Some text) earlier later before now after history q clean plan why begins given stops = λ volumes stands.
     by_fault volumes why (given volumes (stands plan begins.1)) stops
   where
     go : (volumes : List Volume) (r : Option model.PieceFault) → IsRefusal (option_map OfPiece r) (refused_as OfPiece (restored_files plan.groups (Some plan.names) volumes)) → Keeps now after
@@ -280,7 +261,7 @@ runs_stopped (Some text) (Some a) (Some b) before now after history q clean plan
     by_fault volumes (fault.Piece w) h s = go volumes (piece.cause w) h s
     by_fault volumes (fault.Io w) h s = tt
 
--- ---- over any drive
+-- ---- over any drives
 
 pub tells_refused : (known before after : Option (List ℕ)) (history : List JobRows) (q : Request) (why : ConsoleFault) → BeginsOver known before after history q (Err why)
     → TellsOver known before after history q (Err why)
@@ -312,12 +293,12 @@ tells_stopped (Some text) before now after history q clean plan (fault.Io why) b
 
 -- ---- up to the manifest
 
-pub restores_undone : (known : Option (List ℕ)) (earlier later : Option (List Volume)) (before after : Option (List ℕ)) (history : List JobRows) (q : Request) (clean : Bool)
+pub restores_undone : (known : Option (List ℕ)) (earlier later : Told) (before after : Option (List ℕ)) (history : List JobRows) (q : Request) (clean : Bool)
     → BeginsOver known before after history q (Ok (clean, None)) → RestoresOver known earlier later before after history q clean None
 restores_undone None earlier later before after history q clean begins = tt
 restores_undone (Some text) earlier later before after history q clean begins = (begins.0, (begins.1, begins.2))
 
-pub restores_files : (known : Option (List ℕ)) (earlier later : Option (List Volume)) (before now after : Option (List ℕ)) (history : List JobRows) (q : Request) (clean : Bool) (plan : Plan) (os : Outcomes)
+pub restores_files : (known : Option (List ℕ)) (earlier later : Told) (before now after : Option (List ℕ)) (history : List JobRows) (q : Request) (clean : Bool) (plan : Plan) (os : Outcomes)
     → BeginsOver known before now history q (Ok (clean, Some plan)) → OverPlan earlier later plan (Gives (Ok os)) → WritesManifest now after os
     → RestoresOver known earlier later before after history q clean (files_in (Some os))
 restores_files None earlier later before now after history q clean plan os begins given written = tt
@@ -326,7 +307,7 @@ restores_files (Some text) earlier later before now after history q clean plan o
   (
     plan,
     begins.1,
-    over_implied earlier later plan _ _ (λ r h. h) given,
+    given,
     Appends-trans before now after (begun history q text).text (manifest (map restored os.items)) begins.2 written,
   ),
 )

@@ -1,11 +1,11 @@
 -- A run of the console that also delivers: behind the manifest the restored files, put into a sink.
 use Rattle.std.specs.Prelude.{◌≡◌, ℕ, List, Option, Some, None, option_map, Result, Ok, Err}
-use Rattle.br_model.specs.Volume.{Volume}
 use Rattle.br_model.specs.File.{Item}
 use Rattle.br_model.specs.Restored.{Restored}
 use Rattle.br_model.specs.Job.{JobRows}
 use Rattle.br_model.specs.Choice.{Request}
 use Rattle.br_model.specs.Delivery.{Stop}
+use Rattle.br_engine.specs.Restoring.{Told}
 use Rattle.br_engine.specs.Extracting.{are_files}
 use Rattle.br_engine.specs.Delivering.{IsDelivered, IsStopped}
 use Rattle.br_console.specs.Running.{RestoresOver}
@@ -27,7 +27,7 @@ IsPut had has (Some stop) (Some rs) = IsStopped had has stop rs
 
 -- The run restored these files, or none where the dialogue did not end by `done`; it tells whether each is one, and the very same
 -- files were put. Where the run is refused nothing was put.
-abbrev pub DeliversInto : Option (List ℕ) → Option (List Volume) → Option (List Volume) → Option (List ℕ) → Option (List ℕ) → Option (List Item) → Option (List Item) → List JobRows → Request → Result ConsoleDelivery ConsoleFault → Type 0
+abbrev pub DeliversInto : Option (List ℕ) → Told → Told → Option (List ℕ) → Option (List ℕ) → Option (List Item) → Option (List Item) → List JobRows → Request → Result ConsoleDelivery ConsoleFault → Type 0
 DeliversInto known earlier later before after had has history q (Ok made) =
     (files : Option (List Restored))
     × RestoresOver known earlier later before after history q made.run.is_clean files

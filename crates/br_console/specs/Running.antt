@@ -18,7 +18,7 @@ use Rattle.br_model.specs.Plan.{Plan, plan_of}
 use Rattle.br_plan.specs.Fault as plan
 use Rattle.br_mark.specs.Seen.{Situation}
 use Rattle.br_join.specs.Outcome.{restored}
-use Rattle.br_engine.specs.Restoring.{Outcomes, StandsForEach, restored_files}
+use Rattle.br_engine.specs.Restoring.{Told, AllStand, Outcomes, restored_files}
 use Rattle.br_engine.specs.Extracting.{are_files}
 use Rattle.br_console.specs.Fault.{Refusal, OfPlan, OfPiece, cause}
 use Rattle.br_console.specs.Talking.{are_answered}
@@ -97,21 +97,17 @@ abbrev pub Runs : Option (List ℕ) → Option (List ℕ) → Result ConsoleRun 
 Runs before after (Ok run) expected = (expected.answer ≡ Ok run) × Appends before after expected.text
 Runs before after (Err why) expected = RefusesRun before after expected (cause why)
 
--- a drive that showed the earlier volumes before and the later ones behind may be taken to show these, for the pieces of the plan
--- if there is one
-abbrev pub StandsForPlan : List Volume → List Volume → Begun → List Volume → Type 0
-StandsForPlan earlier later b volumes = (plan : Plan) → b.plan ≡ Ok (Some plan) → StandsForEach earlier later (pieces_of plan.groups) volumes
+-- each of the drives may be taken to show these volumes, for the pieces of the plan if there is one
+abbrev pub AllStandForPlan : Told → Told → Begun → List Volume → Type 0
+AllStandForPlan earlier later b volumes = (plan : Plan) → b.plan ≡ Ok (Some plan) → AllStand earlier later (pieces_of plan.groups) volumes
 
--- where the reader tells its bytes and the drive its volumes, the run is that of these bytes over all volumes that the drive may be
--- taken to show
-abbrev pub RunsOver : Option (List ℕ) → Option (List Volume) → Option (List Volume) → Option (List ℕ) → Option (List ℕ) → List JobRows → Request → Result ConsoleRun ConsoleFault → Type 0
-RunsOver (Some text) (Some earlier) (Some later) before after history q result =
-    (volumes : List Volume) → StandsForPlan earlier later (begun history q text) volumes → Runs before after result (console_run history q text volumes)
+-- where the reader tells its bytes, the run is that of these bytes over all volumes that each of the drives may be taken to show
+abbrev pub RunsOver : Option (List ℕ) → Told → Told → Option (List ℕ) → Option (List ℕ) → List JobRows → Request → Result ConsoleRun ConsoleFault → Type 0
+RunsOver (Some text) earlier later before after history q result =
+    (volumes : List Volume) → AllStandForPlan earlier later (begun history q text) volumes → Runs before after result (console_run history q text volumes)
 RunsOver None earlier later before after history q result = ⊤
-RunsOver (Some text) None later before after history q result = ⊤
-RunsOver (Some text) (Some earlier) None before after history q result = ⊤
 
--- ---- a run over any drive
+-- ---- a run over any drives
 
 -- without a plan nothing more was written than what stands before a drive is asked, else the manifest of some files behind it, and
 -- the answer is whether each of them is a file
@@ -120,7 +116,7 @@ Ends before after b None = (b.plan ≡ Ok None) × Appends before after b.text
 Ends before after b (Some whole) =
     (plan : Plan) × (rs : List Restored) × (b.plan ≡ Ok (Some plan)) × (whole ≡ are_files rs) × Appends before after (b.text ++ manifest rs)
 
--- whatever the drive does, what stands before it is asked was written first; and nothing more where the choice or the plan is
+-- whatever the drives do, what stands before one is asked was written first; and nothing more where the choice or the plan is
 -- refused, or a piece by whatever fault
 abbrev pub Tells : Option (List ℕ) → Option (List ℕ) → Begun → Result ConsoleRun ConsoleFault → Type 0
 Tells before after b (Ok run) = (b.is_clean ≡ run.is_clean) × Ends before after b run.restored
@@ -181,12 +177,10 @@ BeginsOver None before after history q result = ⊤
 abbrev pub Said : Type 1
 Said = Result (List Restored) model.PieceFault → Type 0
 
--- where the drive tells its volumes, this holds of what a plan gives over all volumes that it may be taken to show
-abbrev pub OverPlan : Option (List Volume) → Option (List Volume) → Plan → Said → Type 0
-OverPlan (Some earlier) (Some later) plan holds =
-    (volumes : List Volume) → StandsForEach earlier later (pieces_of plan.groups) volumes → holds (restored_files plan.groups (Some plan.names) volumes)
-OverPlan None later plan holds = ⊤
-OverPlan (Some earlier) None plan holds = ⊤
+-- this holds of what a plan gives over all volumes that each of the drives may be taken to show
+abbrev pub OverPlan : Told → Told → Plan → Said → Type 0
+OverPlan earlier later plan holds =
+    (volumes : List Volume) → AllStand earlier later (pieces_of plan.groups) volumes → holds (restored_files plan.groups (Some plan.names) volumes)
 
 -- the outcomes are the files; or the refusal is the fault of a piece
 abbrev pub Gives : Result Outcomes ConsoleFault → Result (List Restored) model.PieceFault → Type 0
@@ -217,13 +211,13 @@ run_to (Err why) = Err why
 
 -- without files the dialogue did not end by `done`, and what stands before a drive is asked was written; else these are the files
 -- of the plan, and their manifest was written behind it
-abbrev pub Restores : Option (List Volume) → Option (List Volume) → Option (List ℕ) → Option (List ℕ) → Begun → Option (List Restored) → Type 0
+abbrev pub Restores : Told → Told → Option (List ℕ) → Option (List ℕ) → Begun → Option (List Restored) → Type 0
 Restores earlier later before after b None = (b.plan ≡ Ok None) × Appends before after b.text
 Restores earlier later before after b (Some rs) =
     (plan : Plan) × (b.plan ≡ Ok (Some plan)) × OverPlan earlier later plan (λ expected. expected ≡ Ok rs) × Appends before after (b.text ++ manifest rs)
 
 -- the same where the reader tells its bytes, and whether no line was refused
-abbrev pub RestoresOver : Option (List ℕ) → Option (List Volume) → Option (List Volume) → Option (List ℕ) → Option (List ℕ) → List JobRows → Request → Bool → Option (List Restored) → Type 0
+abbrev pub RestoresOver : Option (List ℕ) → Told → Told → Option (List ℕ) → Option (List ℕ) → List JobRows → Request → Bool → Option (List Restored) → Type 0
 RestoresOver (Some text) earlier later before after history q clean files =
     ((begun history q text).is_clean ≡ clean) × Restores earlier later before after (begun history q text) files
 RestoresOver None earlier later before after history q clean files = ⊤

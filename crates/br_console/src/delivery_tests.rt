@@ -141,19 +141,27 @@ fn request(alloc: Global) -> Result<Request, Fail> {
     })
 }
 
-/// A history, a request of its job, and the drive over its volume.
+/// Two drives over its volume.
+fn drives(alloc: Global, block: &[u8]) -> Result<Vec<MemDrive>, Fail> {
+    let mut drives = Vec::new(alloc);
+    drives.push(drive(alloc, block)?)?;
+    drives.push(drive(alloc, block)?)?;
+    Ok(drives)
+}
+
+/// A history, a request of its job, and the drives over its volume.
 #[derive(Drop)]
 struct World {
     history: History,
     request: Request,
-    drive: MemDrive,
+    drives: Vec<MemDrive>,
 }
 
 fn world_of(alloc: Global, case: &Case<'_>) -> Result<World, Fail> {
     Ok(World {
         history: history(alloc, case)?,
         request: request(alloc)?,
-        drive: drive(alloc, case.block)?,
+        drives: drives(alloc, case.block)?,
     })
 }
 
@@ -169,9 +177,14 @@ fn ran<W: Write + Drop>(
     let World {
         history,
         request,
-        drive,
+        drives,
     } = world;
-    run_console_into(rt, alloc, history, request, &mut lines, drive, writer, sink)
+    if drives.is_empty() || drives.len() > 16 {
+        return Err(ConsoleFault::Memory);
+    }
+    run_console_into(
+        rt, alloc, history, request, &mut lines, drives, writer, sink,
+    )
 }
 
 fn is_made(made: &ConsoleDelivery, case: &Case<'_>) -> bool {
@@ -182,11 +195,20 @@ fn is_made(made: &ConsoleDelivery, case: &Case<'_>) -> bool {
     is_stop && made.run == case.run
 }
 
+/// Whether this is the file.
+fn is_put(alloc: Global, item: &Item, file: &Put<'_>) -> Result<bool, Fail> {
+    let bytes = item.bytes.to_vec(alloc)?;
+    Ok(item.path.bytes() == file.0 && bytes.as_slice() == file.1)
+}
+
 /// Whether these are the files.
-fn are_put(items: &[Item], put: &[Put<'_>]) -> bool {
-    items.len() == put.len()
-        && items.iter().zip(put).all(|(item, file)| item.path.bytes() == file.0
-            && item.bytes.bytes() == file.1)
+fn are_put(alloc: Global, items: &[Item], put: &[Put<'_>]) -> Result<bool, Fail> {
+    for (item, file) in items.iter().zip(put) {
+        if !is_put(alloc, item, file)? {
+            return Ok(false);
+        }
+    }
+    Ok(items.len() == put.len())
 }
 
 /// Whether a run over this world answers and writes as expected.
@@ -207,7 +229,7 @@ fn holds(rt: &(impl Threads + Sync), alloc: Global, case: &Case<'_>) -> Result<b
     let mut world = world_of(alloc, case)?;
     let mut sink = MemSink::failing_at(alloc, case.fails_at);
     let is_told = is_told(rt, alloc, &mut world, case, &mut sink)?;
-    Ok(is_told && are_put(sink.items(), case.put))
+    Ok(are_put(alloc, sink.items(), case.put)? && is_told)
 }
 
 #[test]

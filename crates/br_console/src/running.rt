@@ -1,9 +1,11 @@
-ghost use Rattle.std.specs.Prelude.{◌≡◌, ◌<◌, ◌≤◌, ℕ, Some, Err, IfOk, IfErr};
+ghost use Rattle.std.specs.Prelude.{◌≡◌, ◌<◌, ◌≤◌, ℕ, length, map, Some, Err, IfOk, IfErr};
+ghost use Rattle.std.specs.List.{AllZip};
 ghost use Rattle.br_model.specs.Answer.{Answers};
 ghost use Rattle.br_model.specs.Choice as model;
 ghost use Rattle.br_model.specs.Plan.{plan_of};
 ghost use Rattle.br_plan.specs.Fault.{cause};
 ghost use Rattle.br_volume.specs.Drive.{OnlyGrows};
+ghost use Rattle.br_pool.specs.Pool.{HasRisen};
 ghost use Rattle.br_console.specs.Fault.{IsFree, IsNoPiece, fault_number};
 ghost use Rattle.br_console.specs.Running.{opening, MarksOver, WritesPlan, BeginsOver, OverPlan, Gives, WritesManifest, StopsAt, files_in, run_to, RunsOver, TellsOver, RestoresOver};
 
@@ -111,51 +113,51 @@ fn prepare<R: BufRead + Drop, W: Write + Drop>(
 }
 
 /// Restores by a plan, and writes the manifest of the outcomes that it answers.
-fn write_files<D: Drive, W: Write>(
+fn write_files<D: Drive + Send, W: Write>(
     rt: &(impl Threads + Sync),
     alloc: Global,
     plan: Plan,
-    drive: &mut D,
+    drives: &mut Vec<D>,
     writer: &mut W,
 ) -> Result<Vec<(FileKey, Outcome)>, ConsoleFault>
-    ensures gives { OverPlan (D.shows drive.old) (D.shows drive.new) plan (Gives result) }
+    requires drives { (0 < length drives.old.items) × (length drives.old.items ≤ 16) }
+    ensures gives { OverPlan (map D.shows drives.old.items) (map D.shows drives.new.items) plan (Gives result) }
     ensures writes { IfOk result (WritesManifest (W.contents writer.old) (W.contents writer.new)) }
     ensures stops { IfErr result (StopsAt (W.contents writer.old) (W.contents writer.new)) }
-    ensures grows { OnlyGrows (D.shows drive.old) (D.shows drive.new) }
-    ensures counted { D.failures drive.old ≤ D.failures drive.new }
-    ensures failed { IfErr result (λ fault. fault_number fault ≡ Some 13 → D.failures drive.old < D.failures drive.new) }
+    ensures places { AllZip (λ old new. OnlyGrows (D.shows old) (D.shows new) × (D.failures old ≤ D.failures new)) drives.old.items drives.new.items }
+    ensures failed { IfErr result (λ fault. fault_number fault ≡ Some 13 → HasRisen (map D.failures drives.old.items) (map D.failures drives.new.items)) }
 {
     let (bootstrap, names) = plan.into_parts();
-    let outcomes = restore(rt, alloc, &bootstrap, Some(names), drive)?;
+    let outcomes = restore(rt, alloc, &bootstrap, Some(names), drives)?;
     let text = manifest(alloc, &outcomes)?;
     writer.write_all(&text)?;
     Ok(outcomes)
 }
 
 /// Runs the console up to the manifest: whether no line was refused, and the outcomes where the talk ended by `done`.
-pub(crate) fn run_to_manifest<R: BufRead + Drop, D: Drive, W: Write + Drop>(
+pub(crate) fn run_to_manifest<R: BufRead + Drop, D: Drive + Send, W: Write + Drop>(
     rt: &(impl Threads + Sync),
     alloc: Global,
     history: &History,
     request: &Request,
     reader: &mut R,
-    drive: &mut D,
+    drives: &mut Vec<D>,
     writer: &mut W,
 ) -> Result<(bool, Option<Vec<(FileKey, Outcome)>>), ConsoleFault>
-    ensures runs { RunsOver (R.remaining reader.old) (D.shows drive.old) (D.shows drive.new) (W.contents writer.old) (W.contents writer.new) history.now request.now (run_to result) }
+    requires drives { (0 < length drives.old.items) × (length drives.old.items ≤ 16) }
+    ensures runs { RunsOver (R.remaining reader.old) (map D.shows drives.old.items) (map D.shows drives.new.items) (W.contents writer.old) (W.contents writer.new) history.now request.now (run_to result) }
     ensures tells { TellsOver (R.remaining reader.old) (W.contents writer.old) (W.contents writer.new) history.now request.now (run_to result) }
-    ensures restores { IfOk result (λ made. RestoresOver (R.remaining reader.old) (D.shows drive.old) (D.shows drive.new) (W.contents writer.old) (W.contents writer.new) history.now request.now made.0 (files_in made.1)) }
+    ensures restores { IfOk result (λ made. RestoresOver (R.remaining reader.old) (map D.shows drives.old.items) (map D.shows drives.new.items) (W.contents writer.old) (W.contents writer.new) history.now request.now made.0 (files_in made.1)) }
     ensures chosen { IfOk result (λ _. (n : ℕ) → model.choose history.now request.now ≡ Err n → ⊥) }
-    ensures untouched { (n : ℕ) → model.choose history.now request.now ≡ Err n → (reader.new ≡ reader.old) × (drive.new ≡ drive.old) × (writer.new ≡ writer.old) }
-    ensures grows { OnlyGrows (D.shows drive.old) (D.shows drive.new) }
-    ensures counted { D.failures drive.old ≤ D.failures drive.new }
-    ensures failed { IfErr result (λ fault. fault_number fault ≡ Some 13 → D.failures drive.old < D.failures drive.new) }
+    ensures untouched { (n : ℕ) → model.choose history.now request.now ≡ Err n → (reader.new ≡ reader.old) × (drives.new ≡ drives.old) × (writer.new ≡ writer.old) }
+    ensures places { AllZip (λ old new. OnlyGrows (D.shows old) (D.shows new) × (D.failures old ≤ D.failures new)) drives.old.items drives.new.items }
+    ensures failed { IfErr result (λ fault. fault_number fault ≡ Some 13 → HasRisen (map D.failures drives.old.items) (map D.failures drives.new.items)) }
 {
     let (is_clean, plan) = prepare(alloc, history, request, reader, writer)?;
     let Some(plan) = plan else {
         return Ok((is_clean, None));
     };
-    let outcomes = write_files(rt, alloc, plan, drive, writer)?;
+    let outcomes = write_files(rt, alloc, plan, drives, writer)?;
     Ok((is_clean, Some(outcomes)))
 }
 
@@ -167,23 +169,25 @@ pub(crate) fn run_to_manifest<R: BufRead + Drop, D: Drive, W: Write + Drop>(
 /// `Plan` where the choice is refused (53, 54, 50), and then nothing is read or written, or behind the dialogue where nothing is
 /// marked (51). `Piece` behind the bootstrap for the first volume that can't be read. `Memory` and `Io` as in a talk, at any time;
 /// then a part of a text may be written.
-pub fn run_console<R: BufRead + Drop, D: Drive, W: Write + Drop>(
+pub fn run_console<R: BufRead + Drop, D: Drive + Send, W: Write + Drop>(
     rt: &(impl Threads + Sync),
     alloc: Global,
     history: &History,
     request: &Request,
     reader: &mut R,
-    drive: &mut D,
+    drives: &mut Vec<D>,
     writer: &mut W,
 ) -> Result<ConsoleRun, ConsoleFault>
-    ensures runs { RunsOver (R.remaining reader.old) (D.shows drive.old) (D.shows drive.new) (W.contents writer.old) (W.contents writer.new) history.now request.now result }
+    requires drives { (0 < length drives.old.items) × (length drives.old.items ≤ 16) }
+    ensures runs { RunsOver (R.remaining reader.old) (map D.shows drives.old.items) (map D.shows drives.new.items) (W.contents writer.old) (W.contents writer.new) history.now request.now result }
     ensures tells { TellsOver (R.remaining reader.old) (W.contents writer.old) (W.contents writer.new) history.now request.now result }
-    ensures untouched { (n : ℕ) → model.choose history.now request.now ≡ Err n → (reader.new ≡ reader.old) × (drive.new ≡ drive.old) × (writer.new ≡ writer.old) }
-    ensures grows { OnlyGrows (D.shows drive.old) (D.shows drive.new) }
-    ensures counted { D.failures drive.old ≤ D.failures drive.new }
-    ensures failed { IfErr result (λ fault. fault_number fault ≡ Some 13 → D.failures drive.old < D.failures drive.new) }
+    ensures untouched { (n : ℕ) → model.choose history.now request.now ≡ Err n → (reader.new ≡ reader.old) × (drives.new ≡ drives.old) × (writer.new ≡ writer.old) }
+    ensures places { AllZip (λ old new. OnlyGrows (D.shows old) (D.shows new) × (D.failures old ≤ D.failures new)) drives.old.items drives.new.items }
+    ensures failed { IfErr result (λ fault. fault_number fault ≡ Some 13 → HasRisen (map D.failures drives.old.items) (map D.failures drives.new.items)) }
 {
-    let (is_clean, outcomes) = run_to_manifest(rt, alloc, history, request, reader, drive, writer)?;
+    let (is_clean, outcomes) = run_to_manifest(
+        rt, alloc, history, request, reader, drives, writer,
+    )?;
     let Some(outcomes) = outcomes else {
         return Ok(ConsoleRun {
             is_clean,

@@ -6,7 +6,6 @@ use Rattle.std.proofs.KnownBytes.{Appends-kept, Keeps-refl}
 use Rattle.br_model.specs.Answer.{◌>>=◌, IsRefusal}
 use Rattle.br_model.specs.Name.{FileKey}
 use Rattle.br_model.specs.File.{Item}
-use Rattle.br_model.specs.Volume.{Volume}
 use Rattle.br_model.specs.Bootstrap.{Group}
 use Rattle.br_model.specs.BootstrapText.{read_bootstrap}
 use Rattle.br_model.specs.Restored.{Restored}
@@ -24,12 +23,12 @@ use Rattle.br_join.specs.declared.item.Outcome.{Outcome}
 use Rattle.br_sink.specs.Delivery.{IsStopIn, items_in, stop_cause}
 use Rattle.br_sink.specs.Sink.{HasMore}
 use Rattle.br_engine.specs.Fault.{IsFree, fault_number}
-use Rattle.br_engine.specs.Restoring.{Outcomes}
+use Rattle.br_engine.specs.Restoring.{Told, Outcomes}
 use Rattle.br_engine.specs.Extracting.{GivesOver, OverText, OverVolumes, Said, WritesNothing, are_files}
 use Rattle.br_engine.specs.Delivering.{Delivers, DeliversOver, DeliversText}
 use Rattle.br_engine.specs.declared.fault.ExtractFault.{ExtractFault}
 use Rattle.br_engine.specs.declared.fault.ExtractFault.TheVariants.{Memory, Bootstrap, Piece, Io, Sink}
-use Rattle.br_engine.proofs.ExtractLaws.{over_implied, over_no_text, over_text}
+use Rattle.br_engine.proofs.ExtractLaws.{over_no_text, over_text}
 
 -- ---- numbers of refusals
 
@@ -72,12 +71,12 @@ no_drive items stop is e = go stop.number is.number (some_is stop.number 13 e)
 -- ---- over what a bootstrap gives
 
 -- a restore that was refused
-pub delivers_refused : (earlier later : Option (List Volume)) (before after : Option (List ℕ)) (had : Option (List Item)) (groups : List Group) (fault : ExtractFault)
+pub delivers_refused : (earlier later : Told) (before after : Option (List ℕ)) (had : Option (List Item)) (groups : List Group) (fault : ExtractFault)
     → GivesOver earlier later groups (Err fault) → WritesNothing before after fault → DeliversOver earlier later before after had had groups (Err fault)
-delivers_refused earlier later before after had groups Memory given nothing = (over_implied earlier later groups _ _ (λ r h. h) given, nothing, refl)
-delivers_refused earlier later before after had groups (Bootstrap fault) given nothing = (over_implied earlier later groups _ _ (λ r h. h) given, nothing, refl)
-delivers_refused earlier later before after had groups (Piece fault) given nothing = (over_implied earlier later groups _ _ (λ r h. h) given, nothing, refl)
-delivers_refused earlier later before after had groups (Io fault) given nothing = (over_implied earlier later groups _ _ (λ r h. h) given, nothing, refl)
+delivers_refused earlier later before after had groups Memory given nothing = (given, nothing, refl)
+delivers_refused earlier later before after had groups (Bootstrap fault) given nothing = (given, nothing, refl)
+delivers_refused earlier later before after had groups (Piece fault) given nothing = (given, nothing, refl)
+delivers_refused earlier later before after had groups (Io fault) given nothing = (given, nothing, refl)
 delivers_refused earlier later before after had groups (Sink stop) given nothing = absurd nothing
 
 delivered_totals : (rs : List Restored) (t : Totals) → delivery rs ≡ Ok t → delivery rs ≡ Ok (totals_of rs)
@@ -89,12 +88,12 @@ delivered_totals rs t e = go (put_behind [] (filter_map item_of rs)) e
     go (Err s) h = absurd cc
 
 -- behind the manifest of these outcomes, of which a delivery saw the same ones
-module _ (earlier later : Option (List Volume)) (before middle after : Option (List ℕ)) (groups : List Group) (os : Outcomes) (seen : List (FileKey × Outcome)) (given : GivesOver earlier later groups (Ok os)) (written : Appends before middle (manifest (map restored os.items))) (kept : Keeps middle after) (same : seen ≡ os.items) where
+module _ (earlier later : Told) (before middle after : Option (List ℕ)) (groups : List Group) (os : Outcomes) (seen : List (FileKey × Outcome)) (given : GivesOver earlier later groups (Ok os)) (written : Appends before middle (manifest (map restored os.items))) (kept : Keeps middle after) (same : seen ≡ os.items) where
   pub delivers_all : (had has : Option (List Item)) (t : Totals) (whole : Bool) → delivery (map restored seen) ≡ Ok t → HasMore (items_in seen) had has
       → whole ≡ are_files (map restored os.items) → DeliversOver earlier later before after had has groups (Ok whole)
   delivers_all had has t whole answers put are = (
     map restored os.items,
-    (over_implied earlier later groups _ _ (λ r h. h) given, Appends-kept before middle after (manifest (map restored os.items)) written kept),
+    (given, Appends-kept before middle after (manifest (map restored os.items)) written kept),
     (delivered_totals (map restored os.items) t (subst (λ s. delivery (map restored s) ≡ Ok t) same answers), subst (λ s. HasMore (items_in s) had has) same put),
     are,
   )
@@ -103,7 +102,7 @@ module _ (earlier later : Option (List Volume)) (before middle after : Option (L
       → HasMore (take stop.done (items_in seen)) had has → DeliversOver earlier later before after had has groups (Err (Sink stop))
   delivers_before had has stop answers stopped put = (
     map restored os.items,
-    (over_implied earlier later groups _ _ (λ r h. h) given, Appends-kept before middle after (manifest (map restored os.items)) written kept),
+    (given, Appends-kept before middle after (manifest (map restored os.items)) written kept),
     (
       subst (λ s. IsRefusal (stop_cause stop) (delivery (map restored s))) same answers,
       subst (λ s. IsStopIn (items_in s) stop) same stopped,
@@ -112,12 +111,10 @@ module _ (earlier later : Option (List Volume)) (before middle after : Option (L
   )
 
 -- a fault of writing behind the outcomes
-over_free : (earlier later : Option (List Volume)) (groups : List Group) → OverVolumes earlier later groups (λ expected. IsRefusal None expected)
-over_free None later groups = tt
-over_free (Some a) None groups = tt
-over_free (Some a) (Some b) groups = λ volumes stands. tt
+over_free : (earlier later : Told) (groups : List Group) → OverVolumes earlier later groups (λ expected. IsRefusal None expected)
+over_free earlier later groups = λ volumes stands. tt
 
-pub delivers_free : (earlier later : Option (List Volume)) (before after : Option (List ℕ)) (had : Option (List Item)) (groups : List Group) (fault : ExtractFault)
+pub delivers_free : (earlier later : Told) (before after : Option (List ℕ)) (had : Option (List Item)) (groups : List Group) (fault : ExtractFault)
     → IsFree fault → WritesNothing before after fault → DeliversOver earlier later before after had had groups (Err fault)
 delivers_free earlier later before after had groups Memory is nothing = (over_free earlier later groups, nothing, refl)
 delivers_free earlier later before after had groups (Io fault) is nothing = (over_free earlier later groups, nothing, refl)
@@ -136,24 +133,22 @@ implied over more before after had has (Err (Bootstrap fault)) step h = (step _ 
 implied over more before after had has (Err (Piece fault)) step h = (step _ h.0, h.1, h.2)
 implied over more before after had has (Err (Io fault)) step h = (step _ h.0, h.1, h.2)
 
-pub text_delivers : (known : Option (List ℕ)) (earlier later : Option (List Volume)) (before after : Option (List ℕ)) (had has : Option (List Item)) (text : List ℕ) (groups : List Group)
+pub text_delivers : (known : Option (List ℕ)) (earlier later : Told) (before after : Option (List ℕ)) (had has : Option (List Item)) (text : List ℕ) (groups : List Group)
     (result : Result Bool ExtractFault) → IfSome known (λ bytes. text ≡ bytes) → read_bootstrap text ≡ Ok groups
     → DeliversOver earlier later before after had has groups result → DeliversText known earlier later before after had has result
 text_delivers known earlier later before after had has text groups result is read h =
     implied (λ holds. OverVolumes earlier later groups holds) (λ holds. OverText known earlier later holds) before after had has result
     (λ P given. over_text known earlier later text groups P is read given) h
 
-pub text_refused : (known : Option (List ℕ)) (earlier later : Option (List Volume)) (before : Option (List ℕ)) (had : Option (List Item)) (text : List ℕ) (fault : BsrFault)
+pub text_refused : (known : Option (List ℕ)) (earlier later : Told) (before : Option (List ℕ)) (had : Option (List Item)) (text : List ℕ) (fault : BsrFault)
     → IfSome known (λ bytes. text ≡ bytes) → IsRefusal (bootstrap.cause fault) (read_bootstrap text) → DeliversText known earlier later before before had had (Err (Bootstrap fault))
 text_refused known earlier later before had text fault is refused = (over_no_text known earlier later text fault is refused, Keeps-refl before, refl)
 
-free : (known : Option (List ℕ)) (earlier later : Option (List Volume)) → OverText known earlier later (λ expected. IsRefusal None expected)
+free : (known : Option (List ℕ)) (earlier later : Told) → OverText known earlier later (λ expected. IsRefusal None expected)
 free None earlier later = tt
-free (Some bytes) None later = tt
-free (Some bytes) (Some a) None = tt
-free (Some bytes) (Some a) (Some b) = λ volumes stands. tt
+free (Some bytes) earlier later = λ volumes stands. tt
 
-pub text_free : (known : Option (List ℕ)) (earlier later : Option (List Volume)) (before : Option (List ℕ)) (had : Option (List Item)) (fault : ExtractFault)
+pub text_free : (known : Option (List ℕ)) (earlier later : Told) (before : Option (List ℕ)) (had : Option (List Item)) (fault : ExtractFault)
     → IsFree fault → DeliversText known earlier later before before had had (Err fault)
 text_free known earlier later before had Memory is = (free known earlier later, Keeps-refl before, refl)
 text_free known earlier later before had (Io fault) is = (free known earlier later, tt, refl)

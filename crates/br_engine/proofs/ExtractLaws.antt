@@ -14,37 +14,27 @@ use Rattle.br_match.specs.Fault as piece
 use Rattle.br_match.specs.declared.fault.PieceFault.{PieceFault}
 use Rattle.br_join.specs.Outcome.{restored}
 use Rattle.br_engine.specs.Fault.{OfLine, OfPiece, cause}
-use Rattle.br_engine.specs.Restoring.{Outcomes, RestoredOver, restored_files}
+use Rattle.br_engine.specs.Restoring.{Told, Outcomes, RestoredOver, restored_files}
 use Rattle.br_engine.specs.Extracting.{ExtractsOver, GivesOver, OverText, OverVolumes, Said, are_files, extracted}
 use Rattle.br_engine.specs.declared.fault.ExtractFault.TheVariants.{Bootstrap, Piece}
 
 -- ---- what is said over all volumes
 
--- what follows of what is said
-pub over_implied : (earlier later : Option (List Volume)) (groups : List Group) (P Q : Said) → ((r : _) → P r → Q r) → OverVolumes earlier later groups P → OverVolumes earlier later groups Q
-over_implied None later groups P Q step given = tt
-over_implied (Some a) None groups P Q step given = tt
-over_implied (Some a) (Some b) groups P Q step given = λ volumes stands. step _ (given volumes stands)
-
 -- of the bootstrap of a text
-pub over_text : (known : Option (List ℕ)) (earlier later : Option (List Volume)) (text : List ℕ) (groups : List Group) (P : Said)
+pub over_text : (known : Option (List ℕ)) (earlier later : Told) (text : List ℕ) (groups : List Group) (P : Said)
     → IfSome known (λ bytes. text ≡ bytes) → read_bootstrap text ≡ Ok groups → OverVolumes earlier later groups P → OverText known earlier later P
 unfolding extracted
 over_text None earlier later text groups P is read given = tt
-over_text (Some bytes) None later text groups P is read given = tt
-over_text (Some bytes) (Some a) None text groups P is read given = tt
-over_text (Some bytes) (Some a) (Some b) text groups P is read given = λ volumes stands.
+over_text (Some bytes) earlier later text groups P is read given = λ volumes stands.
     let reads : read_bootstrap bytes ≡ Ok groups = ap read_bootstrap (sym is) ∙ read in
     rw reads (given volumes (stands groups reads))
 
 -- of a text that is none
-pub over_no_text : (known : Option (List ℕ)) (earlier later : Option (List Volume)) (text : List ℕ) (fault : BsrFault)
+pub over_no_text : (known : Option (List ℕ)) (earlier later : Told) (text : List ℕ) (fault : BsrFault)
     → IfSome known (λ bytes. text ≡ bytes) → IsRefusal (bootstrap.cause fault) (read_bootstrap text) → OverText known earlier later (IsRefusal (cause (Bootstrap fault)))
 unfolding extracted
 over_no_text None earlier later text fault is refused = tt
-over_no_text (Some bytes) None later text fault is refused = tt
-over_no_text (Some bytes) (Some a) None text fault is refused = tt
-over_no_text (Some bytes) (Some a) (Some b) text fault is refused = λ volumes stands. go volumes (bootstrap.cause fault) refused
+over_no_text (Some bytes) earlier later text fault is refused = λ volumes stands. go volumes (bootstrap.cause fault) refused
   where
     go : (volumes : List Volume) (r : Option LineFault) → IsRefusal r (read_bootstrap text) → IsRefusal (option_map OfLine r) (extracted bytes volumes)
     go volumes None h = tt
@@ -52,23 +42,18 @@ over_no_text (Some bytes) (Some a) (Some b) text fault is refused = λ volumes s
 
 -- ---- from what was restored
 
-pub gives_files : (earlier later : Option (List Volume)) (groups : List Group) (os : Outcomes) → RestoredOver earlier later groups None (Ok os) → GivesOver earlier later groups (Ok os)
-gives_files None later groups os given = tt
-gives_files (Some a) None groups os given = tt
-gives_files (Some a) (Some b) groups os given = λ volumes stands. ap (refused_as OfPiece) (given volumes stands)
+pub gives_files : (earlier later : Told) (groups : List Group) (os : Outcomes) → RestoredOver earlier later groups None (Ok os) → GivesOver earlier later groups (Ok os)
+gives_files earlier later groups os given = λ volumes stands. ap (refused_as OfPiece) (given volumes stands)
 
-pub gives_refused : (earlier later : Option (List Volume)) (groups : List Group) (fault : PieceFault) → RestoredOver earlier later groups None (Err fault)
+pub gives_refused : (earlier later : Told) (groups : List Group) (fault : PieceFault) → RestoredOver earlier later groups None (Err fault)
     → GivesOver earlier later groups (Err (Piece fault))
-gives_refused None later groups fault given = tt
-gives_refused (Some a) None groups fault given = tt
-gives_refused (Some a) (Some b) groups fault given = λ volumes stands. go volumes (piece.cause fault) (given volumes stands)
+gives_refused earlier later groups fault given = λ volumes stands. go volumes (piece.cause fault) (given volumes stands)
   where
     go : (volumes : List Volume) (r : Option model.PieceFault) → IsRefusal r (restored_files groups None volumes) → IsRefusal (option_map OfPiece r) (refused_as OfPiece (restored_files groups None volumes))
     go volumes None h = tt
     go volumes (Some e) h = rw h refl
 
 -- with the manifest behind what the writer held
-pub extracts_files : (earlier later : Option (List Volume)) (before after : Option (List ℕ)) (groups : List Group) (os : Outcomes) (whole : Bool) → GivesOver earlier later groups (Ok os)
+pub extracts_files : (earlier later : Told) (before after : Option (List ℕ)) (groups : List Group) (os : Outcomes) (whole : Bool) → GivesOver earlier later groups (Ok os)
     → whole ≡ are_files (map restored os.items) → Appends before after (manifest (map restored os.items)) → ExtractsOver earlier later before after groups (Ok whole)
-extracts_files earlier later before after groups os whole given are written =
-    over_implied earlier later groups _ _ (λ r is. (map restored os.items, is, are, written)) given
+extracts_files earlier later before after groups os whole given are written = λ volumes stands. (map restored os.items, given volumes stands, are, written)

@@ -1,4 +1,3 @@
-pub mod GrowthLaws
 pub mod ReadyLaws
 pub mod JoinLaws
 pub mod ExtractLaws

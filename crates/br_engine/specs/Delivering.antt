@@ -2,7 +2,6 @@
 use Rattle.std.specs.Prelude.{◌≡◌, ℕ, Bool, List, take, filter_map, Option, Result, Ok, Err}
 use Rattle.std.specs.Io.KnownBytes.{Appends}
 use Rattle.br_model.specs.Answer.{IsRefusal}
-use Rattle.br_model.specs.Volume.{Volume}
 use Rattle.br_model.specs.Bootstrap.{Group}
 use Rattle.br_model.specs.File.{Item}
 use Rattle.br_model.specs.Restored.{Restored}
@@ -11,6 +10,7 @@ use Rattle.br_model.specs.Delivery.{Stop, delivery, item_of}
 use Rattle.br_sink.specs.Delivery.{IsStopIn, stop_cause}
 use Rattle.br_sink.specs.Sink.{HasMore}
 use Rattle.br_engine.specs.Fault.{cause}
+use Rattle.br_engine.specs.Restoring.{Told}
 use Rattle.br_engine.specs.Extracting.{OverText, OverVolumes, Said, WritesNothing, are_files}
 use Rattle.br_engine.specs.declared.fault.ExtractFault.{ExtractFault}
 use Rattle.br_engine.specs.declared.fault.ExtractFault.TheVariants.{Memory, Bootstrap, Piece, Io, Sink}
@@ -50,9 +50,9 @@ Delivers over before after had has (Ok whole) = (rs : List Restored) × IsWritte
 Delivers over before after had has (Err fault) = Stops over before after had has fault
 
 -- the files are those that a bootstrap gives
-abbrev pub DeliversOver : Option (List Volume) → Option (List Volume) → Option (List ℕ) → Option (List ℕ) → Option (List Item) → Option (List Item) → List Group → Result Bool ExtractFault → Type 0
+abbrev pub DeliversOver : Told → Told → Option (List ℕ) → Option (List ℕ) → Option (List Item) → Option (List Item) → List Group → Result Bool ExtractFault → Type 0
 DeliversOver earlier later before after had has groups result = Delivers (λ holds. OverVolumes earlier later groups holds) before after had has result
 
 -- the files are those that the bootstrap of a text gives
-abbrev pub DeliversText : Option (List ℕ) → Option (List Volume) → Option (List Volume) → Option (List ℕ) → Option (List ℕ) → Option (List Item) → Option (List Item) → Result Bool ExtractFault → Type 0
+abbrev pub DeliversText : Option (List ℕ) → Told → Told → Option (List ℕ) → Option (List ℕ) → Option (List Item) → Option (List Item) → Result Bool ExtractFault → Type 0
 DeliversText known earlier later before after had has result = Delivers (λ holds. OverText known earlier later holds) before after had has result

@@ -11,7 +11,7 @@ use Rattle.br_model.specs.Restored.{Restored}
 use Rattle.br_model.specs.Manifest.{manifest}
 use Rattle.br_join.specs.Outcome.{restored}
 use Rattle.br_engine.specs.Fault.{Refusal, OfLine, OfPiece, cause}
-use Rattle.br_engine.specs.Restoring.{Outcomes, StandsForEach, restored_files}
+use Rattle.br_engine.specs.Restoring.{Told, AllStand, Outcomes, restored_files}
 use Rattle.br_engine.specs.declared.fault.ExtractFault.{ExtractFault}
 use Rattle.br_engine.specs.declared.fault.ExtractFault.TheVariants.{Memory, Bootstrap, Piece, Io, Sink}
 
@@ -21,31 +21,25 @@ extracted text volumes = do
   groups ← refused_as OfLine (read_bootstrap text)
   refused_as OfPiece (restored_files groups None volumes)
 
--- ---- what holds of the files, whatever the drive's volumes do meanwhile
+-- ---- what holds of the files, whatever the volumes of the drives do meanwhile
 
 -- what is said of the files that are given, or of the refusal
 abbrev pub Said : Type 1
 Said = Result (List Restored) Refusal → Type 0
 
--- where the drive tells its volumes, this holds of what a bootstrap gives over all volumes that it may be taken to show
-abbrev pub OverVolumes : Option (List Volume) → Option (List Volume) → List Group → Said → Type 0
-OverVolumes (Some earlier) (Some later) groups holds =
-    (volumes : List Volume) → StandsForEach earlier later (pieces_of groups) volumes → holds (refused_as OfPiece (restored_files groups None volumes))
-OverVolumes None later groups holds = ⊤
-OverVolumes (Some earlier) None groups holds = ⊤
+-- this holds of what a bootstrap gives over all volumes that each of the drives may be taken to show
+abbrev pub OverVolumes : Told → Told → List Group → Said → Type 0
+OverVolumes earlier later groups holds =
+    (volumes : List Volume) → AllStand earlier later (pieces_of groups) volumes → holds (refused_as OfPiece (restored_files groups None volumes))
 
--- a drive that showed the earlier volumes before and the later ones behind may be taken to show these, for the pieces of the
--- bootstrap of a text
-abbrev pub StandsForText : List Volume → List Volume → List ℕ → List Volume → Type 0
-StandsForText earlier later text volumes = (groups : List Group) → read_bootstrap text ≡ Ok groups → StandsForEach earlier later (pieces_of groups) volumes
+-- each of the drives may be taken to show these volumes, for the pieces of the bootstrap of a text
+abbrev pub AllStandForText : Told → Told → List ℕ → List Volume → Type 0
+AllStandForText earlier later text volumes = (groups : List Group) → read_bootstrap text ≡ Ok groups → AllStand earlier later (pieces_of groups) volumes
 
--- where the reader tells its bytes too, this holds of what the bootstrap of these bytes gives over all such volumes
-abbrev pub OverText : Option (List ℕ) → Option (List Volume) → Option (List Volume) → Said → Type 0
-OverText (Some text) (Some earlier) (Some later) holds =
-    (volumes : List Volume) → StandsForText earlier later text volumes → holds (extracted text volumes)
+-- where the reader tells its bytes, this holds of what the bootstrap of these bytes gives over all such volumes
+abbrev pub OverText : Option (List ℕ) → Told → Told → Said → Type 0
+OverText (Some text) earlier later holds = (volumes : List Volume) → AllStandForText earlier later text volumes → holds (extracted text volumes)
 OverText None earlier later holds = ⊤
-OverText (Some text) None later holds = ⊤
-OverText (Some text) (Some earlier) None holds = ⊤
 
 -- ---- their manifest
 
@@ -68,13 +62,13 @@ WritesNothing before after (Io fault) = ⊤
 WritesNothing before after (Sink stop) = ⊥
 
 -- the files are those that a bootstrap gives
-abbrev pub ExtractsOver : Option (List Volume) → Option (List Volume) → Option (List ℕ) → Option (List ℕ) → List Group → Result Bool ExtractFault → Type 0
+abbrev pub ExtractsOver : Told → Told → Option (List ℕ) → Option (List ℕ) → List Group → Result Bool ExtractFault → Type 0
 ExtractsOver earlier later before after groups result = OverVolumes earlier later groups (Extracts before after result)
 
 -- the files are those that the bootstrap of a text gives
-abbrev pub RunsOver : Option (List ℕ) → Option (List Volume) → Option (List Volume) → Option (List ℕ) → Option (List ℕ) → Result Bool ExtractFault → Type 0
+abbrev pub RunsOver : Option (List ℕ) → Told → Told → Option (List ℕ) → Option (List ℕ) → Result Bool ExtractFault → Type 0
 RunsOver known earlier later before after result = OverText known earlier later (Extracts before after result)
 
 -- the outcomes of a restore are the files that a bootstrap gives, or the refusal is the expected one
-abbrev pub GivesOver : Option (List Volume) → Option (List Volume) → List Group → Result Outcomes ExtractFault → Type 0
+abbrev pub GivesOver : Told → Told → List Group → Result Outcomes ExtractFault → Type 0
 GivesOver earlier later groups result = OverVolumes earlier later groups (Answers (λ (os : Outcomes). map restored os.items) cause result)

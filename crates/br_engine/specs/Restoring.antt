@@ -1,25 +1,30 @@
--- What a bootstrap gives over the volumes of a drive, whatever these do meanwhile.
-use Rattle.std.specs.Prelude.{◌⊎◌, List, map, Vec, Option, Some, None, Result, Ok, ⊤}
+-- What a bootstrap gives over the volumes of some drives, whatever these do meanwhile.
+use Rattle.std.specs.Prelude.{◌≡◌, List, [], ◌∷◌, map, Vec, Option, Some, None, Result, Ok}
 use Rattle.std.specs.Global.{Global}
-use Rattle.std.specs.List.{AllByRecursion}
+use Rattle.std.specs.List.{AllByRecursion, AllZip}
+use Rattle.std.specs.FinMap.{get}
 use Rattle.br_model.specs.Answer.{◌>>=◌, Answers}
 use Rattle.br_model.specs.Name.{FileKey}
-use Rattle.br_model.specs.Volume.{Volume, Extends}
+use Rattle.br_model.specs.Volume.{Volume}
 use Rattle.br_model.specs.Bootstrap.{Group}
 use Rattle.br_model.specs.Meaning as model
 use Rattle.br_model.specs.Meaning.{Piece, Hits, hits_on_each, hits_of, pieces_of, meaning}
 use Rattle.br_model.specs.Restored.{Planned, Restored, files}
 use Rattle.br_match.specs.Fault.{cause}
-use Rattle.br_match.specs.Matching.{IsEnclosed}
+use Rattle.br_match.specs.declared.hit.Found.{Found}
 use Rattle.br_match.specs.declared.fault.PieceFault.{PieceFault}
-use Rattle.br_join.specs.Joining.{Joining}
+use Rattle.br_pool.specs.Pool.{StandsTold}
+use Rattle.br_join.specs.Joining.{Joining, taken}
 use Rattle.br_join.specs.Outcome.{restored}
 use Rattle.br_join.specs.declared.item.Outcome.{Outcome}
 
--- A drive that showed the earlier volumes before and the later ones behind may be taken to show these: they are what it showed
--- throughout, or it showed more than them, and each of the pieces is enclosed in them.
-abbrev pub StandsForEach : List Volume → List Volume → List Piece → List Volume → Type 0
-StandsForEach earlier later pieces volumes = Extends earlier volumes × (Extends volumes later ⊎ AllByRecursion (IsEnclosed volumes) pieces)
+-- the volumes of some drives, of each that tells them
+abbrev pub Told : Type 0
+Told = List (Option (List Volume))
+
+-- each of the drives may be taken to show these volumes, for these pieces; so all of them tell their volumes
+abbrev pub AllStand : Told → Told → List Piece → List Volume → Type 0
+AllStand earlier later pieces volumes = AllZip (StandsTold pieces volumes) earlier later
 
 -- the set of the hits of some pieces, or the first fault
 abbrev pub set_of_each : List Volume → List Piece → Result Hits model.PieceFault
@@ -27,14 +32,20 @@ set_of_each volumes pieces = do
   found ← hits_on_each volumes pieces
   Ok (hits_of found)
 
--- where the drive tells its volumes, the hits of what was joined are those of the pieces over all volumes that it may be taken
--- to show, or the refusal is their first fault; a drive may fail, and memory run out, at any time
-abbrev pub JoinedOver : Option (List Volume) → Option (List Volume) → List Piece → Result Joining PieceFault → Type 0
-JoinedOver (Some earlier) (Some later) pieces result =
-    (volumes : List Volume) → StandsForEach earlier later pieces volumes
-    → Answers (λ (j : Joining). j.hits) cause result (set_of_each volumes pieces)
-JoinedOver None later pieces result = ⊤
-JoinedOver (Some earlier) None pieces result = ⊤
+-- over all volumes that each of the drives may be taken to show, the hits of what was joined are those of the pieces, or the refusal
+-- is their first fault; a drive may fail, and memory run out, at any time
+abbrev pub JoinedOver : Told → Told → List Piece → Result Joining PieceFault → Type 0
+JoinedOver earlier later pieces result =
+    (volumes : List Volume) → AllStand earlier later pieces volumes → Answers (λ (j : Joining). j.hits) cause result (set_of_each volumes pieces)
+
+-- a joiner has the pieces of what was found
+abbrev pub AreKnown : Joining → List Found → Type 0
+AreKnown j founds = AllByRecursion (λ (f : Found). get j.pieces f.piece ≡ None → ⊥) founds
+
+-- a joiner that took what was found, one piece after the other
+abbrev pub all_taken : Joining → List Found → Joining
+all_taken j [] = j
+all_taken j (found ∷ founds) = all_taken (taken j found.piece found.hits.items) founds
 
 -- the files that a bootstrap gives over volumes, the planned ones where there is a plan; or the first fault of a piece
 unfoldable pub restored_files : List Group → Option (List Planned) → List Volume → Result (List Restored) model.PieceFault
@@ -46,11 +57,9 @@ restored_files groups names volumes = do
 abbrev pub Outcomes : Type 0
 Outcomes = Vec (FileKey × Outcome) Global
 
--- where the drive tells its volumes, the outcomes are the files that the bootstrap gives over all volumes that it may be taken
--- to show, or the refusal is the first fault; a drive may fail, and memory run out, at any time
-abbrev pub RestoredOver : Option (List Volume) → Option (List Volume) → List Group → Option (List Planned) → Result Outcomes PieceFault → Type 0
-RestoredOver (Some earlier) (Some later) groups names result =
-    (volumes : List Volume) → StandsForEach earlier later (pieces_of groups) volumes
+-- over all volumes that each of the drives may be taken to show, the outcomes are the files that the bootstrap gives, or the refusal is
+-- the first fault; a drive may fail, and memory run out, at any time
+abbrev pub RestoredOver : Told → Told → List Group → Option (List Planned) → Result Outcomes PieceFault → Type 0
+RestoredOver earlier later groups names result =
+    (volumes : List Volume) → AllStand earlier later (pieces_of groups) volumes
     → Answers (λ (os : Outcomes). map restored os.items) cause result (restored_files groups names volumes)
-RestoredOver None later groups names result = ⊤
-RestoredOver (Some earlier) None groups names result = ⊤

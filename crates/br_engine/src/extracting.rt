@@ -1,8 +1,9 @@
-ghost use Rattle.std.specs.Prelude.{◌≡◌, is_ok, ◌<◌, ◌≤◌, Some, map, IfOk, IfErr, IfSome};
-ghost use Rattle.std.specs.List.{list_all};
+ghost use Rattle.std.specs.Prelude.{◌≡◌, is_ok, ◌<◌, ◌≤◌, length, Some, map, IfOk, IfErr, IfSome};
+ghost use Rattle.std.specs.List.{AllZip, list_all};
 ghost use Rattle.std.specs.Io.KnownBytes.{Appends};
 ghost use Rattle.br_model.specs.Manifest as model;
 ghost use Rattle.br_volume.specs.Drive.{OnlyGrows};
+ghost use Rattle.br_pool.specs.Pool.{HasRisen};
 ghost use Rattle.br_join.specs.Outcome.{restored, shown};
 ghost use Rattle.br_engine.specs.Fault.{IsFree, fault_number};
 ghost use Rattle.br_engine.specs.Extracting.{are_files, ExtractsOver, GivesOver, RunsOver, WritesNothing};
@@ -64,21 +65,21 @@ pub(crate) fn read_text<R: Read>(alloc: Global, reader: &mut R) -> Result<Vec<u8
 }
 
 /// Restores by a bootstrap, and writes the manifest of the outcomes that it answers.
-pub(crate) fn write_restored<D: Drive, W: Write>(
+pub(crate) fn write_restored<D: Drive + Send, W: Write>(
     rt: &(impl Threads + Sync),
     alloc: Global,
     bootstrap: &Bootstrap,
-    drive: &mut D,
+    drives: &mut Vec<D>,
     writer: &mut W,
 ) -> Result<Vec<(FileKey, Outcome)>, ExtractFault>
-    ensures gives { GivesOver (D.shows drive.old) (D.shows drive.new) bootstrap.now result }
+    requires drives { (0 < length drives.old.items) × (length drives.old.items ≤ 16) }
+    ensures gives { GivesOver (map D.shows drives.old.items) (map D.shows drives.new.items) bootstrap.now result }
     ensures written { IfOk result (λ os. Appends (W.contents writer.old) (W.contents writer.new) (model.manifest (map restored os.items))) }
     ensures nothing { IfErr result (WritesNothing (W.contents writer.old) (W.contents writer.new)) }
-    ensures grows { OnlyGrows (D.shows drive.old) (D.shows drive.new) }
-    ensures counted { D.failures drive.old ≤ D.failures drive.new }
-    ensures failed { IfErr result (λ fault. fault_number fault ≡ Some 13 → D.failures drive.old < D.failures drive.new) }
+    ensures places { AllZip (λ old new. OnlyGrows (D.shows old) (D.shows new) × (D.failures old ≤ D.failures new)) drives.old.items drives.new.items }
+    ensures failed { IfErr result (λ fault. fault_number fault ≡ Some 13 → HasRisen (map D.failures drives.old.items) (map D.failures drives.new.items)) }
 {
-    let outcomes = restore(rt, alloc, bootstrap, None, drive)?;
+    let outcomes = restore(rt, alloc, bootstrap, None, drives)?;
     let text = manifest(alloc, &outcomes)?;
     writer.write_all(&text)?;
     Ok(outcomes)
@@ -88,20 +89,20 @@ pub(crate) fn write_restored<D: Drive, W: Write>(
 ///
 /// Refused as `restore`, with `Piece`; then nothing is written. `Memory` also where the manifest wants memory. `Io` where the
 /// writer failed, which may have taken a part of the manifest. The writer is not flushed.
-pub fn extract<D: Drive, W: Write>(
+pub fn extract<D: Drive + Send, W: Write>(
     rt: &(impl Threads + Sync),
     alloc: Global,
     bootstrap: &Bootstrap,
-    drive: &mut D,
+    drives: &mut Vec<D>,
     writer: &mut W,
 ) -> Result<bool, ExtractFault>
-    ensures extracts { ExtractsOver (D.shows drive.old) (D.shows drive.new) (W.contents writer.old) (W.contents writer.new) bootstrap.now result }
+    requires drives { (0 < length drives.old.items) × (length drives.old.items ≤ 16) }
+    ensures extracts { ExtractsOver (map D.shows drives.old.items) (map D.shows drives.new.items) (W.contents writer.old) (W.contents writer.new) bootstrap.now result }
     ensures nothing { IfErr result (WritesNothing (W.contents writer.old) (W.contents writer.new)) }
-    ensures grows { OnlyGrows (D.shows drive.old) (D.shows drive.new) }
-    ensures counted { D.failures drive.old ≤ D.failures drive.new }
-    ensures failed { IfErr result (λ fault. fault_number fault ≡ Some 13 → D.failures drive.old < D.failures drive.new) }
+    ensures places { AllZip (λ old new. OnlyGrows (D.shows old) (D.shows new) × (D.failures old ≤ D.failures new)) drives.old.items drives.new.items }
+    ensures failed { IfErr result (λ fault. fault_number fault ≡ Some 13 → HasRisen (map D.failures drives.old.items) (map D.failures drives.new.items)) }
 {
-    let outcomes = write_restored(rt, alloc, bootstrap, drive, writer)?;
+    let outcomes = write_restored(rt, alloc, bootstrap, drives, writer)?;
     Ok(all_files(&outcomes))
 }
 
@@ -110,20 +111,20 @@ pub fn extract<D: Drive, W: Write>(
 ///
 /// `Bootstrap` for a refused line, then refused as `extract`. `Io` also where the reader failed, or has not come to its end after
 /// 2^40 reads.
-pub fn run_extract<R: Read + Drop, D: Drive, W: Write + Drop>(
+pub fn run_extract<R: Read + Drop, D: Drive + Send, W: Write + Drop>(
     rt: &(impl Threads + Sync),
     alloc: Global,
     reader: &mut R,
-    drive: &mut D,
+    drives: &mut Vec<D>,
     writer: &mut W,
 ) -> Result<bool, ExtractFault>
-    ensures runs { RunsOver (R.remaining reader.old) (D.shows drive.old) (D.shows drive.new) (W.contents writer.old) (W.contents writer.new) result }
+    requires drives { (0 < length drives.old.items) × (length drives.old.items ≤ 16) }
+    ensures runs { RunsOver (R.remaining reader.old) (map D.shows drives.old.items) (map D.shows drives.new.items) (W.contents writer.old) (W.contents writer.new) result }
     ensures nothing { IfErr result (WritesNothing (W.contents writer.old) (W.contents writer.new)) }
-    ensures grows { OnlyGrows (D.shows drive.old) (D.shows drive.new) }
-    ensures counted { D.failures drive.old ≤ D.failures drive.new }
-    ensures failed { IfErr result (λ fault. fault_number fault ≡ Some 13 → D.failures drive.old < D.failures drive.new) }
+    ensures places { AllZip (λ old new. OnlyGrows (D.shows old) (D.shows new) × (D.failures old ≤ D.failures new)) drives.old.items drives.new.items }
+    ensures failed { IfErr result (λ fault. fault_number fault ≡ Some 13 → HasRisen (map D.failures drives.old.items) (map D.failures drives.new.items)) }
 {
     let text = read_text(alloc, reader)?;
     let bootstrap = read_bootstrap(alloc, &text)?;
-    extract(rt, alloc, &bootstrap, drive, writer)
+    extract(rt, alloc, &bootstrap, drives, writer)
 }

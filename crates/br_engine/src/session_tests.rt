@@ -10,6 +10,7 @@ use br_sink::{FolderSink, manifest};
 use br_types::{Path, SessionKey, VolName};
 use br_volume::{MemDrive, MemStore, VolumeStore};
 use std::alloc::Global;
+use std::fs::File;
 use std::rt::Files;
 use std::test::Fail;
 use std::thread::Threads;
@@ -108,19 +109,20 @@ fn pieces_are_taken_in_any_order(rt: HostRuntime) -> Result<(), Fail> {
 
 /// Delivers the files of both sessions into a new folder. The manifest.
 fn delivered(
-    rt: &(impl Files + AllocGlobal + Threads + Sync),
+    rt: &(impl Files<File = File> + AllocGlobal + Threads + Sync),
     folder: &str,
 ) -> Result<Vec<u8>, Fail> {
     fs::create_dir(rt, folder)?;
     let mut sink = FolderSink::new(rt.alloc(), rt, folder)?;
-    let mut drive = drive(rt.alloc())?;
+    let mut drives = Vec::new(rt.alloc());
+    drives.push(drive(rt.alloc())?)?;
     let mut text = TEXT;
     let mut written = Vec::new(rt.alloc());
     run_extract_into(
         rt,
         rt.alloc(),
         &mut text,
-        &mut drive,
+        &mut drives,
         &mut written,
         &mut sink,
     )?;

@@ -1,3 +1,5 @@
+ghost use Rattle.std.specs.Prelude.{◌≡◌, length, IfOk};
+
 use super::*;
 use br_bsr::{Bootstrap, BsrFault, read_bootstrap};
 use br_join::Outcome;
@@ -5,6 +7,7 @@ use br_match::{PieceCause, PieceFault};
 use br_sink::{Item, MemSink};
 use br_types::VolName;
 use br_volume::MemDrive;
+use std::alloc::Global;
 use std::io::{self, Error, ErrorKind, Read, Write};
 use std::test::Fail;
 
@@ -24,6 +27,16 @@ fn drive(rt: &HostRuntime) -> Result<MemDrive, Fail> {
     Ok(MemDrive::new(volumes))
 }
 
+/// Two such drives.
+fn drives(rt: &HostRuntime) -> Result<Vec<MemDrive>, Fail>
+    ensures { IfOk result (λ drives. length drives.items ≡ 2) }
+{
+    let mut drives = Vec::new(rt.alloc());
+    drives.push(drive(rt)?)?;
+    drives.push(drive(rt)?)?;
+    Ok(drives)
+}
+
 fn bootstrap(rt: &HostRuntime, text: &[u8]) -> Result<Bootstrap, Fail> {
     Ok(read_bootstrap(rt.alloc(), text)?)
 }
@@ -31,7 +44,7 @@ fn bootstrap(rt: &HostRuntime, text: &[u8]) -> Result<Bootstrap, Fail> {
 #[test]
 fn a_file_is_restored(rt: HostRuntime) -> Result<(), Fail> {
     let bootstrap = bootstrap(&rt, b"Volume=V1\nFileIndex=1\n")?;
-    let outcomes = restore(&rt, rt.alloc(), &bootstrap, None, &mut drive(&rt)?)?;
+    let outcomes = restore(&rt, rt.alloc(), &bootstrap, None, &mut drives(&rt)?)?;
     assert_eq!(rt; outcomes.len(), 1);
     let (key, outcome) = &outcomes[0];
     assert_eq!(rt;
@@ -41,7 +54,8 @@ fn a_file_is_restored(rt: HostRuntime) -> Result<(), Fail> {
     match outcome {
         Outcome::File(item) => {
             assert_eq!(rt; item.path.bytes(), b"/a".as_slice());
-            assert_eq!(rt; item.bytes.bytes(), b"hello".as_slice());
+            let bytes = item.bytes.to_vec(rt.alloc())?;
+            assert_eq!(rt; bytes.as_slice(), b"hello".as_slice());
         }
         Outcome::Fault { number, .. } => assert_eq!(rt; *number, 0),
     }
@@ -51,7 +65,7 @@ fn a_file_is_restored(rt: HostRuntime) -> Result<(), Fail> {
 #[test]
 fn a_restore_stops_at_the_first_piece_that_is_refused(rt: HostRuntime) -> Result<(), Fail> {
     let bootstrap = bootstrap(&rt, b"Volume=V1\nVolume=Q\nVolume=P\n")?;
-    let fault = restore(&rt, rt.alloc(), &bootstrap, None, &mut drive(&rt)?)
+    let fault = restore(&rt, rt.alloc(), &bootstrap, None, &mut drives(&rt)?)
         .err()
         .ok_or("a refusal")?;
     let mut line = Vec::new(rt.alloc());
@@ -64,14 +78,14 @@ fn a_restore_stops_at_the_first_piece_that_is_refused(rt: HostRuntime) -> Result
 fn the_manifest_goes_behind_what_was_written(rt: HostRuntime) -> Result<(), Fail> {
     let mut text = b"Volume=V1\n".as_slice();
     let mut written = Vec::from_slice(rt.alloc(), b"before\n")?;
-    let all = run_extract(&rt, rt.alloc(), &mut text, &mut drive(&rt)?, &mut written)?;
+    let all = run_extract(&rt, rt.alloc(), &mut text, &mut drives(&rt)?, &mut written)?;
     assert!(rt; all);
     let behind = written.get(7..).ok_or("too short")?;
     assert_eq!(rt; behind, MANIFEST);
 
     let bootstrap = bootstrap(&rt, b"Volume=V1\nStream=2\n")?;
     let mut written = Vec::new(rt.alloc());
-    let all = extract(&rt, rt.alloc(), &bootstrap, &mut drive(&rt)?, &mut written)?;
+    let all = extract(&rt, rt.alloc(), &bootstrap, &mut drives(&rt)?, &mut written)?;
     assert!(rt; !all);
     assert_eq!(rt;
         written.as_slice(),
@@ -81,12 +95,13 @@ fn the_manifest_goes_behind_what_was_written(rt: HostRuntime) -> Result<(), Fail
 }
 
 /// Whether this is the file `/a` with the bytes `hello`, alone.
-fn are_hello(items: &[Item]) -> bool {
+fn are_hello(alloc: Global, items: &[Item]) -> Result<bool, Fail> {
     match items {
         [item] => {
-            item.path.bytes() == b"/a".as_slice() && item.bytes.bytes() == b"hello".as_slice()
+            let bytes = item.bytes.to_vec(alloc)?;
+            Ok(item.path.bytes() == b"/a".as_slice() && bytes.as_slice() == b"hello".as_slice())
         }
-        _ => false,
+        _ => Ok(false),
     }
 }
 
@@ -94,18 +109,18 @@ fn are_hello(items: &[Item]) -> bool {
 fn the_files_are_put_behind_the_manifest(rt: HostRuntime) -> Result<(), Fail> {
     let bootstrap = bootstrap(&rt, b"Volume=V1\n")?;
     let (mut written, mut sink) = (Vec::new(rt.alloc()), MemSink::new(rt.alloc()));
-    let mut drive = drive(&rt)?;
+    let mut drives = drives(&rt)?;
     let all = extract_into(
         &rt,
         rt.alloc(),
         &bootstrap,
-        &mut drive,
+        &mut drives,
         &mut written,
         &mut sink,
     )?;
     assert!(rt; all);
     assert_eq!(rt; written.as_slice(), MANIFEST);
-    assert!(rt; are_hello(sink.items()));
+    assert!(rt; are_hello(rt.alloc(), sink.items())?);
     Ok(())
 }
 
@@ -113,12 +128,12 @@ fn the_files_are_put_behind_the_manifest(rt: HostRuntime) -> Result<(), Fail> {
 fn a_delivery_stops_behind_the_manifest(rt: HostRuntime) -> Result<(), Fail> {
     let mut text = b"Volume=V1\n".as_slice();
     let (mut written, mut sink) = (Vec::new(rt.alloc()), MemSink::failing_at(rt.alloc(), 1));
-    let mut drive = drive(&rt)?;
+    let mut drives = drives(&rt)?;
     let run = run_extract_into(
         &rt,
         rt.alloc(),
         &mut text,
-        &mut drive,
+        &mut drives,
         &mut written,
         &mut sink,
     );
@@ -202,12 +217,12 @@ impl Write for Broken {
 fn reading_or_writing_fails(rt: HostRuntime) -> Result<(), Fail> {
     let mut written = Vec::new(rt.alloc());
     let mut text = b"Volume=V1\n".as_slice().chain(Broken);
-    let run = run_extract(&rt, rt.alloc(), &mut text, &mut drive(&rt)?, &mut written);
+    let run = run_extract(&rt, rt.alloc(), &mut text, &mut drives(&rt)?, &mut written);
     assert!(rt; matches!(&run, Err(ExtractFault::Io(_))));
     assert!(rt; written.is_empty());
 
     let mut text = b"Volume=V1\n".as_slice();
-    let run = run_extract(&rt, rt.alloc(), &mut text, &mut drive(&rt)?, &mut Broken);
+    let run = run_extract(&rt, rt.alloc(), &mut text, &mut drives(&rt)?, &mut Broken);
     assert!(rt; matches!(&run, Err(ExtractFault::Io(_))));
     Ok(())
 }
@@ -230,12 +245,12 @@ impl Write for Clogged {
 fn nothing_is_put_where_the_manifest_is_not_flushed(rt: HostRuntime) -> Result<(), Fail> {
     let bootstrap = bootstrap(&rt, b"Volume=V1\n")?;
     let mut sink = MemSink::new(rt.alloc());
-    let mut drive = drive(&rt)?;
+    let mut drives = drives(&rt)?;
     let run = extract_into(
         &rt,
         rt.alloc(),
         &bootstrap,
-        &mut drive,
+        &mut drives,
         &mut Clogged,
         &mut sink,
     );

@@ -3,12 +3,12 @@ use Rattle.std.proofs.Common.{◌≡◌, ℕ, ◌+◌, ◌-◌, ◌^◌, ◌<◌
 use Rattle.std.specs.Prelude.{filter}
 use Rattle.std.specs.Int.{w64, from_be_bytes}
 use Rattle.std.proofs.lemmas.Bool.{ltb-false, or_parts}
-use Rattle.std.proofs.lemmas.List.{at_drop_more, at_drop_all, length-append, length-drop, length-replicate, append-nil}
+use Rattle.std.proofs.lemmas.List.{at_drop_more, at_drop_all, length-append, length-replicate, append-nil}
 use Rattle.br_model.specs.Answer.{◌>>=◌, refused_as, IsRefusal}
 use Rattle.br_model.specs.Record.{Record}
 use Rattle.br_model.specs.File.{Fault, fault, Extent, extent_end, extent_of, extents_from, bytes_from, is_data, is_stream}
 use Rattle.br_model.proofs.AnswerLaws.{bind_ok, refused_as_ok, chosen, ok_is, err_is_not_ok}
-use Rattle.br_join.specs.Data.{laid, laid_from, length_from}
+use Rattle.br_join.specs.Data.{laid, laid_from}
 use Rattle.br_join.specs.Making.{cause}
 use Rattle.br_join.specs.declared.making_fault.MakingFault.{MakingFault}
 use Rattle.br_join.specs.declared.making_fault.MakingFault.TheVariants.{Memory, File}
@@ -89,25 +89,6 @@ module _ {A : Type 0} (g : List Extent → A) (end : ℕ) (r : Record) (rs : Lis
   all_more : (e : Extent) → extent_of end r ≡ Ok e → all ≡ (extents_from (extent_end e) rs >>= λ es. Ok (g (e ∷ es)))
   all_more e is = all_is ∙ ap (λ x. x >>= λ e. (extents_from (extent_end e) rs >>= λ es. Ok (g (e ∷ es)))) is
 
--- the end of the data of one record more
-pub length_more : (end : ℕ) (r : Record) (rs : List Record) (e : Extent) → refused_as fault (extent_of end r) ≡ Ok e → length_from end (r ∷ rs) ≡ length_from (extent_end e) rs
-unfolding bytes_from
-length_more end r rs e is =
-    let read : extent_of end r ≡ Ok e = refused_as_ok fault (extent_of end r) e is in
-    let le : end ≤ e.start = extent_rises end r e read in
-    all_more (λ es. end + length (bytes_from end es)) end r rs e read ∙ go le (extents_from (extent_end e) rs)
-  where
-    adds : (rest : List ℕ) → end ≤ e.start → end + length ((replicate (e.start - end) 0 ++ e.bytes) ++ rest) ≡ extent_end e + length rest
-    adds rest le =
-        omega (arith, length-append (replicate (e.start - end) 0 ++ e.bytes) rest, length-append (replicate (e.start - end) 0) e.bytes, length-replicate {A = ℕ} (e.start - end) 0)
-
-    go : end ≤ e.start → (x : Result (List Extent) ℕ) → (x >>= λ es. Ok (end + length ((replicate (e.start - end) 0 ++ e.bytes) ++ bytes_from (extent_end e) es))) ≡ (x >>= λ es. Ok (extent_end e + length (bytes_from (extent_end e) es)))
-    go le (Ok es) = ap (λ (n : ℕ). Ok n) (adds (bytes_from (extent_end e) es) le)
-    go le (Err n) = refl
-
-pub length_refused : (end : ℕ) (r : Record) (rs : List Record) (f : Fault) → refused_as fault (extent_of end r) ≡ Err f → refused_as fault (length_from end (r ∷ rs)) ≡ Err f
-length_refused end r rs f is = all_refused (λ es. end + length (bytes_from end es)) end r rs f is
-
 -- the bytes with the data of one record more
 pub laid_more : (bytes more : List ℕ) (r : Record) (rs : List Record) → refused_as fault (laid bytes r) ≡ Ok more → laid_from bytes (r ∷ rs) ≡ laid_from more rs
 unfolding bytes_from
@@ -148,15 +129,7 @@ pub laid_given_up : (bytes : List ℕ) (r : Record) (rs : List Record) (whole : 
 laid_given_up bytes r rs whole Memory same is = tt
 laid_given_up bytes r rs whole (File f) same is = ap (refused_as fault) same ∙ laid_refused bytes r rs f is
 
--- an extent's end, by what it leaves out
-pub ends_there : (bytes : List ℕ) (start skip end : ℕ) → end ≡ start + (length bytes - skip) → end ≡ start + length (drop skip bytes)
-ends_there bytes start skip end is = omega (arith, length-drop skip bytes)
-
 -- behind the last record nothing comes
-pub length_done : (end : ℕ) → length_from end [] ≡ Ok end
-unfolding extents_from bytes_from
-length_done end = let none : end + 0 ≡ end = omega arith in rw none refl
-
 pub laid_done : (bytes : List ℕ) → laid_from bytes [] ≡ Ok bytes
 unfolding extents_from bytes_from
 laid_done bytes = ap (λ (all : List ℕ). Ok all) (append-nil bytes)

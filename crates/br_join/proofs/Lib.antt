@@ -1,5 +1,6 @@
 mod ChoiceLaws
 mod DataLaws
+mod FilePartLaws
 mod JoinLaws
 mod PartLaws
 pub mod TakingLaws

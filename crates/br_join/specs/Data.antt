@@ -24,9 +24,3 @@ abbrev pub laid_from : List ℕ → List Record → Result (List ℕ) ℕ
 laid_from bytes records = do
   extents ← model.extents_from (length bytes) records
   Ok (bytes ++ model.bytes_from (length bytes) extents)
-
--- where the data of records ends behind an end
-abbrev pub length_from : ℕ → List Record → Result ℕ ℕ
-length_from end records = do
-  extents ← model.extents_from end records
-  Ok (end + length (model.bytes_from end extents))

@@ -2,9 +2,12 @@ ghost use Rattle.std.specs.Prelude.{◌≡◌, ◌+◌, ◌-◌, ◌^◌, ◌<�
 ghost use Rattle.std.specs.Int.{w64, from_be_bytes};
 ghost use Rattle.br_model.specs.Answer.{Answers, AnswersAlways, refused_as};
 ghost use Rattle.br_model.specs.File as model;
-ghost use Rattle.br_join.specs.Data.{fitting, laid, laid_from, length_from, shown_extent};
+ghost use Rattle.br_join.specs.Data.{fitting, laid, laid_from, shown_extent};
+ghost use Rattle.br_join.specs.FileParts.{joined};
 ghost use Rattle.br_join.specs.Making.{cause};
 
+use crate::file_bytes::FileBytes;
+use crate::file_part::{Part, push_gap};
 use crate::making_fault::{FileFault, MakingFault};
 use crate::records::Record;
 use crate::streams::{DATA, has_bytes};
@@ -80,42 +83,32 @@ impl Record<'_> {
         self.extent_at(address, ADDRESS_LEN)
     }
 
-    /// Puts its data behind that of the earlier ones, with zeros in front of it up to where it stands. It refuses what
-    /// `extent_behind` does.
-    fn push_data(&self, bytes: &mut Vec<u8>) -> Result<(), MakingFault>
-        ensures { Answers (λ _. bytes.new.items) cause result (refused_as model.fault (laid bytes.old.items self.now)) }
+    /// Puts its data behind the parts of a file that end there, with zeros in front of it up to where it stands, and tells the new
+    /// end. It refuses what `extent_behind` does. No byte is copied.
+    fn push_data(&self, file: &mut Vec<Part>, end: usize) -> Result<usize, MakingFault>
+        requires { end ≡ length (joined file.old.items) }
+        ensures same { Answers (λ _. joined file.new.items) cause result (refused_as model.fault (laid (joined file.old.items) self.now)) }
+        ensures ends { IfOk result (λ end. end ≡ length (joined file.new.items)) }
     {
-        let extent = self.extent_behind(bytes.len())?;
-        bytes.resize(extent.start, 0)?;
-        self.push_behind(bytes, extent.skip)?;
-        Ok(())
+        let extent = self.extent_behind(end)?;
+        push_gap(file, extent.start - end)?;
+        self.share_behind(file, extent.skip)?;
+        Ok(extent.end)
     }
 }
 
-/// How long the data of some records is, before any of it is built: 67 and 68 at the first record that does not fit.
-fn length_of(records: &[Record<'_>]) -> Result<usize, FileFault>
-    ensures { AnswersAlways (λ n. n) (λ f. f) result (refused_as model.fault (length_from 0 (filter model.is_data records.now))) }
+/// The data of some records: 67 and 68 at the first of them that does not fit.
+fn data_of(alloc: Global, records: &[Record<'_>]) -> Result<FileBytes, MakingFault>
+    ensures { Answers (λ bytes. bytes) cause result (refused_as model.fault (laid_from [] (filter model.is_data records.now))) }
 {
+    let mut file = Vec::new(alloc);
     let mut end = 0;
     for record in records {
         if record.is_data() {
-            end = record.extent_behind(end)?.end;
+            end = record.push_data(&mut file, end)?;
         }
     }
-    Ok(end)
-}
-
-/// The data of some records. Memory for all of it is taken at once, when each record is known to fit.
-fn data_of(alloc: Global, records: &[Record<'_>]) -> Result<Vec<u8>, MakingFault>
-    ensures { Answers (λ bytes. bytes.items) cause result (refused_as model.fault (laid_from [] (filter model.is_data records.now))) }
-{
-    let mut bytes = Vec::with_capacity(alloc, length_of(records)?)?;
-    for record in records {
-        if record.is_data() {
-            record.push_data(&mut bytes)?;
-        }
-    }
-    Ok(bytes)
+    Ok(FileBytes::from_parts(file, end))
 }
 
 /// The bytes of a file of this type: none but for types 2 and 3.
@@ -124,11 +117,11 @@ pub(crate) fn file_bytes(
     alloc: Global,
     kind: u32,
     records: &[Record<'_>],
-) -> Result<Vec<u8>, MakingFault>
-    ensures { Answers (λ bytes. bytes.items) cause result (refused_as model.fault (model.file_bytes kind records.now)) }
+) -> Result<FileBytes, MakingFault>
+    ensures { Answers (λ bytes. bytes) cause result (refused_as model.fault (model.file_bytes kind records.now)) }
 {
     if !has_bytes(kind) {
-        return Ok(Vec::new(alloc));
+        return Ok(FileBytes::empty(alloc));
     }
     data_of(alloc, records)
 }

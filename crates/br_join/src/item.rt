@@ -1,52 +1,7 @@
-ghost use Rattle.std.specs.Prelude.{◌≡◌};
-ghost use Rattle.md5.specs.Md5.{md5};
-
+use crate::file_bytes::FileBytes;
 use br_attr::Stat;
 use br_types::Path;
-use md5::{Digest, Md5};
 use std::marker::Model;
-
-/// The bytes of a restored file, beside their MD5 digest, so that it is computed once.
-#[derive(Debug, Drop)]
-pub struct FileBytes {
-    bytes: Vec<u8>,
-    digest: [u8; 16],
-}
-
-impl Model for FileBytes {
-    ghost use Rattle.std.specs.Prelude.{◌≡◌, ℕ, List};
-    ghost use Rattle.md5.specs.Md5.{md5};
-
-    ghost Value = { List ℕ };
-
-    ghost view = { λ b. b.bytes.items };
-
-    ghost invariant = { λ b. b.digest ≡ md5 b.bytes.items };
-}
-
-impl FileBytes {
-    /// These bytes, of which it computes the digest.
-    pub fn new(bytes: Vec<u8>) -> FileBytes
-        ensures { result ≡ bytes.items }
-    {
-        let digest = Md5::digest(bytes.as_slice());
-        FileBytes { bytes, digest }
-    }
-
-    /// The bytes.
-    pub fn bytes(&self) -> &[u8]
-        ensures { result.now ≡ self.now }
-    {
-        &self.bytes
-    }
-
-    /// Their MD5 digest.
-    pub fn digest(&self) -> [u8; 16]
-        ensures { result ≡ md5 self.now }
-    {
-        self.digest
-    }
-}
 
 /// A restored file.
 #[derive(Debug, Drop)]

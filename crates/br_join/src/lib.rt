@@ -3,6 +3,8 @@
 
 mod data;
 mod fault;
+mod file_bytes;
+mod file_part;
 mod item;
 mod joiner;
 mod making;
@@ -15,5 +17,6 @@ mod runs;
 mod streams;
 
 pub use fault::{JoinFault, Refused};
-pub use item::{FileBytes, Item, Outcome};
+pub use file_bytes::FileBytes;
+pub use item::{Item, Outcome};
 pub use joiner::Joiner;

@@ -8,7 +8,8 @@ ghost use Rattle.br_join.specs.Making.{cause, read_or_64};
 ghost use Rattle.br_join.specs.Outcome.{shown};
 
 use crate::data::file_bytes;
-use crate::item::{FileBytes, Item, Outcome};
+use crate::file_bytes::FileBytes;
+use crate::item::{Item, Outcome};
 use crate::making_fault::{FileFault, MakingFault};
 use crate::records::{Record, records_of};
 use crate::streams::{
@@ -84,7 +85,7 @@ fn content(alloc: Global, index: FileIndex, records: &[Record<'_>]) -> Result<It
     let attr = attributes_of(alloc, index, records)?;
     refuse_unsupported(records)?;
     let (kind, path, stat, link) = attr.into_parts();
-    let bytes = FileBytes::new(file_bytes(alloc, kind, records)?);
+    let bytes = file_bytes(alloc, kind, records)?;
     let checked = checks_digest(kind, records);
     if checked && !digest_fits(records, &bytes) {
         return Err(MakingFault::File(FileFault::new(66)));

@@ -1,11 +1,13 @@
 ghost use Rattle.std.specs.Prelude.{◌≡◌, All, IfOk};
 ghost use Rattle.br_model.specs.Meaning as meaning;
 
-use crate::item::{FileBytes, Item, Outcome};
+use crate::file_bytes::FileBytes;
+use crate::item::{Item, Outcome};
 use crate::making::{outcome_of, under_name};
 use br_match::{Hit, Spot};
 use br_types::{FileIndex, FileKey, Path, SessionKey};
 use std::alloc::{AllocError, Global};
+use std::sync::ArcSlice;
 use std::test::Fail;
 
 /// The attributes of a file of type 3: /a, mode 33188, size 5.
@@ -53,7 +55,7 @@ fn hits_of(alloc: Global, key: FileKey, parts: &[Part<'_>]) -> Result<Vec<Hit>, 
             },
             stream: part.0,
             size: part.1,
-            bytes: Vec::from_slice(alloc, part.2)?,
+            bytes: ArcSlice::from_slice(alloc, part.2)?,
         };
         hits.push(hit).map_err(AllocError::from)?;
     }
@@ -109,15 +111,16 @@ fn is_a(item: &Item) -> bool {
 }
 
 /// Whether the data is `hello`, with its digest.
-fn is_hello(bytes: &FileBytes) -> bool {
-    bytes.bytes() == b"hello".as_slice() && bytes.digest() == DIGEST
+fn is_hello(alloc: Global, bytes: &FileBytes) -> Result<bool, Fail> {
+    let copy = bytes.to_vec(alloc)?;
+    Ok(copy.as_slice() == b"hello".as_slice() && bytes.len() == 5 && bytes.digest() == DIGEST)
 }
 
 #[test]
 fn a_file_has_its_attributes_and_data(rt: HostRuntime) -> Result<(), Fail> {
     let item = file_of(rt.alloc(), &[Part(1, 38, FILE), Part(2, 5, b"hello")])?;
     assert!(rt; is_a(&item));
-    assert!(rt; is_hello(&item.bytes));
+    assert!(rt; is_hello(rt.alloc(), &item.bytes)?);
     assert_eq!(rt; item.skipped, 0);
     Ok(())
 }
@@ -129,7 +132,8 @@ fn skipped_of(alloc: Global, parts: &[Part<'_>]) -> Result<u64, Fail> {
 
 /// Whether fragments make a file with this data.
 fn has_data(alloc: Global, parts: &[Part<'_>], data: &[u8]) -> Result<bool, Fail> {
-    Ok(file_of(alloc, parts)?.bytes.bytes() == data)
+    let bytes = file_of(alloc, parts)?.bytes.to_vec(alloc)?;
+    Ok(bytes.as_slice() == data)
 }
 
 /// Whether fragments make the file /a.

@@ -1,6 +1,8 @@
 ghost use Rattle.std.specs.Prelude.{◌≡◌, ◌++◌, ◌-◌, ◌^◌, drop, length, min, bytes_eq, slice_index, IfSome, OnOk};
+ghost use Rattle.br_join.specs.FileParts.{joined};
 ghost use Rattle.br_join.specs.Records.{bytes_in};
 
+use crate::file_part::{Part, push_data};
 use br_match::Hit;
 use std::alloc::AllocError;
 
@@ -47,6 +49,30 @@ pub(crate) fn push_behind(bytes: &mut Vec<u8>, skip: usize, parts: &[Hit]) -> Re
         let skipped = left.min(held.len());
         let (_, behind) = held.split_at(skipped);
         bytes.extend_from_slice(behind)?;
+        left -= skipped;
+    }
+    Ok(())
+}
+
+/// Puts the data of a fragment behind the parts of a file, without the first bytes, as many as `skip` says. It is shared.
+fn share_one(file: &mut Vec<Part>, skip: usize, part: &Hit) -> Result<(), AllocError>
+    ensures { OnOk result (joined file.new.items ≡ joined file.old.items ++ drop skip part.now.fragment.bytes) }
+{
+    push_data(file, skip, &part.bytes)
+}
+
+/// Puts the bytes of the fragments behind the parts of a file, without the first ones, as many as `skip` says. They are shared.
+pub(crate) fn share_behind(
+    file: &mut Vec<Part>,
+    skip: usize,
+    parts: &[Hit],
+) -> Result<(), AllocError>
+    ensures { OnOk result (joined file.new.items ≡ joined file.old.items ++ drop skip (bytes_in parts.now)) }
+{
+    let mut left = skip;
+    for part in parts {
+        let skipped = left.min(bytes_of(part).len());
+        share_one(file, skipped, part)?;
         left -= skipped;
     }
     Ok(())

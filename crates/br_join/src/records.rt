@@ -5,12 +5,14 @@ ghost use Rattle.br_model.specs.File.{fault};
 ghost use Rattle.br_model.specs.File as model;
 ghost use Rattle.br_model.specs.Meaning as meaning;
 ghost use Rattle.br_model.specs.Record.{with_fragment, join};
+ghost use Rattle.br_join.specs.FileParts.{joined};
 ghost use Rattle.br_join.specs.Making.{cause};
 ghost use Rattle.br_join.specs.Opening.{begun, begun_from};
 ghost use Rattle.br_join.specs.Records.{fragments_in};
 
+use crate::file_part::Part;
 use crate::making_fault::{FileFault, MakingFault};
-use crate::parts::{are_bytes, byte_at, length_of, push_behind};
+use crate::parts::{are_bytes, byte_at, length_of, push_behind, share_behind};
 use br_match::Hit;
 use br_types::FileIndex;
 use std::alloc::{AllocError, Global};
@@ -84,6 +86,13 @@ impl<'h> Record<'h> {
         ensures { OnOk result (bytes.new.items ≡ bytes.old.items ++ drop skip self.now.bytes) }
     {
         push_behind(bytes, skip, self.parts)
+    }
+
+    /// Puts its bytes behind the parts of a file, without the first ones, as many as `skip` says. They are shared.
+    pub(crate) fn share_behind(&self, file: &mut Vec<Part>, skip: usize) -> Result<(), AllocError>
+        ensures { OnOk result (joined file.new.items ≡ joined file.old.items ++ drop skip self.now.bytes) }
+    {
+        share_behind(file, skip, self.parts)
     }
 }
 

@@ -1,3 +1,4 @@
+pub mod GrowthLaws
 pub mod StepLaws
 pub mod SeenLaws
 pub mod GroupLaws

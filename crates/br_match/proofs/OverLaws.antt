@@ -1,6 +1,5 @@
 -- From what a drive answers over the volumes that it shows to what a step answers over all that it may be taken to show.
-use Rattle.std.proofs.Common.{◌≡◌, ℕ, ◌+◌, true, false, List, [], ◌++◌, Option, Some, None, Result, Ok, Err, refl, ap, sym, subst, ◌∙◌, ◌⊎◌, inl, inr, append_assoc}
-use Rattle.std.proofs.lemmas.List.{append-nil}
+use Rattle.std.proofs.Common.{◌≡◌, ℕ, ◌+◌, true, false, List, ◌++◌, Option, Some, None, Result, Ok, Err, refl, ap, subst, ◌∙◌, ◌⊎◌, inl, inr}
 use Rattle.br_model.specs.Answer.{Answers, IsRefusal, refused_as}
 use Rattle.br_model.specs.Block.{Header, read_header, read_block}
 use Rattle.br_model.specs.Volume.{Volume, Extends, is_above}
@@ -13,6 +12,7 @@ use Rattle.br_match.specs.declared.fault.PieceFault as code
 use Rattle.br_match.specs.Fault.{cause}
 use Rattle.br_match.specs.Matching.{IsEnclosed}
 use Rattle.br_match.specs.Walk.{unknown, step_on, Over, AfterWalk, AfterHead, Follows, HasHead, IsRefusedFor, ReadsAt, ReadsOver, IsStep}
+use Rattle.br_match.proofs.GrowthLaws.{extends_more}
 use Rattle.br_match.proofs.SeenLaws.{head_alike, block_alike, head_read, head_refused, head_ends, step_unknown, block_never_ends, block_read, block_refused}
 
 -- what holds over all such volumes, where a weaker fact is asked
@@ -52,28 +52,6 @@ over_any None later piece P all = tt
 over_any (Some earlier) None piece P all = tt
 over_any (Some earlier) (Some later) piece P all = λ volumes stands. all volumes
 
-extends_itself : (volumes : List Volume) → Extends volumes volumes
-extends_itself volumes name bytes found = ([], found ∙ ap (λ (xs : List ℕ). Some xs) (sym (append-nil bytes)))
-
-extends_further : (volumes earlier later : List Volume) → Extends later earlier → Extends earlier volumes → Extends later volumes
-extends_further volumes earlier later grows extends name bytes found =
-    let p = extends name bytes found in
-    let q = grows name (bytes ++ p.0) p.1 in
-    (p.0 ++ q.0, q.1 ∙ ap (λ (xs : List ℕ). Some xs) (append_assoc bytes p.0 q.0))
-
--- a drive that does nothing
-pub grows_none : (volumes : Option (List Volume)) → OnlyGrows volumes volumes
-grows_none None = tt
-grows_none (Some volumes) = extends_itself volumes
-
-pub grows_on : (a b c : Option (List Volume)) → OnlyGrows a b → OnlyGrows b c → OnlyGrows a c
-grows_on None None None p q = tt
-grows_on None None (Some c) p q = absurd q
-grows_on None (Some b) c p q = absurd p
-grows_on (Some a) None c p q = absurd p
-grows_on (Some a) (Some b) None p q = absurd q
-grows_on (Some a) (Some b) (Some c) p q = extends_further a b c q p
-
 -- one call behind another
 pub over_join : (a b c : Option (List Volume)) (piece : Piece) (P Q R : List Volume → Type 0) → OnlyGrows a b → OnlyGrows b c
     → Over a b piece P → Over b c piece Q → ((volumes : List Volume) → P volumes → Q volumes → R volumes) → Over a c piece R
@@ -81,10 +59,10 @@ over_join None b c piece P Q R p q first second join = tt
 over_join (Some a) b None piece P Q R p q first second join = tt
 over_join (Some a) None (Some c) piece P Q R p q first second join = absurd p
 over_join (Some a) (Some b) (Some c) piece P Q R p q first second join = λ volumes stands.
-    join volumes (first volumes (stands.0, sooner volumes stands.1)) (second volumes (extends_further volumes a b p stands.0, stands.1))
+    join volumes (first volumes (stands.0, sooner volumes stands.1)) (second volumes (extends_more volumes a b p stands.0, stands.1))
   where
     sooner : (volumes : List Volume) → (Extends volumes c ⊎ IsEnclosed volumes piece) → Extends volumes b ⊎ IsEnclosed volumes piece
-    sooner volumes (inl back) = inl (extends_further b c volumes back q)
+    sooner volumes (inl back) = inl (extends_more b c volumes back q)
     sooner volumes (inr enclosed) = inr enclosed
 
 -- ---- what a call says of the step

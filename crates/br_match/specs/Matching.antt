@@ -24,6 +24,10 @@ pub record IsEnclosed (volumes : List Volume) (piece : Piece) : Type 0 where
 abbrev pub StandsFor : List Volume → List Volume → Piece → List Volume → Type 0
 StandsFor earlier later piece volumes = Extends earlier volumes × (Extends volumes later ⊎ IsEnclosed volumes piece)
 
+-- the same of several pieces: the volumes are what it showed throughout, or each of the pieces is enclosed in them
+abbrev pub StandsForEach : List Volume → List Volume → List Piece → List Volume → Type 0
+StandsForEach earlier later pieces volumes = Extends earlier volumes × (Extends volumes later ⊎ AllByRecursion (IsEnclosed volumes) pieces)
+
 -- the answer is the hits of the piece on the volumes, or their first fault; a drive may fail, and memory run out, at any time
 abbrev pub AnswersPiece : List Volume → Piece → Result Found PieceFault → Type 0
 AnswersPiece volumes piece result = Answers (λ (f : Found). f.hits.items) cause result (hits_on volumes piece)

@@ -8,6 +8,7 @@ use crate::matcher::{Matcher, first_admitting, near};
 use br_block::{Block, Fragment, Fragments};
 use br_types::{FileIndex, FileKey};
 use std::alloc::{AllocError, Global};
+use std::sync::ArcSlice;
 
 /// The file that the fragment is of; none for a label.
 fn file_index(fragment: &Fragment<'_>) -> Option<FileIndex>
@@ -48,7 +49,7 @@ fn hit_of(
         },
         stream: fragment.stream,
         size: fragment.size,
-        bytes: Vec::from_slice(alloc, fragment.bytes)?,
+        bytes: ArcSlice::from_slice(alloc, fragment.bytes)?,
     }))
 }
 

@@ -1,5 +1,6 @@
 use br_types::FileKey;
 use std::marker::Model;
+use std::sync::ArcSlice;
 
 /// Where a fragment was found. Places are ordered by group, then by address, then by ordinal.
 #[derive(Clone, Copy, Debug, PartialEq, Eq, PartialOrd, Ord)]
@@ -33,12 +34,14 @@ pub struct Hit {
     pub stream: i32,
     /// The bytes of data that the record header names.
     pub size: u32,
-    /// The data in the block: fewer than `size` bytes where the record goes on in a later block.
-    pub bytes: Vec<u8>,
+    /// The data in the block: fewer than `size` bytes where the record goes on in a later block. A file that is made of it shares
+    /// it, so that no byte is copied.
+    pub bytes: ArcSlice<u8>,
 }
 
 impl Model for Hit {
     ghost use Rattle.std.specs.Prelude.{pos};
+    ghost use Rattle.std.specs.Arc.{arc_slice_items};
     ghost use Rattle.br_model.specs.Meaning as model;
 
     ghost Value = { model.Hit };
@@ -46,7 +49,7 @@ impl Model for Hit {
     ghost view = { λ h. record {
       key = h.key;
       spot = h.place;
-      fragment = record { session = h.key.session; index = pos h.key.index; stream = h.stream; size = h.size; bytes = h.bytes.items };
+      fragment = record { session = h.key.session; index = pos h.key.index; stream = h.stream; size = h.size; bytes = arc_slice_items h.bytes };
     } };
 }
 

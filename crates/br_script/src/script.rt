@@ -180,10 +180,15 @@ impl Script {
         let Some(bootstrap) = &self.kept else {
             return self.refuse_line(LineFault::BadScript, number, writer);
         };
+        let Ok(mut drives) = Vec::with_capacity(self.alloc, 1) else {
+            return self.refuse(1, writer);
+        };
         let volumes = mem::replace(&mut self.volumes, Vec::new(self.alloc));
-        let mut drive = MemDrive::new(volumes);
-        let run = extract(rt, self.alloc, bootstrap, &mut drive, writer);
-        self.volumes = drive.into_volumes();
+        drives.push_reserved(MemDrive::new(volumes));
+        let run = extract(rt, self.alloc, bootstrap, &mut drives, writer);
+        if let Some(drive) = drives.pop() {
+            self.volumes = drive.into_volumes();
+        }
         match run {
             Ok(are_files) => {
                 self.is_clean = self.is_clean && are_files;

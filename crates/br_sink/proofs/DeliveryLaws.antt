@@ -1,5 +1,5 @@
 -- Deliveries up to a file, and at it.
-use Rattle.std.proofs.Common.{◌≡◌, ℕ, ◌+◌, ◌<◌, Bool, true, false, cond, List, [], ◌∷◌, ◌++◌, length, take, drop, map, refl, ap, sym, subst, ◌∙◌, arith, append_assoc, Option, Some, None, Result, Ok, Err, get_or, length-append, append-nil, add-zero, ◌⊎◌, inl, inr}
+use Rattle.std.proofs.Common.{◌≡◌, ℕ, zero, suc, ◌+◌, ◌<◌, ◌≤◌, Bool, true, false, not, cond, List, [], ◌∷◌, ◌++◌, length, take, drop, map, refl, ap, sym, subst, ◌∙◌, arith, append_assoc, Option, Some, None, Result, Ok, Err, get_or, length-append, append-nil, add-zero, ◌⊎◌, inl, inr}
 use Rattle.std.specs.Prelude.{filter_map}
 use Rattle.std.specs.List.{list_any}
 use Rattle.std.proofs.Math.Seq.{take-append_seam}
@@ -13,11 +13,11 @@ use Rattle.br_model.specs.Restored.{Restored}
 use Rattle.br_join.specs.Outcome.{restored}
 use Rattle.br_join.specs.declared.item.Outcome.{Outcome}
 use Rattle.br_join.specs.declared.item.Outcome.TheVariants.{File, Fault}
-use Rattle.br_sink.specs.Delivery.{AreApart, IsStopIn, is_in_the_way, items_in, stop_cause}
-use Rattle.br_sink.specs.Fault.{cause_number}
-use Rattle.br_sink.specs.declared.fault.StopCause.{StopCause}
-use Rattle.br_sink.specs.declared.fault.StopCause.TheVariants.{Memory, Fault as Failed, InTheWay}
+use Rattle.br_sink.specs.Delivery.{AreApart, IsStopBelow, IsStopIn, StandApart, items_in, stop_cause}
+use Rattle.br_sink.specs.Fault.{fault_number}
 use Rattle.br_sink.specs.Sink.{HasMore}
+use Rattle.br_sink.specs.declared.fault.SinkFault.{SinkFault}
+use Rattle.br_sink.specs.declared.fault.SinkFault.TheVariants.{Memory, Fault as Failed}
 
 -- ---- paths put one after another
 
@@ -66,6 +66,14 @@ stopped_at items more item apart way =
     put_more [] items (item ∷ more) apart
     ∙ ap (λ b. cond b (Err (stop_at (paths_behind [] items))) (put_behind (item.path ∷ paths_behind [] items) more)) way
     ∙ ap (λ (n : ℕ). Err (record { number = 81; done = n })) (length_behind [] items ∙ (omega arith))
+
+take_within : {X : Type 0} (xs ys : List X) (n : ℕ) → n ≤ length xs → take n (xs ++ ys) ≡ take n xs
+take_within xs ys zero few = refl
+take_within [] ys (suc n) few = absurd (omega (arith, few))
+take_within (x ∷ xs) ys (suc n) few = ap (λ (zs : List _). x ∷ zs) (take_within xs ys n (omega (arith, few)))
+
+take_whole : {X : Type 0} (xs : List X) → take (length xs) xs ≡ xs
+take_whole xs = ap (take (length xs)) (sym (append-nil xs)) ∙ take-append_seam xs []
 
 -- ---- the files among outcomes
 
@@ -117,57 +125,152 @@ more_behind items more (Some first) (Some second) None a b = b
 
 -- ---- where it stops and where it ends
 
-module _ (items before rest : List model.Item) (item : model.Item) (around : items ≡ before ++ item ∷ rest) where
-  taken_before : take (length before) items ≡ before
-  taken_before = ap (take (length before)) around ∙ take-append_seam before (item ∷ rest)
+first_part : (paths : List (List ℕ)) (items more : List model.Item) → put_behind paths (items ++ more) ≡ Ok tt → put_behind paths items ≡ Ok tt
+unfolding put_behind
+first_part paths [] more apart = refl
+first_part paths (item ∷ items) more apart =
+    let first = free_first (list_any (in_the_way item.path) paths) (stop_at paths) (put_behind (item.path ∷ paths) (items ++ more)) apart in
+    ap (λ b. cond b (Err (stop_at paths)) (put_behind (item.path ∷ paths) items)) first.0 ∙ first_part (item.path ∷ paths) items more first.1
 
-  taken_with : take (length before + 1) items ≡ before ++ item ∷ []
-  taken_with =
-      ap (λ (n : ℕ). take n items) (sym (length-append before (item ∷ [])))
-      ∙ ap (take (length (before ++ item ∷ []))) (around ∙ sym (append_assoc before (item ∷ []) rest))
-      ∙ take-append_seam (before ++ item ∷ []) rest
+-- the first of files that are apart are apart
+pub apart_taken : (items : List model.Item) (n : ℕ) → AreApart items → AreApart (take n items)
+apart_taken items n apart = first_part [] (take n items) (drop n items) (ap (put_behind []) (take-append-drop n items) ∙ apart)
 
-  is_within : length before < length items
-  is_within = let e = ap length around ∙ length-append before (item ∷ rest) in omega (arith, e)
+-- a file more than those before it
+pub some_behind : (items before rest : List model.Item) (item : model.Item) → items ≡ before ++ item ∷ rest → length before < length items
+some_behind items before rest item around = let e = ap length around ∙ length-append before (item ∷ rest) in omega (arith, e)
 
-  pub stop_of : (cause : StopCause) → AreApart before → is_in_the_way (Err cause) ≡ list_any (in_the_way item.path) (paths_behind [] before)
-      → IsStopIn items (record { number = cause_number cause; done = length before })
-  stop_of cause apart way = record {
-    number = three cause;
-    within = is_within;
-    before = subst AreApart (sym taken_before) apart;
-    at_it = λ other. subst AreApart (sym taken_with) (apart_one_more before item apart (sym way ∙ not_there cause other));
-  }
+-- a stop of a sink that puts one file after another
+pub one_stops : (items before rest : List model.Item) (item : model.Item) (fault : SinkFault) → items ≡ before ++ item ∷ rest
+    → IsStopBelow (length items) (record { number = fault_number fault; done = length before })
+one_stops items before rest item Memory around = record { number = inl refl; within = some_behind items before rest item around }
+one_stops items before rest item Failed around = record { number = inr refl; within = some_behind items before rest item around }
+
+-- and it has the files before
+pub one_has : (items before rest : List model.Item) (item : model.Item) (first second third : Option (List model.Item)) → items ≡ before ++ item ∷ rest
+    → HasMore before first second → third ≡ second → HasMore (take (length before) items) first third
+one_has items before rest item first second third around has same =
+    let taken : take (length before) items ≡ before = ap (take (length before)) around ∙ take-append_seam before (item ∷ rest) in
+    subst (λ (is : List model.Item). HasMore is first third) (sym taken) (subst (HasMore before first) (sym same) has)
+
+-- 80 is the number of its own fault alone
+pub fault_at_80 : (fault : SinkFault) → fault_number fault ≡ 80 → fault ≡ Failed
+fault_at_80 Memory is = absurd (omega (arith, is))
+fault_at_80 Failed is = refl
+
+pub not_false : (a b : Bool) → a ≡ not b → a ≡ false → b ≡ true
+not_false a true is h = refl
+not_false a false is h = absurd cc
+
+pub not_true : (a b : Bool) → a ≡ not b → a ≡ true → b ≡ false
+not_true a true is h = absurd cc
+not_true a false is h = refl
+
+-- the outcomes up to a file of which the path is in the way
+pub stand_before : (os : List (FileKey × Outcome)) (place files : ℕ) (item : model.Item) (rest : List model.Item)
+    → place < length os → files ≡ length (items_in (take place os)) → items_in os ≡ items_in (take place os) ++ item ∷ rest → AreApart (items_in (take place os))
+    → list_any (in_the_way item.path) (paths_behind [] (items_in (take place os))) ≡ true → StandApart os place files
+stand_before os place files item rest less many around apart way = record {
+  inside = omega (arith, less);
+  many = many;
+  apart = apart;
+  within = λ _. let w = some_behind (items_in os) (items_in (take place os)) rest item around in omega (arith, many, w);
+  next = λ _.
+      ap (put_behind []) around ∙ stopped_at (items_in (take place os)) rest item apart way
+      ∙ ap (λ (n : ℕ). Err (record { number = 81; done = n })) (sym many);
+}
+
+-- all outcomes
+pub stand_all : (os : List (FileKey × Outcome)) (place files : ℕ) → place ≡ length os → files ≡ length (items_in (take place os)) → AreApart (items_in (take place os)) → StandApart os place files
+stand_all os place files all many apart = record {
+  inside = omega (arith, all);
+  many = many;
+  apart = apart;
+  within = λ less. absurd (omega (arith, all, less));
+  next = λ less. absurd (omega (arith, all, less));
+}
+
+-- one file is apart
+pub one_apart : (items : List model.Item) → AreApart (take 1 items)
+unfolding put_behind
+one_apart [] = refl
+one_apart (item ∷ items) = refl
+
+pub ends_apart : AreApart []
+unfolding put_behind
+ends_apart = refl
+
+-- no file was put, since memory ran out
+pub memory_stop : (items : List model.Item) → 0 < length items → IsStopIn items (record { number = 1; done = 0 })
+memory_stop [] some = absurd (omega (arith, some))
+memory_stop (item ∷ items) some = record {
+  number = inl refl;
+  within = some;
+  before = ends_apart;
+  at_it = λ _. one_apart (item ∷ items);
+}
+
+-- the files that outcomes in front have are the first files
+pub taken_items : (os : List (FileKey × Outcome)) (place n : ℕ) → n ≤ length (items_in (take place os)) → take n (items_in os) ≡ take n (items_in (take place os))
+taken_items os place n few =
+    let front : List model.Item = items_in (take place os) in
+    ap (take n) (ap items_in (sym (take-append-drop place os)) ∙ items_of_both (take place os) (drop place os)) ∙ take_within front (items_in (drop place os)) n few
+
+-- of all outcomes there are no fewer files
+pub fewer_items : (os : List (FileKey × Outcome)) (place : ℕ) → length (items_in (take place os)) ≤ length (items_in os)
+fewer_items os place =
+    let e = ap length (ap items_in (sym (take-append-drop place os)) ∙ items_of_both (take place os) (drop place os)) ∙ length-append (items_in (take place os)) (items_in (drop place os)) in
+    omega (arith, e)
+
+module _ (os : List (FileKey × Outcome)) (place files : ℕ) (stands : StandApart os place files) where
+  -- a stop of the sink is one of the delivery
+  pub stopped_below : (stop : Stop) → IsStopBelow (length (items_in (take place os))) stop → IsStopIn (items_in os) stop
+  stopped_below stop below =
+      let fewer = fewer_items os place in
+      let apart_at : (n : ℕ) → n ≤ length (items_in (take place os)) → AreApart (take n (items_in os)) =
+      λ n few. subst AreApart (sym (taken_items os place n few)) (apart_taken (items_in (take place os)) n stands.apart) in record {
+        number = elim below.number [ inl one ↦ inl one | inr eighty ↦ inr (inl eighty) ];
+        within = omega (arith, below.within, fewer);
+        before = apart_at stop.done (omega (arith, below.within));
+        at_it = λ _. apart_at (stop.done + 1) (omega (arith, below.within));
+      }
+
+  -- the sink has as many of all files
+  pub stopped_has : (stop : Stop) (first second : Option (List model.Item)) → IsStopBelow (length (items_in (take place os))) stop
+      → HasMore (take stop.done (items_in (take place os))) first second → HasMore (take stop.done (items_in os)) first second
+  stopped_has stop first second below has =
+      subst (λ (is : List model.Item). HasMore is first second) (sym (taken_items os place stop.done (omega (arith, below.within)))) has
+
+  -- the stop at the next file
+  pub in_the_way_has : (first second : Option (List model.Item)) → HasMore (items_in (take place os)) first second → HasMore (take files (items_in os)) first second
+  in_the_way_has first second has =
+      subst (λ (is : List model.Item). HasMore is first second) (sym (files_taken)) has
     where
-      three : (k : StopCause) → (cause_number k ≡ 1) ⊎ (cause_number k ≡ 80) ⊎ (cause_number k ≡ 81)
-      three Memory = inl refl
-      three Failed = inr (inl refl)
-      three InTheWay = inr (inr refl)
+      files_taken : take files (items_in os) ≡ items_in (take place os)
+      files_taken =
+          ap (λ (n : ℕ). take n (items_in os)) stands.many ∙ taken_items os place (length (items_in (take place os))) (omega arith)
+          ∙ take_whole (items_in (take place os))
 
-      not_there : (k : StopCause) → (cause_number k ≡ 81 → ⊥) → is_in_the_way (Err k) ≡ false
-      not_there Memory other = refl
-      not_there Failed other = refl
-      not_there InTheWay other = absurd (other refl)
+  pub in_the_way_is : place < length os → IsStopIn (items_in os) (record { number = 81; done = files })
+  in_the_way_is more = record {
+    number = inr (inr refl);
+    within = stands.within more;
+    before = subst AreApart (sym (taken_items os place files (omega (arith, stands.many)))) (apart_taken (items_in (take place os)) files stands.apart);
+    at_it = λ other. absurd (other refl);
+  }
 
-  pub stop_has : (first second third : Option (List model.Item)) → HasMore before first second → third ≡ second
-      → HasMore (take (length before) items) first third
-  stop_has first second third has same = subst (λ (is : List model.Item). HasMore is first third) (sym taken_before) (subst (HasMore before first) (sym same) has)
+-- a stop for want of memory or of the sink says nothing of the model
+pub no_cause : (stop : Stop) (rs : List Restored) → (stop.number ≡ 1) ⊎ (stop.number ≡ 80) → IsRefusal (stop_cause stop) (delivery rs)
+no_cause stop rs (inl one) = rw one tt
+no_cause stop rs (inr eighty) = rw eighty tt
 
--- a stop is as the model says
-pub stop_answers : (rs : List Restored) (before rest : List model.Item) (item : model.Item) (cause : StopCause) → filter_map item_of rs ≡ before ++ item ∷ rest
-    → AreApart before → is_in_the_way (Err cause) ≡ list_any (in_the_way item.path) (paths_behind [] before)
-    → IsRefusal (stop_cause (record { number = cause_number cause; done = length before })) (delivery rs)
+-- the stop at a file whose path is in the way is the model's
+pub way_refused : (rs : List Restored) (files : ℕ) → put_behind [] (filter_map item_of rs) ≡ Err (record { number = 81; done = files })
+    → IsRefusal (stop_cause (record { number = 81; done = files })) (delivery rs)
 unfolding delivery
-stop_answers rs before rest item Memory around apart way = tt
-stop_answers rs before rest item Failed around apart way = tt
-stop_answers rs before rest item InTheWay around apart way =
-    ap (λ (r : Result (Unit {0}) Stop). r >>= (λ _. Ok (totals_of rs))) (ap (put_behind []) around ∙ stopped_at before rest item apart (sym way))
+way_refused rs files stops = ap (λ (r : Result (Unit {0}) Stop). r >>= (λ _. Ok (totals_of rs))) stops
 
 -- and so is the end
 pub delivered : (os : List (FileKey × Outcome)) → AreApart (items_in os) → delivery (map restored os) ≡ Ok (totals_of (map restored os))
 unfolding delivery
 delivered os apart = ap (λ (r : Result (Unit {0}) Stop). r >>= (λ _. Ok (totals_of (map restored os)))) apart
-
-pub ends_apart : AreApart []
-unfolding put_behind
-ends_apart = refl

@@ -1,12 +1,10 @@
 -- What a delivery puts into a sink, and where it stops.
-use Rattle.std.specs.Prelude.{◌≡◌, ◌+◌, ◌<◌, ◌⊎◌, Bool, true, false, ◌==◌, if◌then◌else◌, List, [], length, map, take, filter_map, Option, Some, None, Result, Ok, Err}
+use Rattle.std.specs.Prelude.{◌≡◌, ℕ, ◌+◌, ◌<◌, ◌≤◌, ◌⊎◌, ◌==◌, if◌then◌else◌, List, [], length, map, take, filter_map, Option, Some, None, Result, Ok, Err}
 use Rattle.br_model.specs.Name.{FileKey}
 use Rattle.br_model.specs.File as model
 use Rattle.br_model.specs.Delivery.{Stop, item_of, put_behind}
 use Rattle.br_join.specs.Outcome.{restored}
 use Rattle.br_join.specs.declared.item.Outcome.{Outcome}
-use Rattle.br_sink.specs.declared.fault.StopCause.{StopCause}
-use Rattle.br_sink.specs.declared.fault.StopCause.TheVariants.{InTheWay}
 
 -- the files among the outcomes, in their order
 abbrev pub items_in : List (FileKey × Outcome) → List model.Item
@@ -20,15 +18,24 @@ AreApart items = put_behind [] items ≡ Ok tt
 abbrev pub stop_cause : Stop → Option Stop
 stop_cause stop = if stop.number == 81 then Some stop else None
 
--- whether one file was refused since its path is in the way
-abbrev pub is_in_the_way : Result (Unit {0}) StopCause → Bool
-is_in_the_way (Err InTheWay) = true
-is_in_the_way _ = false
-
 -- the files that are put: all, or those before the stop
 abbrev pub items_put : {A : Type 0} → Result A Stop → List model.Item → List model.Item
 items_put (Ok a) items = items
 items_put (Err stop) items = take stop.done items
+
+-- a stop of a sink, behind fewer files than so many: for want of memory (1), or for its own fault (80)
+pub record IsStopBelow (count : ℕ) (stop : Stop) : Type 0 where
+  pub number : (stop.number ≡ 1) ⊎ (stop.number ≡ 80)
+  pub within : stop.done < count
+
+-- So many outcomes hold so many files, of which no path is in the way of another. Where there are more outcomes, the next one is a
+-- file of which the path and one of those are in each other's way.
+pub record StandApart (outcomes : List (FileKey × Outcome)) (place files : ℕ) : Type 0 where
+  pub inside : place ≤ length outcomes
+  pub many : files ≡ length (items_in (take place outcomes))
+  pub apart : AreApart (items_in (take place outcomes))
+  pub within : place < length outcomes → files < length (items_in outcomes)
+  pub next : place < length outcomes → put_behind [] (items_in outcomes) ≡ Err (record { number = 81; done = files })
 
 -- A stop is at one of the files: for want of memory (1), for a sink that failed (80), or for a path in the way (81). No path
 -- of the files before it is in the way of another, nor is that of the file itself unless the stop is for it.

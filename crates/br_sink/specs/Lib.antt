@@ -4,3 +4,4 @@ pub mod MemSink
 pub mod Ways
 pub mod Delivery
 pub mod Folder
+pub mod Window

@@ -109,6 +109,16 @@ impl SinkStop {
         SinkStop { cause, done }
     }
 
+    /// A stop behind so many files, for what a sink answered at the next one.
+    pub fn of_sink(fault: SinkFault, done: u64) -> SinkStop
+        ensures { result ≡ record { number = fault_number fault; done = done } }
+    {
+        match fault {
+            SinkFault::Memory => SinkStop::new(StopCause::Memory, done),
+            SinkFault::Fault => SinkStop::new(StopCause::Fault, done),
+        }
+    }
+
     /// The number of the refusal: 1 want of memory, 80 a sink that failed, 81 a path that is in the way of one put before, or
     /// in whose way one put before is.
     pub fn number(&self) -> u32

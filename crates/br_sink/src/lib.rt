@@ -6,8 +6,12 @@
 #![tactic(auto)]
 
 mod delivery;
+mod disk;
 mod fault;
+mod folder_files;
 mod folder_sink;
+#[cfg(test)]
+mod folder_tests;
 mod line;
 mod mem_sink;
 mod report;
@@ -18,6 +22,9 @@ mod sink_tests;
 mod tests;
 mod text;
 mod ways;
+mod window;
+#[cfg(test)]
+mod window_tests;
 mod writing;
 
 pub use br_join::Item;

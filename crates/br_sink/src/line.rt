@@ -86,7 +86,7 @@ fn push_link(text: &mut Vec<u8>, link: &[u8]) -> Result<(), AllocError>
 fn push_bytes(text: &mut Vec<u8>, bytes: &FileBytes) -> Result<(), AllocError>
     ensures { OnOk result (text.new.items ≡ text.old.items ++ (32 ∷ decimal (length bytes.now) ++ 32 ∷ hexadecimal (md5 bytes.now))) }
 {
-    push_field(text, bytes.bytes().len() as u64)?;
+    push_field(text, bytes.len())?;
     text.push(b' ')?;
     push_digest(text, &bytes.digest())
 }

@@ -5,12 +5,12 @@ ghost use Rattle.br_sink.specs.declared.fault.SinkFault.TheVariants.{Memory, Fau
 
 use crate::fault::SinkFault;
 use crate::sink::Sink;
-use br_join::{FileBytes, Item};
+use br_join::Item;
 use br_volume::Count;
 use std::alloc::{AllocError, Global};
 use std::marker::Model;
 
-/// A sink over memory. It keeps a copy of each file.
+/// A sink over memory. It keeps a copy of each file, which shares the file's bytes.
 #[derive(Debug, Drop)]
 pub struct MemSink {
     alloc: Global,
@@ -64,7 +64,7 @@ fn copy_of(alloc: Global, item: &Item) -> Result<Item, AllocError>
         kind: item.kind,
         stat: item.stat,
         link: Vec::from_slice(alloc, &item.link)?,
-        bytes: FileBytes::new(Vec::from_slice(alloc, item.bytes.bytes())?),
+        bytes: item.bytes.share(alloc)?,
         skipped: item.skipped,
     })
 }

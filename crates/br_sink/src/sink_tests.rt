@@ -3,15 +3,14 @@ use crate::tests::{fault, item, key, whole_item};
 use br_join::Outcome;
 use br_types::FileKey;
 use std::alloc::Global;
-use std::os::unix::fs::symlink;
 use std::test::Fail;
-use std::{env, fs, process};
+use std::thread::Threads;
 
 /// A stat field whose numbers are all zero.
-const ZEROS: &[u8] = b"A A A A A A A A A A A A A";
+pub(crate) const ZEROS: &[u8] = b"A A A A A A A A A A A A A";
 
 /// A file of this type with these bytes.
-fn file(
+pub(crate) fn file(
     rt: &HostRuntime,
     path: &[u8],
     kind: u32,
@@ -23,7 +22,7 @@ fn file(
 }
 
 /// A file with the letters "hello" for each path.
-fn outcomes(rt: &HostRuntime, paths: &[&[u8]]) -> Result<Vec<(FileKey, Outcome)>, Fail> {
+pub(crate) fn outcomes(rt: &HostRuntime, paths: &[&[u8]]) -> Result<Vec<(FileKey, Outcome)>, Fail> {
     let mut all = Vec::new(rt.alloc());
     for path in paths {
         all.push(file(rt, path, 3, b"hello")?)?;
@@ -32,10 +31,13 @@ fn outcomes(rt: &HostRuntime, paths: &[&[u8]]) -> Result<Vec<(FileKey, Outcome)>
 }
 
 /// Path, type and bytes of a file.
-type Shape<'s> = (&'s [u8], u32, &'s [u8]);
+pub(crate) type Shape<'s> = (&'s [u8], u32, &'s [u8]);
 
 /// These files.
-fn files(rt: &HostRuntime, shapes: &[Shape<'_>]) -> Result<Vec<(FileKey, Outcome)>, Fail> {
+pub(crate) fn files(
+    rt: &HostRuntime,
+    shapes: &[Shape<'_>],
+) -> Result<Vec<(FileKey, Outcome)>, Fail> {
     let mut all = Vec::new(rt.alloc());
     for (path, kind, bytes) in shapes {
         all.push(file(rt, path, *kind, bytes)?)?;
@@ -45,11 +47,12 @@ fn files(rt: &HostRuntime, shapes: &[Shape<'_>]) -> Result<Vec<(FileKey, Outcome
 
 /// The number at which a delivery stopped, with how many files it put.
 fn stop_of(
+    threads: &(impl Threads + Sync),
     alloc: Global,
     outcomes: &[(FileKey, Outcome)],
     sink: &mut MemSink,
 ) -> Option<(u32, u64)> {
-    match deliver(alloc, outcomes, sink) {
+    match deliver(threads, alloc, outcomes, sink) {
         Ok(_) => None,
         Err(stop) => Some((stop.number(), stop.done())),
     }
@@ -66,11 +69,12 @@ fn have_paths(items: &[Item], paths: &[&[u8]]) -> bool {
 /// How many files a sink over memory got, and the number at which the delivery stopped with how many it put, or none.
 fn delivered(
     rt: &HostRuntime,
+    threads: &(impl Threads + Sync),
     paths: &[&[u8]],
     mut sink: MemSink,
 ) -> Result<(usize, Option<(u32, u64)>), Fail> {
     let outcomes = outcomes(rt, paths)?;
-    let stop = stop_of(rt.alloc(), &outcomes, &mut sink);
+    let stop = stop_of(threads, rt.alloc(), &outcomes, &mut sink);
     if !have_paths(sink.items(), paths) {
         return Err(Fail::from("another path"));
     }
@@ -78,32 +82,50 @@ fn delivered(
 }
 
 /// What a sink that doesn't fail gets of files of these paths.
-fn delivered_all(rt: &HostRuntime, paths: &[&[u8]]) -> Result<(usize, Option<(u32, u64)>), Fail> {
-    delivered(rt, paths, MemSink::new(rt.alloc()))
+fn delivered_all(
+    rt: &HostRuntime,
+    threads: &(impl Threads + Sync),
+    paths: &[&[u8]],
+) -> Result<(usize, Option<(u32, u64)>), Fail> {
+    delivered(rt, threads, paths, MemSink::new(rt.alloc()))
 }
 
 #[test]
 fn only_a_file_on_the_way_stops(rt: HostRuntime) -> Result<(), Fail> {
-    assert_eq!(rt; delivered_all(&rt, &[b"/a", b"/a/b"])?, (1, Some((81, 1))));
     assert_eq!(rt;
-        delivered_all(&rt, &[b"/x", b"/a/b/c", b"/a"])?,
+        delivered_all(&rt, &rt, &[b"/a", b"/a/b"])?,
+        (1, Some((81, 1)))
+    );
+    assert_eq!(rt;
+        delivered_all(&rt, &rt, &[b"/x", b"/a/b/c", b"/a"])?,
         (2, Some((81, 2)))
     );
     // Folders, equal names and longer names are in no way.
-    assert_eq!(rt; delivered_all(&rt, &[b"/a/b", b"/a/", b"/a/b"])?, (3, None));
-    assert_eq!(rt; delivered_all(&rt, &[b"/", b"/a/", b"/a/b"])?, (3, None));
-    assert_eq!(rt; delivered_all(&rt, &[b"/a", b"/a"])?, (2, None));
     assert_eq!(rt;
-        delivered_all(&rt, &[b"/a/b", b"/ab", b"/a/bc"])?,
+        delivered_all(&rt, &rt, &[b"/a/b", b"/a/", b"/a/b"])?,
+        (3, None)
+    );
+    assert_eq!(rt;
+        delivered_all(&rt, &rt, &[b"/", b"/a/", b"/a/b"])?,
+        (3, None)
+    );
+    assert_eq!(rt; delivered_all(&rt, &rt, &[b"/a", b"/a"])?, (2, None));
+    assert_eq!(rt;
+        delivered_all(&rt, &rt, &[b"/a/b", b"/ab", b"/a/bc"])?,
         (3, None)
     );
     Ok(())
 }
 
 /// What a sink that fails at its k-th put gets of three files, and the stop.
-fn failing_at(rt: &HostRuntime, k: u64) -> Result<(usize, Option<(u32, u64)>), Fail> {
+fn failing_at(
+    rt: &HostRuntime,
+    threads: &(impl Threads + Sync),
+    k: u64,
+) -> Result<(usize, Option<(u32, u64)>), Fail> {
     delivered(
         rt,
+        threads,
         &[b"/a", b"/b", b"/c"],
         MemSink::failing_at(rt.alloc(), k),
     )
@@ -127,10 +149,10 @@ fn goes_on(rt: &HostRuntime) -> Result<bool, Fail> {
 
 #[test]
 fn a_sink_fails_at_each_put_and_goes_on(rt: HostRuntime) -> Result<(), Fail> {
-    assert_eq!(rt; failing_at(&rt, 1)?, (0, Some((80, 0))));
-    assert_eq!(rt; failing_at(&rt, 2)?, (1, Some((80, 1))));
-    assert_eq!(rt; failing_at(&rt, 3)?, (2, Some((80, 2))));
-    assert_eq!(rt; failing_at(&rt, 4)?, (3, None));
+    assert_eq!(rt; failing_at(&rt, &rt, 1)?, (0, Some((80, 0))));
+    assert_eq!(rt; failing_at(&rt, &rt, 2)?, (1, Some((80, 1))));
+    assert_eq!(rt; failing_at(&rt, &rt, 3)?, (2, Some((80, 2))));
+    assert_eq!(rt; failing_at(&rt, &rt, 4)?, (3, None));
     assert!(rt; goes_on(&rt)?);
     assert_eq!(rt; SinkFault::Fault.number(), 80);
     Ok(())
@@ -145,23 +167,28 @@ fn with_fault(rt: &HostRuntime) -> Result<Vec<(FileKey, Outcome)>, Fail> {
 }
 
 /// Whether a delivery says that there were two files and a fault.
-fn reports_two(alloc: Global, outcomes: &[(FileKey, Outcome)], sink: &mut MemSink) -> bool {
+fn reports_two(
+    threads: &(impl Threads + Sync),
+    alloc: Global,
+    outcomes: &[(FileKey, Outcome)],
+    sink: &mut MemSink,
+) -> bool {
     let wanted = Report {
         files: 2,
         faults: 1,
         skipped: 0,
     };
-    match deliver(alloc, outcomes, sink) {
+    match deliver(threads, alloc, outcomes, sink) {
         Err(_) => false,
         Ok(report) => report == wanted,
     }
 }
 
 /// Whether there are two files, the last of them with these bytes.
-fn are_two(items: &[Item], bytes: &[u8]) -> bool {
+fn are_two(alloc: Global, items: &[Item], bytes: &[u8]) -> Result<bool, Fail> {
     match items {
-        [_, last] => last.bytes.bytes() == bytes,
-        _ => false,
+        [_, last] => Ok(last.bytes.to_vec(alloc)?.as_slice() == bytes),
+        _ => Ok(false),
     }
 }
 
@@ -169,186 +196,54 @@ fn are_two(items: &[Item], bytes: &[u8]) -> bool {
 fn faults_are_passed_over(rt: HostRuntime) -> Result<(), Fail> {
     let outcomes = with_fault(&rt)?;
     let mut sink = MemSink::new(rt.alloc());
-    assert!(rt; reports_two(rt.alloc(), &outcomes, &mut sink));
-    assert!(rt; are_two(sink.items(), b"more"));
+    assert!(rt; reports_two(&rt, rt.alloc(), &outcomes, &mut sink));
+    assert!(rt; are_two(rt.alloc(), sink.items(), b"more")?);
     Ok(())
 }
 
-/// The path of a folder for one test.
-fn path_of_folder(rt: &HostRuntime, name: &str) -> Result<String, Fail> {
-    let temporary = env::temp_dir(rt)?;
-    let id = process::id(rt.process());
-    Ok(format!(in rt.alloc(); "{}/br_sink_{name}_{id}", temporary.display())?)
+/// Five outcomes, of which the third is a fault.
+fn five(rt: &HostRuntime) -> Result<Vec<(FileKey, Outcome)>, Fail> {
+    let mut all = outcomes(rt, &[b"/a", b"/b"])?;
+    all.push((key(9)?, fault(60, 0)))?;
+    all.push(file(rt, b"/c", 3, b"hello")?)?;
+    all.push(file(rt, b"/d", 3, b"hello")?)?;
+    Ok(all)
 }
 
-/// A new folder for one test.
-fn new_folder(rt: &HostRuntime, name: &str) -> Result<String, Fail> {
-    let folder = path_of_folder(rt, name)?;
-    fs::create_dir(rt, folder.as_str())?;
-    Ok(folder)
+/// Whether a sink has the first of the four files, so many as it should.
+fn has_first(sink: &MemSink, count: u64) -> bool {
+    sink.items().len() as u64 == count && have_paths(sink.items(), &[b"/a", b"/b", b"/c", b"/d"])
 }
 
-/// Delivers into a folder, and tells the number at which it stopped with how many it put, or none.
-fn into_folder(
+/// Whether a sink that fails at its put behind so many, given all outcomes at once, stops there and has the files before.
+fn stops_behind(
     rt: &HostRuntime,
-    folder: &str,
-    outcomes: &[(FileKey, Outcome)],
-) -> Result<Option<(u32, u64)>, Fail> {
-    let mut sink = FolderSink::new(rt.alloc(), rt, folder)?;
-    match deliver(rt.alloc(), outcomes, &mut sink) {
-        Ok(_) => Ok(None),
-        Err(stop) => Ok(Some((stop.number(), stop.done()))),
-    }
+    threads: &(impl Threads + Sync),
+    before: u64,
+) -> Result<bool, Fail> {
+    let outcomes = five(rt)?;
+    let mut sink = MemSink::failing_at(rt.alloc(), before.saturating_add(1));
+    let stops = match sink.put_all(threads, &outcomes) {
+        Ok(()) => false,
+        Err(stop) => stop.number() == 80 && stop.done() == before,
+    };
+    Ok(stops && has_first(&sink, before))
 }
 
-/// Whether a file in a folder has these bytes.
-fn has_bytes(rt: &HostRuntime, folder: &str, name: &str, wanted: &[u8]) -> Result<bool, Fail> {
-    let path = format!(in rt.alloc(); "{folder}/{name}")?;
-    Ok(fs::read(rt, path.as_str())?.as_slice() == wanted)
-}
-
-/// Whether these files are all delivered into a folder.
-fn puts_all(rt: &HostRuntime, folder: &str, shapes: &[Shape<'_>]) -> Result<bool, Fail> {
-    let outcomes = files(rt, shapes)?;
-    Ok(into_folder(rt, folder, &outcomes)?.is_none())
-}
-
-/// Whether there is a folder of this name in a folder.
-fn has_folder(rt: &HostRuntime, folder: &str, name: &str) -> Result<bool, Fail> {
-    let path = format!(in rt.alloc(); "{folder}/{name}")?;
-    Ok(fs::metadata(rt, path.as_str())?.is_dir())
-}
-
-/// Whether there is nothing of this name in a folder.
-fn has_nothing(rt: &HostRuntime, folder: &str, name: &str) -> Result<bool, Fail> {
-    let path = format!(in rt.alloc(); "{folder}/{name}")?;
-    Ok(fs::symlink_metadata(rt, path.as_str()).is_err())
-}
-
-/// A file that is put twice, one without bytes, folders and a link.
-const ALL_KINDS: &[Shape<'static>] = &[
-    (b"/a/b", 3, b"hello"),
-    (b"/x", 2, b""),
-    (b"/a/b", 3, b"hi"),
-    (b"/d/e/", 5, b""),
-    (b"/", 5, b""),
-    (b"/l", 4, b""),
-];
-
-#[test]
-fn a_folder_gets_files_and_folders_and_no_links(rt: HostRuntime) -> Result<(), Fail> {
-    let folder = new_folder(&rt, "kinds")?;
-    assert!(rt; puts_all(&rt, folder.as_str(), ALL_KINDS)?);
-    assert!(rt; has_bytes(&rt, folder.as_str(), "a/b", b"hi")?);
-    assert!(rt; has_bytes(&rt, folder.as_str(), "x", b"")?);
-    assert!(rt; has_folder(&rt, folder.as_str(), "d/e")?);
-    assert!(rt; has_nothing(&rt, folder.as_str(), "l")?);
-    fs::remove_dir_all(&rt, folder.as_str())?;
-    Ok(())
-}
-
-/// The number at which there is no sink over this path, 0 where there is one.
-fn refused(rt: &HostRuntime, path: &str) -> u32 {
-    match FolderSink::new(rt.alloc(), rt, path) {
-        Ok(_) => 0,
-        Err(fault) => fault.number(),
-    }
-}
-
-/// The refusals of a folder that is empty, of it with a file a, of that file, and of a folder that is not there.
-fn refusals(rt: &HostRuntime, folder: &str) -> Result<[u32; 4], Fail> {
-    let inside = format!(in rt.alloc(); "{folder}/a")?;
-    let empty = refused(rt, folder);
-    fs::write(rt, inside.as_str(), b"")?;
-    let filled = refused(rt, folder);
-    let file = refused(rt, inside.as_str());
-    Ok([empty, filled, file, refused(rt, "/no/such/folder")])
+/// Whether a sink that does not fail has all files of all outcomes.
+fn has_all(rt: &HostRuntime, threads: &(impl Threads + Sync)) -> Result<bool, Fail> {
+    let outcomes = five(rt)?;
+    let mut sink = MemSink::failing_at(rt.alloc(), 5);
+    let put = sink.put_all(threads, &outcomes).is_ok();
+    Ok(put && has_first(&sink, 4))
 }
 
 #[test]
-fn a_folder_must_be_there_and_empty(rt: HostRuntime) -> Result<(), Fail> {
-    let folder = new_folder(&rt, "empty")?;
-    assert_eq!(rt; refusals(&rt, folder.as_str())?, [0, 81, 81, 81]);
-    fs::remove_dir_all(&rt, folder.as_str())?;
-    Ok(())
-}
-
-/// The stop of a delivery of three files, of which the second has a name that is no text.
-fn stop_at_no_text(rt: &HostRuntime, folder: &str) -> Result<Option<(u32, u64)>, Fail> {
-    let outcomes = outcomes(rt, &[b"/a", b"/\xff", b"/c"])?;
-    into_folder(rt, folder, &outcomes)
-}
-
-/// The stop of a delivery of a file with a slash at its end into a new folder.
-fn stop_at_slash(rt: &HostRuntime) -> Result<Option<(u32, u64)>, Fail> {
-    let folder = new_folder(rt, "slash")?;
-    let outcomes = files(rt, &[(b"/a/", 2, b"")])?;
-    let stop = into_folder(rt, folder.as_str(), &outcomes)?;
-    fs::remove_dir_all(rt, folder.as_str())?;
-    Ok(stop)
-}
-
-#[test]
-fn a_name_that_is_no_text_and_a_slash_at_the_end_stop(rt: HostRuntime) -> Result<(), Fail> {
-    let folder = new_folder(&rt, "text")?;
-    assert_eq!(rt; stop_at_no_text(&rt, folder.as_str())?, Some((80, 1)));
-    assert!(rt; has_bytes(&rt, folder.as_str(), "a", b"hello")?);
-    fs::remove_dir_all(&rt, folder.as_str())?;
-    assert_eq!(rt; stop_at_slash(&rt)?, Some((80, 0)));
-    Ok(())
-}
-
-/// Makes a link in a folder.
-fn link_to(rt: &HostRuntime, target: &str, folder: &str, name: &str) -> Result<(), Fail> {
-    let path = format!(in rt.alloc(); "{folder}/{name}")?;
-    symlink(rt, target, path.as_str())?;
-    Ok(())
-}
-
-/// What a sink answers for a file of this path and this type.
-fn put_of(
-    rt: &HostRuntime,
-    sink: &mut impl Sink,
-    path: &[u8],
-    kind: u32,
-) -> Result<Result<(), SinkFault>, Fail> {
-    let item = item(rt, path, kind, ZEROS)?;
-    Ok(sink.put(&item))
-}
-
-/// What a sink answers for files below and at a link, and for a folder at one.
-fn puts_at_links(
-    rt: &HostRuntime,
-    sink: &mut impl Sink,
-) -> Result<[Result<(), SinkFault>; 3], Fail> {
-    let below = put_of(rt, sink, b"/a/b", 2)?;
-    let file = put_of(rt, sink, b"/f", 2)?;
-    let folder = put_of(rt, sink, b"/a/", 5)?;
-    Ok([below, file, folder])
-}
-
-/// Whether a sink over a folder refuses what would go through its links to a folder beside and to a file there.
-fn refuses_links(rt: &HostRuntime, beside: &str, folder: &str) -> Result<bool, Fail> {
-    let mut sink = FolderSink::new(rt.alloc(), rt, folder)?;
-    make_links(rt, beside, folder)?;
-    let answers = puts_at_links(rt, &mut sink)?;
-    Ok(answers == [Err(SinkFault::Fault); 3])
-}
-
-/// Makes the link a to a folder, and f to the file b that is not there.
-fn make_links(rt: &HostRuntime, beside: &str, folder: &str) -> Result<(), Fail> {
-    let target = format!(in rt.alloc(); "{beside}/b")?;
-    link_to(rt, beside, folder, "a")?;
-    link_to(rt, target.as_str(), folder, "f")
-}
-
-#[test]
-fn a_link_in_the_folder_is_refused(rt: HostRuntime) -> Result<(), Fail> {
-    let beside = new_folder(&rt, "beside")?;
-    let folder = new_folder(&rt, "link")?;
-    assert!(rt; refuses_links(&rt, beside.as_str(), folder.as_str())?);
-    assert!(rt; has_nothing(&rt, beside.as_str(), "b")?);
-    fs::remove_dir_all(&rt, folder.as_str())?;
-    fs::remove_dir_all(&rt, beside.as_str())?;
+fn all_at_once_stop_at_each_put(rt: HostRuntime) -> Result<(), Fail> {
+    assert!(rt; stops_behind(&rt, &rt, 0)?);
+    assert!(rt; stops_behind(&rt, &rt, 1)?);
+    assert!(rt; stops_behind(&rt, &rt, 2)?);
+    assert!(rt; stops_behind(&rt, &rt, 3)?);
+    assert!(rt; has_all(&rt, &rt)?);
     Ok(())
 }

@@ -28,7 +28,7 @@ pub(crate) fn whole_item(
         kind: head.0,
         stat,
         link,
-        bytes: FileBytes::new(bytes),
+        bytes: FileBytes::new(rt.alloc(), bytes)?,
         skipped: 0,
     })
 }

@@ -1,6 +1,6 @@
 //! What is restored of histories that are drawn is what a plain walk over the saved files gives.
 use crate::drawn::{Dice, File, Job, NOTHING, draw_jobs, history_of};
-use crate::test_data::{Asked, RESTORED, tell};
+use crate::test_data::{Asked, RESTORED, drives_over, tell};
 use br_console::ConsoleRun;
 use br_history::History;
 use br_session::Span;
@@ -344,13 +344,13 @@ fn is_told(
     rt: &(impl Threads + Sync),
     alloc: Global,
     history: &History,
-    drive: &mut MemDrive,
+    drives: &mut Vec<MemDrive>,
     wish: Wish,
     number: u32,
     text: &str,
 ) -> Result<bool, Fail> {
     let asked: Asked<'_> = (wish.client, "f", wish.moment);
-    let told = tell(rt, alloc, history, drive, asked, lines_of(wish))?;
+    let told = tell(rt, alloc, history, drives, asked, lines_of(wish))?;
     Ok(is_answer(told.run, number) && told.text.as_slice() == text.as_bytes())
 }
 
@@ -359,12 +359,12 @@ fn is_granted(
     rt: &(impl Threads + Sync),
     alloc: Global,
     drawn: Drawn<'_>,
-    drive: &mut MemDrive,
+    drives: &mut Vec<MemDrive>,
     wish: Wish,
 ) -> Result<bool, Fail> {
     let mut text = String::new(alloc);
     let number = expected(alloc, &mut text, drawn.jobs, wish)?;
-    is_told(rt, alloc, drawn.history, drive, wish, number, &text)
+    is_told(rt, alloc, drawn.history, drives, wish, number, &text)
 }
 
 /// Whether all files of a client, and those below `/l/` alone, are restored as expected before a moment.
@@ -372,7 +372,7 @@ fn are_granted_before(
     rt: &(impl Threads + Sync),
     alloc: Global,
     drawn: Drawn<'_>,
-    drive: &mut MemDrive,
+    drives: &mut Vec<MemDrive>,
     client: &'static str,
     moment: u64,
 ) -> Result<bool, Fail> {
@@ -386,8 +386,8 @@ fn are_granted_before(
         moment,
         is_all: false,
     };
-    let first = is_granted(rt, alloc, drawn, drive, whole)?;
-    let second = is_granted(rt, alloc, drawn, drive, links)?;
+    let first = is_granted(rt, alloc, drawn, drives, whole)?;
+    let second = is_granted(rt, alloc, drawn, drives, links)?;
     Ok(first && second)
 }
 
@@ -396,12 +396,12 @@ fn are_granted(
     rt: &(impl Threads + Sync),
     alloc: Global,
     drawn: Drawn<'_>,
-    drive: &mut MemDrive,
+    drives: &mut Vec<MemDrive>,
     client: &'static str,
 ) -> Result<bool, Fail> {
     let mut all = true;
     for moment in [100, 111, 150, 200, 250, 300] {
-        all &= are_granted_before(rt, alloc, drawn, drive, client, moment)?;
+        all &= are_granted_before(rt, alloc, drawn, drives, client, moment)?;
     }
     Ok(all)
 }
@@ -411,11 +411,11 @@ fn all_granted(
     rt: &(impl Threads + Sync),
     alloc: Global,
     drawn: Drawn<'_>,
-    drive: &mut MemDrive,
+    drives: &mut Vec<MemDrive>,
 ) -> Result<bool, Fail> {
-    let first = are_granted(rt, alloc, drawn, drive, "c")?;
-    let second = are_granted(rt, alloc, drawn, drive, "d")?;
-    let third = are_granted(rt, alloc, drawn, drive, "e")?;
+    let first = are_granted(rt, alloc, drawn, drives, "c")?;
+    let second = are_granted(rt, alloc, drawn, drives, "d")?;
+    let third = are_granted(rt, alloc, drawn, drives, "e")?;
     Ok(first && second && third)
 }
 
@@ -427,12 +427,12 @@ fn are_restored(
     store: MemStore,
 ) -> Result<bool, Fail> {
     let history = history_of(alloc, jobs)?;
-    let mut drive = MemDrive::new(store.into_volumes());
+    let mut drives = drives_over(alloc, store.into_volumes())?;
     let drawn = Drawn {
         jobs,
         history: &history,
     };
-    all_granted(rt, alloc, drawn, &mut drive)
+    all_granted(rt, alloc, drawn, &mut drives)
 }
 
 fn is_restored(rt: &(impl Threads + Sync), alloc: Global, seed: u32) -> Result<bool, Fail> {

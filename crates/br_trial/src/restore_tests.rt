@@ -1,5 +1,7 @@
 //! Whole restores from a history: what is said to the console, the bootstrap and the manifest.
-use crate::test_data::{Asked, Given, RESTORED, Shape, Visits, rows_of, save, store_session, tell};
+use crate::test_data::{
+    Asked, Given, RESTORED, Shape, Visits, drives_over, rows_of, save, store_session, tell,
+};
 use br_console::ConsoleRun;
 use br_engine::run_extract;
 use br_history::History;
@@ -88,10 +90,10 @@ pub(crate) fn runs(
     rt: &(impl Threads + Sync),
     alloc: Global,
     history: &History,
-    drive: &mut MemDrive,
+    drives: &mut Vec<MemDrive>,
     case: &Case,
 ) -> Result<bool, Fail> {
-    let told = tell(rt, alloc, history, drive, case.asked, case.lines)?;
+    let told = tell(rt, alloc, history, drives, case.asked, case.lines)?;
     let is_written = told.text.as_slice() == case.text;
     Ok(told.run == case.run && is_written && told.left == case.left)
 }
@@ -104,8 +106,8 @@ fn holds(
     case: &Case,
 ) -> Result<bool, Fail> {
     let World { store, history } = world;
-    let mut drive = MemDrive::new(store.into_volumes());
-    runs(rt, alloc, &history, &mut drive, case)
+    let mut drives = drives_over(alloc, store.into_volumes())?;
+    runs(rt, alloc, &history, &mut drives, case)
 }
 
 /// A Full and an Incremental of a file each, in blocks of 64 bytes that both go over two volumes.
@@ -186,13 +188,13 @@ fn spoilt_blocks_are_not_read(rt: &(impl Threads + Sync), alloc: Global) -> Resu
 /// The number of the refusal of reading the spoilt volumes whole.
 fn refusal_of_all(rt: &(impl Threads + Sync), alloc: Global) -> Result<u32, Fail> {
     let world = two_spoilt_jobs(alloc)?;
-    let mut drive = MemDrive::new(world.store.into_volumes());
+    let mut drives = drives_over(alloc, world.store.into_volumes())?;
     let mut text = Vec::new(alloc);
     let run = run_extract(
         rt,
         alloc,
         &mut b"Volume=A\n".as_slice(),
-        &mut drive,
+        &mut drives,
         &mut text,
     );
     match run {
@@ -276,15 +278,16 @@ const FAILED: Case = Case {
 /// Whether a run without volumes is refused behind the bootstrap.
 fn runs_without_volumes(rt: &(impl Threads + Sync), alloc: Global) -> Result<bool, Fail> {
     let World { history, .. } = two_jobs(alloc)?;
-    let mut drive = MemDrive::new(Vec::new(alloc));
-    runs(rt, alloc, &history, &mut drive, &NO_VOLUMES)
+    let mut drives = drives_over(alloc, Vec::new(alloc))?;
+    runs(rt, alloc, &history, &mut drives, &NO_VOLUMES)
 }
 
 /// Whether a run with a drive that fails at its third call is refused behind the bootstrap.
 fn runs_with_a_failing_drive(rt: &(impl Threads + Sync), alloc: Global) -> Result<bool, Fail> {
     let World { store, history } = two_jobs(alloc)?;
-    let mut drive = MemDrive::failing_from(store.into_volumes(), 3);
-    runs(rt, alloc, &history, &mut drive, &FAILED)
+    let mut drives = Vec::new(alloc);
+    drives.push(MemDrive::failing_from(store.into_volumes(), 3))?;
+    runs(rt, alloc, &history, &mut drives, &FAILED)
 }
 
 /// A Full with `/a` and `/b`, an Incremental that notes `/a` as deleted, and one that has `/a` again.

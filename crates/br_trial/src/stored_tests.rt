@@ -1,8 +1,8 @@
 //! Restores over a catalogue: jobs are stored, loaded, and restored from.
 use crate::restore_tests::{TWO_JOBS, World, runs, two_jobs};
+use crate::test_data::drives_over;
 use br_history::{History, JobRows};
 use br_store::Store;
-use br_volume::MemDrive;
 use sqlite::{Alter, Connection};
 use std::alloc::Global;
 use std::test::Fail;
@@ -35,8 +35,8 @@ fn are_in_order(jobs: &[JobRows]) -> bool {
 fn two_stored_jobs_are_restored(rt: &(impl Threads + Sync), alloc: Global) -> Result<bool, Fail> {
     let World { store, history } = two_jobs(alloc)?;
     let loaded = stored(alloc, &history)?;
-    let mut drive = MemDrive::new(store.into_volumes());
-    Ok(are_in_order(loaded.jobs()) && runs(rt, alloc, &loaded, &mut drive, &TWO_JOBS)?)
+    let mut drives = drives_over(alloc, store.into_volumes())?;
+    Ok(are_in_order(loaded.jobs()) && runs(rt, alloc, &loaded, &mut drives, &TWO_JOBS)?)
 }
 
 #[test]

@@ -1,5 +1,5 @@
 //! Jobs for the tests of whole restores: the files that they save, the volumes that they write, and their rows.
-ghost use Rattle.std.specs.Prelude.{◌≡◌, true, []};
+ghost use Rattle.std.specs.Prelude.{◌≡◌, true, [], length, IfOk};
 ghost use Rattle.br_session.specs.Outcome.{ArePlaces};
 
 use br_attr::Stat;
@@ -271,23 +271,52 @@ fn answer(run: Result<ConsoleRun, ConsoleFault>) -> Result<ConsoleRun, u32> {
     }
 }
 
+/// Copies of some volumes.
+fn copies(
+    alloc: Global,
+    volumes: &[(VolName, Vec<u8>)],
+) -> Result<Vec<(VolName, Vec<u8>)>, AllocError> {
+    let mut copies = Vec::new(alloc);
+    for (name, bytes) in volumes {
+        copies.push((name.copy(alloc)?, Vec::from_slice(alloc, bytes)?))?;
+    }
+    Ok(copies)
+}
+
+/// Three drives, each over these volumes.
+pub(crate) fn drives_over(
+    alloc: Global,
+    volumes: Vec<(VolName, Vec<u8>)>,
+) -> Result<Vec<MemDrive>, AllocError>
+    ensures { IfOk result (λ drives. length drives.items ≡ 3) }
+{
+    let mut drives = Vec::new(alloc);
+    drives.push(MemDrive::new(copies(alloc, &volumes)?))?;
+    drives.push(MemDrive::new(copies(alloc, &volumes)?))?;
+    drives.push(MemDrive::new(volumes))?;
+    Ok(drives)
+}
+
 /// Runs the console on these lines for a request.
 fn ran<'a>(
     rt: &(impl Threads + Sync),
     alloc: Global,
     history: &History,
-    drive: &mut MemDrive,
+    drives: &mut Vec<MemDrive>,
     request: &Request,
     lines: &'a [u8],
-) -> Told<'a> {
+) -> Result<Told<'a>, Fail> {
+    if drives.is_empty() || drives.len() > 16 {
+        return Err(Fail::new("1 to 16 drives"));
+    }
     let mut left = lines;
     let mut text = Vec::new(alloc);
-    let run = run_console(rt, alloc, history, request, &mut left, drive, &mut text);
-    Told {
+    let run = run_console(rt, alloc, history, request, &mut left, drives, &mut text);
+    Ok(Told {
         run: answer(run),
         text,
         left,
-    }
+    })
 }
 
 /// Runs the console on these lines for what is asked.
@@ -295,12 +324,12 @@ pub(crate) fn tell<'a>(
     rt: &(impl Threads + Sync),
     alloc: Global,
     history: &History,
-    drive: &mut MemDrive,
+    drives: &mut Vec<MemDrive>,
     asked: Asked<'_>,
     lines: &'a [u8],
 ) -> Result<Told<'a>, Fail> {
     let request = request(alloc, asked)?;
-    Ok(ran(rt, alloc, history, drive, &request, lines))
+    ran(rt, alloc, history, drives, &request, lines)
 }
 
 /// A run in which no line was refused and each outcome is a file.

@@ -1,11 +1,11 @@
 //! The command `console`.
-ghost use Rattle.std.specs.Prelude.{◌≡◌, ◌++◌, Some, None, IfOk, OnOk};
+ghost use Rattle.std.specs.Prelude.{◌≡◌, ◌<◌, ◌≤◌, ◌++◌, Some, None, map, length, IfOk, OnOk};
 ghost use Rattle.br_console.specs.Running.{RunsOver};
 ghost use Rattle.br_console.specs.Delivering.{run_of};
 ghost use Rattle.brestore.specs.ConsoleEnding.{clean_status, delivery_status, run_refusal, run_status, stop_text};
 
 use crate::asking::read_request;
-use crate::extract::{BAD_STREAM, CLEAN, Ending, REFUSED};
+use crate::extract::{BAD_STREAM, CLEAN, Ending, REFUSED, drives_over};
 use br_command::Given;
 use br_console::{ConsoleDelivery, ConsoleFault, ConsoleRun, run_console, run_console_into};
 use br_engine::push_refused_line;
@@ -14,13 +14,11 @@ use br_plan::Request;
 use br_rows::StoreFault;
 use br_sink::{FolderSink, Sink};
 use br_store::Store;
-use br_volume::{Drive, FolderDrive};
+use br_volume::Drive;
 use sqlite::Connection;
 use std::alloc::{AllocError, Global};
 use std::fs;
 use std::io::{self, BufRead, BufReader, BufWriter, ErrorKind, Write};
-use std::os::unix::fs::FileExt;
-use std::rt::Files;
 use std::thread::Threads;
 
 /// The status of a run that was not broken off: whether no line was refused, and each outcome is a file.
@@ -77,19 +75,20 @@ pub(crate) fn ending_of(
 }
 
 /// Runs the console and writes the manifest through, and delivers nothing.
-fn run_through<R: BufRead + Drop, D: Drive, W: Write + Drop>(
+fn run_through<R: BufRead + Drop, D: Drive + Send, W: Write + Drop>(
     threads: &(impl Threads + Sync),
     alloc: Global,
     history: &History,
     request: &Request,
     reader: &mut R,
-    drive: &mut D,
+    drives: &mut Vec<D>,
     writer: &mut W,
 ) -> Result<ConsoleDelivery, ConsoleFault>
-    ensures runs { RunsOver (R.remaining reader.old) (D.shows drive.old) (D.shows drive.new) (W.contents writer.old) (W.contents writer.new) history.now request.now (run_of result) }
+    requires drives { (0 < length drives.old.items) × (length drives.old.items ≤ 16) }
+    ensures runs { RunsOver (R.remaining reader.old) (map D.shows drives.old.items) (map D.shows drives.new.items) (W.contents writer.old) (W.contents writer.new) history.now request.now (run_of result) }
     ensures delivers { IfOk result (λ made. made.stop ≡ None) }
 {
-    let run = run_console(threads, alloc, history, request, reader, drive, writer)?;
+    let run = run_console(threads, alloc, history, request, reader, drives, writer)?;
     writer.flush()?;
     Ok(ConsoleDelivery { run, stop: None })
 }
@@ -181,19 +180,19 @@ pub(crate) fn prepare<'r>(rt: &'r HostRuntime, given: &Given<'_>) -> Result<Read
 
 /// Talks with the operator, restores what was marked, from the volumes in a folder, and puts the files into the sink, if there is
 /// one. The exit status.
-fn talk<R: Files + Input + Print + Eprint + AllocGlobal, S: Sink>(
-    rt: &R,
+fn talk<S: Sink>(
+    rt: &HostRuntime,
     threads: &(impl Threads + Sync),
     history: &History,
     request: &Request,
     volumes: &str,
+    drives: usize,
     sink: Option<&mut S>,
 ) -> io::Result<u8>
-where
-    R::File: FileExt,
+    requires few { (0 < drives) × (drives ≤ 16) }
 {
     let alloc = rt.alloc();
-    let mut drive = FolderDrive::new(alloc, rt, volumes)?;
+    let mut drives = drives_over(rt, volumes, drives)?;
     let mut reader = BufReader::new(alloc, rt.reader())?;
     let mut writer = BufWriter::new(alloc, io::writer(rt))?;
     let run = match sink {
@@ -203,7 +202,7 @@ where
             history,
             request,
             &mut reader,
-            &mut drive,
+            &mut drives,
             &mut writer,
         ),
         Some(sink) => run_console_into(
@@ -212,7 +211,7 @@ where
             history,
             request,
             &mut reader,
-            &mut drive,
+            &mut drives,
             &mut writer,
             sink,
         ),
@@ -234,7 +233,9 @@ pub(crate) fn restore_marked(
     rt: &HostRuntime,
     threads: &(impl Threads + Sync),
     given: &Given<'_>,
-) -> io::Result<u8> {
+) -> io::Result<u8>
+    requires few { (0 < given.now.drives) × (given.now.drives ≤ 16) }
+{
     match prepare(rt, given) {
         Ok(
             Ready {
@@ -248,6 +249,7 @@ pub(crate) fn restore_marked(
             &history,
             &request,
             given.volumes,
+            given.drives,
             sink.as_mut(),
         ),
         Err(number) => refuse(rt, number),

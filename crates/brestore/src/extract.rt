@@ -1,5 +1,5 @@
 //! The command `extract`.
-ghost use Rattle.std.specs.Prelude.{◌≡◌, Some, IfOk, IfErr};
+ghost use Rattle.std.specs.Prelude.{◌≡◌, ◌<◌, ◌≤◌, Some, map, length, IfOk, IfErr};
 ghost use Rattle.br_engine.specs.Delivering.{DeliversText};
 ghost use Rattle.br_engine.specs.Extracting.{RunsOver, WritesNothing};
 ghost use Rattle.brestore.specs.Ending.{run_refusal, run_status};
@@ -10,7 +10,6 @@ use br_volume::{Drive, FolderDrive};
 use std::alloc::{AllocError, Global};
 use std::fs;
 use std::io::{self, BufWriter, Error, ErrorKind, Write};
-use std::os::unix::fs::FileExt;
 use std::rt::Files;
 use std::thread::Threads;
 
@@ -52,36 +51,38 @@ pub(crate) fn ending_of(
     Ok(Ending { status, refusal })
 }
 
-/// Runs the text of a bootstrap over a drive, and writes the manifest through.
-pub(crate) fn run_through<D: Drive, W: Write + Drop>(
+/// Runs the text of a bootstrap over some drives, and writes the manifest through.
+pub(crate) fn run_through<D: Drive + Send, W: Write + Drop>(
     threads: &(impl Threads + Sync),
     alloc: Global,
     text: &[u8],
-    drive: &mut D,
+    drives: &mut Vec<D>,
     writer: &mut W,
 ) -> Result<bool, ExtractFault>
-    ensures runs { RunsOver (Some text.now) (D.shows drive.old) (D.shows drive.new) (W.contents writer.old) (W.contents writer.new) result }
+    requires drives { (0 < length drives.old.items) × (length drives.old.items ≤ 16) }
+    ensures runs { RunsOver (Some text.now) (map D.shows drives.old.items) (map D.shows drives.new.items) (W.contents writer.old) (W.contents writer.new) result }
     ensures nothing { IfErr result (WritesNothing (W.contents writer.old) (W.contents writer.new)) }
 {
     let mut reader = text;
-    let are_files = run_extract(threads, alloc, &mut reader, drive, writer)?;
+    let are_files = run_extract(threads, alloc, &mut reader, drives, writer)?;
     writer.flush()?;
     Ok(are_files)
 }
 
 /// The same, and delivers the files into a sink once the manifest is written through.
-pub(crate) fn run_into<D: Drive, W: Write + Drop, S: Sink>(
+pub(crate) fn run_into<D: Drive + Send, W: Write + Drop, S: Sink>(
     threads: &(impl Threads + Sync),
     alloc: Global,
     text: &[u8],
-    drive: &mut D,
+    drives: &mut Vec<D>,
     writer: &mut W,
     sink: &mut S,
 ) -> Result<bool, ExtractFault>
-    ensures delivers { DeliversText (Some text.now) (D.shows drive.old) (D.shows drive.new) (W.contents writer.old) (W.contents writer.new) (S.has sink.old) (S.has sink.new) result }
+    requires drives { (0 < length drives.old.items) × (length drives.old.items ≤ 16) }
+    ensures delivers { DeliversText (Some text.now) (map D.shows drives.old.items) (map D.shows drives.new.items) (W.contents writer.old) (W.contents writer.new) (S.has sink.old) (S.has sink.new) result }
 {
     let mut reader = text;
-    run_extract_into(threads, alloc, &mut reader, drive, writer, sink)
+    run_extract_into(threads, alloc, &mut reader, drives, writer, sink)
 }
 
 /// Tells the operator how a run ended, on standard error. The exit status.
@@ -110,47 +111,62 @@ fn read_bsr<R: Files + Eprint + AllocGlobal>(rt: &R, bsr: &str) -> io::Result<Op
     }
 }
 
+/// So many drives over the volumes in a folder.
+pub(crate) fn drives_over<'r>(
+    rt: &'r HostRuntime,
+    volumes: &str,
+    count: usize,
+) -> Result<Vec<FolderDrive<&'r HostRuntime>>, AllocError>
+    ensures many { IfOk result (λ drives. length drives.items ≡ count) }
+{
+    let mut drives = Vec::with_capacity(rt.alloc(), count)?;
+    for _drive in 0..count {
+        drives.push_reserved(FolderDrive::new(rt.alloc(), rt, volumes)?);
+    }
+    Ok(drives)
+}
+
 /// Runs the bootstrap, and prints the manifest. The exit status.
-fn print_manifest<R: Files + Print + Eprint + AllocGlobal>(
-    rt: &R,
+fn print_manifest(
+    rt: &HostRuntime,
     threads: &(impl Threads + Sync),
     bsr: &str,
     volumes: &str,
+    drives: usize,
 ) -> io::Result<u8>
-where
-    R::File: FileExt,
+    requires few { (0 < drives) × (drives ≤ 16) }
 {
     let Some(text) = read_bsr(rt, bsr)? else {
         return Ok(BAD_STREAM);
     };
-    let mut drive = FolderDrive::new(rt.alloc(), rt, volumes)?;
+    let mut drives = drives_over(rt, volumes, drives)?;
     let mut writer = BufWriter::new(rt.alloc(), io::writer(rt))?;
-    let run = run_through(threads, rt.alloc(), &text, &mut drive, &mut writer);
+    let run = run_through(threads, rt.alloc(), &text, &mut drives, &mut writer);
     report(rt, run)
 }
 
 /// The same, and delivers the files into a sink behind it.
-fn fill_sink<R: Files + Print + Eprint + AllocGlobal, S: Sink>(
-    rt: &R,
+fn fill_sink<S: Sink>(
+    rt: &HostRuntime,
     threads: &(impl Threads + Sync),
     bsr: &str,
     volumes: &str,
+    drives: usize,
     sink: &mut S,
 ) -> io::Result<u8>
-where
-    R::File: FileExt,
+    requires few { (0 < drives) × (drives ≤ 16) }
 {
     let Some(text) = read_bsr(rt, bsr)? else {
         return Ok(BAD_STREAM);
     };
-    let mut drive = FolderDrive::new(rt.alloc(), rt, volumes)?;
+    let mut drives = drives_over(rt, volumes, drives)?;
     let mut writer = BufWriter::new(rt.alloc(), io::writer(rt))?;
-    let run = run_into(threads, rt.alloc(), &text, &mut drive, &mut writer, sink);
+    let run = run_into(threads, rt.alloc(), &text, &mut drives, &mut writer, sink);
     report(rt, run)
 }
 
-/// Runs the bootstrap in the file `bsr` over the volumes in the folder `volumes`, and puts the restored files into the folder
-/// `into` where there is one. The manifest goes to standard output, and what is refused to standard error. The exit status: 0
+/// Runs the bootstrap in the file `bsr` over the volumes in the folder `volumes`, which so many drives read at once, and puts the
+/// restored files into the folder `into` where there is one. The manifest goes to standard output, and what is refused to standard error. The exit status: 0
 /// where nothing was refused and each outcome is a file, 1 where something was refused or some outcome is not a file, 3 where the
 /// bootstrap could not be read or the manifest not be written.
 ///
@@ -158,21 +174,21 @@ where
 /// anything is put.
 ///
 /// An error for want of memory, or where standard error failed.
-pub(crate) fn extract_files<R: Files + Print + Eprint + AllocGlobal>(
-    rt: &R,
+pub(crate) fn extract_files(
+    rt: &HostRuntime,
     threads: &(impl Threads + Sync),
     bsr: &str,
     volumes: &str,
     into: Option<&str>,
+    drives: usize,
 ) -> io::Result<u8>
-where
-    R::File: FileExt,
+    requires few { (0 < drives) × (drives ≤ 16) }
 {
     let Some(folder) = into else {
-        return print_manifest(rt, threads, bsr, volumes);
+        return print_manifest(rt, threads, bsr, volumes, drives);
     };
     match FolderSink::new(rt.alloc(), rt, folder) {
-        Ok(mut sink) => fill_sink(rt, threads, bsr, volumes, &mut sink),
+        Ok(mut sink) => fill_sink(rt, threads, bsr, volumes, drives, &mut sink),
         Err(fault) => {
             eprintln!(rt; "refused {}", fault.number())?;
             Ok(REFUSED)

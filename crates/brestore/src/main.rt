@@ -66,9 +66,14 @@ fn run(rt: &HostRuntime, threads: &(impl Threads + Sync)) -> io::Result<u8> {
     };
     match read_words(rt.alloc(), &words) {
         Ok(Request::Serve) => serve(rt, threads),
-        Ok(Request::Extract { bsr, volumes, into }) => extract_files(
-            rt, threads, bsr, volumes, into,
-        ),
+        Ok(
+            Request::Extract {
+                bsr,
+                volumes,
+                into,
+                drives,
+            },
+        ) => extract_files(rt, threads, bsr, volumes, into, drives),
         Ok(Request::Console(given)) => restore_marked(rt, threads, &given),
         Err(fault) if fault.kind() == clap::error::ErrorKind::OutOfMemory => {
             Err(ErrorKind::OutOfMemory.into())

@@ -1,5 +1,6 @@
 use super::Joiner;
 use crate::fault::{JoinFault, Refused};
+use crate::file_bytes::FileBytes;
 use crate::item::Outcome;
 use br_bsr::read_bootstrap;
 use br_match::{Found, Hit, Spot};
@@ -7,6 +8,7 @@ use br_piece::{Piece, split};
 use br_types::{FileIndex, FileKey, Names, Path, SessionKey};
 use md5::{Digest, Md5};
 use std::alloc::Global;
+use std::sync::ArcSlice;
 use std::test::Fail;
 use std::thread::Threads;
 
@@ -44,7 +46,7 @@ fn hit(
         },
         stream,
         size: u32::try_from(bytes.len()).ok().ok_or("a size")?,
-        bytes: Vec::from_slice(alloc, bytes)?,
+        bytes: ArcSlice::from_slice(alloc, bytes)?,
     })
 }
 
@@ -66,24 +68,38 @@ fn take(joiner: &mut Joiner, found: Found) -> Result<(), Fail> {
     Ok(joiner.take(found).map_err(|refused| refused.fault)?)
 }
 
-fn is_file(file: &(FileKey, Outcome), index: u32, path: &[u8], bytes: &[u8]) -> bool {
+/// Whether a file has these bytes, and their digest.
+fn has_bytes(alloc: Global, file: &FileBytes, wanted: &[u8]) -> Result<bool, Fail> {
+    let bytes = file.to_vec(alloc)?;
+    Ok(bytes.as_slice() == wanted && file.digest() == Md5::digest(wanted))
+}
+
+fn is_file(
+    alloc: Global,
+    file: &(FileKey, Outcome),
+    index: u32,
+    path: &[u8],
+    bytes: &[u8],
+) -> Result<bool, Fail> {
     match &file.1 {
         Outcome::File(item) => {
-            file.0.index.get() == index
+            let is_named = file.0.index.get() == index
                 && item.path.bytes() == path
-                && item.bytes.bytes() == bytes
-                && item.bytes.digest() == Md5::digest(bytes)
-                && item.skipped == 0
+                && item.skipped == 0;
+            Ok(has_bytes(alloc, &item.bytes, bytes)? && is_named)
         }
-        Outcome::Fault { .. } => false,
+        Outcome::Fault { .. } => Ok(false),
     }
 }
 
 /// Whether the files are /a with `ab` and /b with `c`.
-fn are_both(files: &[(FileKey, Outcome)]) -> bool {
+fn are_both(alloc: Global, files: &[(FileKey, Outcome)]) -> Result<bool, Fail> {
     match files {
-        [a, b] => is_file(a, 1, b"/a", b"ab") && is_file(b, 2, b"/b", b"c"),
-        _ => false,
+        [a, b] => {
+            let first = is_file(alloc, a, 1, b"/a", b"ab")?;
+            Ok(is_file(alloc, b, 2, b"/b", b"c")? && first)
+        }
+        _ => Ok(false),
     }
 }
 
@@ -168,7 +184,7 @@ fn joins(
 ) -> Result<bool, Fail> {
     let ready = readiness(alloc, joiner, first, second)?;
     let files = finished(rt, alloc, joiner)?;
-    Ok(ready == [false, false, true] && are_both(&files))
+    Ok(are_both(alloc, &files)? && ready == [false, false, true])
 }
 
 /// The same of a new joiner.
@@ -237,7 +253,8 @@ fn found_at_taken_place(alloc: Global) -> Result<Found, Fail> {
 fn a_repeat_changes_nothing(rt: HostRuntime) -> Result<(), Fail> {
     let mut joiner = new_joiner(rt.alloc())?;
     take_repeats(rt.alloc(), &mut joiner)?;
-    assert!(rt; are_both(&finished(&rt, rt.alloc(), &mut joiner)?));
+    let files = finished(&rt, rt.alloc(), &mut joiner)?;
+    assert!(rt; are_both(rt.alloc(), &files)?);
     Ok(())
 }
 
@@ -276,10 +293,10 @@ fn is_missing(file: &(FileKey, Outcome), key: FileKey) -> bool {
 }
 
 /// Whether the files are /a with `ab`, and one of this key of which nothing was found.
-fn are_planned(files: &[(FileKey, Outcome)], key: FileKey) -> bool {
+fn are_planned(alloc: Global, files: &[(FileKey, Outcome)], key: FileKey) -> Result<bool, Fail> {
     match files {
-        [a, c] => is_file(a, 1, b"/a", b"ab") && is_missing(c, key),
-        _ => false,
+        [a, c] => Ok(is_file(alloc, a, 1, b"/a", b"ab")? && is_missing(c, key)),
+        _ => Ok(false),
     }
 }
 
@@ -288,7 +305,8 @@ fn restores_what_was_planned(rt: HostRuntime) -> Result<(), Fail> {
     let mut joiner = planned_joiner(rt.alloc())?;
     take_piece(rt.alloc(), &mut joiner, 0)?;
     take_piece(rt.alloc(), &mut joiner, 1)?;
-    assert!(rt; are_planned(&finished(&rt, rt.alloc(), &mut joiner)?, key(3)?));
+    let files = finished(&rt, rt.alloc(), &mut joiner)?;
+    assert!(rt; are_planned(rt.alloc(), &files, key(3)?)?);
     Ok(())
 }
 
@@ -323,7 +341,7 @@ fn found_many(alloc: Global) -> Result<Found, Fail> {
 fn is_one_of_many(alloc: Global, file: &(FileKey, Outcome), index: u32) -> Result<bool, Fail> {
     let path = format!(in alloc; "/{index}")?;
     let bytes = bytes_of_many(alloc, index)?;
-    Ok(is_file(file, index, path.as_bytes(), &bytes))
+    is_file(alloc, file, index, path.as_bytes(), &bytes)
 }
 
 /// The first of the files 1 to 100 that is not in its place with its own bytes and digest, none where all are.

@@ -22,14 +22,10 @@ fn runs<R: Abort + AllocGlobal + Threads + Sync>(rt: &R, case: Case) -> Result<(
     let mut volumes = Vec::new(alloc);
     let name = VolName::new(alloc, b"Vol-0001")?;
     volumes.push((name, Vec::from_slice(alloc, case.volume)?))?;
+    let mut drives = Vec::new(alloc);
+    drives.push(MemDrive::new(volumes))?;
     let mut written = Vec::new(alloc);
-    let run = run_through(
-        rt,
-        alloc,
-        case.bootstrap,
-        &mut MemDrive::new(volumes),
-        &mut written,
-    );
+    let run = run_through(rt, alloc, case.bootstrap, &mut drives, &mut written);
     let ending = ending_of(alloc, &run)?;
     assert_eq!(rt; written.as_slice(), case.manifest);
     assert_eq!(rt; ending.refusal.as_slice(), case.refusal);

@@ -16,6 +16,7 @@ const GIVEN: Given<'static> = Given {
     fileset: "home",
     before: "2026-11-22 00:00:00",
     into: None,
+    drives: 1,
 };
 
 /// Why a request is refused, if it is.
@@ -71,7 +72,15 @@ fn path_of(rt: &HostRuntime, name: &str) -> Result<String, Fail> {
 
 /// The status of a run over a catalogue.
 fn status_over(rt: &HostRuntime, threads: &(impl Threads + Sync), db: &str) -> Result<u8, Fail> {
-    Ok(restore_marked(rt, threads, &Given { db, ..GIVEN })?)
+    Ok(restore_marked(
+        rt,
+        threads,
+        &Given {
+            db,
+            drives: 1,
+            ..GIVEN
+        },
+    )?)
 }
 
 /// Whether a run over a file with these bytes is refused, and the file stays as it was.
@@ -115,6 +124,7 @@ fn refusals_into(
 ) -> Result<(u32, u32, u8), Fail> {
     let given = Given {
         into: Some(folder),
+        drives: 1,
         ..GIVEN
     };
     let moment = Given {

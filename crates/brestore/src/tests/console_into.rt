@@ -1,6 +1,6 @@
 //! Deliveries of what was marked into a folder, from volumes in a folder.
 use crate::console::ending_of;
-use crate::extract::Ending;
+use crate::extract::{Ending, drives_over};
 use crate::tests::into::{has, new_place};
 use br_console::run_console_into;
 use br_history::{FileRow, History, JobRow, JobRows};
@@ -8,7 +8,6 @@ use br_plan::Request;
 use br_session::Span;
 use br_sink::FolderSink;
 use br_types::{JobId, Letter, Name, Path, SessionKey, VolName};
-use br_volume::FolderDrive;
 use std::alloc::Global;
 use std::fs;
 use std::test::Fail;
@@ -145,7 +144,7 @@ fn ended(
 ) -> Result<Ending, Fail> {
     let request = request(rt.alloc())?;
     let mut sink = FolderSink::new(rt.alloc(), rt, into)?;
-    let mut drive = FolderDrive::new(rt.alloc(), rt, volumes)?;
+    let mut drives = drives_over(rt, volumes, 2)?;
     let mut lines = b"mark *\ndone\n".as_slice();
     let run = run_console_into(
         threads,
@@ -153,7 +152,7 @@ fn ended(
         history,
         &request,
         &mut lines,
-        &mut drive,
+        &mut drives,
         text,
         &mut sink,
     );

@@ -1,7 +1,6 @@
 //! Deliveries into a folder, from volumes in a folder.
-use crate::extract::{Ending, REFUSED, ending_of, extract_files, run_into};
+use crate::extract::{Ending, REFUSED, drives_over, ending_of, extract_files, run_into};
 use br_sink::FolderSink;
-use br_volume::FolderDrive;
 use std::test::Fail;
 use std::thread::Threads;
 use std::{env, fs, process};
@@ -81,13 +80,13 @@ fn delivered(
     let volumes = format!(in rt.alloc(); "{place}/volumes")?;
     let into = format!(in rt.alloc(); "{place}/into")?;
     let mut sink = FolderSink::new(rt.alloc(), rt, into.as_str())?;
-    let mut drive = FolderDrive::new(rt.alloc(), rt, volumes.as_str())?;
+    let mut drives = drives_over(rt, volumes.as_str(), 3)?;
     let mut written = Vec::new(rt.alloc());
     let run = run_into(
         threads,
         rt.alloc(),
         text,
-        &mut drive,
+        &mut drives,
         &mut written,
         &mut sink,
     );
@@ -198,6 +197,7 @@ fn a_folder_that_is_not_empty_is_refused_before_anything_is_read(
         "/no/such.bsr",
         volumes.as_str(),
         Some(volumes.as_str()),
+        1,
     )?;
     assert_eq!(rt; status, REFUSED);
     let entries = fs::read_dir(&(&rt, rt.alloc()), volumes.as_str())?.count();

@@ -1,14 +1,16 @@
 use Rattle.std.proofs.Common.{ap, ◌∙◌}
 use Rattle.std.proofs.lemmas.Result.{IfOk-weaker}
 use Rattle.clap.specs.Simple.{app_of_fields}
-use Rattle.br_command.proofs.WordsLaws.{console_begun}
+use Rattle.br_command.specs.Words.{console_start_app}
+use Rattle.br_command.proofs.WordsLaws.{two_added}
 use Rattle.br_command.proofs.words.console_start.Goals as goal
 
 pub returns-clause-app : goal.returns-clause-app
+unfolding console_start_app
 returns-clause-app c =
     IfOk-weaker c.arg-2.result _ _
     (λ last added.
-    console_begun c.about.result c.in_ok-arg.field-0 last c.console_option-db.result c.console_option-volumes.result
+    two_added c.about.result c.in_ok-arg.field-0 last c.console_option-db.result c.console_option-volumes.result _ _ _
     (ap app_of_fields c.about.ensures ∙ c.new.ensures.app) c.in_ok-arg.ensures added
     c.console_option-db.ensures.rule c.console_option-db.ensures.local c.console_option-volumes.ensures.rule c.console_option-volumes.ensures.local)
     c.arg-2.ensures

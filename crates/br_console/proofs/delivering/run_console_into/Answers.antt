@@ -43,8 +43,8 @@ returns-in_err-is_clean-clause-failed g c =
 pub returns-in_default-clause-delivers : goal.returns-in_default-clause-delivers
 returns-in_default-clause-delivers g c =
     let known = g.R.Read.remaining c.args.reader.now in
-    let earlier = g.D.Drive.shows c.args.drive.now in
-    let later = g.D.Drive.shows c.run_to_manifest.new.drive in
+    let earlier = map g.D.Drive.shows c.args.drives.now.items in
+    let later = map g.D.Drive.shows c.run_to_manifest.new.drives.items in
     let before = g.W.Write.contents c.args.writer.now in
     let after = g.W.Write.contents c.run_to_manifest.new.writer in
     let clean = c.in_ok-is_clean.is_clean in
@@ -54,7 +54,7 @@ returns-in_default-clause-delivers g c =
 
 pub returns-in_default-clause-runs : goal.returns-in_default-clause-runs
 returns-in_default-clause-runs g c =
-    told_none (λ (run : Result ConsoleRun ConsoleFault). RunsOver (g.R.Read.remaining c.args.reader.now) (g.D.Drive.shows c.args.drive.now) (g.D.Drive.shows c.run_to_manifest.new.drive)
+    told_none (λ (run : Result ConsoleRun ConsoleFault). RunsOver (g.R.Read.remaining c.args.reader.now) (map g.D.Drive.shows c.args.drives.now.items) (map g.D.Drive.shows c.run_to_manifest.new.drives.items)
     (g.W.Write.contents c.args.writer.now) (g.W.Write.contents c.run_to_manifest.new.writer) c.args.history.now c.args.request.now run)
     c.in_ok-is_clean.is_clean c.in_ok-is_clean.outcomes c.in_default.is c.in_ok-is_clean.ensures.runs
 
@@ -78,7 +78,7 @@ pub returns-in_err-flush-clause-runs : goal.returns-in_err-flush-clause-runs
 returns-in_err-flush-clause-runs g c =
     let p = err_from_is_err_and c.from_residual-in_err-flush.result c.from_residual-in_err-flush.ensures.1 in
     rw p.1
-    (runs_free (g.R.Read.remaining c.args.reader.now) (g.D.Drive.shows c.args.drive.now) (g.D.Drive.shows c.run_to_manifest.new.drive)
+    (runs_free (g.R.Read.remaining c.args.reader.now) (map g.D.Drive.shows c.args.drives.now.items) (map g.D.Drive.shows c.run_to_manifest.new.drives.items)
     (g.W.Write.contents c.args.writer.now) (g.W.Write.contents c.flush.new.self) c.args.history.now c.args.request.now p.0 p.2.0)
 
 pub returns-in_err-flush-clause-tells : goal.returns-in_err-flush-clause-tells
@@ -100,8 +100,8 @@ returns-in_err-flush-clause-failed g c =
 pub returns-clause-delivers : goal.returns-clause-delivers
 returns-clause-delivers g c =
     let known = g.R.Read.remaining c.args.reader.now in
-    let earlier = g.D.Drive.shows c.args.drive.now in
-    let later = g.D.Drive.shows c.run_to_manifest.new.drive in
+    let earlier = map g.D.Drive.shows c.args.drives.now.items in
+    let later = map g.D.Drive.shows c.run_to_manifest.new.drives.items in
     let before = g.W.Write.contents c.args.writer.now in
     let middle = g.W.Write.contents c.run_to_manifest.new.writer in
     let clean = c.in_ok-is_clean.is_clean in
@@ -117,10 +117,10 @@ returns-clause-delivers g c =
 
 pub returns-clause-runs : goal.returns-clause-runs
 returns-clause-runs g c =
-    runs_kept (g.R.Read.remaining c.args.reader.now) (g.D.Drive.shows c.args.drive.now) (g.D.Drive.shows c.run_to_manifest.new.drive)
+    runs_kept (g.R.Read.remaining c.args.reader.now) (map g.D.Drive.shows c.args.drives.now.items) (map g.D.Drive.shows c.run_to_manifest.new.drives.items)
     (g.W.Write.contents c.args.writer.now) (g.W.Write.contents c.run_to_manifest.new.writer) (g.W.Write.contents c.flush.new.self) c.args.history.now c.args.request.now
     (record { is_clean = c.in_ok-is_clean.is_clean; restored = Some c.all_files.result })
-    (told_files (λ (run : Result ConsoleRun ConsoleFault). RunsOver (g.R.Read.remaining c.args.reader.now) (g.D.Drive.shows c.args.drive.now) (g.D.Drive.shows c.run_to_manifest.new.drive)
+    (told_files (λ (run : Result ConsoleRun ConsoleFault). RunsOver (g.R.Read.remaining c.args.reader.now) (map g.D.Drive.shows c.args.drives.now.items) (map g.D.Drive.shows c.run_to_manifest.new.drives.items)
     (g.W.Write.contents c.args.writer.now) (g.W.Write.contents c.run_to_manifest.new.writer) c.args.history.now c.args.request.now run)
     c.in_ok-is_clean.is_clean c.in_ok-is_clean.outcomes c.in-Some.outcomes c.all_files.result c.in-Some.is
     (c.all_files.ensures ∙ ap (λ os. are_files (map restored os)) c.deref-2.ensures.value) c.in_ok-is_clean.ensures.runs)

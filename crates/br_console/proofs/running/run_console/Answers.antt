@@ -28,7 +28,7 @@ returns-in_err-is_clean-clause-untouched g c = c.in_err-is_clean.ensures.untouch
 
 pub returns-in_default-clause-runs : goal.returns-in_default-clause-runs
 returns-in_default-clause-runs g c =
-    told_none (λ (run : Result ConsoleRun ConsoleFault). RunsOver (g.R.Read.remaining c.args.reader.now) (g.D.Drive.shows c.args.drive.now) (g.D.Drive.shows c.run_to_manifest.new.drive)
+    told_none (λ (run : Result ConsoleRun ConsoleFault). RunsOver (g.R.Read.remaining c.args.reader.now) (map g.D.Drive.shows c.args.drives.now.items) (map g.D.Drive.shows c.run_to_manifest.new.drives.items)
     (g.W.Write.contents c.args.writer.now) (g.W.Write.contents c.run_to_manifest.new.writer) c.args.history.now c.args.request.now run)
     c.in_ok-is_clean.is_clean c.in_ok-is_clean.outcomes c.in_default.is c.in_ok-is_clean.ensures.runs
 
@@ -43,7 +43,7 @@ returns-in_default-clause-untouched g c = λ n refused. absurd (c.in_ok-is_clean
 
 pub returns-clause-runs : goal.returns-clause-runs
 returns-clause-runs g c =
-    told_files (λ (run : Result ConsoleRun ConsoleFault). RunsOver (g.R.Read.remaining c.args.reader.now) (g.D.Drive.shows c.args.drive.now) (g.D.Drive.shows c.run_to_manifest.new.drive)
+    told_files (λ (run : Result ConsoleRun ConsoleFault). RunsOver (g.R.Read.remaining c.args.reader.now) (map g.D.Drive.shows c.args.drives.now.items) (map g.D.Drive.shows c.run_to_manifest.new.drives.items)
     (g.W.Write.contents c.args.writer.now) (g.W.Write.contents c.run_to_manifest.new.writer) c.args.history.now c.args.request.now run)
     c.in_ok-is_clean.is_clean c.in_ok-is_clean.outcomes c.in-Some.outcomes c.all_files.result c.in-Some.is
     (c.all_files.ensures ∙ ap (λ os. are_files (map restored os)) c.deref.ensures.value) c.in_ok-is_clean.ensures.runs

@@ -12,8 +12,8 @@ use Rattle.br_console.proofs.running.write_files.Goals as goal
 pub returns-in_err-outcomes-clause-gives : goal.returns-in_err-outcomes-clause-gives
 returns-in_err-outcomes-clause-gives g c =
     let p = err_from_is_err_and c.from_residual.result c.from_residual.ensures.1 in
-    let earlier = g.D.Drive.shows c.args.drive.now in
-    let later = g.D.Drive.shows c.restore.new.drive in
+    let earlier = map g.D.Drive.shows c.args.drives.now.items in
+    let later = map g.D.Drive.shows c.restore.new.drives.items in
     let why = c.in_err-outcomes.field-0.0 in
     rw (p.1, p.2)
     (gives_refused earlier later c.args.plan why
@@ -24,7 +24,7 @@ pub returns-in_err-write_all-clause-gives : goal.returns-in_err-write_all-clause
 returns-in_err-write_all-clause-gives g c =
     let p = err_from_is_err_and c.from_residual-in_err-write_all.result c.from_residual-in_err-write_all.ensures.1 in
     rw p.1
-    (gives_free (g.D.Drive.shows c.args.drive.now) (g.D.Drive.shows c.restore.new.drive) c.args.plan p.0 p.2.0)
+    (gives_free (map g.D.Drive.shows c.args.drives.now.items) (map g.D.Drive.shows c.restore.new.drives.items) c.args.plan p.0 p.2.0)
 
 pub returns-in_err-write_all-clause-stops : goal.returns-in_err-write_all-clause-stops
 returns-in_err-write_all-clause-stops g c =
@@ -38,8 +38,8 @@ returns-in_err-write_all-clause-failed g c =
 
 pub returns-clause-gives : goal.returns-clause-gives
 returns-clause-gives g c =
-    let earlier = g.D.Drive.shows c.args.drive.now in
-    let later = g.D.Drive.shows c.restore.new.drive in
+    let earlier = map g.D.Drive.shows c.args.drives.now.items in
+    let later = map g.D.Drive.shows c.restore.new.drives.items in
     let outcomes = c.in_ok-outcomes.outcomes in
     gives_files earlier later c.args.plan outcomes
     (subst (λ (groups : List Group). RestoredOver earlier later groups (Some c.args.plan.names) (Ok outcomes)) c.into_parts-bootstrap.ensures.bootstrap

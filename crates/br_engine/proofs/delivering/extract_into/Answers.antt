@@ -11,7 +11,7 @@ pub returns-in_err-outcomes-clause-delivers : goal.returns-in_err-outcomes-claus
 returns-in_err-outcomes-clause-delivers g c =
     let p = err_from_is_err_and c.from_residual.result c.from_residual.ensures.1 in
     rw (p.1, p.2)
-    (delivers_refused (g.D.Drive.shows c.args.drive.now) (g.D.Drive.shows c.write_restored.new.drive) (g.W.Write.contents c.args.writer.now) (g.W.Write.contents c.write_restored.new.writer)
+    (delivers_refused (map g.D.Drive.shows c.args.drives.now.items) (map g.D.Drive.shows c.write_restored.new.drives.items) (g.W.Write.contents c.args.writer.now) (g.W.Write.contents c.write_restored.new.writer)
     (g.S.Sink.has c.args.sink.now) c.args.bootstrap.now c.in_err-outcomes.field-0.0 c.in_err-outcomes.ensures.gives c.in_err-outcomes.ensures.nothing)
 
 pub returns-in_err-outcomes-clause-sink_failed : goal.returns-in_err-outcomes-clause-sink_failed
@@ -24,14 +24,14 @@ pub returns-in_err-flush-clause-delivers : goal.returns-in_err-flush-clause-deli
 returns-in_err-flush-clause-delivers g c =
     let p = err_from_is_err_and c.from_residual-in_err-flush.result c.from_residual-in_err-flush.ensures.1 in
     rw (p.1, p.2)
-    (delivers_free (g.D.Drive.shows c.args.drive.now) (g.D.Drive.shows c.write_restored.new.drive) (g.W.Write.contents c.args.writer.now) (g.W.Write.contents c.flush.new.self)
+    (delivers_free (map g.D.Drive.shows c.args.drives.now.items) (map g.D.Drive.shows c.write_restored.new.drives.items) (g.W.Write.contents c.args.writer.now) (g.W.Write.contents c.flush.new.self)
     (g.S.Sink.has c.args.sink.now) c.args.bootstrap.now (Io c.in_err-flush.field-0.0) tt tt)
 
 pub returns-in_err-deliver-clause-delivers : goal.returns-in_err-deliver-clause-delivers
 returns-in_err-deliver-clause-delivers g c =
     let p = err_from_is_err_and c.from_residual-in_err-deliver.result c.from_residual-in_err-deliver.ensures.1 in
     rw (p.1, p.2)
-    (delivers_before (g.D.Drive.shows c.args.drive.now) (g.D.Drive.shows c.write_restored.new.drive)
+    (delivers_before (map g.D.Drive.shows c.args.drives.now.items) (map g.D.Drive.shows c.write_restored.new.drives.items)
     (g.W.Write.contents c.args.writer.now) (g.W.Write.contents c.write_restored.new.writer) (g.W.Write.contents c.flush.new.self)
     c.args.bootstrap.now c.in_ok-outcomes.outcomes c.deref.result.now
     c.in_ok-outcomes.ensures.gives c.in_ok-outcomes.ensures.written c.flush.ensures.bytes c.deref.ensures.value
@@ -45,7 +45,7 @@ returns-in_err-deliver-clause-failed g c =
 
 pub returns-clause-delivers : goal.returns-clause-delivers
 returns-clause-delivers g c =
-    delivers_all (g.D.Drive.shows c.args.drive.now) (g.D.Drive.shows c.write_restored.new.drive)
+    delivers_all (map g.D.Drive.shows c.args.drives.now.items) (map g.D.Drive.shows c.write_restored.new.drives.items)
     (g.W.Write.contents c.args.writer.now) (g.W.Write.contents c.write_restored.new.writer) (g.W.Write.contents c.flush.new.self)
     c.args.bootstrap.now c.in_ok-outcomes.outcomes c.deref.result.now
     c.in_ok-outcomes.ensures.gives c.in_ok-outcomes.ensures.written c.flush.ensures.bytes c.deref.ensures.value

@@ -10,11 +10,11 @@ pub returns-in_err-outcomes-clause-gives : goal.returns-in_err-outcomes-clause-g
 returns-in_err-outcomes-clause-gives g c =
     let p = err_from_is_err_and c.from_residual.result c.from_residual.ensures.1 in
     rw (p.1, p.2)
-    (gives_refused (g.D.Drive.shows c.args.drive.now) (g.D.Drive.shows c.restore.new.drive) c.args.bootstrap.now c.in_err-outcomes.field-0.0 c.in_err-outcomes.ensures.files)
+    (gives_refused (map g.D.Drive.shows c.args.drives.now.items) (map g.D.Drive.shows c.restore.new.drives.items) c.args.bootstrap.now c.in_err-outcomes.field-0.0 c.in_err-outcomes.ensures.files)
 
 pub returns-clause-gives : goal.returns-clause-gives
 returns-clause-gives g c =
-    gives_files (g.D.Drive.shows c.args.drive.now) (g.D.Drive.shows c.restore.new.drive) c.args.bootstrap.now c.in_ok-outcomes.outcomes c.in_ok-outcomes.ensures.files
+    gives_files (map g.D.Drive.shows c.args.drives.now.items) (map g.D.Drive.shows c.restore.new.drives.items) c.args.bootstrap.now c.in_ok-outcomes.outcomes c.in_ok-outcomes.ensures.files
 
 pub returns-clause-written : goal.returns-clause-written
 returns-clause-written g c =

@@ -5,7 +5,8 @@ use Rattle.br_match.specs.Fault.{cause}
 use Rattle.br_match.specs.Matching.{AnswersPiece}
 use Rattle.br_match.specs.Walk.{AfterWalk, Follows, IsWalked, StepAnswers}
 use Rattle.br_match.proofs.FoundLaws.{walk_begins, walk_follows, walk_goes_on, walk_ends, walk_refused, found_over}
-use Rattle.br_match.proofs.OverLaws.{over_any, over_join, grows_none, grows_on}
+use Rattle.br_match.proofs.GrowthLaws.{grows_itself, grows_more}
+use Rattle.br_match.proofs.OverLaws.{over_any, over_join}
 use Rattle.br_match.proofs.matching.match_piece.Goals as goal
 
 pub loop-walk-init : goal.loop-walk-init
@@ -17,7 +18,7 @@ loop-walk-init g c =
     record {
       of = c.in_ok-walk.ensures.of;
       walked = over_any shows shows piece (λ volumes. IsWalked volumes piece a hits) (λ volumes. walk_begins volumes piece a hits c.in_ok-walk.ensures.start c.new-hits.ensures.items);
-      grows = grows_none shows;
+      grows = grows_itself shows;
       counted = omega arith;
     }
 
@@ -41,7 +42,7 @@ returns-in_err-step-clause-hits g c =
 
 pub returns-in_err-step-clause-grows : goal.returns-in_err-step-clause-grows
 returns-in_err-step-clause-grows g c =
-    grows_on (g.D.Drive.shows c.args.drive.now) (g.D.Drive.shows c.loop-walk.drive) (g.D.Drive.shows c.step.new.drive) c.loop-walk.invariant.grows c.step.ensures.grows
+    grows_more (g.D.Drive.shows c.args.drive.now) (g.D.Drive.shows c.loop-walk.drive) (g.D.Drive.shows c.step.new.drive) c.loop-walk.invariant.grows c.step.ensures.grows
 
 pub loop-walk-preserved : goal.loop-walk-preserved
 loop-walk-preserved g c =
@@ -62,7 +63,7 @@ loop-walk-preserved g c =
           (λ volumes. Follows volumes piece a → StepAnswers piece a next l.hits.items after (Ok true) volumes) (λ volumes. IsWalked volumes piece next after)
           l.invariant.grows c.step.ensures.grows l.invariant.walked step
           (λ volumes walked answer. walk_goes_on volumes piece a next l.hits.items after walked (answer (walk_follows volumes piece a l.hits.items walked)));
-      grows = grows_on first second third l.invariant.grows c.step.ensures.grows;
+      grows = grows_more first second third l.invariant.grows c.step.ensures.grows;
       counted = omega (arith, l.invariant.counted, c.step.ensures.counted);
     }
 
@@ -87,4 +88,4 @@ returns-clause-hits g c =
 
 pub returns-clause-grows : goal.returns-clause-grows
 returns-clause-grows g c =
-    grows_on (g.D.Drive.shows c.args.drive.now) (g.D.Drive.shows c.loop-walk.drive) (g.D.Drive.shows c.step.new.drive) c.loop-walk.invariant.grows c.step.ensures.grows
+    grows_more (g.D.Drive.shows c.args.drive.now) (g.D.Drive.shows c.loop-walk.drive) (g.D.Drive.shows c.step.new.drive) c.loop-walk.invariant.grows c.step.ensures.grows

@@ -3,7 +3,8 @@ use Rattle.std.proofs.lemmas.Result.{err_from_is_err_and}
 use Rattle.br_model.specs.Block.{Header}
 use Rattle.br_match.specs.Walk.{AfterWalk, BlockAnswers, Follows, HasHead, HeadAnswers, IsStep, StepAnswers}
 use Rattle.br_match.proofs.FoundLaws.{ends_above}
-use Rattle.br_match.proofs.OverLaws.{over_any, over_join, grows_on}
+use Rattle.br_match.proofs.GrowthLaws.{grows_more}
+use Rattle.br_match.proofs.OverLaws.{over_any, over_join}
 use Rattle.br_match.proofs.walk.Walk.step.Goals as goal
 
 pub returns-then-is_above-clause-hits : goal.returns-then-is_above-clause-hits
@@ -42,7 +43,7 @@ returns-in_err-push_block-clause-hits g c =
 
 pub returns-in_err-push_block-clause-grows : goal.returns-in_err-push_block-clause-grows
 returns-in_err-push_block-clause-grows g c =
-    grows_on (g.D.Drive.shows c.args.drive.now) (g.D.Drive.shows c.head_at.new.drive) (g.D.Drive.shows c.push_block.new.drive) c.head_at.ensures.grows c.push_block.ensures.grows
+    grows_more (g.D.Drive.shows c.args.drive.now) (g.D.Drive.shows c.head_at.new.drive) (g.D.Drive.shows c.push_block.new.drive) c.head_at.ensures.grows c.push_block.ensures.grows
 
 pub returns-clause-hits : goal.returns-clause-hits
 returns-clause-hits g c =
@@ -65,4 +66,4 @@ returns-clause-hits g c =
 
 pub returns-clause-grows : goal.returns-clause-grows
 returns-clause-grows g c =
-    grows_on (g.D.Drive.shows c.args.drive.now) (g.D.Drive.shows c.head_at.new.drive) (g.D.Drive.shows c.push_block.new.drive) c.head_at.ensures.grows c.push_block.ensures.grows
+    grows_more (g.D.Drive.shows c.args.drive.now) (g.D.Drive.shows c.head_at.new.drive) (g.D.Drive.shows c.push_block.new.drive) c.head_at.ensures.grows c.push_block.ensures.grows

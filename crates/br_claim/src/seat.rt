@@ -1,0 +1,25 @@
+use crate::rule::Hand;
+use atomic_table::Seat;
+use std::marker::Model;
+
+/// What one thread draws with: its place among the claims, the numbers that it drew in their order, and whether it was told
+/// that none is left.
+#[derive(Drop)]
+pub struct ClaimSeat {
+    pub(crate) seat: Seat<(), Hand>,
+    pub(crate) limit: u32,
+    pub(crate) drawn: Vec<u32>,
+    pub(crate) ended: bool,
+}
+
+impl Model for ClaimSeat {
+    ghost use Rattle.br_claim.specs.Claims.{Seated};
+
+    ghost Value = { Seated };
+
+    ghost use Rattle.br_claim.specs.Fields.{seat_view, IsSoundSeat};
+
+    ghost view = { seat_view };
+
+    ghost invariant = { IsSoundSeat };
+}

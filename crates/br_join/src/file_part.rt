@@ -1,0 +1,158 @@
+//! A part of the bytes of a file: zeros, or what stands in one fragment.
+ghost use Rattle.std.specs.Prelude.{◌≡◌, ℕ, List, ◌++◌, drop, replicate, IfOk, OnOk};
+ghost use Rattle.std.specs.Arc.{arc_slice_items};
+ghost use Rattle.std.specs.Io.KnownBytes.{Appends};
+ghost use Rattle.md5.specs.Md5.{Holds};
+ghost use Rattle.br_join.specs.FileParts.{part_bytes, joined};
+
+use md5::{Digest, Md5};
+use std::alloc::AllocError;
+use std::io;
+use std::io::Write;
+use std::sync::ArcSlice;
+
+/// How many zeros are written or digested by one call.
+const ZEROS_LEN: usize = 4096;
+
+/// How many bytes one call writes. The system takes far more of them at a time more slowly.
+const WRITTEN_LEN: usize = 64 * 1024;
+
+/// A part of the bytes of a file.
+#[derive(Debug, Drop)]
+pub(crate) enum Part {
+    /// As many zeros, the gap in front of sparse data.
+    Zeros(usize),
+    /// The bytes of a fragment without the first ones, as many as `skip` says. They are shared with the fragment.
+    Data { skip: usize, bytes: ArcSlice<u8> },
+}
+
+/// These bytes without the first ones, as many as `skip` says.
+fn behind(bytes: &[u8], skip: usize) -> &[u8]
+    ensures { result.now ≡ drop skip bytes.now }
+{
+    &bytes[skip.min(bytes.len())..]
+}
+
+/// Digests so many zeros.
+fn digest_zeros(hasher: &mut Md5, count: usize)
+    ensures { (m : List ℕ) → Holds hasher.old m → Holds hasher.new (m ++ replicate count 0) }
+{
+    let zeros = [0; ZEROS_LEN];
+    let mut left = count;
+    while left > 0 {
+        let next = left.min(ZEROS_LEN);
+        let (some, _) = zeros.split_at(next);
+        hasher.update(some);
+        left -= next;
+    }
+}
+
+/// Writes so many zeros.
+fn write_zeros<W: Write>(writer: &mut W, count: usize) -> io::Result<()>
+    ensures { OnOk result (Appends (W.contents writer.old) (W.contents writer.new) (replicate count 0)) }
+{
+    let zeros = [0; ZEROS_LEN];
+    let mut left = count;
+    while left > 0 {
+        let next = left.min(ZEROS_LEN);
+        let (some, _) = zeros.split_at(next);
+        writer.write_all(some)?;
+        left -= next;
+    }
+    Ok(())
+}
+
+/// Writes all of the bytes, 64 KiB by 64 KiB.
+fn write_bytes<W: Write>(writer: &mut W, bytes: &[u8]) -> io::Result<()>
+    ensures { OnOk result (Appends (W.contents writer.old) (W.contents writer.new) bytes.now) }
+{
+    for part in bytes.chunks(WRITTEN_LEN) {
+        writer.write_all(part)?;
+    }
+    Ok(())
+}
+
+/// Puts so many zeros behind the bytes.
+fn push_zeros(bytes: &mut Vec<u8>, count: usize) -> Result<(), AllocError>
+    ensures { OnOk result (bytes.new.items ≡ bytes.old.items ++ replicate count 0) }
+{
+    match bytes.len().checked_add(count) {
+        Some(len) => bytes.resize(len, 0),
+        None => Err(AllocError),
+    }
+}
+
+impl Part {
+    /// Digests its bytes.
+    pub(crate) fn digest(&self, hasher: &mut Md5)
+        ensures { (m : List ℕ) → Holds hasher.old m → Holds hasher.new (m ++ part_bytes self.now) }
+    {
+        match self {
+            Part::Zeros(count) => digest_zeros(hasher, *count),
+            Part::Data { skip, bytes } => hasher.update(behind(bytes, *skip)),
+        }
+    }
+
+    /// Writes its bytes.
+    pub(crate) fn write_to<W: Write>(&self, writer: &mut W) -> io::Result<()>
+        ensures { OnOk result (Appends (W.contents writer.old) (W.contents writer.new) (part_bytes self.now)) }
+    {
+        match self {
+            Part::Zeros(count) => write_zeros(writer, *count),
+            Part::Data { skip, bytes } => write_bytes(writer, behind(bytes, *skip)),
+        }
+    }
+
+    /// Puts a copy of its bytes behind others.
+    pub(crate) fn push_to(&self, bytes: &mut Vec<u8>) -> Result<(), AllocError>
+        ensures { OnOk result (bytes.new.items ≡ bytes.old.items ++ part_bytes self.now) }
+    {
+        match self {
+            Part::Zeros(count) => push_zeros(bytes, *count),
+            Part::Data { skip, bytes: data } => bytes.extend_from_slice(behind(data, *skip)),
+        }
+    }
+
+    /// A part with the same bytes, which it shares.
+    pub(crate) fn share(&self) -> Result<Part, AllocError>
+        ensures { IfOk result (λ part. part_bytes part ≡ part_bytes self.now) }
+    {
+        match self {
+            Part::Zeros(count) => Ok(Part::Zeros(*count)),
+            Part::Data { skip, bytes } => Ok(Part::Data {
+                skip: *skip,
+                bytes: bytes.clone()?,
+            }),
+        }
+    }
+}
+
+/// Puts a part behind others.
+pub(crate) fn push_part(parts: &mut Vec<Part>, part: Part) -> Result<(), AllocError>
+    ensures { OnOk result (joined parts.new.items ≡ joined parts.old.items ++ part_bytes part) }
+{
+    parts.push(part)?;
+    Ok(())
+}
+
+/// Puts a gap of so many zeros behind the parts of a file.
+pub(crate) fn push_gap(parts: &mut Vec<Part>, zeros: usize) -> Result<(), AllocError>
+    ensures { OnOk result (joined parts.new.items ≡ joined parts.old.items ++ replicate zeros 0) }
+{
+    if zeros == 0 {
+        return Ok(());
+    }
+    push_part(parts, Part::Zeros(zeros))
+}
+
+/// Puts the bytes of a fragment behind the parts of a file, without the first ones, as many as `skip` says. They are shared.
+pub(crate) fn push_data(
+    parts: &mut Vec<Part>,
+    skip: usize,
+    bytes: &ArcSlice<u8>,
+) -> Result<(), AllocError>
+    ensures { OnOk result (joined parts.new.items ≡ joined parts.old.items ++ drop skip (arc_slice_items bytes.now)) }
+{
+    let bytes = bytes.clone()?;
+    push_part(parts, Part::Data { skip, bytes })
+}

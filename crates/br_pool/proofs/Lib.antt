@@ -1,0 +1,10 @@
+pub mod ListLaws
+pub mod SlotLaws
+pub mod AnswerLaws
+pub mod FilledLaws
+pub mod CrewLaws
+pub mod NumberLaws
+pub mod PoolLaws
+pub mod BackLaws
+pub mod WorkedLaws
+pub mod DealtLaws

@@ -1,0 +1,88 @@
+-- Lists that grow at their end, and lists the other way round.
+use Rattle.std.proofs.Common.{◌≡◌, ℕ, zero, suc, ◌<◌, List, [], ◌∷◌, ◌++◌, map, reverse, length, take, drop, slice_index_or, refl, ap, sym, subst, ◌∙◌, append_assoc, arith}
+use Rattle.std.specs.List.{AllByRecursion, AllZip}
+use mathlib.Core.List.{reverse-append}
+
+pub map_more : {A B : Type 0} (f : A → B) (xs : List A) (x : A) → map f (xs ++ x ∷ []) ≡ map f xs ++ f x ∷ []
+map_more f [] x = refl
+map_more f (y ∷ ys) x = ap (λ l. f y ∷ l) (map_more f ys x)
+
+-- the last of a list comes first, the other way round
+pub turned_more : {A B : Type 0} (f : A → B) (xs : List A) (x : A) → reverse (map f (xs ++ x ∷ [])) ≡ f x ∷ reverse (map f xs)
+turned_more f xs x = ap reverse (map_more f xs x) ∙ reverse-append (map f xs) (f x ∷ [])
+
+-- what moves from the end of one list to the front of the other
+pub moved_back : {A : Type 0} (front : List A) (x : A) (back old all : List A) → old ≡ front ++ x ∷ [] → old ++ back ≡ all → front ++ x ∷ back ≡ all
+moved_back front x back old all e h = sym (append_assoc front (x ∷ []) back) ∙ ap (λ l. l ++ back) (sym e) ∙ h
+
+pub all_more : {A : Type 0} (P : A → Type 0) (xs : List A) (x : A) → AllByRecursion P xs → P x → AllByRecursion P (xs ++ x ∷ [])
+all_more P [] x h p = (p, tt)
+all_more P (y ∷ ys) x h p = (h.0, all_more P ys x h.1 p)
+
+pub all_but_last : {A : Type 0} (P : A → Type 0) (xs : List A) (x : A) → AllByRecursion P (xs ++ x ∷ []) → AllByRecursion P xs × P x
+all_but_last P [] x h = (tt, h.0)
+all_but_last P (y ∷ ys) x h = let r = all_but_last P ys x h.1 in ((h.0, r.0), r.1)
+
+pub zip_more : {A B : Type 0} (R : A → B → Type 0) (xs : List A) (ys : List B) (x : A) (y : B) → AllZip R xs ys → R x y → AllZip R (xs ++ x ∷ []) (ys ++ y ∷ [])
+zip_more R [] [] x y h r = (r, tt)
+zip_more R [] (b ∷ ys) x y h r = absurd h
+zip_more R (a ∷ xs) [] x y h r = absurd h
+zip_more R (a ∷ xs) (b ∷ ys) x y h r = (h.0, zip_more R xs ys x y h.1 r)
+
+-- from what holds at each place
+pub zip_at : {X : Type 0} (R : X → X → Type 0) (xs ys : List X) → length ys ≡ length xs
+    → ((i : ℕ) (d : X) → i < length xs → R (slice_index_or xs i d) (slice_index_or ys i d)) → AllZip R xs ys
+zip_at R [] [] len h = tt
+zip_at R [] (y ∷ ys) len h = absurd (omega (arith, len))
+zip_at R (x ∷ xs) [] len h = absurd (omega (arith, len))
+zip_at R (x ∷ xs) (y ∷ ys) len h = (h 0 x (omega arith), zip_at R xs ys (omega (arith, len)) (λ i d low. h (suc i) d (omega (arith, low))))
+
+-- at each place
+pub all_at : {X : Type 0} (P : X → Type 0) (xs : List X) (i : ℕ) (d : X) → i < length xs → AllByRecursion P xs → P (slice_index_or xs i d)
+all_at P [] i d low h = absurd (omega (arith, low))
+all_at P (x ∷ xs) zero d low h = h.0
+all_at P (x ∷ xs) (suc i) d low h = all_at P xs i d (omega (arith, low)) h.1
+
+pub reverse_cons : {X : Type 0} (x : X) (xs : List X) → reverse (x ∷ xs) ≡ reverse xs ++ x ∷ []
+reverse_cons x xs = reverse-append (x ∷ []) xs
+
+pub zip_reverse : {A B : Type 0} (R : A → B → Type 0) (xs : List A) (ys : List B) → AllZip R xs ys → AllZip R (reverse xs) (reverse ys)
+zip_reverse R [] [] h = tt
+zip_reverse R [] (y ∷ ys) h = absurd h
+zip_reverse R (x ∷ xs) [] h = absurd h
+zip_reverse R (x ∷ xs) (y ∷ ys) h = rw (reverse_cons x xs, reverse_cons y ys) (zip_more R (reverse xs) (reverse ys) x y (zip_reverse R xs ys h.1) h.0)
+
+pub all_reverse : {A : Type 0} (P : A → Type 0) (xs : List A) → AllByRecursion P xs → AllByRecursion P (reverse xs)
+all_reverse P [] h = tt
+all_reverse P (x ∷ xs) h = rw (reverse_cons x xs) (all_more P (reverse xs) x (all_reverse P xs h.1) h.0)
+
+-- what holds of each of the one list holds of each that goes with it
+pub all_over : {A B : Type 0} (R : A → B → Type 0) (P : A → Type 0) (Q : B → Type 0) → ((a : A) (b : B) → R a b → P a → Q b) → (xs : List A) (ys : List B)
+    → AllZip R xs ys → AllByRecursion P xs → AllByRecursion Q ys
+all_over R P Q so [] [] z h = tt
+all_over R P Q so [] (y ∷ ys) z h = absurd z
+all_over R P Q so (x ∷ xs) [] z h = absurd z
+all_over R P Q so (x ∷ xs) (y ∷ ys) z h = (so x y z.0 h.0, all_over R P Q so xs ys z.1 h.1)
+
+pub zip_length : {A B : Type 0} (R : A → B → Type 0) (xs : List A) (ys : List B) → AllZip R xs ys → length ys ≡ length xs
+zip_length R [] [] z = refl
+zip_length R [] (y ∷ ys) z = absurd z
+zip_length R (x ∷ xs) [] z = absurd z
+zip_length R (x ∷ xs) (y ∷ ys) z = ap suc (zip_length R xs ys z.1)
+
+pub zip_so : {A B : Type 0} (R S : A → B → Type 0) → ((a : A) (b : B) → R a b → S a b) → (xs : List A) (ys : List B) → AllZip R xs ys → AllZip S xs ys
+zip_so R S so [] [] z = tt
+zip_so R S so [] (y ∷ ys) z = absurd z
+zip_so R S so (x ∷ xs) [] z = absurd z
+zip_so R S so (x ∷ xs) (y ∷ ys) z = (so x y z.0, zip_so R S so xs ys z.1)
+
+pub zip_itself : {A : Type 0} (R : A → A → Type 0) → ((a : A) → R a a) → (xs : List A) → AllZip R xs xs
+zip_itself R same [] = tt
+zip_itself R same (x ∷ xs) = (same x, zip_itself R same xs)
+
+pub written : {X : Type 0} (n : ℕ) (a b : List X) → length a ≡ n → take n (a ++ drop (length a) b) ≡ a
+written n a b e = subst (λ k. take k (a ++ drop (length a) b) ≡ a) e (front a (drop (length a) b))
+  where
+    front : {X : Type 0} (a r : List X) → take (length a) (a ++ r) ≡ a
+    front [] r = refl
+    front (x ∷ xs) r = ap (λ l. x ∷ l) (front xs r)

@@ -1,0 +1,19 @@
+use Rattle.std.proofs.Common.{◌≡◌, ◌≤◌, ◌+◌, ◌++◌, map, reverse, flat_map, length, vec_len, vec_capacity}
+use Rattle.std.specs.List.{AllByRecursion}
+use Rattle.br_pool.specs.Slots.{AllBelow, with_each}
+use Rattle.br_pool.proofs.crew.dismiss.Given as goal
+
+-- what is taken apart and what is left are all
+abbrev pub invariant-loop-workers : goal.invariant-loop-workers
+invariant-loop-workers g l = record {
+  drives : l.drives.items ++ reverse (map (λ w. w.drive) l.workers.items) ≡ reverse (map (λ w. w.drive) l.fn.workers.items);
+  seats : l.seats.items ++ reverse (map (λ w. w.seat) l.workers.items) ≡ reverse (map (λ w. w.seat) l.fn.workers.items);
+  slots : with_each l.slots (flat_map (λ w. w.answers.items) (reverse l.workers.items)) ≡ with_each l.fn.slots (flat_map (λ w. w.answers.items) (reverse l.fn.workers.items));
+  below : AllByRecursion (λ w. AllBelow (length l.fn.slots) w.answers.items) l.workers.items;
+  long : length l.slots ≡ length l.fn.slots;
+  drives_room : vec_len l.drives + vec_len l.workers ≤ vec_capacity l.drives;
+  seats_room : vec_len l.seats + vec_len l.workers ≤ vec_capacity l.seats;
+}
+
+abbrev pub decreases-loop-workers : goal.decreases-loop-workers
+decreases-loop-workers g l = vec_len l.workers

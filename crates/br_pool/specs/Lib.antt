@@ -1,0 +1,4 @@
+pub mod Fault
+pub mod Pool
+pub mod Workers
+pub mod Slots

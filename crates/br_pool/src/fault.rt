@@ -1,0 +1,59 @@
+ghost use Rattle.std.specs.Prelude.{◌≡◌};
+ghost use Rattle.std.specs.Option.{option_copied};
+ghost use Rattle.br_pool.specs.Fault.{fault_number, fault_volume, fault_address};
+ghost use Rattle.br_pool.specs.declared.fault.PoolFault.TheVariants.{Memory};
+
+use br_match::PieceFault;
+use br_types::VolName;
+use std::alloc::AllocError;
+use thiserror::Error;
+
+/// Why the work on some pieces was given up.
+#[derive(Debug, Drop, Error)]
+pub enum PoolFault {
+    #[error("out of memory")]
+    Memory,
+    /// What the first refused piece was refused for.
+    #[error("{0}")]
+    Piece(PieceFault),
+}
+
+impl PoolFault {
+    /// The number of the refusal: 1 or 10 to 14.
+    pub fn number(&self) -> u32
+        ensures { result ≡ fault_number self.now }
+    {
+        match self {
+            PoolFault::Memory => 1,
+            PoolFault::Piece(fault) => fault.number(),
+        }
+    }
+
+    /// The volume of the block; none for want of memory.
+    pub fn vol(&self) -> Option<&VolName>
+        ensures { option_copied result ≡ fault_volume self.now }
+    {
+        match self {
+            PoolFault::Memory => None,
+            PoolFault::Piece(fault) => fault.vol(),
+        }
+    }
+
+    /// The address of the block, in bytes from the start of the volume; none for want of memory.
+    pub fn addr(&self) -> Option<u64>
+        ensures { result ≡ fault_address self.now }
+    {
+        match self {
+            PoolFault::Memory => None,
+            PoolFault::Piece(fault) => fault.addr(),
+        }
+    }
+}
+
+impl From<AllocError> for PoolFault {
+    ghost from_gives = { λ _ e. e ≡ Memory };
+
+    fn from(_e: AllocError) -> PoolFault {
+        PoolFault::Memory
+    }
+}

@@ -1,0 +1,51 @@
+ghost use Rattle.std.specs.Prelude.{◌≡◌, ◌<◌, ◌≤◌, map, length, IfOk, IfErr};
+ghost use Rattle.std.specs.List.{AllZip};
+ghost use Rattle.br_volume.specs.Drive.{OnlyGrows};
+ghost use Rattle.br_pool.specs.Fault.{fault_number};
+ghost use Rattle.br_pool.specs.Pool.{AreNumbered, PoolOver, HasRisen};
+
+use crate::crew::{desks_for, worked};
+use crate::fault::PoolFault;
+use crate::gate::Gate;
+use crate::slots::{empty_slots, listed};
+use br_claim::Claims;
+use br_match::Found;
+use br_piece::Piece;
+use br_volume::Drive;
+use std::alloc::Global;
+use std::thread::Threads;
+
+/// What the drives find of the pieces, in the order of the pieces: each piece is read by one of the drives, in a thread of its
+/// own, and the answer is that of one drive. A piece is as `match_piece` reads it.
+///
+/// There are 1 to 16 drives, and the pieces are numbered from 0, as `split` numbers them. The gate is told of each piece.
+/// A drive that failed reads no further piece.
+///
+/// `Memory` where memory is short; else `Piece` with the fault of the first piece that has one. The drives are in their places
+/// again in each case.
+pub fn run_pool<D: Drive + Send, G: Gate + Sync, R: Threads + Sync>(
+    rt: &R,
+    alloc: Global,
+    pieces: &[Piece],
+    drives: &mut Vec<D>,
+    gate: &G,
+) -> Result<Vec<Found>, PoolFault>
+    requires drives { (0 < length drives.old.items) × (length drives.old.items ≤ 16) }
+    requires numbered { AreNumbered pieces.now }
+    ensures numbers { IfOk result (λ found. map (λ f. f.piece) found.items ≡ map (λ p. p.number) pieces.now) }
+    ensures hits { PoolOver (map D.shows drives.old.items) (map D.shows drives.new.items) pieces.now result }
+    ensures places { AllZip (λ old new. OnlyGrows (D.shows old) (D.shows new) × (D.failures old ≤ D.failures new)) drives.old.items drives.new.items }
+    ensures failed { IfErr result (λ fault. fault_number fault ≡ 13 → HasRisen (map D.failures drives.old.items) (map D.failures drives.new.items)) }
+{
+    let Ok(count) = u32::try_from(pieces.len()) else {
+        return Err(PoolFault::Memory);
+    };
+    let mut claims = Claims::new(alloc, count)?;
+    let desks = desks_for(alloc, &mut claims, drives.len(), pieces.len())?;
+    let mut slots = empty_slots(alloc, pieces.len())?;
+    let seats = worked(rt, alloc, pieces, &claims, gate, drives, desks, &mut slots)?;
+    let Ok(_lists) = claims.gather(seats) else {
+        return Err(PoolFault::Memory);
+    };
+    listed(alloc, slots)
+}

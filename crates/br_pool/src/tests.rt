@@ -1,0 +1,174 @@
+ghost use Rattle.std.specs.Prelude.{◌≡◌, ◌<◌, ◌≤◌, length, IfOk};
+ghost use Rattle.br_pool.specs.Pool.{AreNumbered};
+
+use super::*;
+use br_bsr::{BsrFault, read_bootstrap};
+use br_match::Found;
+use br_piece::{Piece, split};
+use br_types::VolName;
+use br_volume::MemDrive;
+use std::alloc::Global;
+use std::sync::atomic::{AtomicU64, Ordering};
+use std::test::Fail;
+use std::thread;
+use std::thread::Threads;
+use std::time::{Clock, Duration};
+
+/// A block of two whole records of file 1 of session 1, 100: attributes of 38 bytes and data of 5 bytes.
+const BLOCK: &[u8; 91] =
+    b"\0\0\0\0\0\0\0\x5b\0\0\0\0BB02\0\0\0\x01\0\0\0\x64\0\0\0\x01\0\0\0\x01\0\0\0\x261 3 /a\0A A IGk B A A A F A A A A A A\0\0\0\0\0\x01\0\0\0\x02\0\0\0\x05hello";
+
+const THREE: &[u8] = b"Volume=A\nFileIndex=1\nVolume=B\nFileIndex=1\nVolume=C\nFileIndex=1\n";
+
+const MISSING: &[u8] = b"Volume=A\nFileIndex=1\nVolume=Q\nFileIndex=1\nVolume=B\nFileIndex=1\n";
+
+fn pieces_of_text(alloc: Global, text: &[u8]) -> Result<Vec<Piece>, BsrFault>
+    ensures { IfOk result (λ pieces. AreNumbered pieces.items) }
+{
+    let bootstrap = read_bootstrap(alloc, text)?;
+    let pieces = split(alloc, &bootstrap)?;
+    Ok(pieces)
+}
+
+/// A volume of so many of the blocks.
+fn volume(alloc: Global, name: &[u8], blocks: usize) -> Result<(VolName, Vec<u8>), Fail> {
+    let mut bytes = Vec::new(alloc);
+    for _block in 0..blocks {
+        bytes.extend_from_slice(BLOCK)?;
+    }
+    Ok((VolName::new(alloc, name)?, bytes))
+}
+
+/// Volumes A of one block, B of two, and C of three.
+fn volumes(alloc: Global) -> Result<Vec<(VolName, Vec<u8>)>, Fail> {
+    let mut volumes = Vec::new(alloc);
+    volumes.push(volume(alloc, b"A", 1)?)?;
+    volumes.push(volume(alloc, b"B", 2)?)?;
+    volumes.push(volume(alloc, b"C", 3)?)?;
+    Ok(volumes)
+}
+
+/// So many drives over these volumes.
+fn drives(alloc: Global, count: usize) -> Result<Vec<MemDrive>, Fail>
+    ensures { IfOk result (λ drives. length drives.items ≡ count) }
+{
+    let mut drives = Vec::new(alloc);
+    for _drive in 0..count {
+        drives.push(MemDrive::new(volumes(alloc)?))?;
+    }
+    Ok(drives)
+}
+
+/// What so many drives find of the pieces of a bootstrap.
+fn found_by<R: Threads + Sync, G: Gate + Sync>(
+    rt: &R,
+    alloc: Global,
+    text: &[u8],
+    count: usize,
+    gate: &G,
+) -> Result<Result<Vec<Found>, PoolFault>, Fail>
+    requires { (0 < count) × (count ≤ 16) }
+{
+    let pieces = pieces_of_text(alloc, text)?;
+    let mut drives = drives(alloc, count)?;
+    Ok(run_pool(rt, alloc, &pieces, &mut drives, gate))
+}
+
+/// Whether it is the piece of this number, with so many hits.
+fn is_found(found: &Found, number: usize, hits: usize) -> bool {
+    found.piece as usize == number && found.hits.len() == hits
+}
+
+/// Whether the pieces are found in order, with so many hits each.
+fn has_hits(founds: &[Found], hits: &[usize]) -> bool {
+    let mut pairs = founds.iter().zip(hits).enumerate();
+    founds.len() == hits.len()
+        && pairs.all(|(number, (found, hits))| is_found(found, number, *hits))
+}
+
+/// Whether so many drives find the three volumes' hits.
+fn finds_all<R: Threads + Sync, G: Gate + Sync>(
+    rt: &R,
+    alloc: Global,
+    count: usize,
+    gate: &G,
+) -> Result<bool, Fail>
+    requires { (0 < count) × (count ≤ 16) }
+{
+    let founds = found_by(rt, alloc, THREE, count, gate)??;
+    Ok(has_hits(&founds, &[2, 4, 6]))
+}
+
+#[test]
+fn any_number_of_drives_finds_the_same(rt: HostRuntime) -> Result<(), Fail> {
+    assert!(rt; finds_all(&rt, rt.alloc(), 1, &OpenGate)?);
+    assert!(rt; finds_all(&rt, rt.alloc(), 2, &OpenGate)?);
+    assert!(rt; finds_all(&rt, rt.alloc(), 16, &OpenGate)?);
+    Ok(())
+}
+
+/// The number and the volume's first byte of a refusal.
+fn refused(answer: &Result<Vec<Found>, PoolFault>) -> Option<(u32, u8)> {
+    let Err(fault) = answer else {
+        return None;
+    };
+    let vol = fault.vol()?;
+    Some((fault.number(), *vol.bytes().first()?))
+}
+
+#[test]
+fn a_missing_volume_beside_sound_ones(rt: HostRuntime) -> Result<(), Fail> {
+    let one = found_by(&rt, rt.alloc(), MISSING, 1, &OpenGate)?;
+    let three = found_by(&rt, rt.alloc(), MISSING, 3, &OpenGate)?;
+    assert_eq!(rt; refused(&one), Some((14, b'Q')));
+    assert_eq!(rt; refused(&three), Some((14, b'Q')));
+    Ok(())
+}
+
+/// Holds one piece until two others were read, and tells whether they were.
+#[derive(Drop)]
+struct HoldsOne<'r, C: Clock> {
+    clock: &'r C,
+    piece: u32,
+    left: AtomicU64,
+    met: AtomicU64,
+}
+
+impl<C: Clock> Gate for HoldsOne<'_, C> {
+    fn enter(&self, number: u32) {
+        if number != self.piece {
+            return;
+        }
+        for _look in 0..10_000 {
+            if self.left.load(Ordering::SeqCst) == 2 {
+                self.met.store(1, Ordering::SeqCst);
+                return;
+            }
+            thread::sleep(self.clock, Duration::from_millis(1));
+        }
+    }
+
+    fn leave(&self, _number: u32) {
+        self.left.fetch_add(1, Ordering::SeqCst);
+    }
+}
+
+/// Whether two drives find all where this piece is held until the two others were read, and these are read meanwhile.
+fn goes_round<R: Clock + Threads + Sync>(rt: &R, alloc: Global, piece: u32) -> Result<bool, Fail> {
+    let gate = HoldsOne {
+        clock: rt,
+        piece,
+        left: AtomicU64::new(0),
+        met: AtomicU64::new(0),
+    };
+    let all = finds_all(rt, alloc, 2, &gate)?;
+    Ok(all && gate.met.load(Ordering::SeqCst) == 1)
+}
+
+#[test]
+fn a_held_piece_holds_no_other(rt: HostRuntime) -> Result<(), Fail> {
+    assert!(rt; goes_round(&rt, rt.alloc(), 0)?);
+    assert!(rt; goes_round(&rt, rt.alloc(), 1)?);
+    assert!(rt; goes_round(&rt, rt.alloc(), 2)?);
+    Ok(())
+}

@@ -1,0 +1,16 @@
+use Rattle.std.proofs.Common.{◌≡◌, ◌≤◌, length, take, All}
+use Rattle.br_sink.specs.Delivery.{items_in}
+use Rattle.br_sink.specs.Folder.{HasName, HasText}
+use Rattle.br_sink.specs.Window.{AreBelow}
+use Rattle.br_sink.proofs.folder_sink.FolderSink.put_each.Given as goal
+
+-- the files so far are counted, and those that are held open stand among them
+abbrev pub invariant-loop-outcome : goal.invariant-loop-outcome
+invariant-loop-outcome g l =
+    record {
+      done : l.done ≡ length (items_in (take l.outcome-index l.outcomes));
+      few : l.done ≤ l.outcome-index;
+      below : AreBelow l.done l.window.made.items;
+      text : All HasText (items_in (take l.outcome-index l.outcomes));
+      name : All HasName (items_in (take l.outcome-index l.outcomes));
+    }
