@@ -1,4 +1,4 @@
-ghost use Rattle.std.specs.Prelude.{◌≡◌, ◌∷◌, ◌++◌, decimal, codes, Ok, IfOk, OnOk};
+ghost use Rattle.std.specs.Prelude.{◌≡◌, ◌∷◌, ◌++◌, codes, Ok, IfOk, OnOk};
 ghost use Rattle.br_model.specs.Bootstrap.{range_text, range_lines, group_text, canonical};
 ghost use Rattle.br_model.specs.BootstrapText.{read_bootstrap};
 ghost use Rattle.br_model.specs.Text.{line};
@@ -7,15 +7,8 @@ use crate::bootstrap::Bootstrap;
 use crate::group::Group;
 use crate::range::Range;
 use br_model::canonical_reads_back;
-use itoa::Buffer;
+use br_types::push_number;
 use std::alloc::{AllocError, Global};
-
-fn push_number(text: &mut Vec<u8>, number: u64) -> Result<(), AllocError>
-    ensures { OnOk result (text.new.items ≡ text.old.items ++ decimal number) }
-{
-    let mut buffer = Buffer::new();
-    text.extend_from_slice(buffer.format(number).as_bytes())
-}
 
 /// Writes one number, or two with a dash between them.
 fn push_range(text: &mut Vec<u8>, range: Range) -> Result<(), AllocError>

@@ -1,22 +1,22 @@
 -- Files that are put behind the manifest of a run of the console.
-use Rattle.std.proofs.Common.{◌≡◌, ℕ, Bool, List, [], ◌++◌, Option, Some, None, Result, Ok, Err, refl, ap, sym, ◌∙◌}
-use Rattle.std.specs.Prelude.{IfErr, IfSome, filter_map}
+use Rattle.std.proofs.Common.{◌≡◌, ℕ, Bool, List, [], ◌++◌, Option, Some, None, Result, Ok, Err, refl, ap}
+use Rattle.std.specs.Prelude.{IfErr, IfSome}
 use Rattle.std.specs.Result.{result_err}
 use Rattle.std.specs.Io.KnownBytes.{Keeps}
 use Rattle.std.proofs.KnownBytes.{Appends-kept}
 use Rattle.br_model.specs.Answer.{Answers}
-use Rattle.br_model.proofs.AnswerLaws.{bind_ok}
 use Rattle.br_model.specs.File.{Item}
 use Rattle.br_model.specs.Restored.{Restored}
-use Rattle.br_model.specs.Manifest.{Totals, manifest, totals_of}
+use Rattle.br_model.specs.Manifest.{Totals, manifest}
 use Rattle.br_model.specs.Job.{JobRows}
 use Rattle.br_model.specs.Choice.{Request}
-use Rattle.br_model.specs.Delivery.{Stop, delivery, item_of, put_behind}
+use Rattle.br_model.specs.Delivery.{Stop, delivery}
 use Rattle.br_sink.specs.Delivery.{IsStopIn, items_put, stop_cause}
 use Rattle.br_sink.specs.Sink.{HasMore}
 use Rattle.br_engine.specs.Restoring.{Told}
 use Rattle.br_engine.specs.Extracting.{are_files}
 use Rattle.br_engine.specs.Delivering.{items_of}
+use Rattle.br_engine.proofs.DeliverLaws.{delivered_totals}
 use Rattle.br_console.specs.Fault.{IsFree}
 use Rattle.br_console.specs.Running.{Begun, Ends, Restores, RestoresOver, RunsOver, TellsOver, begun, console_run}
 use Rattle.br_console.specs.Delivering.{DeliversInto, IsPut}
@@ -25,10 +25,6 @@ use Rattle.br_console.specs.declared.console_fault.ConsoleFault.TheVariants as f
 use Rattle.br_console.specs.declared.running.ConsoleRun.{ConsoleRun}
 
 -- ---- the sink
-
-delivered_totals : (rs : List Restored) (t : Totals) → delivery rs ≡ Ok t → delivery rs ≡ Ok (totals_of rs)
-unfolding delivery
-delivered_totals rs t e = e ∙ sym (bind_ok (put_behind [] (filter_map item_of rs)) (λ _. Ok (totals_of rs)) t e).2
 
 -- what a delivery says of its files is what its stop says
 pub puts_files : (had has : Option (List Item)) (rs : List Restored) (r : Result Totals Stop) → Answers (λ t. t) stop_cause r (delivery rs)

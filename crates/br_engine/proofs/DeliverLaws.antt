@@ -79,7 +79,8 @@ delivers_refused earlier later before after had groups (Piece fault) given nothi
 delivers_refused earlier later before after had groups (Io fault) given nothing = (given, nothing, refl)
 delivers_refused earlier later before after had groups (Sink stop) given nothing = absurd nothing
 
-delivered_totals : (rs : List Restored) (t : Totals) → delivery rs ≡ Ok t → delivery rs ≡ Ok (totals_of rs)
+-- a delivery that does not stop answers the totals
+pub delivered_totals : (rs : List Restored) (t : Totals) → delivery rs ≡ Ok t → delivery rs ≡ Ok (totals_of rs)
 unfolding delivery
 delivered_totals rs t e = go (put_behind [] (filter_map item_of rs)) e
   where

@@ -8,8 +8,7 @@ ghost use Rattle.br_engine.specs.Fault.{fault_number, fault_text, bootstrap_text
 use br_bsr::BsrFault;
 use br_match::PieceFault;
 use br_sink::SinkStop;
-use br_types::push_escaped;
-use itoa::Buffer;
+use br_types::{push_escaped, push_number};
 use std::alloc::AllocError;
 use std::io;
 use thiserror::Error;
@@ -71,13 +70,6 @@ impl From<SinkStop> for ExtractFault {
     fn from(fault: SinkStop) -> ExtractFault {
         ExtractFault::Sink(fault)
     }
-}
-
-fn push_number(text: &mut Vec<u8>, number: u64) -> Result<(), AllocError>
-    ensures { OnOk result (text.new.items ≡ text.old.items ++ decimal number) }
-{
-    let mut buffer = Buffer::new();
-    text.extend_from_slice(buffer.format(number).as_bytes())
 }
 
 fn push_refused(text: &mut Vec<u8>, number: u32) -> Result<(), AllocError>

@@ -5,3 +5,4 @@ pub mod GroupLaws
 pub mod OverLaws
 pub mod FoundLaws
 pub mod RangeLaws
+pub mod NearLaws

@@ -1,15 +1,16 @@
 -- Ranges in order of their low ends, of which each goes on to the greatest high end so far: what is looked up in them.
-use Rattle.std.proofs.Common.{◌≡◌, ℕ, ◌+◌, ◌-◌, ◌<◌, ◌≤◌, Bool, true, false, ◌||◌, ◌==◌, leb, List, [], ◌∷◌, ◌++◌, length, take, get_or, refl, ap, sym, ◌∙◌, ◌⊎◌, inl, inr, arith}
+use Rattle.std.proofs.Common.{◌≡◌, ℕ, ◌+◌, ◌-◌, ◌<◌, ◌≤◌, Bool, true, false, ◌||◌, ◌==◌, leb, List, [], ◌∷◌, ◌++◌, length, take, get_or, refl, ap, sym, ◌∙◌, ◌⊎◌, inl, inr, Some, arith}
 use Rattle.std.proofs.Math.Bool.{or-false}
 use Rattle.std.proofs.Math.Seq.{get_or-append_seam}
-use Rattle.std.proofs.lemmas.Bool.{cases_lt, leb-true}
+use Rattle.std.proofs.lemmas.Bool.{cases_lt, leb-true, ne_eqb}
 use Rattle.std.proofs.lemmas.Bool.Decides.{nat_tests}
 use Rattle.std.proofs.lemmas.List.{length-append, take_all, get_or_default}
+use Rattle.std.proofs.lemmas.Option.{slice_get_within, get_or_from_slice_get}
 use Rattle.std.proofs.lemmas.List.Folds.{list_any_at, list_any_more, list_any_none, list_any-append}
 use Rattle.std.proofs.lemmas.List.Sorted.{IsNonDecreasingBy-push, length_permutation, list_any-IsPermutation}
 use Rattle.std.specs.Prelude.{max, IsPermutation}
 use Rattle.std.specs.Int.{is_in_range}
-use Rattle.std.specs.List.{list_any}
+use Rattle.std.specs.List.{list_any, slice_get}
 use Rattle.std.specs.List.Sorted.{IsNonDecreasingBy, IsPartitionPoint}
 use Rattle.br_model.specs.Text.{is_empty}
 use Rattle.br_model.specs.Bootstrap.{Range, admits}
@@ -27,6 +28,9 @@ too_low low high n p = grind (arith, nat_tests)
 
 too_high : (low high n : ℕ) → high < n → is_in_range low high n ≡ false
 too_high low high n p = grind (arith, nat_tests)
+
+some_range : (rs : List Range) → 0 < length rs → is_empty rs ≡ false
+some_range rs some = ne_eqb (length rs) 0 (λ e. omega (arith, e, some))
 
 -- where no range begins at the number or before it
 pub none_begun : (rs : List Range) (n : ℕ) → is_empty rs ≡ false → IsPartitionPoint (λ (r : Range). r.low ≤ n) (λ (r : Range). n < r.low) rs 0 → admits rs n ≡ false
@@ -58,6 +62,28 @@ last_decides rs n count last some rising point begun within is = rw some (go (le
                   rw (get_or_default rs k d last inside) (too_high (get_or rs k last).low (get_or rs k last).high n (omega (arith, below, same, past)))
               | inr le ↦ too_low (get_or rs k d).low (get_or rs k d).high n (point.1 k d le inside)
             ]
+
+-- no number below the low end of the first is admitted
+pub none_below : (rs : List Range) (r : Range) (n : ℕ) → IsRising rs → slice_get rs 0 ≡ Some r → n < r.low → admits rs n ≡ false
+none_below rs r n rising at below =
+    rw (some_range rs (slice_get_within rs 0 r at)) (list_any_none (holds n) rs (λ k d inside. too_low (get_or rs k d).low (get_or rs k d).high n (low k d inside)))
+  where
+    low : (k : ℕ) (d : Range) → k < length rs → n < (get_or rs k d).low
+    low k d inside =
+        let first : (get_or rs 0 d).low ≡ r.low = ap (λ (x : Range). x.low) (get_or_from_slice_get rs 0 r d at) in
+        let rises : (get_or rs 0 d).low ≤ (get_or rs k d).low = rising.low 0 k d (omega arith) inside in
+        omega (arith, first, rises)
+
+-- and none above the high end of the last
+pub none_above : (rs : List Range) (r : Range) (n : ℕ) → IsRising rs → slice_get rs (length rs - 1) ≡ Some r → r.high < n → admits rs n ≡ false
+none_above rs r n rising at above =
+    rw (some_range rs (omega (arith, slice_get_within rs (length rs - 1) r at))) (list_any_none (holds n) rs (λ k d inside. too_high (get_or rs k d).low (get_or rs k d).high n (high k d inside)))
+  where
+    high : (k : ℕ) (d : Range) → k < length rs → (get_or rs k d).high < n
+    high k d inside =
+        let last : (get_or rs (length rs - 1) d).high ≡ r.high = ap (λ (x : Range). x.high) (get_or_from_slice_get rs (length rs - 1) r d at) in
+        let rises : (get_or rs k d).high ≤ (get_or rs (length rs - 1) d).high = rising.high k (length rs - 1) d (omega arith) (omega arith) in
+        omega (arith, last, rises)
 
 -- ---- as the ranges are made
 

@@ -2,3 +2,4 @@ pub mod Fault
 pub mod Matching
 pub mod Walk
 pub mod Groups
+pub mod Near

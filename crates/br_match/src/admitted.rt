@@ -1,4 +1,4 @@
-ghost use Rattle.std.specs.Prelude.{◌≡◌, ◌≤◌, ◌<◌, ℕ, IfOk, IsPermutation, length};
+ghost use Rattle.std.specs.Prelude.{◌≡◌, ◌≤◌, ◌<◌, ◌^◌, ℕ, false, IfOk, IsPermutation, length};
 ghost use Rattle.std.specs.List.Sorted.{IsNonDecreasingBy, IsPartitionPoint};
 ghost use Rattle.br_model.specs.Bootstrap.{admits};
 ghost use Rattle.br_match.specs.Groups.{IsRising};
@@ -78,6 +78,28 @@ fn admits_number(ranges: &[Range], number: u64) -> bool
     number <= last.high
 }
 
+/// The least end of the ranges; 0 where there are none.
+fn least(ranges: &[Range]) -> u64
+    requires { IsRising ranges.now }
+    ensures { (n : ℕ) → n < result → admits ranges.now n ≡ false }
+{
+    match ranges.first() {
+        None => 0,
+        Some(range) => range.low,
+    }
+}
+
+/// The greatest end of the ranges; the greatest number of all where there are none.
+fn greatest(ranges: &[Range]) -> u64
+    requires { IsRising ranges.now }
+    ensures { (n : ℕ) → result < n → n < 2 ^ 64 → admits ranges.now n ≡ false }
+{
+    match ranges.last() {
+        None => u64::MAX,
+        Some(range) => range.high,
+    }
+}
+
 impl Admitted {
     /// The numbers in the ranges, or all where there are none.
     pub(crate) fn new(alloc: Global, ranges: &[Range]) -> Result<Admitted, AllocError>
@@ -94,5 +116,18 @@ impl Admitted {
         ensures { result ≡ admits self.now number }
     {
         admits_number(&self.ranges, number)
+    }
+    /// No number below this one is admitted.
+    pub(crate) fn least(&self) -> u64
+        ensures { (n : ℕ) → n < result → admits self.now n ≡ false }
+    {
+        least(&self.ranges)
+    }
+
+    /// No number above this one is admitted.
+    pub(crate) fn greatest(&self) -> u64
+        ensures { (n : ℕ) → result < n → n < 2 ^ 64 → admits self.now n ≡ false }
+    {
+        greatest(&self.ranges)
     }
 }

@@ -4,7 +4,8 @@ ghost use Rattle.br_model.specs.Meaning.{hits_in, hit_at};
 ghost use Rattle.br_match.specs.Groups.{first_admitting, hits_of_fragments};
 
 use crate::hit::{Hit, Spot};
-use crate::matcher::{Matcher, first_admitting, near};
+use crate::matcher::{Matcher, first_admitting};
+use crate::matchers::{Matchers, near};
 use br_block::{Block, Fragment, Fragments};
 use br_types::{FileIndex, FileKey};
 use std::alloc::{AllocError, Global};
@@ -78,7 +79,7 @@ fn push_hits_of(
 /// Puts the hits in a block behind those that were found before it, in order.
 pub(crate) fn push_hits(
     alloc: Global,
-    matchers: &[Matcher],
+    matchers: &Matchers,
     addr: u64,
     block: &Block<'_>,
     hits: &mut Vec<Hit>,

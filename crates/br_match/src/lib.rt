@@ -8,6 +8,7 @@ mod block_hits;
 mod fault;
 mod hit;
 mod matcher;
+mod matchers;
 mod matching;
 #[cfg(test)]
 mod tests;

@@ -1,7 +1,8 @@
-ghost use Rattle.std.specs.Prelude.{◌≡◌, IfOk, map, filter};
-ghost use Rattle.std.specs.List.{AllZip, list_any};
+ghost use Rattle.std.specs.Prelude.{◌≡◌, IfOk, map};
+ghost use Rattle.std.specs.List.{AllZip};
 ghost use Rattle.br_model.specs.Meaning.{covers};
 ghost use Rattle.br_match.specs.Groups.{AreAlike, admits_block, admits_record, first_admitting};
+ghost use Rattle.br_match.specs.Near.{BeginsAt, EndsBy};
 
 use crate::admitted::Admitted;
 use br_bsr::Group;
@@ -53,14 +54,28 @@ impl Matcher {
     }
 
     /// Whether the group asks for records of the block at this address.
-    fn covers(&self, addr: u64) -> bool
+    pub(crate) fn covers(&self, addr: u64) -> bool
         ensures { result ≡ covers self.now.1 addr }
     {
         self.addrs.contains(addr)
     }
 
+    /// The group covers no address below this one.
+    pub(crate) fn first_address(&self) -> u64
+        ensures { BeginsAt self.now result }
+    {
+        self.addrs.least()
+    }
+
+    /// The group covers no address above this one.
+    pub(crate) fn last_address(&self) -> u64
+        ensures { EndsBy self.now result }
+    {
+        self.addrs.greatest()
+    }
+
     /// Whether the group may hit a record in a block of this session at this address.
-    fn admits_block(&self, addr: u64, session: SessionKey) -> bool
+    pub(crate) fn admits_block(&self, addr: u64, session: SessionKey) -> bool
         ensures { result ≡ admits_block self.now.1 addr session }
     {
         // Where a volume has many groups, the address tells most of them apart.
@@ -93,31 +108,6 @@ pub(crate) fn matchers_for(
         matchers.push(Matcher::new(alloc, *number, group)?)?;
     }
     Ok(matchers)
-}
-
-/// Whether one of the groups asks for records of the block at this address.
-pub(crate) fn covers_any(matchers: &[Matcher], addr: u64) -> bool
-    ensures { result ≡ list_any (λ m. covers m.1 addr) matchers.now }
-{
-    matchers.iter().any(|matcher| matcher.covers(addr))
-}
-
-/// The groups that may hit a record in a block of this session at this address.
-pub(crate) fn near<'m>(
-    alloc: Global,
-    matchers: &'m [Matcher],
-    addr: u64,
-    session: SessionKey,
-) -> Result<Vec<&'m Matcher>, AllocError>
-    ensures { IfOk result (λ v. map (λ m. m.now) v.items ≡ filter (λ m. admits_block m.1 addr session) matchers.now) }
-{
-    let mut near = Vec::new(alloc);
-    for matcher in matchers {
-        if matcher.admits_block(addr, session) {
-            near.push(matcher)?;
-        }
-    }
-    Ok(near)
 }
 
 /// The number of the first of these groups that hits a record of this index and this stream.

@@ -267,6 +267,72 @@ fn only_a_covered_block_must_be_whole(rt: HostRuntime) -> Result<(), Fail> {
     Ok(())
 }
 
+/// Whether what is found on four blocks, at 0, 91, 182 and 273, has these places.
+fn has_on_four(alloc: Global, text: &[u8], places: &[(u32, u64, u32)]) -> Result<bool, Fail> {
+    let mut bytes = Vec::from_slice(alloc, BLOCK)?;
+    for _ in 0..3 {
+        bytes.extend_from_slice(BLOCK)?;
+    }
+    has_on(alloc, &bytes, text, places)
+}
+
+#[test]
+fn groups_stand_in_any_order(rt: HostRuntime) -> Result<(), Fail> {
+    let falling = b"Volume=V1\nVolAddr=273\nVolume=V1\nVolAddr=0\nVolume=V1\nVolAddr=182\n";
+    let places = [
+        (1, 0, 0),
+        (1, 0, 1),
+        (2, 182, 0),
+        (2, 182, 1),
+        (0, 273, 0),
+        (0, 273, 1),
+    ];
+    assert!(rt; has_on_four(rt.alloc(), falling, &places)?);
+    // One of the groups has no addresses.
+    let everywhere =
+        b"Volume=V1\nVolAddr=182\nVolume=V1\nStream=2\nVolume=V1\nVolAddr=0-91\nStream=1\n";
+    let places = [
+        (2, 0, 0),
+        (1, 0, 1),
+        (2, 91, 0),
+        (1, 91, 1),
+        (0, 182, 0),
+        (0, 182, 1),
+        (1, 273, 1),
+    ];
+    assert!(rt; has_on_four(rt.alloc(), everywhere, &places)?);
+    Ok(())
+}
+
+#[test]
+fn ranges_of_groups_may_overlap(rt: HostRuntime) -> Result<(), Fail> {
+    let nested =
+        b"Volume=V1\nVolAddr=91-182\nStream=2\nVolume=V1\nVolAddr=0-300\nStream=1\nVolume=V1\nVolAddr=150-273\nVolume=V1\nVolAddr=91\n";
+    let places = [
+        (1, 0, 0),
+        (1, 91, 0),
+        (0, 91, 1),
+        (1, 182, 0),
+        (0, 182, 1),
+        (1, 273, 0),
+        (2, 273, 1),
+    ];
+    assert!(rt; has_on_four(rt.alloc(), nested, &places)?);
+    // At the ends of the ranges, and one byte beside them.
+    let ends =
+        b"Volume=V1\nVolAddr=1-91\nVolume=V1\nVolAddr=92-181\nVolume=V1\nVolAddr=182-272\nVolume=V1\nVolAddr=183-273\n";
+    let places = [
+        (0, 91, 0),
+        (0, 91, 1),
+        (2, 182, 0),
+        (2, 182, 1),
+        (3, 273, 0),
+        (3, 273, 1),
+    ];
+    assert!(rt; has_on_four(rt.alloc(), ends, &places)?);
+    Ok(())
+}
+
 /// How many bytes the block has left where it is cut off and not refused as is wanted, 0 where there is none such.
 fn not_refused(alloc: Global) -> Result<usize, Fail> {
     for len in 1..91 {

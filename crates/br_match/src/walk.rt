@@ -12,7 +12,7 @@ ghost use Rattle.br_volume.specs.declared.fault.DriveFault.TheVariants.{Fault};
 use crate::block_hits::push_hits;
 use crate::fault::{PieceCause, PieceFault};
 use crate::hit::Hit;
-use crate::matcher::{Matcher, covers_any, matchers_for};
+use crate::matchers::{Matchers, covers_any};
 use br_block::{Block, BlockHead};
 use br_bsr::Group;
 use br_piece::Piece;
@@ -103,7 +103,7 @@ fn push_covered<D: Drive>(
     alloc: Global,
     drive: &mut D,
     piece: &Piece,
-    matchers: &[Matcher],
+    matchers: &Matchers,
     addr: u64,
     head: BlockHead,
     buf: &mut Vec<u8>,
@@ -130,7 +130,7 @@ fn push_block<D: Drive>(
     alloc: Global,
     drive: &mut D,
     piece: &Piece,
-    matchers: &[Matcher],
+    matchers: &Matchers,
     addr: u64,
     head: BlockHead,
     buf: &mut Vec<u8>,
@@ -170,11 +170,11 @@ fn bound_for(groups: &[(u32, Group)]) -> Option<u64>
 pub(crate) struct Walk<'p> {
     piece: &'p Piece,
     /// The groups of the piece.
-    matchers: Vec<Matcher>,
+    matchers: Matchers,
     /// Above this address the walk ends; none where it goes to the volume's end.
     bound: Option<u64>,
     addr: u64,
-    ghost alike: { AllZip AreAlike matchers.items piece.now.groups } by { all_alike_once matchers.items piece.now.groups },
+    ghost alike: { AllZip AreAlike matchers piece.now.groups } by { all_alike_once matchers piece.now.groups },
     ghost bounded: { bound ≡ bound_of (just_groups piece.now.groups) },
 }
 
@@ -186,7 +186,7 @@ impl<'p> Walk<'p> {
     {
         Ok(Walk {
             piece,
-            matchers: matchers_for(alloc, &piece.groups)?,
+            matchers: Matchers::new(alloc, &piece.groups)?,
             bound: bound_for(&piece.groups),
             addr: 0,
         })

@@ -1,12 +1,13 @@
 ghost use Rattle.std.specs.Prelude.{◌≡◌, ◌<◌, [], length, Some, None, MatchOption, IfSome, IfOk, IfErr, position};
 ghost use Rattle.br_model.specs.Answer.{Answers, some_or};
 ghost use Rattle.br_model.specs.Text.{is_space};
-ghost use Rattle.br_types.specs.Escape.{byte_of, digit_value, in_front};
+ghost use Rattle.br_types.specs.Escape.{in_front};
 ghost use Rattle.br_script.specs.Line.{line_cause};
 ghost use Rattle.br_script.specs.Spelling.{bytes_spelled, fields_of, pairs_read};
 ghost use Rattle.br_script.specs.declared.line.LineFault.TheVariants.{BadScript};
 
 use crate::line::LineFault;
+use br_types::byte_by;
 use std::alloc::Global;
 
 /// The place of the first space, if there is one.
@@ -25,27 +26,6 @@ pub(crate) fn cut(text: &[u8]) -> (&[u8], Option<&[u8]>)
         Some(at) => (&text[..at], Some(&text[at + 1..])),
         None => (text, None),
     }
-}
-
-/// The value of a small hexadecimal digit.
-#[tactic(auto, unfolding(br_types::specs::Escape::digit_value))]
-fn value_of(digit: u8) -> Option<u8>
-    ensures value { result ≡ digit_value digit }
-    ensures small { IfSome result (λ n. n < 16) }
-{
-    match digit {
-        b'0'..=b'9' => Some(digit - b'0'),
-        b'a'..=b'f' => Some(digit - b'a' + 10),
-        _ => None,
-    }
-}
-
-/// The byte that two small hexadecimal digits spell.
-#[tactic(auto, unfolding(br_types::specs::Escape::byte_of))]
-fn byte_by(high: u8, low: u8) -> Option<u8>
-    ensures { result ≡ byte_of (digit_value high) (digit_value low) }
-{
-    Some(16 * value_of(high)? + value_of(low)?)
 }
 
 /// The byte that the first two digits of a text spell, and the text behind them; nothing where the text is empty. `BadScript` where

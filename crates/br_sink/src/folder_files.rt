@@ -13,7 +13,9 @@ use crate::folder_sink::FolderSink;
 use crate::window::{Made, Window};
 use br_join::{Item, Outcome};
 use br_types::FileKey;
+use std::fs;
 use std::fs::File;
+use std::io::Write;
 use std::rt::Files;
 use std::thread::Threads;
 
@@ -28,8 +30,7 @@ impl<F: Files<File = File> + Drop> FolderSink<F> {
         let file = make_file(&self.files, path.as_str())?;
         Ok(Made {
             file,
-            path,
-            bytes: &item.bytes,
+            item,
             place,
             answer: Ok(()),
         })
@@ -52,6 +53,33 @@ impl<F: Files<File = File> + Drop> FolderSink<F> {
         Ok(())
     }
 
+    /// Takes the files of a window that stand behind this place away again, as far as that works. What stands at the names on
+    /// their ways is asked anew.
+    pub(crate) fn remove_behind<W: Write + Drop>(&self, window: &Window<'_, W>, place: u64) {
+        for one in window.made() {
+            if place < one.place {
+                self.remove(one.item);
+            }
+        }
+    }
+
+    /// Writes the files of the window and closes them. Where one could not be written, those behind it are taken away again.
+    fn write_window<'i>(
+        &self,
+        threads: &(impl Threads + Sync),
+        window: &mut Window<'i, File>,
+    ) -> Result<(), SinkStop>
+        ensures stopped { (n : ℕ) → AreBelow n window.old.made.items → IfErr result (IsStopBelow n) }
+        ensures empty { window.new.made.items ≡ [] }
+    {
+        let answer = window.write(threads);
+        if let Err(stop) = &answer {
+            self.remove_behind(window, stop.done());
+        }
+        window.clear();
+        answer
+    }
+
     /// Writes the files of the window, and then the item.
     fn put_alone<'i>(
         &self,
@@ -65,7 +93,7 @@ impl<F: Files<File = File> + Drop> FolderSink<F> {
         ensures text { OnOk result (is_on_disk item.now.kind ≡ true → IsUtf8 item.now.path) }
         ensures name { OnOk result (has_bytes item.now.kind ≡ true → is_directory item.now.path ≡ false) }
     {
-        window.write(&self.files, threads)?;
+        self.write_window(threads, window)?;
         match self.write_item(item) {
             Ok(()) => Ok(()),
             Err(fault) => Err(SinkStop::of_sink(fault, place)),
@@ -89,7 +117,7 @@ impl<F: Files<File = File> + Drop> FolderSink<F> {
             return self.put_alone(threads, window, item, place);
         }
         if window.is_full() {
-            return window.write(&self.files, threads);
+            return self.write_window(threads, window);
         }
         Ok(())
     }
@@ -132,6 +160,6 @@ impl<F: Files<File = File> + Drop> FolderSink<F> {
                 done += 1;
             }
         }
-        window.write(&self.files, threads)
+        self.write_window(threads, &mut window)
     }
 }

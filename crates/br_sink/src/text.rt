@@ -1,16 +1,9 @@
 ghost use Rattle.std.specs.Prelude.{◌≡◌, ◌∷◌, ◌++◌, length, decimal, OnOk};
 ghost use Rattle.br_model.specs.Text.{hexadecimal, signed_decimal};
 
+use br_types::push_number;
 use itoa::Buffer;
 use std::alloc::AllocError;
-
-/// Writes a number in decimal.
-fn push_number(text: &mut Vec<u8>, number: u64) -> Result<(), AllocError>
-    ensures { OnOk result (text.new.items ≡ text.old.items ++ decimal number) }
-{
-    let mut buffer = Buffer::new();
-    text.extend_from_slice(buffer.format(number).as_bytes())
-}
 
 /// Writes a number with a space in front.
 pub(crate) fn push_field(text: &mut Vec<u8>, number: u64) -> Result<(), AllocError>

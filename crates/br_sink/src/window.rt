@@ -5,12 +5,11 @@ ghost use Rattle.br_sink.specs.Window.{AreBelow};
 
 use crate::disk::fault_of;
 use crate::fault::{SinkFault, SinkStop};
-use br_join::FileBytes;
+use br_join::Item;
 use std::alloc::{AllocError, Global};
 use std::io::Write;
-use std::rt::Files;
+use std::thread;
 use std::thread::Threads;
-use std::{fs, thread};
 
 /// How many files are held open at most.
 const MOST: usize = 16;
@@ -18,12 +17,11 @@ const MOST: usize = 16;
 /// From how many bytes on it is worth to start threads.
 const MANY_BYTES: u64 = 1 << 20;
 
-/// A new file on disk, what it is to contain, and how many files stand before it.
+/// A new file on disk, the item whose bytes it is to contain, and how many files stand before it.
 #[derive(Drop)]
 pub(crate) struct Made<'i, W: Write + Drop> {
     pub(crate) file: W,
-    pub(crate) path: String,
-    pub(crate) bytes: &'i FileBytes,
+    pub(crate) item: &'i Item,
     pub(crate) place: u64,
     pub(crate) answer: Result<(), SinkFault>,
 }
@@ -33,7 +31,8 @@ impl<'i, W: Write + Drop> Made<'i, W> {
     fn write(&mut self)
         ensures { self.new.place ≡ self.old.place }
     {
-        self.answer = self.bytes.write_to(&mut self.file).map_err(fault_of);
+        let item = self.item;
+        self.answer = item.bytes.write_to(&mut self.file).map_err(fault_of);
     }
 }
 
@@ -56,20 +55,12 @@ fn write_each<W: Write + Drop + Send, T: Threads + Sync>(
     thread::for_each_mut(threads, made, count, &|_, one| one.write());
 }
 
-/// Takes files away again, as far as that works.
-fn remove_each<W: Write + Drop>(files: &impl Files, made: &[Made<'_, W>]) {
-    for one in made {
-        let _ = fs::remove_file(files, one.path.as_str());
-    }
-}
-
-/// Stops at the first file that could not be written, and takes those behind it away again.
-fn settle<W: Write + Drop>(files: &impl Files, made: &[Made<'_, W>]) -> Result<(), SinkStop>
+/// Stops at the first file that could not be written.
+fn settle<W: Write + Drop>(made: &[Made<'_, W>]) -> Result<(), SinkStop>
     ensures { (n : ℕ) → AreBelow n made.now → IfErr result (IsStopBelow n) }
 {
-    for (i, one) in made.iter().enumerate() {
+    for one in made {
         if let Err(fault) = one.answer {
-            remove_each(files, &made[i + 1..]);
             return Err(SinkStop::of_sink(fault, one.place));
         }
     }
@@ -111,27 +102,33 @@ impl<'i, W: Write + Drop> Window<'i, W> {
     pub(crate) fn hold(&mut self, one: Made<'i, W>) -> Result<(), AllocError>
         ensures { (n : ℕ) → AreBelow n self.old.made.items → one.entry.place < n → AreBelow n self.new.made.items }
     {
-        let bytes = one.bytes.len();
+        let item = one.item;
+        let bytes = item.bytes.len();
         self.made.push(one)?;
         self.bytes = self.bytes.saturating_add(bytes);
         Ok(())
     }
 
-    /// Writes all files and closes them. It stops at the first that could not be written, and takes those behind it away again.
-    pub(crate) fn write<T: Threads + Sync>(
-        &mut self,
-        files: &impl Files,
-        threads: &T,
-    ) -> Result<(), SinkStop>
+    /// The files that it holds.
+    pub(crate) fn made(&self) -> &[Made<'i, W>] {
+        &self.made
+    }
+
+    /// Writes all files. It stops at the first that could not be written.
+    pub(crate) fn write<T: Threads + Sync>(&mut self, threads: &T) -> Result<(), SinkStop>
     where
         W: Send,
-        ensures stopped { (n : ℕ) → AreBelow n self.old.made.items → IfErr result (IsStopBelow n) }
-        ensures empty { self.new.made.items ≡ [] }
+        ensures { (n : ℕ) → AreBelow n self.old.made.items → IfErr result (IsStopBelow n) }
     {
         write_each(threads, &mut self.made, thread_count(self.bytes));
-        let answer = settle(files, &self.made);
+        settle(&self.made)
+    }
+
+    /// Closes all files, and holds none.
+    pub(crate) fn clear(&mut self)
+        ensures { self.new.made.items ≡ [] }
+    {
         self.made.clear();
         self.bytes = 0;
-        answer
     }
 }

@@ -1,6 +1,12 @@
+use crate::folder_sink::FolderSink;
+use crate::sink::Sink;
+use crate::sink_tests::ZEROS;
+use crate::tests::whole_item;
 use crate::window::{Made, Window};
-use br_join::FileBytes;
+use br_join::Item;
+use std::alloc::Global;
 use std::io::{Error, ErrorKind, Write};
+use std::os::unix::fs::symlink;
 use std::test::Fail;
 use std::thread::Threads;
 use std::{env, fs, io, process};
@@ -24,73 +30,58 @@ impl Write for Fake {
     }
 }
 
-/// The path of a file in a folder, whose name is its place.
-fn path_at(rt: &HostRuntime, folder: &str, place: u64) -> Result<String, Fail> {
-    Ok(format!(in rt.alloc(); "{folder}/{place}")?)
-}
-
-/// A file in a folder, of which the write fails or not.
-fn made<'i>(
-    rt: &HostRuntime,
-    folder: &str,
-    bytes: &'i FileBytes,
-    place: u64,
-    fails: bool,
-) -> Result<Made<'i, Fake>, Fail> {
-    let path = path_at(rt, folder, place)?;
-    fs::write(rt, path.as_str(), b"")?;
-    Ok(Made {
-        file: Fake { fails },
-        path,
-        bytes,
-        place,
-        answer: Ok(()),
-    })
+/// A file of the name of its place, in the folder d.
+fn item_at(rt: &HostRuntime, place: u64) -> Result<Item, Fail> {
+    let path = format!(in rt.alloc(); "/d/{place}")?;
+    whole_item(rt, path.as_bytes(), (3, ZEROS), b"", b"hello")
 }
 
 /// Files at places with others between, of which the second and the third fail.
-const CASES: &[(u64, bool)] = &[(4, false), (7, true), (9, true), (12, false)];
+const CASES: [(u64, bool); 4] = [(4, false), (7, true), (9, true), (12, false)];
 
-/// These files, held open.
-fn held<'i>(
-    rt: &HostRuntime,
-    folder: &str,
-    bytes: &'i FileBytes,
-    cases: &[(u64, bool)],
-) -> Result<Window<'i, Fake>, Fail> {
-    let mut window = Window::new(rt.alloc());
-    for (place, fails) in cases {
-        window.hold(made(rt, folder, bytes, *place, *fails)?)?;
+/// The items of the files.
+fn items(rt: &HostRuntime) -> Result<Vec<Item>, Fail> {
+    let mut items = Vec::new(rt.alloc());
+    for (place, _) in CASES {
+        items.push(item_at(rt, place)?)?;
+    }
+    Ok(items)
+}
+
+/// Whether a sink puts each of the items.
+fn puts_each(sink: &mut impl Sink, items: &[Item]) -> bool {
+    items.iter().all(|item| sink.put(item).is_ok())
+}
+
+/// The files, held open.
+fn held<'i>(alloc: Global, items: &'i [Item]) -> Result<Window<'i, Fake>, Fail> {
+    let mut window = Window::new(alloc);
+    for (item, (place, fails)) in items.iter().zip(CASES) {
+        window.hold(Made {
+            file: Fake { fails },
+            item,
+            place,
+            answer: Ok(()),
+        })?;
     }
     Ok(window)
 }
 
-/// Whether there is a file of this place in a folder.
-fn is_there(rt: &HostRuntime, folder: &str, place: u64) -> Result<bool, Fail> {
-    let path = path_at(rt, folder, place)?;
-    Ok(fs::symlink_metadata(rt, path.as_str()).is_ok())
+/// Which of the files are there in a folder.
+fn are_there(rt: &HostRuntime, folder: &str) -> Result<Vec<bool>, Fail> {
+    let mut there = Vec::new(rt.alloc());
+    for (place, _) in CASES {
+        let path = format!(in rt.alloc(); "{folder}/{place}")?;
+        there.push(fs::symlink_metadata(rt, path.as_str()).is_ok())?;
+    }
+    Ok(there)
 }
 
-/// Which of the files are there.
-fn places_there(rt: &HostRuntime, folder: &str) -> Result<[bool; 4], Fail> {
-    let first = is_there(rt, folder, 4)?;
-    let second = is_there(rt, folder, 7)?;
-    let third = is_there(rt, folder, 9)?;
-    Ok([first, second, third, is_there(rt, folder, 12)?])
-}
-
-/// The number and the place at which the files of a window stop, or none.
-fn stop_of_cases(
-    rt: &HostRuntime,
-    threads: &(impl Threads + Sync),
-    folder: &str,
-    cases: &[(u64, bool)],
-) -> Result<Option<(u32, u64)>, Fail> {
-    let bytes = FileBytes::new(rt.alloc(), Vec::from_slice(rt.alloc(), b"hello")?)?;
-    let mut window = held(rt, folder, &bytes, cases)?;
-    match window.write(rt, threads) {
-        Ok(()) => Ok(None),
-        Err(stop) => Ok(Some((stop.number(), stop.done()))),
+/// The number and the place at which a window of the files stops, or none.
+fn stop_of(threads: &(impl Threads + Sync), window: &mut Window<'_, Fake>) -> Option<(u32, u64)> {
+    match window.write(threads) {
+        Ok(()) => None,
+        Err(stop) => Some((stop.number(), stop.done())),
     }
 }
 
@@ -106,16 +97,39 @@ fn new_folder(rt: &HostRuntime, name: &str) -> Result<String, Fail> {
 #[test]
 fn the_first_fault_counts_and_files_behind_go(rt: HostRuntime) -> Result<(), Fail> {
     let folder = new_folder(&rt, "window")?;
-    let stop = stop_of_cases(&rt, &rt, folder.as_str(), CASES)?;
-    assert_eq!(rt; stop, Some((80, 7)));
-    assert_eq!(rt;
-        places_there(&rt, folder.as_str())?,
-        [true, true, false, false]
-    );
-    assert_eq!(rt;
-        stop_of_cases(&rt, &rt, folder.as_str(), &[(3, false)])?,
-        None
+    let inside = format!(in rt.alloc(); "{folder}/d")?;
+    let mut sink = FolderSink::new(rt.alloc(), &rt, folder.as_str())?;
+    let items = items(&rt)?;
+    assert!(rt; puts_each(&mut sink, &items));
+    let mut window = held(rt.alloc(), &items)?;
+    assert_eq!(rt; stop_of(&rt, &mut window), Some((80, 7)));
+    sink.remove_behind(&window, 7);
+    assert!(rt;
+        are_there(&rt, inside.as_str())?.as_slice() == [true, true, false, false].as_slice()
     );
     fs::remove_dir_all(&rt, folder.as_str())?;
+    Ok(())
+}
+
+/// The folder d moves away, and a link to it takes its place.
+fn put_link(rt: &HostRuntime, folder: &str, beside: &str) -> Result<(), Fail> {
+    let inside = format!(in rt.alloc(); "{folder}/d")?;
+    fs::rename(rt, inside.as_str(), beside)?;
+    symlink(rt, beside, inside.as_str())?;
+    Ok(())
+}
+
+#[test]
+fn nothing_is_taken_away_through_a_link(rt: HostRuntime) -> Result<(), Fail> {
+    let folder = new_folder(&rt, "moved")?;
+    let beside = format!(in rt.alloc(); "{folder}_beside")?;
+    let mut sink = FolderSink::new(rt.alloc(), &rt, folder.as_str())?;
+    let items = items(&rt)?;
+    assert!(rt; puts_each(&mut sink, &items));
+    put_link(&rt, folder.as_str(), beside.as_str())?;
+    sink.remove_behind(&held(rt.alloc(), &items)?, 0);
+    assert!(rt; are_there(&rt, beside.as_str())?.as_slice() == [true; 4].as_slice());
+    fs::remove_dir_all(&rt, folder.as_str())?;
+    fs::remove_dir_all(&rt, beside.as_str())?;
     Ok(())
 }

@@ -67,9 +67,9 @@ fn value_of(digit: u8) -> Option<u8>
     }
 }
 
-/// The byte of two digits.
+/// The byte that two hexadecimal digits spell, small ones; nothing where one of them is none.
 #[tactic(auto, unfolding(crate::specs::Escape::byte_of))]
-fn byte_by(high: u8, low: u8) -> Option<u8>
+pub fn byte_by(high: u8, low: u8) -> Option<u8>
     ensures { result ≡ byte_of (digit_value high) (digit_value low) }
 {
     Some(16 * value_of(high)? + value_of(low)?)

@@ -72,6 +72,22 @@ const BAD_ESCAPES: [&[u8]; 11] = [
     b"\\x20\\x",
 ];
 
+/// Two digits and the byte that they spell, if any.
+const DIGITS: [(u8, u8, Option<u8>); 5] = [
+    (b'0', b'0', Some(0)),
+    (b'a', b'1', Some(161)),
+    (b'f', b'f', Some(255)),
+    (b'A', b'1', None),
+    (b'1', b'g', None),
+];
+
+/// Numbers as they are printed.
+const NUMBERS: [(u64, &[u8]); 3] = [
+    (0, b"=0"),
+    (1_000_000, b"=1000000"),
+    (u64::MAX, b"=18446744073709551615"),
+];
+
 /// A text of so many letters.
 fn letters(alloc: Global, len: usize) -> Result<Vec<u8>, Fail> {
     Ok(vec![in alloc; b'a'; len]?)
@@ -350,6 +366,35 @@ fn not_refused(alloc: Global, texts: &[&'static [u8]]) -> Option<&'static [u8]> 
         }
     }
     None
+}
+
+/// The first digits that spell another byte.
+fn wrong_byte() -> Option<(u8, u8)> {
+    for (high, low, wanted) in DIGITS {
+        if byte_by(high, low) != wanted {
+            return Some((high, low));
+        }
+    }
+    None
+}
+
+/// The first number that is printed in another way behind `=`.
+fn wrong_number(alloc: Global) -> Result<Option<u64>, Fail> {
+    for (number, wanted) in NUMBERS {
+        let mut text = Vec::from_slice(alloc, b"=")?;
+        push_number(&mut text, number)?;
+        if text.as_slice() != wanted {
+            return Ok(Some(number));
+        }
+    }
+    Ok(None)
+}
+
+#[test]
+fn numbers_are_printed_and_digits_are_read(rt: HostRuntime) -> Result<(), Fail> {
+    assert_eq!(rt; wrong_number(rt.alloc())?, None);
+    assert_eq!(rt; wrong_byte(), None);
+    Ok(())
 }
 
 #[test]

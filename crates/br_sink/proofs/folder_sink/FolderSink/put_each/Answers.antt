@@ -63,10 +63,10 @@ pub returns-clause-text : goal.returns-clause-text
 returns-clause-text g c =
     let os = c.args.outcomes.now in
     let all : take c.loop-outcome.outcome-index os ≡ os = take_all c.loop-outcome.outcome-index os c.loop-outcome-test.false in
-    on_ok_known c.write.result (rw all at c.loop-outcome.invariant.text)
+    on_ok_known c.write_window.result (rw all at c.loop-outcome.invariant.text)
 
 pub returns-clause-name : goal.returns-clause-name
 returns-clause-name g c =
     let os = c.args.outcomes.now in
     let all : take c.loop-outcome.outcome-index os ≡ os = take_all c.loop-outcome.outcome-index os c.loop-outcome-test.false in
-    on_ok_known c.write.result (rw all at c.loop-outcome.invariant.name)
+    on_ok_known c.write_window.result (rw all at c.loop-outcome.invariant.name)

@@ -1,0 +1,13 @@
+pub mod CommitLaws
+pub mod AlikeLaws
+pub mod PlanPieceLaws
+pub mod PlaceLaws
+pub mod HeldLaws
+pub mod StatusLaws
+pub mod GoingLaws
+pub mod RunLaws
+mod Computing
+mod JobExamples
+mod PlanExamples
+mod ReadExamples
+mod MachineExamples

@@ -1,0 +1,276 @@
+-- A machine of atomic steps: backups commit, restores are planned, and their pieces are read and delivered meanwhile, in any order.
+use Rattle.std.specs.Prelude.{◌≡◌, ℕ, ◌+◌, ◌⊎◌, true, List, [], ◌∷◌, ◌++◌, length, map, take, drop, set, Option, Some, None, Result, Ok, Err, slice_get, ⊤}
+use Rattle.std.specs.List.{AllByRecursion}
+use Rattle.std.specs.FinMap.{empty}
+use Rattle.br_model.specs.Answer.{◌>>=◌}
+use Rattle.br_model.specs.Volume.{Volume, Extends}
+use Rattle.br_model.specs.Meaning.{Piece, Hit, Hits, pieces_of, with_hits}
+use Rattle.br_model.specs.Restored.{Restored, files}
+use Rattle.br_model.specs.Job.{JobRow, Span, JobRows, Job, IsJob, pushed, is_history}
+use Rattle.br_model.specs.Session.{ToSave, Place, Written, IsWritten, ArePacked, session_records, visits, checked_spans, rows_of}
+use Rattle.br_model.specs.Choice.{Request, choose}
+use Rattle.br_model.specs.View.{view_of}
+use Rattle.br_model.specs.Console.{Command, at_start, marks_after}
+use Rattle.br_model.specs.Plan as model
+use Rattle.br_model.specs.Plan.{plan_of}
+use Rattle.br_model.specs.PlanMeaning.{rows_of_jobs}
+use Rattle.br_model.specs.Stored.{Holds}
+use Rattle.br_match.specs.Walk.{step_on}
+
+-- ---- states
+
+-- where a piece of a restore stands: nobody reads it; or a walk does, before the block at this address; or it was read to its end
+pub data Status : Type 0 where
+  Waiting : Status
+  Claimed : ℕ → Status
+  Finished : Status
+
+-- A restore that is not over: the jobs and the volumes of the moment in which it was planned, what was asked for, the plan, where each of its
+-- pieces stands, the hits that are on their way, block by block, and the set of those that were taken.
+pub record Restore : Type 0 where
+  pub jobs : List Job
+  pub volumes : List Volume
+  pub request : Request
+  pub marks : List (List ℕ)
+  pub plan : model.Plan
+  pub statuses : List Status
+  pub transit : List (List Hit)
+  pub taken : Hits
+
+-- the jobs in the order of their commits, the volumes, and the restores under their numbers, from 0; none where one is over
+pub record World : Type 0 where
+  pub jobs : List Job
+  pub volumes : List Volume
+  pub restores : List (Option Restore)
+
+-- ---- events and replies
+
+-- a job that is to be committed, with its files, the paths that it notes as deleted, and where its blocks are to go
+pub record ToCommit : Type 0 where
+  pub row : JobRow
+  pub files : List ToSave
+  pub deleted : List (List ℕ)
+  pub limit : ℕ
+  pub places : List Place
+
+-- What can happen. All but the first two are of the restore with the number that comes first; the second number is that of a piece, for
+-- `Take` the place of what is taken among what is on its way.
+pub data Event : Type 0 where
+  Commit : ToCommit → Event
+  Plan : Request → List Command → Event
+  Claim : ℕ → ℕ → Event
+  Read : ℕ → ℕ → Event
+  Fail : ℕ → ℕ → Event
+  Finish : ℕ → ℕ → Event
+  Take : ℕ → ℕ → Event
+  Deliver : ℕ → Event
+
+-- what is answered: done; the number of the restore that was planned; the number of a refusal; the files of a restore
+pub data Reply : Type 0 where
+  Done : Reply
+  Planned : ℕ → Reply
+  Refused : ℕ → Reply
+  Delivered : List Restored → Reply
+
+-- ---- commits
+
+-- the lengths of volumes
+abbrev pub lengths_of : List Volume → List (List ℕ × ℕ)
+lengths_of volumes = map (λ (v : Volume). (v.name, length v.bytes)) volumes
+
+-- what the catalogue gets of the job where its spans are these
+abbrev pub job_rows : ToCommit → List Span → JobRows
+job_rows c spans = rows_of c.row c.files c.deleted spans
+
+-- the job where its spans are these
+abbrev pub job_of : ToCommit → List Span → Job
+job_of c spans = record { rows = job_rows c spans; saved = map (λ (f : ToSave). f.file) c.files }
+
+-- The job is there, and stands on the volumes. Its session was written to volumes that go on from the ones before, since other
+-- commits may have left bytes, and those behind go on from these.
+pub record IsCommitted (before : World) (c : ToCommit) (after : World) : Type 0 where
+  pub found : List Volume
+  pub written : Written
+  pub found_extend : Extends found before.volumes
+  pub is_written : IsWritten c.files c.row.session c.limit c.places (lengths_of found) written
+  pub fits : pushed (rows_of_jobs before.jobs) (job_rows c written.spans) ≡ Ok (rows_of_jobs after.jobs)
+  pub is_job : IsJob (job_of c written.spans)
+  pub jobs_are : after.jobs ≡ before.jobs ++ job_of c written.spans ∷ []
+  pub extend : Extends after.volumes found
+  pub holds : Holds after.volumes (job_of c written.spans)
+  pub restores_are : after.restores ≡ before.restores
+
+-- the job can be among the others, but a span would end past the greatest address, or there would be too many of them
+pub record IsTooLong (before : World) (c : ToCommit) : Type 0 where
+  pub found : List Volume
+  pub blocks : List (List ℕ)
+  pub accepted : List JobRows
+  pub found_extend : Extends found before.volumes
+  pub fits : pushed (rows_of_jobs before.jobs) (job_rows c []) ≡ Ok accepted
+  pub packed : ArePacked c.limit c.row.session (session_records c.files) blocks
+  pub refused : checked_spans (lengths_of found) (visits c.places blocks) ≡ Err 42
+
+-- ---- plans
+
+-- the paths that a script marks in the view of the chosen jobs
+abbrev pub marks_of : List JobRows → List Command → List (List ℕ)
+marks_of chosen script = (marks_after (view_of chosen) at_start script).marked
+
+-- the plan for what a script marks: 53, 54 or 50 where no jobs are chosen, 51 where nothing is marked
+unfoldable pub plan_for : List JobRows → Request → List Command → Result ((List (List ℕ)) × model.Plan) ℕ
+plan_for history q script = do
+  chosen ← choose history q
+  plan ← plan_of history q (marks_of chosen script)
+  Ok (marks_of chosen script, plan)
+
+-- a restore that was planned just now, all of its pieces waiting
+abbrev pub planned : World → Request → List (List ℕ) → model.Plan → Restore
+planned w q marks plan = record {
+  jobs = w.jobs;
+  volumes = w.volumes;
+  request = q;
+  marks = marks;
+  plan = plan;
+  statuses = map (λ (p : Piece). Waiting) (pieces_of plan.groups);
+  transit = [];
+  taken = empty;
+}
+
+-- ---- restores
+
+-- the restore of this number, if there is one that is not over
+abbrev pub restore_at : World → ℕ → Option Restore
+restore_at w number = flat (slice_get w.restores number)
+  where
+    flat : Option (Option Restore) → Option Restore
+    flat (Some it) = it
+    flat None = None
+
+-- the restore of this number becomes this one, or is over
+abbrev pub becomes : World → ℕ → Option Restore → World
+becomes w number it = record w { restores = set w.restores number it }
+
+-- a piece of the restore stands here
+abbrev pub stands : Restore → ℕ → Status → Type 0
+stands r piece status = slice_get r.statuses piece ≡ Some status
+
+-- the piece goes there
+abbrev pub goes : Restore → ℕ → Status → Restore
+goes r piece status = record r { statuses = set r.statuses piece status }
+
+-- A walk reads the block at its address, over volumes that go on from those of the restore: the block's hits, as one batch, are on their way.
+pub record IsRead (r : Restore) (piece : ℕ) (after : Restore) : Type 0 where
+  pub address : ℕ
+  pub next : ℕ
+  pub batch : List Hit
+  pub the_piece : Piece
+  pub volumes : List Volume
+  pub claimed : stands r piece (Claimed address)
+  pub piece_is : slice_get (pieces_of r.plan.groups) piece ≡ Some the_piece
+  pub extend : Extends volumes r.volumes
+  pub step : step_on volumes the_piece address ≡ Ok (Some (batch, next))
+  pub after_is : after ≡ record (goes r piece (Claimed next)) { transit = r.transit ++ batch ∷ [] }
+
+-- the walk of a piece is at its end
+pub record IsAtEnd (r : Restore) (piece : ℕ) : Type 0 where
+  pub address : ℕ
+  pub the_piece : Piece
+  pub volumes : List Volume
+  pub claimed : stands r piece (Claimed address)
+  pub piece_is : slice_get (pieces_of r.plan.groups) piece ≡ Some the_piece
+  pub extend : Extends volumes r.volumes
+  pub ends : step_on volumes the_piece address ≡ Ok None
+
+-- a batch that is on its way is taken
+pub record IsTaken (r : Restore) (place : ℕ) (after : Restore) : Type 0 where
+  pub batch : List Hit
+  pub under_way : slice_get r.transit place ≡ Some batch
+  pub after_is : after ≡ record r { transit = take place r.transit ++ drop (place + 1) r.transit; taken = with_hits r.taken batch }
+
+-- all pieces are read, and nothing is on its way
+pub record IsWhole (r : Restore) : Type 0 where
+  pub finished : AllByRecursion (λ status. status ≡ Finished) r.statuses
+  pub none : r.transit ≡ []
+
+-- what an event makes of a restore that is not over
+abbrev pub Moves : Event → Restore → Restore → Type 0
+Moves (Claim number piece) r after = stands r piece Waiting × (after ≡ goes r piece (Claimed 0))
+Moves (Read number piece) r after = IsRead r piece after
+Moves (Fail number piece) r after = ((address : ℕ) × stands r piece (Claimed address)) × (after ≡ goes r piece Waiting)
+Moves (Finish number piece) r after = IsAtEnd r piece × (after ≡ goes r piece Finished)
+Moves (Take number place) r after = IsTaken r place after
+Moves (Commit c) r after = ⊥
+Moves (Plan q script) r after = ⊥
+Moves (Deliver number) r after = ⊥
+
+-- ---- steps
+
+-- the restore is there and not over, and the event makes something of it
+abbrev pub Can : World → ℕ → Event → Type 0
+Can w number event = (r : Restore) × (after : Restore) × (restore_at w number ≡ Some r) × Moves event r after
+
+-- The event can happen: a commit and a plan always, every other where its restore is there and not over, and stands as the event asks.
+abbrev pub IsEnabled : World → Event → Type 0
+IsEnabled w (Commit c) = ⊤
+IsEnabled w (Plan q script) = ⊤
+IsEnabled w (Claim number piece) = Can w number (Claim number piece)
+IsEnabled w (Read number piece) = Can w number (Read number piece)
+IsEnabled w (Fail number piece) = Can w number (Fail number piece)
+IsEnabled w (Finish number piece) = Can w number (Finish number piece)
+IsEnabled w (Take number place) = Can w number (Take number place)
+IsEnabled w (Deliver number) = (r : Restore) × (restore_at w number ≡ Some r) × IsWhole r
+
+-- what becomes of a commit: 40, 41 or 42 and no change, or the job is there
+abbrev pub Commits : World → ToCommit → Reply → World → Type 0
+Commits w c Done after = IsCommitted w c after
+Commits w c (Refused n) after = (after ≡ w) × ((pushed (rows_of_jobs w.jobs) (job_rows c []) ≡ Err n) ⊎ ((n ≡ 42) × IsTooLong w c))
+Commits w c (Planned n) after = ⊥
+Commits w c (Delivered rs) after = ⊥
+
+-- what becomes of a plan: 50, 51, 53 or 54 and no change, or one more restore, under the next number
+abbrev pub Plans : World → Request → List Command → Reply → World → Type 0
+Plans w q script (Planned n) after =
+    (marks : List (List ℕ)) × (plan : model.Plan) × (plan_for (rows_of_jobs w.jobs) q script ≡ Ok (marks, plan))
+    × (n ≡ length w.restores) × (after ≡ record w { restores = w.restores ++ Some (planned w q marks plan) ∷ [] })
+Plans w q script (Refused n) after = (after ≡ w) × (plan_for (rows_of_jobs w.jobs) q script ≡ Err n)
+Plans w q script Done after = ⊥
+Plans w q script (Delivered rs) after = ⊥
+
+-- what becomes of an event of one restore: it changes that restore alone; 59 and no change where it is not enabled
+abbrev pub Goes : World → ℕ → Event → Reply → World → Type 0
+Goes w number event Done after = (r : Restore) × (r' : Restore) × (restore_at w number ≡ Some r) × Moves event r r' × (after ≡ becomes w number (Some r'))
+Goes w number event (Refused n) after = (n ≡ 59) × (after ≡ w) × (IsEnabled w event → ⊥)
+Goes w number event (Planned n) after = ⊥
+Goes w number event (Delivered rs) after = ⊥
+
+-- what becomes of a delivery: the files of what was taken under the planned names, and the restore is over; 59 and no change where it is not enabled
+abbrev pub Delivers : World → ℕ → Reply → World → Type 0
+Delivers w number (Delivered rs) after =
+    (r : Restore) × (restore_at w number ≡ Some r) × IsWhole r × (rs ≡ files r.taken (Some r.plan.names)) × (after ≡ becomes w number None)
+Delivers w number (Refused n) after = (n ≡ 59) × (after ≡ w) × (IsEnabled w (Deliver number) → ⊥)
+Delivers w number Done after = ⊥
+Delivers w number (Planned n) after = ⊥
+
+-- one step: an event in a state, its reply, and the state behind it
+abbrev pub IsStep : World → Event → Reply → World → Type 0
+IsStep w (Commit c) reply after = Commits w c reply after
+IsStep w (Plan q script) reply after = Plans w q script reply after
+IsStep w (Claim number piece) reply after = Goes w number (Claim number piece) reply after
+IsStep w (Read number piece) reply after = Goes w number (Read number piece) reply after
+IsStep w (Fail number piece) reply after = Goes w number (Fail number piece) reply after
+IsStep w (Finish number piece) reply after = Goes w number (Finish number piece) reply after
+IsStep w (Take number place) reply after = Goes w number (Take number place) reply after
+IsStep w (Deliver number) reply after = Delivers w number reply after
+
+-- a run: some events one after the other, with their replies
+abbrev pub IsRun : World → List Event → List Reply → World → Type 0
+IsRun w [] [] after = after ≡ w
+IsRun w (event ∷ events) (reply ∷ replies) after = (next : World) × IsStep w event reply next × IsRun next events replies after
+IsRun w [] (reply ∷ replies) after = ⊥
+IsRun w (event ∷ events) [] after = ⊥
+
+-- a state before the first step: any history and any volumes, and no restores
+pub record IsStart (w : World) : Type 0 where
+  pub history : is_history (rows_of_jobs w.jobs) ≡ true
+  pub are_jobs : AllByRecursion IsJob w.jobs
+  pub none : w.restores ≡ []

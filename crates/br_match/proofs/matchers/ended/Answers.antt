@@ -1,0 +1,10 @@
+use Rattle.std.proofs.Common.{ltb, ℕ, rules}
+use Rattle.std.proofs.lemmas.Bool.{ltb-true, ltb-false}
+use Rattle.std.proofs.lemmas.List.Sorted.{IsPartitionPoint-from_clause, IsPartitionedBy-ltb}
+use Rattle.br_match.proofs.matchers.ended.Goals as goal
+
+pub returns-clause-point : goal.returns-clause-point
+returns-clause-point c =
+    let parted = IsPartitionedBy-ltb (λ (n : ℕ). n) _ c.args.addr c.requires in
+    let point = IsPartitionPoint-from_clause (λ (n : ℕ). ltb n c.args.addr) _ _ c.partition_point.ensures.partitioned parted (λ a r q k. search rules) in
+    (λ k d le lt. ltb-true _ _ (point.0 k d le lt), λ k d le lt. ltb-false _ _ (point.1 k d le lt))
