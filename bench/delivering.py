@@ -41,7 +41,9 @@ import tempfile
 
 # Nothing is left beside the script.
 sys.dont_write_bytecode = True
-from extract import MIB, PROGRAM, Best, make, run, same_bytes
+sys.path.insert(0, os.path.join(os.path.dirname(os.path.dirname(os.path.abspath(__file__))), "tools"))
+from common import MIB, PROGRAM, escaped, run_measured
+from extract import Best, make, same_bytes
 
 # The sets by the names that are shown.
 KINDS = {"small": "one-session", "large": "large"}
@@ -109,8 +111,6 @@ def wanted(manifest):
 
 def delivered(folder):
     """The same of each regular file below a folder."""
-    from volume_sets import escaped
-
     top = os.fsencode(folder)
     for place, _, names in os.walk(top):
         for path in (os.path.join(place, name) for name in names):
@@ -169,7 +169,7 @@ class Delivery:
 
     def prepare(self):
         """Brings the volumes into the system's memory, and lists what is to be delivered."""
-        run(["cat", *(os.path.join(self.path("volumes"), name) for name in self.facts["volumes"])], os.devnull)
+        run_measured(["cat", *(os.path.join(self.path("volumes"), name) for name in self.facts["volumes"])], os.devnull)
         self.list(self.path("manifest"), "wanted")
 
     def fail(self, name, what):
@@ -179,7 +179,7 @@ class Delivery:
     def run(self, name, words):
         """Runs a program once, and looks at what it printed."""
         printed = self.path(f"printed-{name}")
-        seconds, memory, busy, status = run([*self.commands[name], *words], printed)
+        seconds, memory, busy, status = run_measured([*self.commands[name], *words], printed)
         self.best[name].take(seconds, memory, busy)
         if status != 0:
             self.fail(name, f"status {status}")
@@ -256,7 +256,7 @@ def main():
     os.dup2(os.open(os.devnull, os.O_RDONLY), 0)
     folder = options.folder or tempfile.mkdtemp(prefix="brestore-bench-")
     os.makedirs(folder, exist_ok=True)
-    least = run(["true"], os.devnull)[1] / MIB
+    least = run_measured(["true"], os.devnull)[1] / MIB
     print(f"load {os.getloadavg()[0]:.1f} on {os.cpu_count()} processors; a peak below {least:.0f} MiB is not seen")
     try:
         sets = [measure(folder, kind, options) for kind in options.kind or KINDS]

@@ -26,9 +26,10 @@ import time
 
 # Nothing is left beside the script.
 sys.dont_write_bytecode = True
+sys.path.insert(0, os.path.join(os.path.dirname(os.path.dirname(os.path.abspath(__file__))), "tools"))
+from common import MIB, PROGRAM, run_measured
+
 HERE = os.path.dirname(os.path.abspath(__file__))
-PROGRAM = os.path.join(os.path.dirname(HERE), "crates", "brestore", "out", "brestore")
-MIB = 1 << 20
 KINDS = ("small", "large")
 OTHER_KINDS = ("many-volumes", "many-visits")
 MOST_TIME = {"small": 4.0, "large": 2.5, "many-volumes": 4.0, "many-visits": 4.0}
@@ -101,17 +102,6 @@ def same_bytes(one, other):
                 return True
 
 
-def run(words, output):
-    """Seconds, peak memory in bytes, processor seconds and status of a child that writes to a file."""
-    flags = os.O_WRONLY | os.O_CREAT | os.O_TRUNC
-    actions = [(os.POSIX_SPAWN_OPEN, 1, output, flags, 0o644)]
-    start = time.monotonic()
-    child = os.posix_spawnp(words[0], words, os.environ, file_actions=actions)
-    _, status, usage = os.wait4(child, 0)
-    seconds = time.monotonic() - start
-    return seconds, usage.ru_maxrss * 1024, usage.ru_utime + usage.ru_stime, os.waitstatus_to_exitcode(status)
-
-
 class Best:
     """The best of several runs."""
 
@@ -139,7 +129,7 @@ class Measured:
 
     def run_md5sum(self):
         volumes = [os.path.join(self.path("volumes"), name) for name in self.facts["volumes"]]
-        seconds, memory, busy, status = run(["md5sum", *volumes], self.path("md5"))
+        seconds, memory, busy, status = run_measured(["md5sum", *volumes], self.path("md5"))
         self.md5sum.take(seconds, memory, busy)
         self.is_right &= status == 0
 
@@ -147,7 +137,7 @@ class Measured:
         words = [options.program, "extract", "--bsr", self.path("bootstrap"), "--volumes", self.path("volumes")]
         if options.drives is not None:
             words += ["--drives", str(options.drives)]
-        seconds, memory, busy, status = run(words, self.path("restored"))
+        seconds, memory, busy, status = run_measured(words, self.path("restored"))
         self.extract.take(seconds, memory, busy)
         if status != 0:
             print(f"{os.path.basename(self.folder)}: the program ended with status {status}")
@@ -225,7 +215,7 @@ def main():
     os.makedirs(folder, exist_ok=True)
     is_right, targets = True, []
     try:
-        print(f"load {os.getloadavg()[0]:.1f} on {os.cpu_count()} processors; a peak below {run(['true'], os.devnull)[1] / MIB:.0f} MiB is not seen")
+        print(f"load {os.getloadavg()[0]:.1f} on {os.cpu_count()} processors; a peak below {run_measured(['true'], os.devnull)[1] / MIB:.0f} MiB is not seen")
         for kind in options.kind or KINDS:
             kind_is_right, kind_targets = measure(folder, kind, options)
             is_right &= kind_is_right

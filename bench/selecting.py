@@ -19,18 +19,20 @@ import subprocess
 import sys
 import tempfile
 
-HERE = os.path.dirname(os.path.abspath(__file__))
-PROGRAM = os.path.join(os.path.dirname(HERE), "crates", "br_bench", "out", "br_bench")
+# Nothing is left beside the script.
+sys.dont_write_bytecode = True
+sys.path.insert(0, os.path.join(os.path.dirname(os.path.dirname(os.path.abspath(__file__))), "tools"))
+from common import BENCH_PROGRAM, MIB, run_measured
+
 STAGES = ("history", "view", "tree", "list", "mark", "plan")
 STEPS = ("history", "view", "tree", "/", "/home", "/home/user0/project1", "mark", "marked", "plan")
 DEEP = "/home/user0/project1/"
 MOST_GROWTH = 13.0
-MIB = 1 << 20
 
 
 def read_options():
     parser = argparse.ArgumentParser(description="Measures the steps of a selection.")
-    parser.add_argument("--program", default=PROGRAM, help="the program (default: %(default)s)")
+    parser.add_argument("--program", default=BENCH_PROGRAM, help="the program (default: %(default)s)")
     parser.add_argument("--paths", type=int, default=1_000_000, help="rows of the Full, a multiple of 10,000 (default: %(default)s)")
     parser.add_argument("--jobs", type=int, default=30, help="Incrementals, each of a hundredth of the paths (default: %(default)s)")
     parser.add_argument("--repeats", type=int, default=5, metavar="N", help="runs of each, of which the median counts (default: %(default)s)")
@@ -96,15 +98,12 @@ def expected_lines(paths, jobs):
 def run(words, folder):
     """Status, peak memory in bytes and both outputs of a child."""
     files = [os.path.join(folder, name) for name in ("out", "err")]
-    flags = os.O_WRONLY | os.O_CREAT | os.O_TRUNC
-    actions = [(os.POSIX_SPAWN_OPEN, i + 1, file, flags, 0o644) for i, file in enumerate(files)]
-    child = os.posix_spawn(words[0], words, os.environ, file_actions=actions)
-    _, status, usage = os.wait4(child, 0)
+    _, memory, _, status = run_measured(words, *files)
     texts = []
     for file in files:
         with open(file) as text:
             texts.append(text.read())
-    return os.waitstatus_to_exitcode(status), usage.ru_maxrss * 1024, *texts
+    return status, memory, *texts
 
 
 class Measured:

@@ -15,27 +15,30 @@ The status is 1 where something is wrong.
 import argparse
 import os
 import sqlite3
-import subprocess
 import sys
 import tempfile
 import time
 
-HERE = os.path.dirname(os.path.abspath(__file__))
-PROGRAM = os.path.join(os.path.dirname(HERE), "crates", "br_bench", "out", "br_bench")
-SQL = os.path.join(HERE, "catalogues", "order.sql")
-MIB = 1 << 20
+# Nothing is left beside the script.
+sys.dont_write_bytecode = True
+sys.path.insert(0, os.path.join(os.path.dirname(os.path.dirname(os.path.abspath(__file__))), "tools"))
+from common import BENCH_PROGRAM, MIB, ORDER_SQL, run_measured
+
+
+def lines_of(file):
+    with open(file) as text:
+        return text.read().splitlines()
 
 
 def run(words):
     """The lines of both outputs of a child, and its peak memory in bytes."""
-    with tempfile.TemporaryFile("w+") as out, tempfile.TemporaryFile("w+") as err:
-        child = subprocess.Popen(words, stdout=out, stderr=err)
-        _, status, usage = os.wait4(child.pid, 0)
-        out.seek(0), err.seek(0)
-        lines, spent = out.read().splitlines(), err.read().splitlines()
+    with tempfile.TemporaryDirectory() as folder:
+        files = [os.path.join(folder, name) for name in ("out", "err")]
+        _, memory, _, status = run_measured(words, *files)
+        lines, spent = (lines_of(file) for file in files)
     if status:
-        sys.exit(f"{' '.join(words)}: status {os.waitstatus_to_exitcode(status)}: {spent}")
-    return lines, spent, usage.ru_maxrss * 1024
+        sys.exit(f"{' '.join(words)}: status {status}: {spent}")
+    return lines, spent, memory
 
 
 def seconds(spent, step):
@@ -44,7 +47,7 @@ def seconds(spent, step):
 
 def tables():
     """The statements that make the tables."""
-    with open(SQL) as text:
+    with open(ORDER_SQL) as text:
         return [it for it in text.read().split(";") if "CREATE TABLE" in it]
 
 
@@ -127,7 +130,7 @@ def measure(program, paths, folder):
 
 def main():
     parser = argparse.ArgumentParser(description="Measures the catalogue.")
-    parser.add_argument("--program", default=PROGRAM, help="the program (default: %(default)s)")
+    parser.add_argument("--program", default=BENCH_PROGRAM, help="the program (default: %(default)s)")
     parser.add_argument("--paths", type=int, nargs="+", default=[100_000, 1_000_000])
     options = parser.parse_args()
     with tempfile.TemporaryDirectory() as folder:

@@ -1,8 +1,8 @@
 """Makes sets of volumes with a bootstrap, and says what a restore by it must give.
 
-The format of blocks, records and attributes is that of docs/formats.md. Labels and the blocks' checksums, which our reader passes over,
-have the form that Bacula gives them (see the volumes in sets/), so that Bacula's own tools read the volumes too. All bytes come from
-a seeded generator, so a set of the same kind, size and seed is the same anywhere.
+The format of blocks, records and attributes is that of docs/formats.md. Labels and the blocks' checksums, which our reader
+passes over, have the form that Bacula gives them (see the volumes in acceptance/sets/), so that Bacula's own tools read the
+volumes too. All bytes come from a seeded generator, so a set of the same kind, size and seed is the same anywhere.
 
 A set is a folder:
 
@@ -19,6 +19,8 @@ import random
 import struct
 import zlib
 
+from common import MIB, escaped
+
 BLOCK_LIMIT = 64_512
 BLOCK_HEADER = struct.Struct(">III4sII")
 RECORD_HEADER = struct.Struct(">iiI")
@@ -26,7 +28,6 @@ RECORD_BYTES = 65_536
 ATTRIBUTES, DATA, DIGEST = 1, 2, 3
 EMPTY_FILE, FILE, LINK, FOLDER = 2, 3, 4, 5
 VOLUME_LABEL, START_OF_SESSION, END_OF_SESSION = -2, -4, -5
-MIB = 1 << 20
 LEAST_LARGE_FILE = 256 * MIB
 GREATEST_FILE = 1 << 30
 FILES_IN_FOLDER = 128
@@ -41,13 +42,6 @@ def base64_number(number):
         number //= 64
         text = DIGITS[number % 64] + text
     return text
-
-
-def escaped(name):
-    """A name as the manifest prints it."""
-    return "".join(
-        chr(byte) if 0x21 <= byte <= 0x7E and byte != 0x5C else f"\\x{byte:02x}" for byte in name
-    )
 
 
 def volume_label(name):

@@ -1,11 +1,11 @@
 #!/usr/bin/env python3
-"""Restores from a catalogue that the real sqlite3 made, with a delivery into a folder and without, and has sqlite3 look at a catalogue
-that the program made.
+"""Restores from a catalogue that the real sqlite3 made, with a delivery into a folder and without, and has sqlite3 check a
+catalogue that the program made.
 
-    bench/catalogue.py                    wants sqlite3, and the program in crates/brestore/out
-    bench/catalogue.py --program FILE     another program
+    acceptance/catalogue.py                    needs sqlite3, and the program in crates/brestore/out
+    acceptance/catalogue.py --program FILE     another program
 
-The status is 1 where something is not as expected.
+The status is 1 if something is not as expected.
 """
 
 import argparse
@@ -14,17 +14,18 @@ import subprocess
 import sys
 import tempfile
 
-from cases import delivery, tree_of
+# Nothing is left beside the script.
+sys.dont_write_bytecode = True
+sys.path.insert(0, os.path.join(os.path.dirname(os.path.dirname(os.path.abspath(__file__))), "tools"))
+from common import CASES, ORDER_SQL, PROGRAM, SETS
+from delivered import delivery, tree_of
 
-HERE = os.path.dirname(os.path.abspath(__file__))
-PROGRAM = os.path.join(os.path.dirname(HERE), "crates", "brestore", "out", "brestore")
-VOLUMES = os.path.join(HERE, "sets", "order")
-SQL = os.path.join(HERE, "catalogues", "order.sql")
+VOLUMES = os.path.join(SETS, "order")
 TABLES = "Client File FileSet Filename Job JobMedia Media Path Version".split()
 
 
 def manifest_of(case):
-    with open(os.path.join(HERE, "cases", case, "expected")) as text:
+    with open(os.path.join(CASES, case, "expected")) as text:
         return text.read().splitlines(keepends=True)
 
 
@@ -38,7 +39,7 @@ FULL, DIFFERENTIAL, INCREMENTAL = (1, 1795302931, "206-1172"), (2, 1795302931, "
 
 
 def answers():
-    """For each moment what is printed after `mark *` and `done`."""
+    """Returns for each moment what is printed after `mark *` and `done`."""
     written = manifest_of("order-written")
     full, newest, differential = written[:5], written[5:6], written[6:7]
     kept = full[:2] + full[3:5]
@@ -72,9 +73,9 @@ def sqlite3(db, text):
 
 
 def restores(checks, folder):
-    """A catalogue that sqlite3 made."""
+    """Restores from a catalogue that sqlite3 made."""
     db = os.path.join(folder, "order.db")
-    with open(SQL) as text:
+    with open(ORDER_SQL) as text:
         sqlite3(db, text.read())
     for before, text in answers().items():
         checks.check(f"restore of what was before {before}", checks.console(db, before=before), (0, text, ""))
@@ -97,9 +98,9 @@ def restores(checks, folder):
 
 
 def delivers(checks, folder):
-    """What was marked, put into a folder."""
+    """Delivers what was marked into a folder."""
     db, missing = os.path.join(folder, "delivered.db"), os.path.join(folder, "missing")
-    with open(SQL) as text:
+    with open(ORDER_SQL) as text:
         sqlite3(db, text.read())
     for place, (before, text) in enumerate(answers().items()):
         into = os.path.join(folder, f"into{place}")
@@ -122,7 +123,7 @@ def delivers(checks, folder):
 
 
 def refuses(checks, folder):
-    """Files that are no catalogue."""
+    """Tries files that are no catalogue."""
     for name, sql, number in [
         ("a catalogue of version 3", "UPDATE Version SET VersionId = 3;", 47),
         ("two versions", "INSERT INTO Version VALUES (1);", 47),
@@ -135,7 +136,7 @@ def refuses(checks, folder):
         ("a missing table", "DROP TABLE Media;", 45),
     ]:
         db = os.path.join(folder, "other.db")
-        with open(SQL) as text:
+        with open(ORDER_SQL) as text:
             sqlite3(db, text.read())
         sqlite3(db, sql)
         checks.check(name, checks.console(db), (1, "", f"refused {number}\n"))
@@ -146,7 +147,7 @@ def refuses(checks, folder):
 
 
 def makes(checks, folder):
-    """A catalogue that the program makes of an empty file."""
+    """Checks a catalogue that the program makes of an empty file."""
     db = os.path.join(folder, "empty.db")
     open(db, "w").close()
     checks.check("an empty file", checks.console(db), (1, "", "refused 53\n"))

@@ -1,0 +1,59 @@
+"""What a delivery must leave in a folder, worked out from a manifest, and what is there."""
+
+import hashlib
+import os
+from pathlib import Path
+
+from common import unescaped
+
+
+def is_on_the_way(path, other):
+    """Returns whether the first path is one of a file, and a folder on the way of the other."""
+    return not path.endswith(b"/") and other.startswith(path + b"/")
+
+
+def is_text(path):
+    """Returns whether a path is UTF-8."""
+    try:
+        path.decode()
+        return True
+    except UnicodeDecodeError:
+        return False
+
+
+def delivery(manifest):
+    """Returns what a manifest leaves in an empty folder, and the number at which its delivery stops.
+
+    The first is a map from the names below the folder, without a final slash, to length and digest, or to None for a folder.
+    """
+    put, tree = [], {}
+    for line in manifest.splitlines():
+        fields = line.split(b" ")
+        if fields[0] != b"F":
+            continue
+        kind, path, content = fields[4], unescaped(fields[5]), tuple(fields[-2:])
+        if any(is_on_the_way(path, earlier) or is_on_the_way(earlier, path) for earlier in put):
+            return tree, 81
+        put.append(path)
+        if kind not in (b"2", b"3", b"5"):
+            continue
+        if not is_text(path) or (kind != b"5" and path.endswith(b"/")):
+            return tree, 80
+        names = [name for name in path.split(b"/") if name]
+        for end in range(1, len(names) + 1):
+            is_file = kind != b"5" and end == len(names)
+            tree[b"/".join(names[:end])] = content if is_file else None
+    return tree, None
+
+
+def tree_of(folder):
+    """Returns what is below a folder, as `delivery` does."""
+    tree, top = {}, os.fsencode(folder)
+    for place, folders, files in os.walk(top):
+        for name in folders:
+            tree[os.path.relpath(os.path.join(place, name), top)] = None
+        for name in files:
+            data = Path(os.fsdecode(os.path.join(place, name))).read_bytes()
+            content = (str(len(data)).encode(), hashlib.md5(data).hexdigest().encode())
+            tree[os.path.relpath(os.path.join(place, name), top)] = content
+    return tree

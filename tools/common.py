@@ -1,0 +1,43 @@
+"""What the scripts of acceptance/ and bench/ share: places in the repository, escaped names, and a child that is measured.
+
+It imports little, since the peak memory of a child counts what its parent held.
+"""
+
+import os
+import re
+import time
+
+ROOT = os.path.dirname(os.path.dirname(os.path.abspath(__file__)))
+PROGRAM = os.path.join(ROOT, "crates", "brestore", "out", "brestore")
+BENCH_PROGRAM = os.path.join(ROOT, "crates", "br_bench", "out", "br_bench")
+CASES = os.path.join(ROOT, "acceptance", "cases")
+SETS = os.path.join(ROOT, "acceptance", "sets")
+ORDER_SQL = os.path.join(ROOT, "acceptance", "catalogues", "order.sql")
+MIB = 1 << 20
+
+
+def escaped(name):
+    """Returns a name as the manifest prints it."""
+    return "".join(
+        chr(byte) if 0x21 <= byte <= 0x7E and byte != 0x5C else f"\\x{byte:02x}" for byte in name
+    )
+
+
+def unescaped(text):
+    """Returns the bytes of an escaped name."""
+    return re.sub(rb"\\x([0-9a-f]{2})", lambda digits: bytes([int(digits[1], 16)]), text)
+
+
+def run_measured(words, output, errors=None):
+    """Runs a child that writes to a file, its errors to another one if it is named.
+
+    Returns seconds, peak memory in bytes, seconds of the processor, and the status.
+    """
+    flags = os.O_WRONLY | os.O_CREAT | os.O_TRUNC
+    files = [output] if errors is None else [output, errors]
+    actions = [(os.POSIX_SPAWN_OPEN, i + 1, file, flags, 0o644) for i, file in enumerate(files)]
+    start = time.monotonic()
+    child = os.posix_spawnp(words[0], words, os.environ, file_actions=actions)
+    _, status, usage = os.wait4(child, 0)
+    seconds = time.monotonic() - start
+    return seconds, usage.ru_maxrss * 1024, usage.ru_utime + usage.ru_stime, os.waitstatus_to_exitcode(status)
