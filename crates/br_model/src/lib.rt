@@ -1,6 +1,7 @@
-//! The mathematical model: what volumes, bootstraps and backups mean, and what a restore gives.
+//! The mathematical model: what volumes, bootstraps and backups mean, and what a restore returns.
 //!
-//! The definitions stand in specs/. Each function here is a law of them: it does nothing, and ensures the law.
+//! The definitions are in specs/. Each function here states a law of them: it does nothing, and its
+//! clause is the law.
 #![tactic(auto)]
 
 ghost use Rattle.br_model.specs.Attribute.{AttributesReadBack};
@@ -16,132 +17,133 @@ ghost use Rattle.br_model.specs.SessionHolds.{WrittenSessionsHold};
 ghost use Rattle.br_model.specs.View.{ViewIsInOrder, ViewIsLookups};
 ghost use Rattle.br_model.specs.Volume.{StepsAreTheWalk, WalkIsExact};
 
-/// A block has exactly one list of fragments.
+/// States that a block has exactly one list of fragments.
 pub fn fragments_are_exact()
     ensures { FragmentsAreExact }
 {}
 
-/// The walk of a volume finds the blocks in which it is laid out.
+/// States that the walk of a volume finds the blocks in which the volume is laid out.
 pub fn walk_is_exact()
     ensures { WalkIsExact }
 {}
 
-/// Fragments are joined to the records of which they are a cut.
+/// States that fragments are joined to the records that were cut into them.
 pub fn join_is_exact()
     ensures { JoinIsExact }
 {}
 
-/// Sets of hits that answer alike are one set.
+/// States that two sets of hits with equal look-ups are equal.
 pub fn hits_are_lookups()
     ensures { HitsAreLookups }
 {}
 
-/// Step by step a walk finds the blocks of the whole walk.
+/// States that a walk step by step finds the blocks of the whole walk.
 pub fn steps_are_the_walk()
     ensures { StepsAreTheWalk }
 {}
 
-/// Each piece of a bootstrap has groups, in order of their numbers and on its volume.
+/// States that each piece of a bootstrap has groups, in order of their numbers and on its volume.
 pub fn pieces_are_whole()
     ensures { PiecesAreWhole }
 {}
 
-/// A meaning is the set of the hits.
+/// States that a meaning is the set of the hits.
 pub fn meaning_has_hits()
     ensures { MeaningHasHits }
 {}
 
-/// A bootstrap has a meaning exactly where its volumes are there and laid out as it asks.
+/// States that a bootstrap has a meaning exactly if its volumes exist and are laid out in blocks as
+/// far as its groups ask.
 pub fn meaning_is_of_laid()
     ensures { MeaningIsOfLaid }
 {}
 
-/// In a meaning the hits that a walk reaches are the hits.
+/// States that the hits that a walk reaches are the hits of the meaning, if there is one.
 pub fn reached_are_hits()
     ensures { ReachedAreHits }
 {}
 
-/// A hit that a walk reaches stays so while volumes grow.
+/// States that a walk reaches a hit still after volumes have grown.
 pub fn reached_stays()
     ensures { ReachedStays }
 {}
 
-/// The refusals of joining are the first faults of a cut.
+/// States that joining is refused for the first fault of a cut.
 pub fn join_faults_are_first()
     ensures { JoinFaultsAreFirst }
 {}
 
-/// Data records have exactly one list of extents.
+/// States that data records have exactly one list of extents.
 pub fn extents_are_exact()
     ensures { ExtentsAreExact }
 {}
 
-/// The extents of a file have exactly one list of bytes.
+/// States that the extents of a file have exactly one list of bytes.
 pub fn bytes_are_exact()
     ensures { BytesAreExact }
 {}
 
-/// What is written of an integer of 64 bits is read as that integer.
+/// States that an integer of 64 bits is read back from its text.
 pub fn numbers_read_back()
     ensures { NumbersReadBack }
 {}
 
-/// No shorter text is read as an integer than what is written of it.
+/// States that no text shorter than the written one is read as the same integer.
 pub fn numbers_are_shortest()
     ensures { NumbersAreShortest }
 {}
 
-/// What is written of attributes is read as these.
+/// States that attributes are read back from their text.
 pub fn attributes_read_back()
     ensures { AttributesReadBack }
 {}
 
-/// A set that takes more hits keeps what it holds.
+/// States that a set that takes more hits keeps those that it holds.
 pub fn taking_keeps_what_is_held()
     ensures { TakingKeepsWhatIsHeld }
 {}
 
-/// Restoring by a plan gives the selected files as they were saved.
+/// States that a restore by a plan returns the selected files as they were saved.
 pub fn plan_means_selection()
     ensures { PlanMeansSelection }
 {}
 
-/// A view is in byte order of its paths, each once.
+/// States that a view is in byte order of its paths and has each path once.
 pub fn view_is_in_order()
     ensures { ViewIsInOrder }
 {}
 
-/// A view has at each path the newest copy.
+/// States that a view has the newest copy at each path.
 pub fn view_is_lookups()
     ensures { ViewIsLookups }
 {}
 
-/// A command leaves the marks in order and in the view.
+/// States that the marks are in order and within the view after each command.
 pub fn console_stays()
     ensures { ConsoleStays }
 {}
 
-/// No mark is in order and in every view.
+/// States that a console without marks is in order and within every view.
 pub fn start_is_console()
     ensures { StartIsConsole }
 {}
 
-/// The canonical text of groups states these groups.
+/// States that the canonical text of groups states these groups.
 pub fn canonical_is_text()
     ensures { CanonicalIsText }
 {}
 
-/// A bootstrap's text states groups exactly where reading gives them.
+/// States that a bootstrap's text states groups exactly if it is read as them.
 pub fn reading_is_the_grammar()
     ensures { ReadingIsTheGrammar }
 {}
 
-/// The canonical text of groups is read as these groups.
+/// States that groups are read back from their canonical text.
 pub fn canonical_reads_back()
     ensures { CanonicalReadsBack }
 {}
 
-/// What was written of a session stands on the volumes that it was written to.
+/// States that the volumes to which a session was written hold it.
 pub fn written_sessions_hold()
     ensures { WrittenSessionsHold }
 {}

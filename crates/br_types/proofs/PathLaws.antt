@@ -29,7 +29,7 @@ or_false true b e = absurd cc
 or_false false true e = refl
 or_false false false e = refl
 
--- every part is to be a component
+-- every part must be a component
 components_are_all : (parts : List (List ℕ)) → HasLast parts → are_components parts ≡ list_all is_component parts
 unfolding are_components
 components_are_all [] h = absurd h
@@ -48,14 +48,14 @@ cond-append b x [] some = absurd (omega arith)
 cond-append true x (part ∷ parts) some = refl
 cond-append false x (part ∷ parts) some = refl
 
--- the slash makes an empty part more
+-- the slash makes one more part, an empty one
 split-append : (front : List ℕ) (last : ℕ) → is_slash last ≡ true → slice_split is_slash (front ++ last ∷ []) ≡ slice_split is_slash front ++ [] ∷ []
 split-append [] last ends = rw ends refl
 split-append (x ∷ front) last ends =
     ap (λ parts. cond (is_slash x) ([] ∷ parts) (onto_first x parts)) (split-append front last ends)
     ∙ cond-append (is_slash x) x (slice_split is_slash front) (omega (arith, length-slice_split is_slash front))
 
--- the empty part at the end is none that is tested
+-- the empty part at the end is not tested
 components_before_end : (parts : List (List ℕ)) → 0 < length parts → are_components (parts ++ [] ∷ []) ≡ list_all is_component parts
 unfolding are_components
 components_before_end [] some = absurd (omega arith)

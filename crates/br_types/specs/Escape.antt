@@ -4,7 +4,7 @@ use Rattle.br_model.specs.Text.{AreBytes, escaped}
 use Rattle.br_types.specs.declared.fault.EscapeFault.{EscapeFault}
 use Rattle.br_types.specs.declared.fault.EscapeFault.TheVariants.{Memory, BadEscape}
 
--- the number of a hexadecimal digit, with small letters alone
+-- the value of a hexadecimal digit in lower case
 unfoldable pub digit_value : ℕ → Option ℕ
 digit_value c =
     if nat_le 48 c && nat_le c 57 then Some (c - 48)
@@ -16,12 +16,13 @@ unfoldable pub byte_of : Option ℕ → Option ℕ → Option ℕ
 byte_of (Some high) (Some low) = Some (16 * high + low)
 byte_of _ _ = None
 
--- a byte in front of others, where all are there
+-- a byte before others, if all are there
 unfoldable pub in_front : Option ℕ → Option (List ℕ) → Option (List ℕ)
 in_front (Some byte) (Some bytes) = Some (byte ∷ bytes)
 in_front _ _ = None
 
--- the bytes that a text stands for: \x and two digits are one byte, any other \ is a fault, every other byte stands for itself
+-- the bytes that an escaped text means: \x and two digits are one byte, any other \ is a fault, and
+-- every other byte is itself
 unfoldable pub unescaped : List ℕ → Option (List ℕ)
 unescaped [] = Some []
 unescaped (c ∷ x ∷ high ∷ low ∷ text) =
@@ -30,11 +31,11 @@ unescaped (c ∷ x ∷ high ∷ low ∷ text) =
     else None
 unescaped (c ∷ text) = if c == 92 then None else in_front (Some c) (unescaped text)
 
--- what is written of bytes is read as these
+-- escaped bytes are read back
 abbrev pub EscapedReadsBack : Type 0
 EscapedReadsBack = (name : List ℕ) → AreBytes name → unescaped (escaped name) ≡ Some name
 
--- the refusal that is expected, nothing for want of memory
+-- the refusal that the model decides: none if memory ran out
 abbrev pub escape_cause : EscapeFault → Option (Unit {0})
 escape_cause Memory = None
 escape_cause BadEscape = Some tt

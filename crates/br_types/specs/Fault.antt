@@ -1,4 +1,4 @@
--- What a refused name or path says.
+-- The numbers of refused names and paths.
 use Rattle.std.specs.Prelude.{ℕ, Option, Some, None}
 use Rattle.br_types.specs.declared.fault.NameFault.{NameFault}
 use Rattle.br_types.specs.declared.fault.NameFault.TheVariants.{Memory, BadName, BadPath}
@@ -9,7 +9,7 @@ fault_number Memory = 1
 fault_number BadName = 2
 fault_number BadPath = 3
 
--- the refusal that the model has, nothing for want of memory
+-- the refusal that the model decides: none if memory ran out
 abbrev pub cause : NameFault → Option ℕ
 cause Memory = None
 cause BadName = Some 2

@@ -1,18 +1,18 @@
 ghost use Rattle.std.specs.Prelude.{◌≡◌, ◌<◌, ◌++◌, [], length, take, Some, None, MatchOption, IfOk, IfErr, IfSome, OnOk, OnErr};
 ghost use Rattle.br_model.specs.Answer.{Answers, some_or};
-ghost use Rattle.br_model.specs.Text.{escaped, escaped_byte, hex_digit};
+ghost use Rattle.br_model.specs.Text.{escaped, escaped_byte, hex_digit, hexadecimal};
 ghost use Rattle.br_types.specs.Escape.{EscapedReadsBack, byte_of, digit_value, escape_cause, in_front, unescaped};
 ghost use Rattle.br_types.specs.declared.fault.EscapeFault.TheVariants.{BadEscape};
 
 use crate::fault::EscapeFault;
 use std::alloc::{AllocError, Global};
 
-/// What is written of bytes is read as these.
+/// States the law that escaped bytes are read back.
 pub fn escaped_reads_back()
     ensures { EscapedReadsBack }
 {}
 
-/// The digit for 0 to 15, with small letters.
+/// Returns the hexadecimal digit for 0 to 15, in lower case.
 fn digit_for(value: u8) -> u8
     requires { value < 16 }
     ensures { result ≡ hex_digit value }
@@ -37,10 +37,21 @@ fn push_escaped_byte(text: &mut Vec<u8>, byte: u8) -> Result<(), AllocError>
     }
 }
 
-/// Writes a name or a path behind a text, as it is printed: a byte from `!` to `~` other than `\` stands for itself, and every
-/// other is `\x` with two hexadecimal digits, small ones. `unescape` reads it back.
+/// Appends bytes as two hexadecimal digits each, in lower case.
+#[tactic(auto, unfolding(br_model::specs::Text::hexadecimal))]
+pub fn push_hexadecimal(text: &mut Vec<u8>, bytes: &[u8]) -> Result<(), AllocError>
+    ensures { OnOk result (text.new.items ≡ text.old.items ++ hexadecimal bytes.now) }
+{
+    for byte in bytes {
+        text.extend_from_slice(&[digit_for(*byte / 16), digit_for(*byte % 16)])?;
+    }
+    Ok(())
+}
+
+/// Appends a name or a path as it is printed: each byte from `!` to `~` other than `\` as it is, and
+/// every other as `\x` and two hexadecimal digits in lower case. `unescape` reads it back.
 ///
-/// An error is want of memory; a part of the name may then stand behind the text.
+/// If memory runs out, a part of the name may have been appended.
 #[tactic(auto, unfolding(br_model::specs::Text::escaped))]
 pub fn push_escaped(text: &mut Vec<u8>, name: &[u8]) -> Result<(), AllocError>
     ensures ok { OnOk result (text.new.items ≡ text.old.items ++ escaped name.now) }
@@ -54,7 +65,7 @@ pub fn push_escaped(text: &mut Vec<u8>, name: &[u8]) -> Result<(), AllocError>
     Ok(())
 }
 
-/// What a digit stands for; capital letters are no digits.
+/// Returns the value of a hexadecimal digit in lower case.
 #[tactic(auto, unfolding(crate::specs::Escape::digit_value))]
 fn value_of(digit: u8) -> Option<u8>
     ensures value { result ≡ digit_value digit }
@@ -67,7 +78,7 @@ fn value_of(digit: u8) -> Option<u8>
     }
 }
 
-/// The byte that two hexadecimal digits spell, small ones; nothing where one of them is none.
+/// Returns the byte that two hexadecimal digits in lower case spell; `None` if one is not a digit.
 #[tactic(auto, unfolding(crate::specs::Escape::byte_of))]
 pub fn byte_by(high: u8, low: u8) -> Option<u8>
     ensures { result ≡ byte_of (digit_value high) (digit_value low) }
@@ -75,7 +86,7 @@ pub fn byte_by(high: u8, low: u8) -> Option<u8>
     Some(16 * value_of(high)? + value_of(low)?)
 }
 
-/// The first byte that a text stands for, and the text behind it; nothing where the text is empty.
+/// Reads the first byte of an escaped text. Returns it and the rest; `None` if the text is empty.
 #[tactic(auto, unfolding(crate::specs::Escape::unescaped, crate::specs::Escape::in_front))]
 fn first_byte(text: &[u8]) -> Result<Option<(u8, &[u8])>, EscapeFault>
     ensures read { IfOk result (λ first. MatchOption first (text.now ≡ []) (λ p. unescaped text.now ≡ in_front (Some p.0) (unescaped p.1.now))) }
@@ -93,10 +104,13 @@ fn first_byte(text: &[u8]) -> Result<Option<(u8, &[u8])>, EscapeFault>
     }
 }
 
-/// The bytes that an escaped text stands for: `\x` and two hexadecimal digits, small ones, are one byte, and every byte but `\`
-/// stands for itself. So bytes that need no escape may have one, and bytes that need one may stand there without.
+/// Reads an escaped text: `\x` and two hexadecimal digits in lower case are one byte, and every byte
+/// but `\` is itself. So a byte may be escaped without need, and may lack an escape that
+/// `push_escaped` writes.
 ///
-/// `BadEscape` where any other `\` stands in the text; `Memory` is want of memory.
+/// # Errors
+///
+/// `BadEscape` if the text contains any other `\`.
 pub fn unescape(alloc: Global, text: &[u8]) -> Result<Vec<u8>, EscapeFault>
     ensures { Answers (λ bytes. bytes.items) escape_cause result (some_or (unescaped text.now) tt) }
 {

@@ -18,7 +18,7 @@ pub enum NameFault {
 }
 
 impl NameFault {
-    /// The number of the refusal: 1 want of memory, 2 a bad name, 3 a bad path.
+    /// Returns the number of the refusal: 1 for memory, 2 for a bad name, 3 for a bad path.
     pub fn number(self) -> u32
         ensures { result ≡ fault_number self }
     {

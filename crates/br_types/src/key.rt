@@ -1,7 +1,7 @@
 use crate::number::FileIndex;
 use std::marker::Model;
 
-/// Which run of a backup wrote a record: VolSessionId and VolSessionTime of its blocks.
+/// The run of a backup that wrote a record: VolSessionId and VolSessionTime of its blocks.
 #[derive(Clone, Copy, Debug, PartialEq, Eq, PartialOrd, Ord)]
 pub struct SessionKey {
     pub id: u32,
@@ -18,7 +18,7 @@ impl Model for SessionKey {
     ghost inverse = { λ k. record { id = k.id; time = k.time } };
 }
 
-/// Which file of which session. Keys are ordered by session number, session time and index.
+/// One file of one session. Keys are ordered by session number, session time and index.
 #[derive(Clone, Copy, Debug, PartialEq, Eq, PartialOrd, Ord)]
 pub struct FileKey {
     pub session: SessionKey,

@@ -1,9 +1,13 @@
-//! Names, paths and keys: the words that every other crate speaks of. Also how names, paths and numbers are printed.
+//! Names, paths and keys, which every other crate uses. Also printing of names, paths and numbers,
+//! and tests of bytes.
 //!
-//! Each type is seen by contracts as its value of the model: a name or a path as its bytes, a number as a number, a key as
-//! the record of its numbers, `Names` as a finite map.
+//! Contracts see each type as its value of the model: a name or a path as its bytes, a number as a
+//! number, a key as the record of its numbers, `Names` as a finite map.
+//!
+//! Any call that returns a `Result` may also fail because memory ran out.
 #![tactic(auto)]
 
+mod bytes;
 mod decimal;
 mod escape;
 mod fault;
@@ -13,8 +17,9 @@ mod names;
 mod number;
 mod path;
 
-pub use decimal::push_number;
-pub use escape::{byte_by, escaped_reads_back, push_escaped, unescape};
+pub use bytes::{are_digits, has_no_nul, is_blank_byte, is_directory_path};
+pub use decimal::{push_number, push_wide};
+pub use escape::{byte_by, escaped_reads_back, push_escaped, push_hexadecimal, unescape};
 pub use fault::{EscapeFault, NameFault};
 pub use key::{FileKey, SessionKey};
 pub use name::{Name, VolName};

@@ -8,7 +8,7 @@ use crate::fault::NameFault;
 use std::alloc::{AllocError, Global};
 use std::marker::Model;
 
-/// The most bytes that a name has.
+/// The greatest number of bytes of a name.
 const MAX_LEN: usize = 127;
 
 fn is_name_byte_of(byte: u8) -> bool
@@ -48,7 +48,11 @@ impl Model for Name {
 }
 
 impl Name {
-    /// The name with these bytes; `BadName` where they are none.
+    /// Makes the name with these bytes.
+    ///
+    /// # Errors
+    ///
+    /// `BadName` if the bytes are not a name.
     #[tactic(auto, unfolding(br_model::specs::Name::checked_name))]
     pub fn new(alloc: Global, bytes: &[u8]) -> Result<Name, NameFault>
         ensures { Answers (λ name. name) cause result (checked_name bytes.now) }
@@ -61,7 +65,7 @@ impl Name {
         })
     }
 
-    /// The bytes of the name.
+    /// Returns the bytes of the name.
     pub fn bytes(&self) -> &[u8]
         ensures same { result.now ≡ self.now }
         ensures valid { is_name self.now ≡ true }
@@ -69,7 +73,7 @@ impl Name {
         &self.bytes
     }
 
-    /// An equal name.
+    /// Returns an equal name.
     pub fn copy(&self, alloc: Global) -> Result<Name, AllocError>
         ensures { IfOk result (λ name. name ≡ self.now) }
     {
@@ -79,7 +83,7 @@ impl Name {
     }
 }
 
-/// The name of a volume: any name but `.` and `..`, so that it can name a file in a folder.
+/// The name of a volume: any name but `.` and `..`, so that a file in a folder can have it.
 #[derive(Debug, Drop)]
 pub struct VolName {
     name: Name,
@@ -97,7 +101,11 @@ impl Model for VolName {
 }
 
 impl VolName {
-    /// The volume's name with these bytes; `BadName` where they are none.
+    /// Makes the volume's name with these bytes.
+    ///
+    /// # Errors
+    ///
+    /// `BadName` if the bytes are not a name, or are `.` or `..`.
     #[tactic(auto, unfolding(br_model::specs::Name::checked_name, br_model::specs::Name::checked_volume_name, br_model::specs::Name::is_volume_name))]
     pub fn new(alloc: Global, bytes: &[u8]) -> Result<VolName, NameFault>
         ensures { Answers (λ name. name) cause result (checked_volume_name bytes.now) }
@@ -110,7 +118,7 @@ impl VolName {
         })
     }
 
-    /// The bytes of the name.
+    /// Returns the bytes of the name.
     pub fn bytes(&self) -> &[u8]
         ensures same { result.now ≡ self.now }
         ensures valid { is_volume_name self.now ≡ true }
@@ -118,7 +126,7 @@ impl VolName {
         self.name.bytes()
     }
 
-    /// An equal name.
+    /// Returns an equal name.
     pub fn copy(&self, alloc: Global) -> Result<VolName, AllocError>
         ensures { IfOk result (λ name. name ≡ self.now) }
     {

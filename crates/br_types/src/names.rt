@@ -9,7 +9,7 @@ use std::collections::BTreeMap;
 use std::collections::btree_map::Iter;
 use std::marker::Model;
 
-/// Under which path each file of a restore was planned: a finite map from keys to paths.
+/// The path of each file that a restore plans: a finite map from keys to paths.
 #[derive(Debug, Drop)]
 pub struct Names {
     paths: BTreeMap<FileKey, Path>,
@@ -43,7 +43,7 @@ fn copied(
 }
 
 impl Names {
-    /// No name yet. It keeps the allocator, by which it grows.
+    /// Makes a map without entries, which grows by this allocator.
     pub fn new(alloc: Global) -> Names
         ensures { result ≡ map.empty }
     {
@@ -52,7 +52,7 @@ impl Names {
         }
     }
 
-    /// Sets the path of a file, and gives the one before.
+    /// Sets the path of a file, and returns the previous one.
     pub fn insert(&mut self, key: FileKey, path: Path) -> Result<Option<Path>, AllocError>
         ensures before { IfOk result (λ before. before ≡ map.get self.old key) }
         ensures ok { OnOk result (self.new ≡ map.insert self.old key path) }
@@ -61,21 +61,21 @@ impl Names {
         Ok(self.paths.insert(key, path)?)
     }
 
-    /// The path of a file, if it has one.
+    /// Returns the path of a file, if it has one.
     pub fn get(&self, key: FileKey) -> Option<&Path>
         ensures { option_copied result ≡ map.get self.now key }
     {
         self.paths.get(&key)
     }
 
-    /// The files with their paths, in order of key.
+    /// Returns the files with their paths, in order of key.
     pub fn iter(&self) -> Iter<'_, FileKey, Path>
         ensures { result ≡ map.entries self.now }
     {
         self.paths.iter()
     }
 
-    /// Equal names.
+    /// Returns an equal map.
     pub fn copy(&self, alloc: Global) -> Result<Names, AllocError>
         ensures { IfOk result (λ names. names ≡ self.now) }
     {

@@ -6,7 +6,7 @@ use std::marker::Model;
 /// The greatest index of a file in its session: 2^31 - 1.
 const MAX_INDEX: u32 = 2_147_483_647;
 
-/// Which file of its session: the files of a session are numbered from 1, and have at most the number 2^31 - 1.
+/// The number of a file in its session: from 1 to 2^31 - 1.
 #[derive(Clone, Copy, Debug, PartialEq, Eq, PartialOrd, Ord)]
 pub struct FileIndex {
     number: u32,
@@ -25,7 +25,7 @@ impl Model for FileIndex {
 }
 
 impl FileIndex {
-    /// The index with this number, if it is one.
+    /// Makes the index with this number, if it is in range.
     pub fn new(number: u32) -> Option<FileIndex>
         ensures valid { IsSome result ↔ ((1 ≤ number) × (number < 2 ^ 31)) }
         ensures value { IfSome result (λ index. index ≡ number) }
@@ -37,7 +37,7 @@ impl FileIndex {
         }
     }
 
-    /// The number.
+    /// Returns the number.
     pub fn get(self) -> u32
         ensures same { result ≡ self }
         ensures from_one { 1 ≤ self }
@@ -47,7 +47,7 @@ impl FileIndex {
     }
 }
 
-/// The number of a job, from 1.
+/// The number of a job: from 1.
 #[derive(Clone, Copy, Debug, PartialEq, Eq, PartialOrd, Ord)]
 pub struct JobId {
     id: u32,
@@ -66,7 +66,7 @@ impl Model for JobId {
 }
 
 impl JobId {
-    /// The job's number, if it is one.
+    /// Makes the job's number, if it is not 0.
     pub fn new(id: u32) -> Option<JobId>
         ensures valid { IsSome result ↔ (1 ≤ id) }
         ensures value { IfSome result (λ job. job ≡ id) }
@@ -74,7 +74,7 @@ impl JobId {
         if 1 <= id { Some(JobId { id }) } else { None }
     }
 
-    /// The number.
+    /// Returns the number.
     pub fn get(self) -> u32
         ensures same { result ≡ self }
         ensures from_one { 1 ≤ self }
@@ -103,7 +103,7 @@ impl Model for Letter {
 }
 
 impl Letter {
-    /// The letter with this code, if it is one.
+    /// Makes the letter with this ASCII code, if it is one.
     pub fn new(byte: u8) -> Option<Letter>
         ensures valid { IsSome result ↔ (is_letter byte ≡ true) }
         ensures value { IfSome result (λ letter. letter ≡ byte) }
@@ -115,7 +115,7 @@ impl Letter {
         }
     }
 
-    /// The letter's code.
+    /// Returns the letter's ASCII code.
     pub fn get(self) -> u8
         ensures same { result ≡ self }
         ensures valid { is_letter self ≡ true }

@@ -1,14 +1,15 @@
-ghost use Rattle.std.specs.Prelude.{◌≡◌, ◌==◌, true, not, drop, IfOk};
+ghost use Rattle.std.specs.Prelude.{◌≡◌, true, drop, IfOk};
 ghost use Rattle.std.specs.List.{list_all, slice_split};
 ghost use Rattle.br_model.specs.Answer.{Answers};
 ghost use Rattle.br_model.specs.Name.{is_slash, is_component, are_components, is_path, checked_path};
 ghost use Rattle.br_types.specs.Fault.{cause};
 
+use crate::bytes::has_no_nul;
 use crate::fault::NameFault;
 use std::alloc::{AllocError, Global};
 use std::marker::Model;
 
-/// The most bytes that a path has.
+/// The greatest number of bytes of a path.
 const MAX_LEN: usize = 4096;
 
 fn is_component_of(part: &[u8]) -> bool
@@ -40,12 +41,6 @@ fn are_components_of(bytes: &[u8]) -> bool
     }
 }
 
-fn has_no_nul(bytes: &[u8]) -> bool
-    ensures { result ≡ list_all (λ c. not (c == 0)) bytes.now }
-{
-    bytes.iter().all(|byte| *byte != 0)
-}
-
 #[tactic(auto, unfolding(br_model::specs::Name::is_path))]
 fn is_path_of(bytes: &[u8]) -> bool
     ensures { result ≡ is_path bytes.now }
@@ -56,8 +51,9 @@ fn is_path_of(bytes: &[u8]) -> bool
     }
 }
 
-/// An absolute path: it begins with `/`, has at most 4,096 bytes, no NUL, and no component that is empty, `.` or `..`. One
-/// `/` at the end marks a directory, so `/a` and `/a/` are two paths; `/` is one too.
+/// An absolute path: it begins with `/`, has at most 4,096 bytes, no NUL, and no component that is
+/// empty, `.` or `..`. One `/` at the end marks a directory, so `/a` and `/a/` are two paths. `/` is
+/// a path, too.
 #[derive(Debug, Drop)]
 pub struct Path {
     bytes: Vec<u8>,
@@ -75,7 +71,11 @@ impl Model for Path {
 }
 
 impl Path {
-    /// The path with these bytes; `BadPath` where they are none.
+    /// Makes the path with these bytes.
+    ///
+    /// # Errors
+    ///
+    /// `BadPath` if the bytes are not a path.
     #[tactic(auto, unfolding(br_model::specs::Name::checked_path))]
     pub fn new(alloc: Global, bytes: &[u8]) -> Result<Path, NameFault>
         ensures { Answers (λ path. path) cause result (checked_path bytes.now) }
@@ -88,7 +88,7 @@ impl Path {
         })
     }
 
-    /// The bytes of the path.
+    /// Returns the bytes of the path.
     pub fn bytes(&self) -> &[u8]
         ensures same { result.now ≡ self.now }
         ensures valid { is_path self.now ≡ true }
@@ -96,7 +96,7 @@ impl Path {
         &self.bytes
     }
 
-    /// An equal path.
+    /// Returns an equal path.
     pub fn copy(&self, alloc: Global) -> Result<Path, AllocError>
         ensures { IfOk result (λ path. path ≡ self.now) }
     {

@@ -2,18 +2,19 @@ use super::*;
 use std::alloc::Global;
 use std::test::Fail;
 
-/// How many letters a text has, and whether it is a name.
+/// Numbers of letters, and whether a text of that length is a name.
 const LENGTHS: [(usize, bool); 4] = [(0, false), (1, true), (127, true), (128, false)];
 
-/// Texts that are no name.
+/// Texts that are not a name.
 const NO_NAMES: [&[u8]; 4] = [b"a/b", b"a\"b", b"a\tb", b"\xe9"];
 
-/// Texts that name no volume.
+/// Texts that are not the name of a volume.
 const NO_VOLUMES: [&[u8]; 3] = [b".", b"..", b""];
 
+/// Texts that are a path.
 const PATHS: [&[u8]; 6] = [b"/", b"/a", b"/a/", b"/a/b", b"/...", b"/a b\xff"];
 
-/// Texts that are no path.
+/// Texts that are not a path.
 const NO_PATHS: [&[u8]; 9] = [
     b"", b"a", b"//", b"/a//b", b"/a//", b"/.", b"/../a", b"/a/.", b"/a\0",
 ];
@@ -38,7 +39,7 @@ const LETTERS: [(u8, bool); 5] = [
 /// Keys in their order: session, time and index.
 const KEYS: [(u32, u32, u32); 4] = [(1, 9, 9), (2, 1, 9), (2, 2, 1), (2, 2, 2)];
 
-/// Bytes, and how they are printed behind `=`.
+/// Bytes, and how they are printed after `=`.
 const PRINTED: [(&[u8], &[u8]); 5] = [
     (b"", b"="),
     (b"/a", b"=/a"),
@@ -47,7 +48,7 @@ const PRINTED: [(&[u8], &[u8]); 5] = [
     (b"!~\"AZ", b"=!~\"AZ"),
 ];
 
-/// Texts, and the bytes that they stand for.
+/// Escaped texts and their bytes.
 const ESCAPED: [(&[u8], &[u8]); 6] = [
     (b"", b""),
     (b"/a", b"/a"),
@@ -81,19 +82,19 @@ const DIGITS: [(u8, u8, Option<u8>); 5] = [
     (b'1', b'g', None),
 ];
 
-/// Numbers as they are printed.
+/// Numbers, and how they are printed after `=`.
 const NUMBERS: [(u64, &[u8]); 3] = [
     (0, b"=0"),
     (1_000_000, b"=1000000"),
     (u64::MAX, b"=18446744073709551615"),
 ];
 
-/// A text of so many letters.
+/// Makes a text of `len` letters.
 fn letters(alloc: Global, len: usize) -> Result<Vec<u8>, Fail> {
     Ok(vec![in alloc; b'a'; len]?)
 }
 
-/// Whether the bytes are a name with these bytes, or refused by 2.
+/// Returns whether the bytes are a name, or refused by number 2, as `valid` says.
 fn is_name_as(alloc: Global, bytes: &[u8], valid: bool) -> bool {
     match Name::new(alloc, bytes) {
         Ok(name) => valid && name.bytes() == bytes,
@@ -101,7 +102,7 @@ fn is_name_as(alloc: Global, bytes: &[u8], valid: bool) -> bool {
     }
 }
 
-/// The first of these lengths at which it is another way.
+/// Returns the first length whose text is wrongly a name or wrongly none.
 fn wrong_length(alloc: Global, lengths: &[(usize, bool)]) -> Result<Option<usize>, Fail> {
     for (len, valid) in lengths {
         let bytes = letters(alloc, *len)?;
@@ -112,7 +113,7 @@ fn wrong_length(alloc: Global, lengths: &[(usize, bool)]) -> Result<Option<usize
     Ok(None)
 }
 
-/// The first text that is a name, or refused as something else.
+/// Returns the first text that is a name or refused by another fault.
 fn wrong_name(alloc: Global, texts: &[&'static [u8]]) -> Option<&'static [u8]> {
     for text in texts {
         if Name::new(alloc, text).err() != Some(NameFault::BadName) {
@@ -122,7 +123,7 @@ fn wrong_name(alloc: Global, texts: &[&'static [u8]]) -> Option<&'static [u8]> {
     None
 }
 
-/// The first text that names a volume, or is refused with another number.
+/// Returns the first text that names a volume or is refused by another number.
 fn wrong_volume(alloc: Global, texts: &[&'static [u8]]) -> Option<&'static [u8]> {
     for text in texts {
         if VolName::new(alloc, text).err().map(|fault| fault.number()) != Some(2) {
@@ -132,14 +133,14 @@ fn wrong_volume(alloc: Global, texts: &[&'static [u8]]) -> Option<&'static [u8]>
     None
 }
 
-/// Whether the copy of a name has the name's bytes.
+/// Returns whether the copy of a name has the name's bytes.
 fn name_is_copied(alloc: Global, bytes: &[u8]) -> Result<bool, Fail> {
     let name = Name::new(alloc, bytes)?;
     let copy = name.copy(alloc)?;
     Ok(copy.bytes() == bytes)
 }
 
-/// Whether the copy of a volume's name has the name's bytes.
+/// Returns whether the copy of a volume's name has the name's bytes.
 fn volume_is_copied(alloc: Global, bytes: &[u8]) -> Result<bool, Fail> {
     let name = VolName::new(alloc, bytes)?;
     let copy = name.copy(alloc)?;
@@ -156,14 +157,14 @@ fn names_have_few_kinds_of_bytes_and_at_most_127(rt: HostRuntime) -> Result<(), 
     Ok(())
 }
 
-/// Whether the copy of a path has the path's bytes.
+/// Returns whether the copy of a path has the path's bytes.
 fn path_is_copied(alloc: Global, bytes: &[u8]) -> Result<bool, Fail> {
     let path = Path::new(alloc, bytes)?;
     let copy = path.copy(alloc)?;
     Ok(copy.bytes() == bytes)
 }
 
-/// The first path whose copy is another one.
+/// Returns the first path whose copy differs.
 fn wrong_copy(alloc: Global, paths: &[&'static [u8]]) -> Result<Option<&'static [u8]>, Fail> {
     for path in paths {
         if !path_is_copied(alloc, path)? {
@@ -173,7 +174,7 @@ fn wrong_copy(alloc: Global, paths: &[&'static [u8]]) -> Result<Option<&'static 
     Ok(None)
 }
 
-/// The first text that is a path, or is refused with another number.
+/// Returns the first text that is a path or is refused by another number.
 fn wrong_path(alloc: Global, texts: &[&'static [u8]]) -> Option<&'static [u8]> {
     for text in texts {
         if Path::new(alloc, text).err().map(|fault| fault.number()) != Some(3) {
@@ -183,7 +184,7 @@ fn wrong_path(alloc: Global, texts: &[&'static [u8]]) -> Option<&'static [u8]> {
     None
 }
 
-/// Why `/` and so many letters are no path.
+/// Returns why `/` and `count` letters are not a path.
 fn fault_of_long_path(alloc: Global, count: usize) -> Result<Option<NameFault>, Fail> {
     let mut bytes = letters(alloc, count)?;
     bytes.insert(0, b'/')?;
@@ -202,7 +203,7 @@ fn paths_are_absolute_and_plain_and_have_at_most_4096_bytes(rt: HostRuntime) -> 
     Ok(())
 }
 
-/// The first number that is an index or none the other way round.
+/// Returns the first number that is wrongly an index or wrongly none.
 fn wrong_index(numbers: &[(u32, bool)]) -> Option<u32> {
     for (number, valid) in numbers {
         if FileIndex::new(*number).map(|index| index.get()) != valid.then_some(*number) {
@@ -212,7 +213,7 @@ fn wrong_index(numbers: &[(u32, bool)]) -> Option<u32> {
     None
 }
 
-/// The first byte that is a letter or none the other way round.
+/// Returns the first byte that is wrongly a letter or wrongly none.
 fn wrong_letter(bytes: &[(u8, bool)]) -> Option<u8> {
     for (byte, valid) in bytes {
         if Letter::new(*byte).map(|letter| letter.get()) != valid.then_some(*byte) {
@@ -222,6 +223,7 @@ fn wrong_letter(bytes: &[(u8, bool)]) -> Option<u8> {
     None
 }
 
+/// Makes a key of a session number, a session time and an index.
 fn key(shape: (u32, u32, u32)) -> Result<FileKey, Fail> {
     let (id, time, index) = shape;
     Ok(FileKey {
@@ -230,7 +232,7 @@ fn key(shape: (u32, u32, u32)) -> Result<FileKey, Fail> {
     })
 }
 
-/// Whether each key is below the next one.
+/// Returns whether each key is below the next one.
 fn ascend(shapes: &[(u32, u32, u32)]) -> Result<bool, Fail> {
     for pair in shapes.windows(2) {
         let [low, high] = pair else {
@@ -246,19 +248,22 @@ fn ascend(shapes: &[(u32, u32, u32)]) -> Result<bool, Fail> {
 #[test]
 fn numbers_have_their_ranges_and_keys_their_order(rt: HostRuntime) -> Result<(), Fail> {
     assert_eq!(rt; wrong_index(&INDEXES), None);
-    assert!(rt; JobId::new(0) == None);
-    assert!(rt; JobId::new(4_294_967_295).map(|id| id.get()) == Some(4_294_967_295));
+    assert_eq!(rt; JobId::new(0), None);
+    assert_eq!(rt;
+        JobId::new(4_294_967_295).map(|id| id.get()),
+        Some(4_294_967_295)
+    );
     assert_eq!(rt; wrong_letter(&LETTERS), None);
     assert!(rt; ascend(&KEYS)?);
     Ok(())
 }
 
-/// Sets the path of a file, and says whether it had none.
+/// Sets the path of a file, and returns whether it had none.
 fn is_new(alloc: Global, names: &mut Names, key: FileKey, path: &[u8]) -> Result<bool, Fail> {
     Ok(names.insert(key, Path::new(alloc, path)?)?.is_none())
 }
 
-/// Sets the path of a file, and says whether it had this one.
+/// Sets the path of a file, and returns whether it had the path `before`.
 fn had(
     alloc: Global,
     names: &mut Names,
@@ -272,7 +277,7 @@ fn had(
     }
 }
 
-/// Whether the file has this path.
+/// Returns whether the file has this path.
 fn has(names: &Names, key: FileKey, path: &[u8]) -> bool {
     match names.get(key) {
         Some(found) => found.bytes() == path,
@@ -280,7 +285,7 @@ fn has(names: &Names, key: FileKey, path: &[u8]) -> bool {
     }
 }
 
-/// Whether the two files have these paths, and another file has none.
+/// Returns whether the two files have these paths, and a third file has none.
 fn are_set(names: &Names, first: &[u8], other: &[u8]) -> Result<bool, Fail> {
     let is_first = has(names, key((1, 100, 2))?, first);
     let is_other = has(names, key((1, 200, 1))?, other);
@@ -288,14 +293,14 @@ fn are_set(names: &Names, first: &[u8], other: &[u8]) -> Result<bool, Fail> {
     Ok(is_first && is_other && no_third)
 }
 
-/// Sets the paths of the two files, the second first, and says whether both had none.
+/// Sets the paths of the two files, the second first, and returns whether both had none.
 fn are_new(alloc: Global, names: &mut Names) -> Result<bool, Fail> {
     let is_other_new = is_new(alloc, names, key((1, 200, 1))?, b"/b")?;
     let is_first_new = is_new(alloc, names, key((1, 100, 2))?, b"/a")?;
     Ok(is_other_new && is_first_new)
 }
 
-/// Whether the names are those of the two files, in order of key.
+/// Returns whether the entries are those of the two files, in order of key.
 fn come_in_order(names: &Names) -> Result<bool, Fail> {
     let mut entries = names.iter();
     for (wanted, bytes) in [((1, 100, 2), b"/a"), ((1, 200, 1), b"/b")] {
@@ -307,7 +312,7 @@ fn come_in_order(names: &Names) -> Result<bool, Fail> {
     Ok(entries.next().is_none())
 }
 
-/// Whether a copy has the same paths.
+/// Returns whether a copy has the same paths.
 fn copy_is_set(alloc: Global, names: &Names, first: &[u8], other: &[u8]) -> Result<bool, Fail> {
     let copy = names.copy(alloc)?;
     are_set(&copy, first, other)
@@ -324,14 +329,14 @@ fn names_are_a_map_in_order_of_key(rt: HostRuntime) -> Result<(), Fail> {
     Ok(())
 }
 
-/// Whether the name is printed so behind `=`.
+/// Returns whether the name is printed as `wanted`, which begins with `=`.
 fn is_printed(alloc: Global, name: &[u8], wanted: &[u8]) -> Result<bool, Fail> {
     let mut text = Vec::from_slice(alloc, b"=")?;
     push_escaped(&mut text, name)?;
     Ok(text.as_slice() == wanted)
 }
 
-/// The first name that is printed in another way.
+/// Returns the first name that is printed in another way.
 fn wrongly_printed(
     alloc: Global,
     names: &[(&'static [u8], &'static [u8])],
@@ -344,7 +349,7 @@ fn wrongly_printed(
     Ok(None)
 }
 
-/// The first text that is read as other bytes.
+/// Returns the first text that is read as other bytes.
 fn wrongly_read(
     alloc: Global,
     texts: &[(&'static [u8], &'static [u8])],
@@ -358,7 +363,7 @@ fn wrongly_read(
     Ok(None)
 }
 
-/// The first text that is read, or refused as something else.
+/// Returns the first text that is read or refused by another fault.
 fn not_refused(alloc: Global, texts: &[&'static [u8]]) -> Option<&'static [u8]> {
     for text in texts {
         if unescape(alloc, text).err() != Some(EscapeFault::BadEscape) {
@@ -368,7 +373,7 @@ fn not_refused(alloc: Global, texts: &[&'static [u8]]) -> Option<&'static [u8]> 
     None
 }
 
-/// The first digits that spell another byte.
+/// Returns the first digits that spell another byte.
 fn wrong_byte() -> Option<(u8, u8)> {
     for (high, low, wanted) in DIGITS {
         if byte_by(high, low) != wanted {
@@ -378,7 +383,7 @@ fn wrong_byte() -> Option<(u8, u8)> {
     None
 }
 
-/// The first number that is printed in another way behind `=`.
+/// Returns the first number that is printed in another way.
 fn wrong_number(alloc: Global) -> Result<Option<u64>, Fail> {
     for (number, wanted) in NUMBERS {
         let mut text = Vec::from_slice(alloc, b"=")?;
@@ -390,10 +395,44 @@ fn wrong_number(alloc: Global) -> Result<Option<u64>, Fail> {
     Ok(None)
 }
 
+/// Prints the greatest number of 128 bits and two bytes in hexadecimal.
+fn wide_and_bytes(alloc: Global) -> Result<Vec<u8>, Fail> {
+    let mut text = Vec::new(alloc);
+    push_wide(&mut text, u128::MAX)?;
+    push_hexadecimal(&mut text, b"=\x0f\xa0")?;
+    Ok(text)
+}
+
 #[test]
 fn numbers_are_printed_and_digits_are_read(rt: HostRuntime) -> Result<(), Fail> {
     assert_eq!(rt; wrong_number(rt.alloc())?, None);
     assert_eq!(rt; wrong_byte(), None);
+    assert_eq!(rt;
+        wide_and_bytes(rt.alloc())?.as_slice(),
+        b"3402823669209384634633746074317682114553d0fa0".as_slice()
+    );
+    Ok(())
+}
+
+#[test]
+fn bytes_are_tested(rt: HostRuntime) -> Result<(), Fail> {
+    assert_eq!(rt;
+        [b' ', b'\t', b'\n', b'a'].map(is_blank_byte),
+        [true, true, false, false]
+    );
+    assert_eq!(rt; [has_no_nul(b"ab"), has_no_nul(b"a\0b")], [true, false]);
+    assert_eq!(rt;
+        [are_digits(b""), are_digits(b"09"), are_digits(b"0a")],
+        [true, true, false]
+    );
+    assert_eq!(rt;
+        [
+            is_directory_path(b"/a/"),
+            is_directory_path(b"/a"),
+            is_directory_path(b"")
+        ],
+        [true, false, false]
+    );
     Ok(())
 }
 
