@@ -1,4 +1,4 @@
--- What digits spell.
+-- The numbers that digits spell.
 use Rattle.std.proofs.Common.{◌≡◌, ℕ, zero, suc, ◌+◌, ◌^◌, ◌<◌, ◌≤◌, Bool, true, false, ◌&&◌, cond, eqb, ltb, leb, get_or, drop, length, List, [], ◌∷◌, Option, Some, None, Ok, Err, refl, ap, subst, inl, inr, ◌∙◌, sym, arith}
 use Rattle.std.specs.Prelude.{fold, is_some, option_and_then}
 use Rattle.std.specs.List.{list_all}
@@ -12,7 +12,7 @@ use Rattle.br_model.specs.Text.{is_empty, decimal_value}
 use Rattle.br_model.specs.Number.{digit64, magnitude, fits64, with_sign}
 use Rattle.br_attr.specs.Digits.{digit_in_range, spelled_from, and_decimal, spelled64, spelled10, signed64, integer64, positive_or_fault}
 
--- ---- a digit lies in its range
+-- ---- a digit is in its range
 
 abbrev is_same : Option ℕ → Option ℕ → Bool
 is_same None None = true

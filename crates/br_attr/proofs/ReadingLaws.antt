@@ -1,4 +1,4 @@
--- Numbers that are read one after another, and what stands in front of a byte.
+-- Numbers that are read one after another, and the text before a byte.
 use Rattle.std.proofs.Common.{◌≡◌, ℕ, ◌+◌, ◌<◌, ◌≤◌, Bool, true, false, not, List, [], ◌∷◌, ◌++◌, length, get_or, take, drop, Ok, Err, Result, refl, ap, subst, sym, ◌∙◌, arith, append_assoc, one-add, inl, inr}
 use Rattle.std.specs.Prelude.{ℤ, pos}
 use Rattle.std.specs.List.{list_all, before_first}
@@ -42,7 +42,7 @@ turn_at words i j word same at = subst (λ k. (k < length words) × (word ≡ ge
 
 -- ---- numbers by their places
 
--- behind the numbers that were read zeros change nothing
+-- zeros after the numbers that were read change nothing
 module _ (numbers : List ℤ) (count : ℕ) (zeros : (k : ℕ) → count ≤ k → get_or numbers k (pos 0) ≡ pos 0) where
   same_place : (k : ℕ) → get_or (take count numbers) k (pos 0) ≡ get_or numbers k (pos 0)
   same_place k = elim (cases_lt k count) [

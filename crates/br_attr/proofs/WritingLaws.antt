@@ -7,7 +7,7 @@ use Rattle.br_model.specs.Number.{digit_at, without_zeros, is_64_bits, write_mag
 use Rattle.br_model.specs.Attribute.{Stat, stat_numbers, write_stat}
 use Rattle.br_attr.specs.Digits.{last_digits}
 
--- ---- without zeros in front
+-- ---- without leading zeros
 
 skip_zero : (d e : ℕ) (ds : List ℕ) → d ≡ 65 → without_zeros (d ∷ e ∷ ds) ≡ without_zeros (e ∷ ds)
 unfolding without_zeros
@@ -38,7 +38,7 @@ pub at_last : (n place : ℕ) → place ≡ 0 → without_zeros (last_digits n (
 unfolding without_zeros
 at_last n place none = rw none refl
 
--- ---- one digit more
+-- ---- one more digit
 
 pub digit_more : (n place d : ℕ) (text : List ℕ) → 0 < place → d ≡ digit_at n (place - 1) → (text ++ d ∷ []) ++ last_digits n (place - 1) ≡ text ++ last_digits n place
 digit_more n zero d text some is = absurd (omega arith)

@@ -1,4 +1,4 @@
--- What a refused record says.
+-- The numbers of refused records.
 use Rattle.std.specs.Prelude.{ℕ, Option, Some, None}
 use Rattle.br_types.specs.declared.fault.NameFault.{NameFault}
 use Rattle.br_types.specs.declared.fault.NameFault.TheVariants as names
@@ -13,7 +13,7 @@ fault_number MissingField = 21
 fault_number BadName = 22
 fault_number IndexDiffers = 23
 
--- the refusal that the model has, nothing for want of memory
+-- the refusal that the model decides: none if memory ran out
 abbrev pub cause : AttrFault → Option ℕ
 cause Memory = None
 cause BadNumber = Some 20
@@ -21,7 +21,7 @@ cause MissingField = Some 21
 cause BadName = Some 22
 cause IndexDiffers = Some 23
 
--- a bad path or name is a bad name, and want of memory stays so
+-- a bad path or name is a bad name, and out of memory is out of memory
 abbrev pub of_name_fault : NameFault → AttrFault
 of_name_fault names.Memory = Memory
 of_name_fault names.BadName = BadName

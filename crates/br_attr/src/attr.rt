@@ -17,13 +17,14 @@ use std::marker::Model;
 /// The greatest index and the greatest type: 2^31 - 1.
 const GREATEST: u32 = 2_147_483_647;
 
+/// Returns the place of the first byte `end`, if there is one.
 fn place_of(end: u8, text: &[u8]) -> Option<usize>
     ensures { result ≡ position (λ c. c == end) text.now }
 {
     text.iter().position(|byte| *byte == end)
 }
 
-/// The text in front of the first such byte, and the text behind it.
+/// Returns the text before the first byte `end`, and the text after it.
 #[tactic(auto, unfolding(br_model::specs::Attribute::field))]
 fn field(end: u8, text: &[u8]) -> Result<(&[u8], &[u8]), AttrFault>
     ensures { AnswersAlways (λ x. (x.0.now, x.1.now)) fault_number result (model.field end text.now) }
@@ -34,7 +35,7 @@ fn field(end: u8, text: &[u8]) -> Result<(&[u8], &[u8]), AttrFault>
     }
 }
 
-/// What decimal digits spell, if it has at most 32 bits.
+/// Returns the number that decimal digits spell, if it fits 32 bits.
 fn decimal_of(digits: &[u8]) -> Option<u32>
     ensures { result ≡ spelled10 digits.now }
 {
@@ -48,7 +49,7 @@ fn decimal_of(digits: &[u8]) -> Option<u32>
     Some(value)
 }
 
-/// A decimal number from 1 to 2^31 - 1, with any number of zeros in front.
+/// Reads a decimal number from 1 to 2^31 - 1, with any number of leading zeros.
 #[tactic(auto, using(crate::proofs::DigitLaws::positive_is))]
 fn read_positive(text: &[u8]) -> Result<u32, AttrFault>
     ensures same { AnswersAlways (λ n. n) fault_number result (model.read_positive text.now) }
@@ -62,7 +63,7 @@ fn read_positive(text: &[u8]) -> Result<u32, AttrFault>
     }
 }
 
-/// What stands in front of the first NUL.
+/// Returns the text before the first NUL, or the whole text.
 fn before_nul(text: &[u8]) -> &[u8]
     ensures same { result.now ≡ before_first (λ c. c == 0) text.now }
     ensures no_nul { list_all (λ c. not (c == 0)) result.now ≡ true }
@@ -73,7 +74,7 @@ fn before_nul(text: &[u8]) -> &[u8]
     }
 }
 
-/// The path with these bytes.
+/// Makes the path with these bytes.
 #[tactic(auto, unfolding(br_model::specs::Name::checked_path, crate::specs::Path::path_or_fault))]
 fn path_of(alloc: Global, bytes: &[u8]) -> Result<Path, AttrFault>
     ensures { Answers (λ path. path) cause result (path_or_fault bytes.now) }
@@ -81,7 +82,7 @@ fn path_of(alloc: Global, bytes: &[u8]) -> Result<Path, AttrFault>
     Ok(Path::new(alloc, bytes)?)
 }
 
-/// Writes a decimal number and a byte.
+/// Appends a decimal number and a byte.
 fn push_number(text: &mut Vec<u8>, number: u32, end: u8) -> Result<(), AllocError>
     ensures { OnOk result (text.new.items ≡ text.old.items ++ decimal number ++ end ∷ []) }
 {
@@ -91,7 +92,7 @@ fn push_number(text: &mut Vec<u8>, number: u32, end: u8) -> Result<(), AllocErro
     Ok(())
 }
 
-/// Writes bytes and a NUL.
+/// Appends bytes and a NUL.
 fn push_text(text: &mut Vec<u8>, bytes: &[u8]) -> Result<(), AllocError>
     ensures { OnOk result (text.new.items ≡ text.old.items ++ bytes.now ++ 0 ∷ []) }
 {
@@ -100,8 +101,9 @@ fn push_text(text: &mut Vec<u8>, bytes: &[u8]) -> Result<(), AllocError>
     Ok(())
 }
 
-/// The text of the record of a file with this index, type, path, numbers and link text, as `Attr::write` has it. It is read
-/// again as these where the type is from 1 to 2^31 - 1 and the link text has no NUL.
+/// Returns the attribute record of a file with this index, type, path, numbers and link text, as
+/// `Attr::write` does. It is read back if the type is from 1 to 2^31 - 1 and the link text has no
+/// NUL.
 #[tactic(auto, unfolding(br_model::specs::Attribute::write_attributes))]
 pub fn write_attributes(
     alloc: Global,
@@ -111,7 +113,8 @@ pub fn write_attributes(
     stat: &Stat,
     link: &[u8],
 ) -> Result<Vec<u8>, AllocError>
-    ensures { IfOk result (λ text. text.items ≡ model.write_attributes (record { index = index; kind = kind; path = path.now; stat = stat.now; link = link.now })) }
+    ensures { IfOk result (λ text. text.items
+        ≡ model.write_attributes (record { index = index; kind = kind; path = path.now; stat = stat.now; link = link.now })) }
 {
     let mut text = Vec::new(alloc);
     push_number(&mut text, index.get(), b' ')?;
@@ -123,10 +126,10 @@ pub fn write_attributes(
     Ok(text)
 }
 
-/// The attributes of a file: which file of its session it is, its type, path and numbers, and the text of its link.
+/// The attributes of a file: its index in its session, type, path, numbers and link text.
 ///
-/// Types are Bacula's: 1 a hard link to a saved file, 2 an empty file, 3 a file, 4 a symbolic link, 5 a directory, and others
-/// for what is restored as attributes alone.
+/// Types are Bacula's: 1 a hard link to a saved file, 2 an empty file, 3 a file, 4 a symbolic link,
+/// 5 a directory. Of other types only the attributes are restored.
 #[derive(Debug, Drop)]
 pub struct Attr {
     index: FileIndex,
@@ -149,13 +152,19 @@ impl Model for Attr {
 }
 
 impl Attr {
-    /// The attributes that the record of the file with this index holds: `INDEX TYPE PATH NUL NUMBERS NUL LINK NUL`, where the
-    /// last NUL may be missing and what follows it is not read. This is stream 1 of Bacula's Developer's Guide ("Storage Media
-    /// Output Format", Unix attributes).
+    /// Reads the attribute record of the file with this index: `INDEX TYPE PATH NUL NUMBERS NUL LINK
+    /// NUL`. The last NUL may be missing, and what follows it is not read. This is stream 1 of
+    /// Bacula's Developer's Guide ("Storage Media Output Format", Unix attributes).
     ///
-    /// From left to right the first fault is the answer. `MissingField`: no space behind the index or the type, no NUL behind the
-    /// path or the numbers, fewer than 13 numbers. `BadNumber`: an index or a type that is not decimal from 1 to 2^31 - 1, or a
-    /// number of the file that is none. `IndexDiffers`: another index. `BadName`: no path.
+    /// # Errors
+    ///
+    /// The first fault from left to right:
+    /// - `MissingField` if no space follows the index or the type, no NUL follows the path or the
+    ///   numbers, or there are fewer than 13 numbers.
+    /// - `BadNumber` if the index or the type is not decimal from 1 to 2^31 - 1, or one of the
+    ///   file's numbers is not a number.
+    /// - `IndexDiffers` if the record has another index.
+    /// - `BadName` if the path is not a path.
     #[tactic(auto, unfolding(br_model::specs::Attribute::read_attributes, crate::specs::Path::path_or_fault))]
     pub fn read(alloc: Global, bytes: &[u8], index: FileIndex) -> Result<Attr, AttrFault>
         ensures { Answers (λ a. a) cause result (model.read_attributes bytes.now index) }
@@ -180,7 +189,7 @@ impl Attr {
         })
     }
 
-    /// Attributes of this type can be written, and read again.
+    /// States that the attributes can be written and read back. It does nothing.
     fn can_be_written(&self)
         ensures { model.CanBeWritten self.now }
     {
@@ -190,8 +199,9 @@ impl Attr {
         stat.has_64_bits();
     }
 
-    /// The one text that is written for the attributes: `INDEX TYPE PATH NUL NUMBERS NUL LINK NUL` with index and type in decimal
-    /// without zeros in front, and the numbers as `Stat::write` has them. Reading the text gives the same attributes.
+    /// Returns the attribute record: `INDEX TYPE PATH NUL NUMBERS NUL LINK NUL` with index and type
+    /// in decimal without leading zeros, and the numbers as `Stat::write` returns them. `read` reads
+    /// it back.
     pub fn write(&self, alloc: Global) -> Result<Vec<u8>, AllocError>
         ensures text { IfOk result (λ text. text.items ≡ model.write_attributes self.now) }
         ensures reads_back { IfOk result (λ text. model.read_attributes text.items self.now.index ≡ Ok self.now) }
@@ -203,14 +213,14 @@ impl Attr {
         )
     }
 
-    /// Which file of its session it is.
+    /// Returns the file's index in its session.
     pub fn index(&self) -> FileIndex
         ensures { result ≡ self.now.index }
     {
         self.index
     }
 
-    /// The type, from 1 to 2^31 - 1.
+    /// Returns the type: 1 to 2^31 - 1.
     pub fn kind(&self) -> u32
         ensures same { result ≡ self.now.kind }
         ensures from_one { 1 ≤ self.now.kind }
@@ -219,21 +229,21 @@ impl Attr {
         self.kind
     }
 
-    /// The path under which the file was saved.
+    /// Returns the path under which the file was saved.
     pub fn path(&self) -> &Path
         ensures { result.now ≡ self.now.path }
     {
         &self.path
     }
 
-    /// The numbers of the file.
+    /// Returns the numbers of the file.
     pub fn stat(&self) -> Stat
         ensures { result ≡ self.now.stat }
     {
         self.stat
     }
 
-    /// Of a hard link or a symbolic link what it names, else mostly empty. It has no NUL.
+    /// Returns the target of a hard link or a symbolic link; of other files mostly nothing.
     pub fn link(&self) -> &[u8]
         ensures same { result.now ≡ self.now.link }
         ensures no_nul { list_all (λ c. not (c == 0)) self.now.link ≡ true }
@@ -241,7 +251,7 @@ impl Attr {
         &self.link
     }
 
-    /// The type, the path, the numbers and the text of the link, without a copy.
+    /// Returns the type, the path, the numbers and the link text, without copying.
     pub fn into_parts(self) -> (u32, Path, Stat, Vec<u8>)
         ensures kind { result.0 ≡ self.kind }
         ensures path { result.1 ≡ self.path }

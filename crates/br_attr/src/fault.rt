@@ -11,18 +11,19 @@ use thiserror::Error;
 pub enum AttrFault {
     #[error("out of memory")]
     Memory,
-    #[error("not a number: a file's number has an optional minus and base 64 digits and fits 64 bits, an index or a type is decimal from 1 to 2147483647")]
+    #[error("not a number: a number of a file is base 64 digits after an optional minus and fits 64 bits; an index or a type is decimal, 1 to 2147483647")]
     BadNumber,
     #[error("a field is missing: an attribute record has an index, a type, a path and at least 13 numbers")]
     MissingField,
     #[error("not a path: a path begins with /, has at most 4096 bytes, no NUL, and no component that is empty, . or ..")]
     BadName,
-    #[error("the record is of another file than the one with this index")]
+    #[error("the record belongs to a file with another index")]
     IndexDiffers,
 }
 
 impl AttrFault {
-    /// The number of the refusal: 1 want of memory, 20 a bad number, 21 a missing field, 22 a bad path, 23 another index.
+    /// Returns the number of the refusal: 1 for memory, 20 for a bad number, 21 for a missing field,
+    /// 22 for a bad path, 23 for another index.
     pub fn number(self) -> u32
         ensures { result ≡ fault_number self }
     {

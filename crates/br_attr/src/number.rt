@@ -11,10 +11,10 @@ use std::alloc::AllocError;
 /// The digits for 0 to 63.
 const DIGITS: [u8; 64] = *b"ABCDEFGHIJKLMNOPQRSTUVWXYZabcdefghijklmnopqrstuvwxyz0123456789+/";
 
-/// The place of the greatest digit that 64 bits can have.
+/// The place of the first digit of the greatest number of 64 bits, counted from the right.
 const GREATEST_PLACE: u32 = 10;
 
-/// What a digit stands for.
+/// Returns the value of a base 64 digit.
 #[tactic(auto, using(crate::proofs::DigitLaws::digit_rules))]
 fn digit_of(byte: u8) -> Option<u64>
     ensures { result ≡ digit64 byte }
@@ -29,7 +29,7 @@ fn digit_of(byte: u8) -> Option<u64>
     }
 }
 
-/// What digits spell, if it has at most 64 bits.
+/// Returns the number that base 64 digits spell, if it fits 64 bits.
 fn spelled_by(digits: &[u8]) -> Option<u64>
     ensures { result ≡ spelled64 digits.now }
 {
@@ -41,7 +41,7 @@ fn spelled_by(digits: &[u8]) -> Option<u64>
     Some(value)
 }
 
-/// The integer of a sign and a magnitude.
+/// Returns the integer of a sign and a magnitude, if it fits 64 bits.
 fn signed(minus: bool, magnitude: u64) -> Option<i64>
     ensures { result ≡ signed64 minus magnitude }
 {
@@ -52,7 +52,7 @@ fn signed(minus: bool, magnitude: u64) -> Option<i64>
     }
 }
 
-/// The integer that digits spell behind their sign.
+/// Returns the integer that digits after a sign spell, if it fits 64 bits.
 fn integer_of(minus: bool, digits: &[u8]) -> Option<i64>
     ensures { result ≡ integer64 minus digits.now }
 {
@@ -62,11 +62,13 @@ fn integer_of(minus: bool, digits: &[u8]) -> Option<i64>
     signed(minus, spelled_by(digits)?)
 }
 
-/// The integer that a text spells: an optional `-` and then base 64 digits, the most significant first, `A-Z a-z 0-9 + /` for
-/// 0 to 63, at least one and without padding. Zeros may stand in front, and `-A` is 0.
+/// Reads a base 64 integer: an optional `-`, and at least one digit of `A-Z a-z 0-9 + /` for 0 to 63,
+/// the most significant first, without padding. There may be leading zeros, and `-A` is 0. Bacula's
+/// Developer's Guide, "Storage Media Output Format", has these numbers in the attributes of a file.
 ///
-/// `BadNumber` where the text is none of these, or the integer does not fit 64 bits. Bacula's Developer's Guide, "Storage Media
-/// Output Format", has these numbers in the attributes of a file.
+/// # Errors
+///
+/// `BadNumber` if the text has another form, or the integer does not fit 64 bits.
 #[tactic(auto, unfolding(br_model::specs::Number::read_number))]
 pub fn read_number(text: &[u8]) -> Result<i64, AttrFault>
     ensures { AnswersAlways (λ n. n) fault_number result (read_number text.now) }
@@ -78,7 +80,7 @@ pub fn read_number(text: &[u8]) -> Result<i64, AttrFault>
     integer.ok_or(AttrFault::BadNumber)
 }
 
-/// The digit at a place, from the right.
+/// Returns the digit at a place, counted from the right.
 fn digit_in(magnitude: u64, place: u32) -> u8
     requires { place ≤ 10 }
     ensures { result ≡ digit_at magnitude place }
@@ -86,7 +88,7 @@ fn digit_in(magnitude: u64, place: u32) -> u8
     DIGITS[(magnitude / 64_u64.pow(place) % 64) as usize]
 }
 
-/// The place of the first digit that is not 0, or of the last digit.
+/// Returns the place of the first digit that is not 0, or of the last digit.
 fn first_place(magnitude: u64) -> u32
     ensures within { result ≤ 10 }
     ensures shortest { last_digits magnitude (result + 1) ≡ write_magnitude magnitude }
@@ -98,7 +100,7 @@ fn first_place(magnitude: u64) -> u32
     place
 }
 
-/// Writes the last digits, so many of them.
+/// Appends the last `count` digits.
 fn push_digits(text: &mut Vec<u8>, magnitude: u64, count: u32) -> Result<(), AllocError>
     requires { count ≤ 11 }
     ensures { OnOk result (text.new.items ≡ text.old.items ++ last_digits magnitude count) }
@@ -111,10 +113,11 @@ fn push_digits(text: &mut Vec<u8>, magnitude: u64, count: u32) -> Result<(), All
     Ok(())
 }
 
-/// Writes an integer behind a text, as the shortest text that is read as it: `-` in front of a negative one, and then digits of
-/// base 64, the most significant first, `A-Z a-z 0-9 + /` for 0 to 63, without zeros in front. 0 is `A`.
+/// Appends an integer in base 64, as the shortest text from which `read_number` reads it: `-` if it is
+/// negative, and digits of `A-Z a-z 0-9 + /` for 0 to 63, the most significant first, without
+/// leading zeros. 0 is `A`.
 ///
-/// An error is want of memory; the text may then hold a part of the digits.
+/// If memory runs out, a part of the digits may have been appended.
 #[tactic(auto, unfolding(br_model::specs::Number::write_number))]
 pub fn write_number(number: i64, text: &mut Vec<u8>) -> Result<(), AllocError>
     ensures ok { OnOk result (text.new.items ≡ text.old.items ++ write_number number) }

@@ -11,14 +11,14 @@ use crate::number::{read_number, write_number};
 use std::alloc::{AllocError, Global};
 use std::marker::Model;
 
-/// How many numbers a file has.
+/// The number of numbers of a file.
 const COUNT: usize = 14;
 
-/// How many of them a record needs.
+/// The number of numbers that a record must have.
 const NEEDED: usize = 13;
 
-/// The numbers of a file as the system that was backed up had them: the fields of `stat`, and of a hard link the index of the
-/// file that it names.
+/// The numbers of a file on the system that was backed up: the fields of `stat`, and for a hard link
+/// the index of the file that it names.
 #[derive(Clone, Copy, Debug, PartialEq, Eq)]
 pub struct Stat {
     dev: i64,
@@ -42,12 +42,42 @@ impl Model for Stat {
 
     ghost Value = { model.Stat };
 
-    ghost view = { λ s. record { dev = s.dev; ino = s.ino; mode = s.mode; nlink = s.nlink; uid = s.uid; gid = s.gid; rdev = s.rdev; size = s.size; blksize = s.blksize; blocks = s.blocks; atime = s.atime; mtime = s.mtime; ctime = s.ctime; link_index = s.link_index } };
+    ghost view = { λ s. record {
+      dev = s.dev;
+      ino = s.ino;
+      mode = s.mode;
+      nlink = s.nlink;
+      uid = s.uid;
+      gid = s.gid;
+      rdev = s.rdev;
+      size = s.size;
+      blksize = s.blksize;
+      blocks = s.blocks;
+      atime = s.atime;
+      mtime = s.mtime;
+      ctime = s.ctime;
+      link_index = s.link_index;
+    } };
 
-    ghost inverse = { λ s. record { dev = s.dev; ino = s.ino; mode = s.mode; nlink = s.nlink; uid = s.uid; gid = s.gid; rdev = s.rdev; size = s.size; blksize = s.blksize; blocks = s.blocks; atime = s.atime; mtime = s.mtime; ctime = s.ctime; link_index = s.link_index } };
+    ghost inverse = { λ s. record {
+      dev = s.dev;
+      ino = s.ino;
+      mode = s.mode;
+      nlink = s.nlink;
+      uid = s.uid;
+      gid = s.gid;
+      rdev = s.rdev;
+      size = s.size;
+      blksize = s.blksize;
+      blocks = s.blocks;
+      atime = s.atime;
+      mtime = s.mtime;
+      ctime = s.ctime;
+      link_index = s.link_index;
+    } };
 }
 
-/// The first 14 numbers of a text, and how many there are; behind them are zeros.
+/// Returns the first 14 numbers of a text, followed by zeros, and the number of numbers read.
 fn numbers_in(text: &[u8]) -> Result<([i64; COUNT], usize), AttrFault>
     ensures read { AnswersAlways (λ found. take found.1 found.0) fault_number result (read_numbers (take 14 (words text.now))) }
     ensures within { IfOk result (λ found. found.1 ≤ length found.0) }
@@ -66,7 +96,7 @@ fn numbers_in(text: &[u8]) -> Result<([i64; COUNT], usize), AttrFault>
     Ok((numbers, count))
 }
 
-/// Writes numbers with a space in front of each.
+/// Appends numbers with a space before each.
 fn push_numbers(text: &mut Vec<u8>, numbers: &[i64]) -> Result<(), AllocError>
     ensures { OnOk result (text.new.items ≡ text.old.items ++ flat_map (λ n. 32 ∷ number.write_number n) numbers.now) }
 {
@@ -78,7 +108,7 @@ fn push_numbers(text: &mut Vec<u8>, numbers: &[i64]) -> Result<(), AllocError>
 }
 
 impl Stat {
-    /// The numbers by their places.
+    /// Makes the value of numbers in their order.
     #[tactic(auto, unfolding(br_model::specs::Attribute::stat_from))]
     fn from_numbers(numbers: [i64; COUNT]) -> Stat
         ensures { result ≡ stat_from numbers }
@@ -117,12 +147,15 @@ impl Stat {
         }
     }
 
-    /// The numbers that a text holds: base 64 numbers with one or more spaces between two, which may stand at its ends too. Their
-    /// order is dev, ino, mode, nlink, uid, gid, rdev, size, blksize, blocks, atime, mtime, ctime, LinkFI, as Bacula's
-    /// Developer's Guide has it ("Storage Media Output Format"). A missing LinkFI is 0, and what follows the fourteenth number is
-    /// not read.
+    /// Reads base 64 numbers with one or more spaces between them, before them and after them. Their
+    /// order is dev, ino, mode, nlink, uid, gid, rdev, size, blksize, blocks, atime, mtime, ctime,
+    /// LinkFI, as in Bacula's Developer's Guide ("Storage Media Output Format"). A missing LinkFI is
+    /// 0, and what follows the fourteenth number is not read.
     ///
-    /// `BadNumber` at the first word that is no number, and where all are, `MissingField` with fewer than 13.
+    /// # Errors
+    ///
+    /// - `BadNumber` at the first word that is not a number.
+    /// - `MissingField` if there are fewer than 13 numbers.
     #[tactic(auto, unfolding(br_model::specs::Attribute::read_stat))]
     pub fn read(text: &[u8]) -> Result<Stat, AttrFault>
         ensures { AnswersAlways (λ s. s) fault_number result (read_stat text.now) }
@@ -134,7 +167,7 @@ impl Stat {
         Ok(Stat::from_numbers(numbers))
     }
 
-    /// The numbers in their order.
+    /// Returns the numbers in their order.
     fn numbers(&self) -> [i64; COUNT]
         ensures { result ≡ stat_numbers self.now }
     {
@@ -160,14 +193,14 @@ impl Stat {
         ]
     }
 
-    /// Each number has 64 bits. The call does nothing; its clause is a fact that other contracts need.
+    /// States that each number fits 64 bits, a fact that other contracts need. It does nothing.
     pub fn has_64_bits(&self)
         ensures { AllByRecursion (λ z. number.is_64_bits z ≡ true) (stat_numbers self.now) }
     {
         let _ = self.numbers();
     }
 
-    /// Writes the numbers behind a text.
+    /// Appends the numbers, as `write` returns them.
     pub(crate) fn push(&self, text: &mut Vec<u8>) -> Result<(), AllocError>
         ensures { OnOk result (text.new.items ≡ text.old.items ++ write_stat self.now) }
     {
@@ -176,8 +209,8 @@ impl Stat {
         push_numbers(text, &numbers[1..])
     }
 
-    /// The one text that is written for the numbers: all 14 in the order that `read` has them, each the shortest text of its
-    /// number, with one space between two.
+    /// Returns the text of the numbers: all 14 in the order of `read`, each as short as possible, with
+    /// one space between two.
     pub fn write(&self, alloc: Global) -> Result<Vec<u8>, AllocError>
         ensures { IfOk result (λ text. text.items ≡ write_stat self.now) }
     {
@@ -186,98 +219,98 @@ impl Stat {
         Ok(text)
     }
 
-    /// The device on which the file lay.
+    /// Returns the device of the file.
     pub fn dev(&self) -> i64
         ensures { result ≡ self.now.dev }
     {
         self.dev
     }
 
-    /// The number of the file's inode.
+    /// Returns the number of the file's inode.
     pub fn ino(&self) -> i64
         ensures { result ≡ self.now.ino }
     {
         self.ino
     }
 
-    /// The type and the permissions, as `stat` has them.
+    /// Returns the type and the permissions, as `stat` does.
     pub fn mode(&self) -> i64
         ensures { result ≡ self.now.mode }
     {
         self.mode
     }
 
-    /// How many names the file had.
+    /// Returns the number of names of the file.
     pub fn nlink(&self) -> i64
         ensures { result ≡ self.now.nlink }
     {
         self.nlink
     }
 
-    /// The number of the owner.
+    /// Returns the number of the owner.
     pub fn uid(&self) -> i64
         ensures { result ≡ self.now.uid }
     {
         self.uid
     }
 
-    /// The number of the group.
+    /// Returns the number of the group.
     pub fn gid(&self) -> i64
         ensures { result ≡ self.now.gid }
     {
         self.gid
     }
 
-    /// The device that a device file stands for.
+    /// Returns the device of a device file.
     pub fn rdev(&self) -> i64
         ensures { result ≡ self.now.rdev }
     {
         self.rdev
     }
 
-    /// The size in bytes.
+    /// Returns the size in bytes.
     pub fn size(&self) -> i64
         ensures { result ≡ self.now.size }
     {
         self.size
     }
 
-    /// The size of a block of the file system, in bytes.
+    /// Returns the block size of the file system in bytes.
     pub fn blksize(&self) -> i64
         ensures { result ≡ self.now.blksize }
     {
         self.blksize
     }
 
-    /// How many blocks of 512 bytes the file took.
+    /// Returns the number of blocks of 512 bytes that the file took.
     pub fn blocks(&self) -> i64
         ensures { result ≡ self.now.blocks }
     {
         self.blocks
     }
 
-    /// When the file was last read, in seconds since 1970.
+    /// Returns the time of the last read, in seconds since 1970.
     pub fn atime(&self) -> i64
         ensures { result ≡ self.now.atime }
     {
         self.atime
     }
 
-    /// When the file was last written, in seconds since 1970.
+    /// Returns the time of the last write, in seconds since 1970.
     pub fn mtime(&self) -> i64
         ensures { result ≡ self.now.mtime }
     {
         self.mtime
     }
 
-    /// When the inode last changed, in seconds since 1970.
+    /// Returns the time of the last change of the inode, in seconds since 1970.
     pub fn ctime(&self) -> i64
         ensures { result ≡ self.now.ctime }
     {
         self.ctime
     }
 
-    /// LinkFI: the index of the file that a hard link names, else 0.
+    /// Returns LinkFI: for a hard link the index of the file that it names, else 0.
     pub fn link_index(&self) -> i64
         ensures { result ≡ self.now.link_index }
     {

@@ -6,25 +6,25 @@ use std::test::Fail;
 /// A record with sixteen numbers, of which two are not read.
 const RECORD: &[u8] = b"1 3 /a\0P0A CF2vg IGk B Po Po A 3Y BAA I BHqbnC BHqbnC BHqbnC A A C\0\0";
 
-/// The same record as it is written.
+/// `RECORD` as it is written.
 const WRITTEN: &[u8] = b"1 3 /a\0P0A CF2vg IGk B Po Po A 3Y BAA I BHqbnC BHqbnC BHqbnC A\0\0";
 
-/// Its numbers.
+/// The numbers of `RECORD` as they are written.
 const NUMBERS: &[u8] = b"P0A CF2vg IGk B Po Po A 3Y BAA I BHqbnC BHqbnC BHqbnC A";
 
 /// A symbolic link of size 5 to `to`.
 const LINK: &[u8] = b"1 4 /l\0A A IGk B A A A F A A A A A A\0to\0";
 
-/// What its first numbers are: dev, ino, mode, nlink, uid, gid, rdev.
+/// The first numbers of `RECORD`: dev, ino, mode, nlink, uid, gid, rdev.
 const NODE: [i64; 7] = [64768, 35089376, 33188, 1, 1000, 1000, 0];
 
-/// What the others are: size, blksize, blocks, atime, mtime, ctime, LinkFI.
+/// Its other numbers: size, blksize, blocks, atime, mtime, ctime, LinkFI.
 const DATA: [i64; 7] = [3544, 4096, 8, 1202305474, 1202305474, 1202305474, 0];
 
 /// A hard link to file 2, with spaces around its numbers.
 const HARD_LINK: &[u8] = b"7 1 /b\0 A A A A A A A A A A A A  -B C \0/a\0rest";
 
-/// Records, and the number of the refusal where they are read as the first file's, 0 where they are not refused.
+/// Records, and the number of the refusal when they are read for index 1; 0 if they are not refused.
 const RECORDS: [(&[u8], u32); 12] = [
     (b"1 3 /a\0A A A A A A A A A A A A A\0", 0),
     (b"1 3 /a\0A A A A A A A A A A A A\0\0", 21),
@@ -59,7 +59,7 @@ const SHORTEST: [(i64, &[u8]); 5] = [
     (i64::MAX, b"H//////////"),
 ];
 
-/// Texts that are no number.
+/// Texts that are not a number.
 const NO_NUMBERS: [&[u8]; 7] = [
     b"",
     b"-",
@@ -70,20 +70,22 @@ const NO_NUMBERS: [&[u8]; 7] = [
     b"QAAAAAAAAAA",
 ];
 
+/// Makes an index.
 fn index(number: u32) -> Result<FileIndex, Fail> {
     Ok(FileIndex::new(number).ok_or("an index")?)
 }
 
+/// Reads the record of the file with the index `number`.
 fn read(alloc: Global, record: &[u8], number: u32) -> Result<Attr, Fail> {
     Ok(Attr::read(alloc, record, index(number)?)?)
 }
 
-/// Why the record is not that of the file with this index.
+/// Returns why the record is refused for this index, if it is.
 fn fault_of(alloc: Global, record: &[u8], number: u32) -> Result<Option<AttrFault>, Fail> {
     Ok(Attr::read(alloc, record, index(number)?).err())
 }
 
-/// The first record that is not refused with its number.
+/// Returns the first record that is not refused with its number.
 fn wrongly_refused(
     alloc: Global,
     records: &[(&'static [u8], u32)],
@@ -96,7 +98,7 @@ fn wrongly_refused(
     Ok(None)
 }
 
-/// The first text that is not read as its number.
+/// Returns the first text that is not read as its number.
 fn wrongly_read(texts: &[(&'static [u8], i64)]) -> Option<&'static [u8]> {
     for (text, number) in texts {
         if read_number(text) != Ok(*number) {
@@ -106,7 +108,7 @@ fn wrongly_read(texts: &[(&'static [u8], i64)]) -> Option<&'static [u8]> {
     None
 }
 
-/// The first text that is read, or refused as something else than a bad number.
+/// Returns the first text that is read or refused by another fault.
 fn not_refused(texts: &[&'static [u8]]) -> Option<&'static [u8]> {
     for text in texts {
         if read_number(text) != Err(AttrFault::BadNumber) {
@@ -116,14 +118,14 @@ fn not_refused(texts: &[&'static [u8]]) -> Option<&'static [u8]> {
     None
 }
 
-/// Whether the number is written as this text.
+/// Returns whether the number is written as this text.
 fn is_written(alloc: Global, number: i64, wanted: &[u8]) -> Result<bool, AllocError> {
     let mut text = Vec::new(alloc);
     write_number(number, &mut text)?;
     Ok(text.as_slice() == wanted)
 }
 
-/// The first number that is not written as its text.
+/// Returns the first number that is not written as its text.
 fn wrongly_written(
     alloc: Global,
     numbers: &[(i64, &'static [u8])],
@@ -136,7 +138,7 @@ fn wrongly_written(
     Ok(None)
 }
 
-/// The byte many times, and one B.
+/// Makes a text of 100,000 times the byte, and one `B`.
 fn long(alloc: Global, byte: u8) -> Result<Vec<u8>, AllocError> {
     let mut text = Vec::new(alloc);
     for _ in 0..100_000 {
@@ -146,12 +148,13 @@ fn long(alloc: Global, byte: u8) -> Result<Vec<u8>, AllocError> {
     Ok(text)
 }
 
-/// What such a long text is read as.
+/// Reads such a long text.
 fn long_number(alloc: Global, byte: u8) -> Result<Result<i64, AttrFault>, AllocError> {
     let text = long(alloc, byte)?;
     Ok(read_number(&text))
 }
 
+/// Returns the numbers from dev to rdev.
 fn node_of(stat: &Stat) -> [i64; 7] {
     [
         stat.dev(),
@@ -164,6 +167,7 @@ fn node_of(stat: &Stat) -> [i64; 7] {
     ]
 }
 
+/// Returns the numbers from size to LinkFI.
 fn data_of(stat: &Stat) -> [i64; 7] {
     [
         stat.size(),
@@ -176,14 +180,14 @@ fn data_of(stat: &Stat) -> [i64; 7] {
     ]
 }
 
-/// Whether index, type, path and link are these.
+/// Returns whether index and type, path and link are these.
 fn names(attr: &Attr, numbers: (u32, u32), path: &[u8], link: &[u8]) -> bool {
     (attr.index().get(), attr.kind()) == numbers
         && attr.path().bytes() == path
         && attr.link() == link
 }
 
-/// Whether the link comes apart into its parts.
+/// Returns whether the parts are those of `LINK`.
 fn link_comes_apart(attr: Attr) -> bool {
     let (kind, path, stat, link) = attr.into_parts();
     kind == 4
@@ -192,19 +196,19 @@ fn link_comes_apart(attr: Attr) -> bool {
         && link.as_slice() == b"to".as_slice()
 }
 
-/// Whether the attributes are written as the record.
+/// Returns whether the attributes are written as the record.
 fn is_record(alloc: Global, attr: &Attr) -> Result<bool, AllocError> {
     let record = attr.write(alloc)?;
     Ok(record.as_slice() == WRITTEN)
 }
 
-/// Whether their parts are written as the record.
+/// Returns whether the parts are written as the record.
 fn are_record(alloc: Global, attr: &Attr) -> Result<bool, Fail> {
     let record = write_attributes(alloc, index(1)?, 3, attr.path(), &attr.stat(), b"")?;
     Ok(record.as_slice() == WRITTEN)
 }
 
-/// Whether their numbers are written as those of the record.
+/// Returns whether the numbers are written as those of the record.
 fn are_numbers(alloc: Global, stat: &Stat) -> Result<bool, AllocError> {
     let numbers = stat.write(alloc)?;
     Ok(numbers.as_slice() == NUMBERS)
@@ -227,8 +231,8 @@ fn reads_links(rt: HostRuntime) -> Result<(), Fail> {
     assert!(rt; link_comes_apart(read(rt.alloc(), LINK, 1)?));
     let attr = read(rt.alloc(), HARD_LINK, 7)?;
     assert!(rt; names(&attr, (7, 1), b"/b", b"/a"));
-    assert!(rt; attr.stat().ctime() == -1);
-    assert!(rt; attr.stat().link_index() == 2);
+    assert_eq!(rt; attr.stat().ctime(), -1);
+    assert_eq!(rt; attr.stat().link_index(), 2);
     Ok(())
 }
 
@@ -239,18 +243,18 @@ fn refuses_records(rt: HostRuntime) -> Result<(), Fail> {
         Some(AttrFault::IndexDiffers)
     );
     assert_eq!(rt; wrongly_refused(rt.alloc(), &RECORDS)?, None);
-    assert!(rt; Stat::read(b"A\tA") == Err(AttrFault::BadNumber));
-    assert!(rt; Stat::read(b"") == Err(AttrFault::MissingField));
+    assert_eq!(rt; Stat::read(b"A\tA").err(), Some(AttrFault::BadNumber));
+    assert_eq!(rt; Stat::read(b"").err(), Some(AttrFault::MissingField));
     Ok(())
 }
 
 #[test]
 fn reads_and_writes_numbers(rt: HostRuntime) -> Result<(), Fail> {
     assert_eq!(rt; wrongly_read(&READ), None);
-    assert!(rt; long_number(rt.alloc(), b'A')? == Ok(1));
+    assert_eq!(rt; long_number(rt.alloc(), b'A')?, Ok(1));
     assert_eq!(rt; wrongly_written(rt.alloc(), &SHORTEST)?, None);
     assert_eq!(rt; not_refused(&NO_NUMBERS), None);
-    assert!(rt; long_number(rt.alloc(), b'B')? == Err(AttrFault::BadNumber));
-    assert!(rt; AttrFault::BadNumber.number() == 20);
+    assert_eq!(rt; long_number(rt.alloc(), b'B')?, Err(AttrFault::BadNumber));
+    assert_eq!(rt; AttrFault::BadNumber.number(), 20);
     Ok(())
 }

@@ -4,7 +4,8 @@ use Rattle.br_model.specs.Text.{words}
 use Rattle.br_attr.specs.Numbers.{behind}
 use Rattle.br_attr.proofs.stat.numbers_in.Given as goal
 
--- what is read is the numbers so far and those of the words that are left; behind the numbers so far are zeros
+-- what is read is the numbers so far and those of the words that are left; zeros follow the numbers
+-- so far
 abbrev pub invariant-loop-word : goal.invariant-loop-word
 invariant-loop-word l = record {
   counts : l.count ≡ length l.yielded;
