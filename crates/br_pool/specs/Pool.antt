@@ -1,15 +1,28 @@
 -- What many drives find of some pieces, whatever their volumes do meanwhile.
-use Rattle.std.specs.Prelude.{◌≡◌, ℕ, ◌<◌, ◌⊎◌, List, [], ◌∷◌, map, length, Vec, Option, Some, None, Result, Ok}
+use Rattle.std.specs.Prelude.{◌≡◌, ℕ, ◌<◌, ◌≤◌, ◌⊎◌, List, [], ◌∷◌, map, length, Vec, Option, Some, None, Result, Ok, IfErr}
 use Rattle.std.specs.Global.{Global}
 use Rattle.std.specs.List.{AllZip, range_with_len}
 use Rattle.br_model.specs.Answer.{◌>>=◌, Answers}
 use Rattle.br_model.specs.Volume.{Volume}
 use Rattle.br_model.specs.Meaning as model
 use Rattle.br_model.specs.Meaning.{Piece, Hit, hits_on}
+use Rattle.br_volume.specs.Drive.{OnlyGrows}
 use Rattle.br_match.specs.Matching.{StandsForEach}
 use Rattle.br_match.specs.declared.hit.Found.{Found}
 use Rattle.br_pool.specs.Fault.{cause}
 use Rattle.br_pool.specs.declared.fault.PoolFault.{PoolFault}
+
+-- a restore uses 1 to 16 drives
+abbrev pub IsDriveCount : ℕ → Type 0
+IsDriveCount n = (0 < n) × (n ≤ 16)
+
+-- there are 1 to 16 of these drives
+abbrev pub AreDrives : {D : Type 0} → List D → Type 0
+AreDrives drives = IsDriveCount (length drives)
+
+-- Each drive is in its place again. Its volumes only grew, and the number of its failures did not fall.
+abbrev pub StayInPlace : {D : Type 0} → (D → Option (List Volume)) → (D → ℕ) → List D → List D → Type 0
+StayInPlace shows failures before after = AllZip (λ old new. OnlyGrows (shows old) (shows new) × (failures old ≤ failures new)) before after
 
 -- the pieces are numbered from 0, as a bootstrap's pieces are
 abbrev pub AreNumbered : List Piece → Type 0
@@ -44,3 +57,7 @@ abbrev pub HasRisen : List ℕ → List ℕ → Type 0
 HasRisen [] later = ⊥
 HasRisen (n ∷ ns) [] = ⊥
 HasRisen (n ∷ ns) (m ∷ ms) = (n < m) ⊎ HasRisen ns ms
+
+-- A result that is refused with a drive's failure shows that a drive failed meanwhile.
+abbrev pub FailsByDrive : {D A E : Type 0} → (D → ℕ) → List D → List D → (E → Type 0) → Result A E → Type 0
+FailsByDrive failures before after is_failure result = IfErr result (λ fault. is_failure fault → HasRisen (map failures before) (map failures after))

@@ -1,8 +1,8 @@
 ghost use Rattle.std.specs.Prelude.{◌≡◌, ℕ, ◌<◌, ◌≤◌, ◌+◌, [], ◌++◌, List, map, reverse, flat_map, length, vec_len, vec_capacity, IfOk};
 ghost use Rattle.std.specs.List.{AllByRecursion, AllZip};
+ghost use Rattle.br_pool.specs.Pool.{StayInPlace};
 ghost use Rattle.br_pool.specs.Slots.{AllBelow, with_each};
 ghost use Rattle.br_pool.specs.Workers.{Answer, IsReady, HasWorked, HaveWorked};
-ghost use Rattle.br_volume.specs.Drive.{OnlyGrows};
 
 use crate::gate::Gate;
 use crate::slots::place;
@@ -134,7 +134,7 @@ pub(crate) fn worked<D: Drive + Send, G: Gate + Sync, R: Threads + Sync>(
     requires ready { AllByRecursion (λ d. IsReady claims.now.claims claims.now.limit d.seat d.answers) desks.items }
     requires some { 0 < length desks.items }
     ensures many { IfOk result (λ seats. length seats.items ≡ length drives.old.items) }
-    ensures places { AllZip (λ old new. OnlyGrows (D.shows old) (D.shows new) × (D.failures old ≤ D.failures new)) drives.old.items drives.new.items }
+    ensures places { StayInPlace D.shows D.failures drives.old.items drives.new.items }
     ensures worked { IfOk result (λ seats. (answers : List (ℕ × Answer)) × (slots.new ≡ with_each slots.old answers) × HaveWorked claims.now.claims pieces.now (map D.shows drives.old.items) (map D.shows drives.new.items) (map D.failures drives.old.items) (map D.failures drives.new.items) seats.items answers) }
 {
     let mut seats = Vec::with_capacity(alloc, desks.len())?;

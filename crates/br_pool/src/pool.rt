@@ -1,8 +1,6 @@
-ghost use Rattle.std.specs.Prelude.{◌≡◌, ◌<◌, ◌≤◌, map, length, IfOk, IfErr};
-ghost use Rattle.std.specs.List.{AllZip};
-ghost use Rattle.br_volume.specs.Drive.{OnlyGrows};
+ghost use Rattle.std.specs.Prelude.{◌≡◌, map, IfOk};
 ghost use Rattle.br_pool.specs.Fault.{fault_number};
-ghost use Rattle.br_pool.specs.Pool.{AreNumbered, PoolOver, HasRisen};
+ghost use Rattle.br_pool.specs.Pool.{AreDrives, AreNumbered, FailsByDrive, PoolOver, StayInPlace};
 
 use crate::crew::{desks_for, worked};
 use crate::fault::PoolFault;
@@ -30,12 +28,12 @@ pub fn run_pool<D: Drive + Send, G: Gate + Sync, R: Threads + Sync>(
     drives: &mut Vec<D>,
     gate: &G,
 ) -> Result<Vec<Found>, PoolFault>
-    requires drives { (0 < length drives.old.items) × (length drives.old.items ≤ 16) }
+    requires drives { AreDrives drives.old.items }
     requires numbered { AreNumbered pieces.now }
     ensures numbers { IfOk result (λ found. map (λ f. f.piece) found.items ≡ map (λ p. p.number) pieces.now) }
     ensures hits { PoolOver (map D.shows drives.old.items) (map D.shows drives.new.items) pieces.now result }
-    ensures places { AllZip (λ old new. OnlyGrows (D.shows old) (D.shows new) × (D.failures old ≤ D.failures new)) drives.old.items drives.new.items }
-    ensures failed { IfErr result (λ fault. fault_number fault ≡ 13 → HasRisen (map D.failures drives.old.items) (map D.failures drives.new.items)) }
+    ensures places { StayInPlace D.shows D.failures drives.old.items drives.new.items }
+    ensures failed { FailsByDrive D.failures drives.old.items drives.new.items (λ fault. fault_number fault ≡ 13) result }
 {
     let Ok(count) = u32::try_from(pieces.len()) else {
         return Err(PoolFault::Memory);

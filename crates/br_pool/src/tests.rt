@@ -1,5 +1,5 @@
-ghost use Rattle.std.specs.Prelude.{◌≡◌, ◌<◌, ◌≤◌, length, IfOk};
-ghost use Rattle.br_pool.specs.Pool.{AreNumbered};
+ghost use Rattle.std.specs.Prelude.{◌≡◌, length, IfOk};
+ghost use Rattle.br_pool.specs.Pool.{AreNumbered, IsDriveCount};
 
 use super::*;
 use br_bsr::{BsrFault, read_bootstrap};
@@ -67,7 +67,7 @@ fn found_by<R: Threads + Sync, G: Gate + Sync>(
     count: usize,
     gate: &G,
 ) -> Result<Result<Vec<Found>, PoolFault>, Fail>
-    requires { (0 < count) × (count ≤ 16) }
+    requires { IsDriveCount count }
 {
     let pieces = pieces_of_text(alloc, text)?;
     let mut drives = drives(alloc, count)?;
@@ -93,7 +93,7 @@ fn finds_all<R: Threads + Sync, G: Gate + Sync>(
     count: usize,
     gate: &G,
 ) -> Result<bool, Fail>
-    requires { (0 < count) × (count ≤ 16) }
+    requires { IsDriveCount count }
 {
     let founds = found_by(rt, alloc, THREE, count, gate)??;
     Ok(has_hits(&founds, &[2, 4, 6]))
