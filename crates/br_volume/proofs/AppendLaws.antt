@@ -23,7 +23,7 @@ same_third x y z h = ap (λ (w : List ℕ). bytes_eq z w) (sym ((bytes_eq-Decide
 apart_too : (x y z : List ℕ) → bytes_eq x y ≡ false → bytes_eq x z ≡ true → bytes_eq z y ≡ false
 apart_too x y z h e = ap (λ (w : List ℕ). bytes_eq w y) (sym ((bytes_eq-Decides x z).0 e)) ∙ h
 
--- what a look-up finds at the front, and behind it
+-- what a look-up finds at the front, and after it
 abbrev shown_at : Bool → List ℕ → Option (List ℕ) → Option (List ℕ)
 shown_at b bytes found = cond b (Some bytes) found
 
@@ -39,8 +39,8 @@ shown_nil : (name : List ℕ) → volume_bytes [] name ≡ None
 unfolding volume_bytes
 shown_nil name = refl
 
--- at a volume of the name, with a as the test that it is of the name appended to, b that it is of the name looked up, and c that
--- these two are the same
+-- at a volume of the name, with a as the test that it is of the name appended to, b that it is of
+-- the name looked up, and c that these two are the same
 step : (a b c : Bool) (own bytes : List ℕ) (new old : Option (List ℕ)) (old_bytes : List ℕ)
     → (a ≡ true → c ≡ b) → (a ≡ false → b ≡ true → c ≡ false)
     → new ≡ cond c (Some (old_bytes ++ bytes)) old
@@ -120,7 +120,7 @@ for_both xs ys name =
     ap (flat_map (λ b. b.1)) (filter-append (λ b. bytes_eq b.0 name) xs ys)
     ∙ flat_of_both (λ b. b.1) (filter (λ b. bytes_eq b.0 name) xs) (filter (λ b. bytes_eq b.0 name) ys)
 
--- no blocks are appended where nothing is changed
+-- no blocks are appended if nothing is changed
 pub none_appended : (vs : List Volume) → AreAppended [] vs vs
 none_appended vs name = sym (append-nil (bytes_of_volume vs name))
 

@@ -1,4 +1,4 @@
--- What a drive's answers say of the volumes that it tells.
+-- What a drive's results say of the volumes that it tells.
 use Rattle.std.proofs.Common.{◌≡◌, ℕ, true, false, ◌<◌, ◌≤◌, cond, Option, Some, None, Result, Ok, Err, List, length, take, drop, refl}
 use Rattle.std.specs.Prelude.{nat_lt}
 use Rattle.std.proofs.lemmas.Bool.{ltb-true, ltb-false}
@@ -16,7 +16,7 @@ some_from bytes a s got h =
     elim (nat_lt a (length bytes)) as (λ b. nat_lt a (length bytes) ≡ b → cond b (Some (take s (drop a bytes))) None ≡ Some got → (a < length bytes) × (take s (drop a bytes) ≡ got))
     [ true ↦ λ is some. (ltb-true a (length bytes) is, cc) | false ↦ λ is some. absurd cc ] refl h
 
--- what is read where the bytes are looked up
+-- what is read of bytes that are looked up
 abbrev looked_up : Option (List ℕ) → ℕ → ℕ → Result (Option (List ℕ)) ℕ
 looked_up o a s = do
   bytes ← some_or o 14
@@ -38,7 +38,7 @@ unfolding bytes_shown
 shown_end volumes name a s h =
     let p = shown (volume_bytes volumes name) a s None h in (p.0, p.1, none_from p.0 a s p.2)
 
--- a block is of the volume's bytes behind the address
+-- a block is of the volume's bytes from the address on
 pub shown_block : (volumes : List Volume) (name : List ℕ) (a s : ℕ) (got : List ℕ) → bytes_shown volumes name a s ≡ Ok (Some got)
     → (bytes : List ℕ) × (volume_bytes volumes name ≡ Some bytes) × (a < length bytes) × (take s (drop a bytes) ≡ got)
 unfolding bytes_shown

@@ -55,19 +55,19 @@ module _ {A : Type 0} (volume bytes : List ℕ) where
       let b = behind_all (is_of v) (position_or_len is_of vs) (length vs) none in
       rw b.0 (ap (λ (l : List Volume). record { name = v.0; bytes = v.1.items } ∷ l) (at_the_end vs w b.1 named has))
 
-  -- bytes behind those of the first of the name
+  -- bytes appended to the first of the name
   pub longer_where_found : (kept : List (List ℕ × Vec ℕ A)) (i : ℕ) (x : List ℕ × Vec ℕ A) (now : Vec ℕ A) → Some i ≡ position is_of kept
       → x ≡ slice_index_or kept i x → now.items ≡ x.1.items ++ bytes
       → volumes_of (slice_set kept i (x.0, now)) ≡ with_appended volume bytes (volumes_of kept)
   longer_where_found kept i x now found is long =
       let f = found_at is_of kept i (cc) in longer_at kept i x now f.0 f.1 is long
 
-  -- a volume of them at the end where there is none of the name
+  -- a new volume of them at the end if there is none of the name
   pub made_at_end : (kept : List (List ℕ × Vec ℕ A)) (w : List ℕ × Vec ℕ A) → None ≡ position is_of kept → w.0 ≡ volume → w.1.items ≡ bytes
       → volumes_of (kept ++ w ∷ []) ≡ with_appended volume bytes (volumes_of kept)
   made_at_end kept w none named has = at_the_end kept w (not_found is_of kept (cc)) named has
 
--- the same bytes in one of them change no volume
+-- setting the same bytes in one of them changes no volume
 pub same_where_set : {A : Type 0} (kept : List (List ℕ × Vec ℕ A)) (i : ℕ) (x : List ℕ × Vec ℕ A) (now : Vec ℕ A)
     → x ≡ slice_index_or kept i x → now.items ≡ x.1.items → volumes_of (slice_set kept i (x.0, now)) ≡ volumes_of kept
 same_where_set [] i x now is same = refl

@@ -1,4 +1,4 @@
--- What a drive answers, and what stays true of the volumes that it shows.
+-- What a drive returns, and what stays true of the volumes that it shows.
 use Rattle.std.specs.Prelude.{◌≡◌, ℕ, ◌+◌, ◌^◌, ◌<◌, ◌≤◌, nat_lt, if◌then◌else◌, List, [], length, take, drop, Option, Some, None, Result, Ok, ⊤}
 use Rattle.br_model.specs.Answer.{◌>>=◌, some_or, Answers}
 use Rattle.br_model.specs.Volume.{Volume, volume_bytes, Extends}
@@ -7,36 +7,38 @@ use Rattle.br_volume.specs.declared.drive.Got.TheVariants.{Block, End}
 use Rattle.br_volume.specs.declared.fault.DriveFault.{DriveFault}
 use Rattle.br_volume.specs.Fault.{cause}
 
--- the next bytes of a text from an address, so many or all that are left, and none at or past its end
+-- the next `size` bytes of a text from an address, or all that are left; none at its end or past it
 abbrev pub bytes_from : List ℕ → ℕ → ℕ → Option (List ℕ)
 bytes_from bytes address size = if nat_lt address (length bytes) then Some (take size (drop address bytes)) else None
 
--- the next bytes of a volume from an address, so many or all that are left, none at or past its end, and 14 where it is
--- not there
+-- the next `size` bytes of a volume from an address, or all that are left; none at its end or past
+-- it, and 14 if there is no such volume
 unfoldable pub bytes_shown : List Volume → List ℕ → ℕ → ℕ → Result (Option (List ℕ)) ℕ
 bytes_shown volumes name address size = do
   bytes ← some_or (volume_bytes volumes name) 14
   Ok (bytes_from bytes address size)
 
--- what a drive got: the bytes of its buffer, or none at the end
+-- what a drive read: the bytes of its buffer, or none at the end
 abbrev pub bytes_got : List ℕ → Got → Option (List ℕ)
 bytes_got buffer (Block n) = Some buffer
 bytes_got buffer End = None
 
--- Where the volumes are told, the answer is what they show; a drive may fail, and memory run out, at any time.
+-- If the drive tells its volumes, the result is what they show. A drive may fail, and memory may
+-- run out, at any time.
 abbrev pub AnswersOver : Option (List Volume) → List ℕ → ℕ → ℕ → List ℕ → Result Got DriveFault → Type 0
 AnswersOver None name address size buffer result = ⊤
 AnswersOver (Some volumes) name address size buffer result =
     Answers (bytes_got buffer) cause result (bytes_shown volumes name address size)
 
--- A drive tells its volumes always or never, and each volume goes on from what it was.
+-- A drive tells its volumes always or never, and each volume only grows at its end.
 abbrev pub OnlyGrows : Option (List Volume) → Option (List Volume) → Type 0
 OnlyGrows None None = ⊤
 OnlyGrows (Some earlier) (Some later) = Extends later earlier
 OnlyGrows None (Some later) = ⊥
 OnlyGrows (Some earlier) None = ⊥
 
--- A block has the bytes of the buffer, no more than were asked for, and ends before 2^63; at the end the buffer is empty.
+-- A block has the bytes of the buffer, no more than were asked for, and ends before 2^63. At the
+-- end the buffer is empty.
 abbrev pub IsSized : ℕ → ℕ → List ℕ → Got → Type 0
 IsSized address size buffer (Block n) = (n ≡ length buffer) × (n ≤ size) × (address + n < 2 ^ 63)
 IsSized address size buffer End = buffer ≡ []

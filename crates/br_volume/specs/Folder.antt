@@ -1,7 +1,7 @@
 -- Volumes in a folder.
 use Rattle.std.specs.Prelude.{ℕ, List, ◌∷◌, ◌++◌}
 
--- what reads from a folder or appends to it: the folder's path, and how often it has failed
+-- a drive or a store over a folder: the folder's path, and the number of failed calls
 pub record InFolder : Type 0 where
   pub path : List ℕ
   pub failures : ℕ

@@ -2,16 +2,17 @@
 use Rattle.std.specs.Prelude.{ℕ, if◌then◌else◌, List, [], ◌∷◌, ◌++◌, bytes_eq}
 use Rattle.br_model.specs.Volume.{Volume}
 
--- its volumes, and how often it has failed
+-- its volumes, and the number of failed calls
 pub record Stored : Type 0 where
   pub volumes : List Volume
   pub failures : ℕ
 
--- a volume with bytes behind its own
+-- a volume with bytes appended
 abbrev pub longer : List ℕ → Volume → Volume
 longer bytes v = record { name = v.name; bytes = v.bytes ++ bytes }
 
--- the volumes with bytes behind those of the first of a name, or in a volume at the end where there is none
+-- the volumes with bytes appended to the first of this name, or with a new volume of them at the
+-- end if there is none
 abbrev pub with_appended : List ℕ → List ℕ → List Volume → List Volume
 with_appended volume bytes [] = record { name = volume; bytes = bytes } ∷ []
 with_appended volume bytes (v ∷ vs) = if bytes_eq v.name volume then longer bytes v ∷ vs else v ∷ with_appended volume bytes vs

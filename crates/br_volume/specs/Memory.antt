@@ -7,7 +7,8 @@ use Rattle.br_volume.specs.Drive.{bytes_shown}
 abbrev pub volumes_of : {A : Type 0} → List (List ℕ × Vec ℕ A) → List Volume
 volumes_of {A} kept = map (λ (v : List ℕ × Vec ℕ A). record { name = v.0; bytes = v.1.items }) kept
 
--- its volumes, how many calls it answers before it fails, if it is to fail, and how often it has failed
+-- its volumes, the number of calls before it fails, if it is to fail, and the number of failed
+-- calls
 pub record Held : Type 0 where
   pub volumes : List Volume
   pub calls_left : Option ℕ
@@ -33,6 +34,6 @@ after_call drive = record {
   failures = if is_out drive.calls_left then drive.failures + 1 else drive.failures;
 }
 
--- what a call is to answer: 13 where none is left, else the bytes shown
+-- the result of a call: 13 if none is left, else the bytes shown
 abbrev pub bytes_held : Held → List ℕ → ℕ → ℕ → Result (Option (List ℕ)) ℕ
 bytes_held drive name address size = if is_out drive.calls_left then Err 13 else bytes_shown drive.volumes name address size

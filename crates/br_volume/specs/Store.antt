@@ -3,35 +3,38 @@ use Rattle.std.specs.Prelude.{◌≡◌, ℕ, ◌⊎◌, if◌then◌else◌, Li
 use Rattle.br_model.specs.Volume.{Volume, volume_bytes, Extends}
 use Rattle.br_model.specs.SessionHolds.{bytes_of_volume, AreAppended}
 
--- what a name shows once bytes are appended to a volume: its own bytes and these behind them, or what the name showed before
+-- what a name shows once bytes are appended to a volume: the volume's bytes and then these, or what
+-- the name showed before
 abbrev pub shown_after : List Volume → List ℕ → List ℕ → List ℕ → Option (List ℕ)
 shown_after earlier volume bytes name =
     if bytes_eq name volume then Some (bytes_of_volume earlier volume ++ bytes) else volume_bytes earlier name
 
--- The later volumes are the earlier ones with bytes appended to one of them, which is made where it was not there.
+-- The later volumes are the earlier ones with bytes appended to one of them, which is made if it
+-- was not there.
 abbrev pub IsAppended : List ℕ → List ℕ → List Volume → List Volume → Type 0
 IsAppended volume bytes earlier later = (name : List ℕ) → volume_bytes later name ≡ shown_after earlier volume bytes name
 
--- nothing is changed, or a front of the bytes is appended
+-- nothing is changed, or the first of the bytes are appended
 abbrev pub IsAppendedInPart : List ℕ → List ℕ → List Volume → List Volume → Type 0
 IsAppendedInPart volume bytes earlier later =
     (later ≡ earlier) ⊎ ((front rest : List ℕ) × (front ++ rest ≡ bytes) × IsAppended volume front earlier later)
 
--- A store tells its volumes always or never, and where it tells them, the bytes are appended.
+-- A store tells its volumes always or never. If it tells them, the bytes are appended.
 abbrev pub AppendsTo : List ℕ → List ℕ → Option (List Volume) → Option (List Volume) → Type 0
 AppendsTo volume bytes None None = ⊤
 AppendsTo volume bytes (Some earlier) (Some later) = IsAppended volume bytes earlier later
 AppendsTo volume bytes None (Some later) = ⊥
 AppendsTo volume bytes (Some earlier) None = ⊥
 
--- A store tells its volumes always or never, and where it tells them, at most a front of the bytes is appended.
+-- A store tells its volumes always or never. If it tells them, at most the first of the bytes are
+-- appended.
 abbrev pub AppendsInPartTo : List ℕ → List ℕ → Option (List Volume) → Option (List Volume) → Type 0
 AppendsInPartTo volume bytes None None = ⊤
 AppendsInPartTo volume bytes (Some earlier) (Some later) = IsAppendedInPart volume bytes earlier later
 AppendsInPartTo volume bytes None (Some later) = ⊥
 AppendsInPartTo volume bytes (Some earlier) None = ⊥
 
--- where the volumes are told, this is how many bytes one of them has, 0 where it is not there
+-- if the store tells its volumes, this is the length of one of them, 0 if it is not there
 abbrev pub IsLengthIn : Option (List Volume) → List ℕ → ℕ → Type 0
 IsLengthIn None volume n = ⊤
 IsLengthIn (Some volumes) volume n = n ≡ length (bytes_of_volume volumes volume)
@@ -42,7 +45,8 @@ AreAppendedInTurn [] earlier later = later ≡ earlier
 AreAppendedInTurn (b ∷ bs) earlier later =
     (middle : List Volume) × IsAppended b.0 b.1 earlier middle × AreAppendedInTurn bs middle later
 
--- Blocks that are appended one after another are all appended, each to its volume, and each volume goes on from what it was.
+-- Blocks that are appended one after another are all appended, each to its volume, and each volume
+-- only grows at its end.
 abbrev pub AppendsAddUp : Type 0
 AppendsAddUp =
     (blocks : List (List ℕ × List ℕ)) (earlier later : List Volume) → AreAppendedInTurn blocks earlier later

@@ -1,10 +1,10 @@
-//! A count that only contracts read. It takes no bytes, and has no greatest value.
+//! A count that only contracts read. It takes no bytes and has no greatest value.
 ghost use Rattle.std.specs.Prelude.{◌≡◌, ℕ, ◌+◌};
 ghost use Rattle.std.specs.Borrow.{ftrue};
 
 use std::marker::Model;
 
-/// How often something came about.
+/// The number of times that something happened.
 #[derive(Debug, Drop)]
 pub struct Count {
     pub ghost number: { ℕ },
@@ -14,18 +14,18 @@ impl Model for Count {
     ghost also_owns = { λ _. ftrue };
 }
 
-// A struct with `also_owns` has it not by itself. This one owns nothing.
+// A struct with `also_owns` is not `Send` by itself. This one owns nothing.
 unsafe impl Send for Count {}
 
 impl Count {
-    /// Never so far.
+    /// Returns a count of 0.
     pub fn zero() -> Count
         ensures { result.number ≡ 0 }
     {
         Count {}
     }
 
-    /// Once more.
+    /// Returns the next count.
     pub fn next(&self) -> Count
         ensures { result.number ≡ self.now.number + 1 }
     {

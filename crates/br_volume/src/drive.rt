@@ -6,27 +6,32 @@ ghost use Rattle.br_volume.specs.declared.fault.DriveFault.TheVariants.{Fault};
 use crate::fault::DriveFault;
 use br_types::VolName;
 
-/// What a drive got from a volume.
+/// What a drive read from a volume.
 #[derive(Clone, Copy, Debug, PartialEq, Eq)]
 pub enum Got {
-    /// So many bytes: the buffer's.
+    /// A block of this number of bytes, which are in the buffer.
     Block(u32),
-    /// The address is the volume's end, or past it.
+    /// The address is the volume's end or past it.
     End,
 }
 
-/// What reads volumes, by name and address.
+/// A reader of volumes, by name and address.
 pub trait Drive {
-    /// The volumes that it shows, where it tells them: a drive over memory does, and one over a folder does not.
+    /// The volumes that the drive shows, if it tells them. A drive over memory does, a drive over a
+    /// folder does not.
     ghost shows: { Self → Option (List Volume) };
 
-    /// How often it has failed.
+    /// The number of calls that have failed.
     ghost failures: { Self → ℕ };
 
-    /// Makes `buf` the next `size` bytes of the volume from the address, or all that are left if these are fewer; at or past
-    /// the volume's end `buf` is empty. A call that is refused may lose what `buf` held.
+    /// Reads a block of a volume into `buf`, in place of what it holds: `size` bytes from `addr`,
+    /// or all that are left if these are fewer. At the volume's end or past it `buf` is empty.
+    /// After a refusal `buf` may hold anything.
     ///
-    /// `UnknownVolume` where the drive does not show the volume, `Fault` where it failed, `Memory` where `buf` could not grow.
+    /// # Errors
+    ///
+    /// `UnknownVolume` if the drive does not show the volume, `Fault` if it failed, `Memory` if
+    /// `buf` could not grow.
     fn block_at(
         &mut self,
         vol: &VolName,

@@ -5,7 +5,7 @@ ghost use Rattle.br_volume.specs.declared.fault.DriveFault.TheVariants.{Memory};
 use std::alloc::AllocError;
 use thiserror::Error;
 
-/// Why a drive gave no bytes.
+/// The reason why a drive returned no bytes.
 #[derive(Clone, Copy, Debug, PartialEq, Eq, Error)]
 pub enum DriveFault {
     #[error("out of memory")]
@@ -17,7 +17,8 @@ pub enum DriveFault {
 }
 
 impl DriveFault {
-    /// The number of the refusal: 1 want of memory, 13 a drive that failed, 14 a volume that is not there.
+    /// Returns the number of the refusal: 1 for out of memory, 13 for a drive that failed, 14 for
+    /// an unknown volume.
     pub fn number(self) -> u32
         ensures { result ≡ fault_number self }
     {
@@ -37,20 +38,20 @@ impl From<AllocError> for DriveFault {
     }
 }
 
-/// Why a store of volumes did not append, or told no length.
+/// The reason why a store of volumes did not append, or returned no length.
 #[derive(Clone, Copy, Debug, PartialEq, Eq, Error)]
-pub enum StoreFault {
+pub enum VolumeFault {
     #[error("the store failed to append to a volume, or to tell its length")]
-    VolumeFault,
+    Failed,
 }
 
-impl StoreFault {
-    /// The number of the refusal: 44.
+impl VolumeFault {
+    /// Returns the number of the refusal: 44.
     pub fn number(self) -> u32
         ensures { result ≡ 44 }
     {
         match self {
-            StoreFault::VolumeFault => 44,
+            VolumeFault::Failed => 44,
         }
     }
 }

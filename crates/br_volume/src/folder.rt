@@ -1,4 +1,4 @@
-//! Volumes in a folder: each is the file that has its name.
+//! Volumes in a folder: each volume is the file with its name.
 ghost use Rattle.std.specs.Prelude.{◌≡◌, ℕ, ◌+◌, ◌^◌, ◌<◌, ◌≤◌, List, length, IfOk, Err, string_bytes, vec_len};
 ghost use Rattle.br_volume.specs.Drive.{IsSized};
 ghost use Rattle.br_volume.specs.Folder.{file_path};
@@ -15,16 +15,16 @@ use std::marker::Model;
 use std::os::unix::fs::FileExt;
 use std::rt::Files;
 
-/// No file has more bytes.
+/// The greatest length of a file in bytes.
 const MAX_LEN: u64 = (1 << 63) - 1;
 
-/// How many bytes are asked of the system at once.
+/// The number of bytes that one read asks of the system.
 const STEP: usize = 1 << 16;
 
-/// How often a read is tried that signals interrupt.
+/// The number of times that a read is tried which signals interrupt.
 const TRIES: u32 = 1_000;
 
-/// A folder, and what opens its files.
+/// A folder, and the handle that opens its files.
 #[derive(Drop)]
 pub(crate) struct Folder<F: Drop> {
     alloc: Global,
@@ -51,12 +51,12 @@ impl<F: Files + Drop> Folder<F> {
         })
     }
 
-    /// What opens the folder's files.
+    /// Returns the handle that opens the folder's files.
     pub(crate) fn files(&self) -> &F {
         &self.files
     }
 
-    /// The path of a volume's file.
+    /// Returns the path of a volume's file.
     pub(crate) fn path_of(&self, vol: &VolName) -> Result<String, DriveFault>
         ensures { IfOk result (λ path. string_bytes path ≡ file_path self.now vol.now) }
     {
@@ -69,14 +69,15 @@ impl<F: Files + Drop> Folder<F> {
         }
     }
 
-    /// Opens a volume's file. `UnknownVolume` where it is not there, `Fault` where it can't be opened.
+    /// Opens a volume's file. Returns `UnknownVolume` if there is no such file, `Fault` if it can't
+    /// be opened.
     fn open(&self, vol: &VolName, how: &OpenOptions) -> Result<F::File, DriveFault> {
         let path = self.path_of(vol)?;
         how.open(&self.files, path.as_str()).map_err(fault_of)
     }
 }
 
-/// Why a file could not be opened or looked at, as a drive's fault.
+/// Returns the drive's fault for a file that could not be opened or examined.
 pub(crate) fn fault_of(error: io::Error) -> DriveFault {
     match error.kind() {
         ErrorKind::NotFound => DriveFault::UnknownVolume,
@@ -85,7 +86,7 @@ pub(crate) fn fault_of(error: io::Error) -> DriveFault {
     }
 }
 
-/// The volume's file: the one that was used last, or else it is opened in its place.
+/// Returns the volume's file, which is opened in place of the held one unless it is that one.
 pub(crate) fn opened<'h, F: Files + Drop>(
     folder: &Folder<F>,
     how: &OpenOptions,
@@ -99,7 +100,7 @@ pub(crate) fn opened<'h, F: Files + Drop>(
     Ok(&mut held.insert(used).1)
 }
 
-/// Reads at a position, and tries again where that is interrupted.
+/// Reads at a position. Tries again if the read is interrupted.
 fn read_some<T: FileExt>(file: &T, buf: &mut [u8], addr: u64) -> Result<usize, DriveFault>
     ensures { IfOk result (λ n. n ≤ length buf.new) }
 {
@@ -113,7 +114,7 @@ fn read_some<T: FileExt>(file: &T, buf: &mut [u8], addr: u64) -> Result<usize, D
     Err(DriveFault::Fault)
 }
 
-/// Fills the buffer from an address on, or as far as the file goes, and says how many bytes it got.
+/// Fills the buffer from an address on, as far as the file goes. Returns the number of bytes read.
 fn read_full<T: FileExt>(file: &T, buf: &mut [u8], addr: u64) -> Result<usize, DriveFault>
     requires in_file { addr < 2 ^ 63 }
     requires in_word { length buf.old < 2 ^ 32 }
@@ -130,7 +131,8 @@ fn read_full<T: FileExt>(file: &T, buf: &mut [u8], addr: u64) -> Result<usize, D
     Ok(got)
 }
 
-/// Puts the next bytes behind those of the buffer, so many or all that are left, and says how many these are.
+/// Appends `count` bytes of the file to the buffer, or all that are left. Returns the number of
+/// bytes appended.
 fn read_more<T: FileExt>(
     file: &T,
     buf: &mut Vec<u8>,
@@ -148,7 +150,8 @@ fn read_more<T: FileExt>(
     Ok(n)
 }
 
-/// Makes the buffer the bytes from an address on, so many or all that are left.
+/// Reads `size` bytes from an address, or all that are left, into the buffer in place of what it
+/// holds.
 fn read_from<T: FileExt>(
     file: &T,
     buf: &mut Vec<u8>,
@@ -170,7 +173,8 @@ fn read_from<T: FileExt>(
     Ok(())
 }
 
-/// Makes the buffer the block at an address of a file. Nothing is asked for behind the address where the longest file ends.
+/// Reads a block of a file into the buffer. Asks for no bytes past the end of the longest possible
+/// file.
 pub(crate) fn read_block<T: FileExt>(
     file: &T,
     addr: u64,
@@ -183,7 +187,7 @@ pub(crate) fn read_block<T: FileExt>(
     if addr >= MAX_LEN {
         return Ok(Got::End);
     }
-    // One byte tells whether the file ends here, where no bytes are asked for.
+    // If no bytes are asked for, one byte shows whether the file ends here.
     let count = u64::from(size.max(1)).min(MAX_LEN - addr);
     read_from(file, buf, addr, count as usize)?;
     if buf.is_empty() {
@@ -193,7 +197,7 @@ pub(crate) fn read_block<T: FileExt>(
     Ok(Got::Block(buf.len() as u32))
 }
 
-/// Makes the buffer the block at an address of a volume.
+/// Reads a block of a volume into the buffer.
 fn read_volume<F: Files + Drop>(
     folder: &Folder<F>,
     held: &mut Option<(VolName, F::File)>,
@@ -212,7 +216,7 @@ where
     read_block(file, addr, size, buf)
 }
 
-/// A drive over a folder. It keeps the file of the volume that it read last open, and no other.
+/// A drive over a folder. It keeps open the file that it read last, and no other.
 #[derive(Drop)]
 pub struct FolderDrive<F: Files + Drop> {
     folder: Folder<F>,
@@ -229,7 +233,7 @@ impl<F: Files + Drop> Model for FolderDrive<F> {
 }
 
 impl<F: Files + Drop> FolderDrive<F> {
-    /// A drive over the folder with this path. Nothing is opened yet.
+    /// Returns a drive over the folder with this path. Opens nothing yet.
     pub fn new(alloc: Global, files: F, path: &str) -> Result<FolderDrive<F>, AllocError>
         ensures { IfOk result (λ drive. drive ≡ record { path = path.now; failures = 0 }) }
     {
@@ -251,7 +255,7 @@ where
 
     ghost failures = { λ d. d.failures };
 
-    /// The volume is the file of its name.
+    /// Reads a block of the file with the volume's name.
     fn block_at(
         &mut self,
         vol: &VolName,

@@ -1,7 +1,7 @@
 ghost use Rattle.std.specs.Prelude.{◌≡◌, ◌+◌, IfOk, OnOk, OnErr};
 
 use crate::count::Count;
-use crate::fault::{DriveFault, StoreFault};
+use crate::fault::{DriveFault, VolumeFault};
 use crate::folder::{Folder, fault_of, opened};
 use crate::store::VolumeStore;
 use br_types::VolName;
@@ -12,7 +12,7 @@ use std::io::Write;
 use std::marker::Model;
 use std::rt::Files;
 
-/// Writes bytes behind those of the volume's file, which is made where it is not there.
+/// Appends bytes to the volume's file. A file that does not exist is made first.
 fn append_to_file<F: Files + Drop>(
     folder: &Folder<F>,
     held: &mut Option<(VolName, F::File)>,
@@ -28,7 +28,7 @@ fn append_to_file<F: Files + Drop>(
     }
 }
 
-/// How many bytes the volume's file has, 0 where it is not there.
+/// Returns the length of the volume's file in bytes, 0 if the file does not exist.
 fn length_of_file<F: Files + Drop>(folder: &Folder<F>, vol: &VolName) -> Result<u64, DriveFault> {
     let path = folder.path_of(vol)?;
     match fs::metadata(folder.files(), path.as_str()).map_err(fault_of) {
@@ -39,7 +39,7 @@ fn length_of_file<F: Files + Drop>(folder: &Folder<F>, vol: &VolName) -> Result<
     }
 }
 
-/// A store over a folder. It keeps the file of the volume that it appended to last open, and no other.
+/// A store over a folder. It keeps open the file that it appended to last, and no other.
 #[derive(Drop)]
 pub struct FolderStore<F: Files + Drop> {
     folder: Folder<F>,
@@ -56,7 +56,7 @@ impl<F: Files + Drop> Model for FolderStore<F> {
 }
 
 impl<F: Files + Drop> FolderStore<F> {
-    /// A store over the folder with this path, which is there already. Nothing is opened yet.
+    /// Returns a store over the folder with this path, which exists already. Opens nothing yet.
     pub fn new(alloc: Global, files: F, path: &str) -> Result<FolderStore<F>, AllocError>
         ensures { IfOk result (λ store. store ≡ record { path = path.now; failures = 0 }) }
     {
@@ -67,8 +67,8 @@ impl<F: Files + Drop> FolderStore<F> {
         })
     }
 
-    /// What the store answers for a fault, which it counts.
-    fn counted<T: Drop>(&mut self, answer: Result<T, DriveFault>) -> Result<T, StoreFault>
+    /// Counts a failure, and returns the result with the store's fault in its place.
+    fn counted<T: Drop>(&mut self, answer: Result<T, DriveFault>) -> Result<T, VolumeFault>
         ensures ok { OnOk result (self.new ≡ self.old) }
         ensures err { OnErr result (self.new ≡ record { path = self.old.path; failures = self.old.failures + 1 }) }
     {
@@ -76,7 +76,7 @@ impl<F: Files + Drop> FolderStore<F> {
             Ok(value) => Ok(value),
             Err(_) => {
                 self.failures = self.failures.next();
-                Err(StoreFault::VolumeFault)
+                Err(VolumeFault::Failed)
             }
         }
     }
@@ -89,14 +89,14 @@ impl<F: Files + Drop> VolumeStore for FolderStore<F> {
 
     ghost failures = { λ s. s.failures };
 
-    /// The volume is the file of its name.
-    fn append(&mut self, vol: &VolName, bytes: &[u8]) -> Result<(), StoreFault> {
+    /// Appends to the file with the volume's name.
+    fn append(&mut self, vol: &VolName, bytes: &[u8]) -> Result<(), VolumeFault> {
         let appended = append_to_file(&self.folder, &mut self.held, vol, bytes);
         self.counted(appended)
     }
 
-    /// The length of the file of its name.
-    fn length(&mut self, vol: &VolName) -> Result<u64, StoreFault> {
+    /// Returns the length of the file with the volume's name.
+    fn length(&mut self, vol: &VolName) -> Result<u64, VolumeFault> {
         let length = length_of_file(&self.folder, vol);
         self.counted(length)
     }

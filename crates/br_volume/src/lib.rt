@@ -1,8 +1,9 @@
 //! Drives, which read volumes block by block, and stores, which append to them.
 //!
-//! `Drive` is the trait of what reads, `MemDrive` a drive over memory and `FolderDrive` one over the files of a folder. Code that
-//! reads volumes is generic over the trait, whose clauses say what each call answers, when it may fail, and that the volumes
-//! only grow. `VolumeStore` is the trait of what appends, `MemStore` a store over memory and `FolderStore` one over a folder.
+//! `Drive` is the trait of drives. `MemDrive` is a drive over memory, `FolderDrive` one over the
+//! files of a folder. Code that reads volumes is generic over the trait. Its clauses say what each
+//! call returns, when a call may fail, and that volumes only grow. `VolumeStore` is the trait of
+//! stores, `MemStore` a store over memory, `FolderStore` one over a folder.
 #![tactic(auto)]
 
 mod count;
@@ -16,7 +17,7 @@ mod store;
 
 pub use count::Count;
 pub use drive::{Drive, Got};
-pub use fault::{DriveFault, StoreFault};
+pub use fault::{DriveFault, VolumeFault};
 pub use folder::FolderDrive;
 pub use folder_store::FolderStore;
 pub use mem::MemDrive;

@@ -34,7 +34,8 @@ impl Model for MemDrive {
 }
 
 impl MemDrive {
-    /// A drive that shows these volumes, of two of one name the first, and never fails.
+    /// Returns a drive that shows these volumes and never fails. Of two volumes with one name it
+    /// shows the first.
     pub fn new(volumes: Vec<(VolName, Vec<u8>)>) -> MemDrive
         ensures { result ≡ record { volumes = volumes_of volumes.items; calls_left = None; failures = 0 } }
     {
@@ -45,8 +46,8 @@ impl MemDrive {
         }
     }
 
-    /// A drive that shows these volumes, and whose calls fail from the k-th on, counted from 1: the first `k - 1` answer, and
-    /// for `k` of 0 none.
+    /// Returns a drive that shows these volumes and whose calls fail from the `k`-th on, counted
+    /// from 1. For `k` of 0 all calls fail.
     pub fn failing_from(volumes: Vec<(VolName, Vec<u8>)>, k: u64) -> MemDrive
         ensures { result ≡ record { volumes = volumes_of volumes.items; calls_left = Some (k - 1); failures = 0 } }
     {
@@ -57,14 +58,14 @@ impl MemDrive {
         }
     }
 
-    /// Its volumes, in their order.
+    /// Returns the volumes, in their order.
     pub fn into_volumes(self) -> Vec<(VolName, Vec<u8>)>
         ensures { volumes_of result.items ≡ self.volumes }
     {
         self.volumes
     }
 
-    /// Whether no call is left before it fails.
+    /// Returns whether the next call fails.
     fn is_out(&self) -> bool
         ensures { result ≡ is_out self.now.calls_left }
     {
@@ -72,14 +73,14 @@ impl MemDrive {
     }
 }
 
-/// The first volume of this name, if there is one.
+/// Returns the first volume with this name.
 fn volume_of<'a>(volumes: &'a [(VolName, Vec<u8>)], vol: &VolName) -> Option<&'a (VolName, Vec<u8>)>
     ensures { option_copied result ≡ find (λ v. bytes_eq v.0 vol.now) volumes.now }
 {
     volumes.iter().find(|v| v.0.bytes() == vol.bytes())
 }
 
-/// The bytes of the volume of this name, if there is one.
+/// Returns the bytes of the first volume with this name.
 pub(crate) fn bytes_of<'a>(volumes: &'a [(VolName, Vec<u8>)], vol: &VolName) -> Option<&'a Vec<u8>>
     ensures { option_map (λ b. b.now.items) result ≡ volume_bytes (volumes_of volumes.now) vol.now }
 {
@@ -89,7 +90,7 @@ pub(crate) fn bytes_of<'a>(volumes: &'a [(VolName, Vec<u8>)], vol: &VolName) -> 
     }
 }
 
-/// Makes the buffer the bytes from an address on, so many or all that are left.
+/// Reads a block of these bytes into the buffer: `size` bytes from `addr`, or all that are left.
 fn copy_from(bytes: &[u8], addr: u64, size: u32, buf: &mut Vec<u8>) -> Result<Got, DriveFault>
     ensures copied { Answers (bytes_got buf.new.items) cause result (Ok (bytes_from bytes.now addr size)) }
     ensures sized { length bytes.now < 2 ^ 63 → IfOk result (IsSized addr size buf.new.items) }
@@ -110,7 +111,7 @@ fn copy_from(bytes: &[u8], addr: u64, size: u32, buf: &mut Vec<u8>) -> Result<Go
     Ok(Got::Block(block.len() as u32))
 }
 
-/// Makes the buffer the next bytes of a volume.
+/// Reads a block of a volume into the buffer.
 #[tactic(auto, unfolding(crate::specs::Drive::bytes_shown))]
 fn read_from(
     volumes: &[(VolName, Vec<u8>)],
@@ -138,7 +139,8 @@ impl Drive for MemDrive {
 
     ghost failures = { λ d. d.failures };
 
-    /// Answers while calls are left, and fails from then on. `buf` keeps its room, and no memory is taken where that is enough.
+    /// Reads a block, unless the drive is to fail from this call on. Takes no memory if `buf` has
+    /// room for `size` bytes.
     fn block_at(
         &mut self,
         vol: &VolName,

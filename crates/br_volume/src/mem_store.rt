@@ -6,14 +6,14 @@ ghost use Rattle.br_volume.specs.MemStore.{Stored, with_appended};
 ghost use Rattle.br_volume.specs.Store.{AppendsTo, AppendsInPartTo, IsLengthIn};
 
 use crate::count::Count;
-use crate::fault::StoreFault;
+use crate::fault::VolumeFault;
 use crate::mem::bytes_of;
 use crate::store::VolumeStore;
 use br_types::VolName;
 use std::alloc::{AllocError, Global};
 use std::marker::Model;
 
-/// A store over memory. It fails where memory is short, and then nothing is changed.
+/// A store over memory. It fails only if memory runs out, and a call that fails changes nothing.
 #[derive(Debug, Drop)]
 pub struct MemStore {
     alloc: Global,
@@ -31,7 +31,7 @@ impl Model for MemStore {
 }
 
 impl MemStore {
-    /// A store without volumes. It keeps the allocator, by which it grows.
+    /// Returns a store without volumes, which grows by this allocator.
     pub fn new(alloc: Global) -> MemStore
         ensures { result ≡ record { volumes = []; failures = 0 } }
     {
@@ -42,14 +42,14 @@ impl MemStore {
         }
     }
 
-    /// Its volumes, in the order in which they were made.
+    /// Returns the volumes, in the order in which they were made.
     pub fn volumes(&self) -> &[(VolName, Vec<u8>)]
         ensures { volumes_of result.now ≡ self.now.volumes }
     {
         &self.volumes
     }
 
-    /// Its volumes, in the order in which they were made.
+    /// Returns the volumes, in the order in which they were made.
     pub fn into_volumes(self) -> Vec<(VolName, Vec<u8>)>
         ensures { volumes_of result.items ≡ self.volumes }
     {
@@ -57,14 +57,14 @@ impl MemStore {
     }
 }
 
-/// Where the first volume of this name stands, if there is one.
+/// Returns the place of the first volume with this name.
 fn position_of(volumes: &[(VolName, Vec<u8>)], vol: &VolName) -> Option<usize>
     ensures { result ≡ position (λ v. bytes_eq v.0 vol.now) volumes.now }
 {
     volumes.iter().position(|v| v.0.bytes() == vol.bytes())
 }
 
-/// Puts bytes behind those of the volume, or makes it of them. What is refused changes nothing.
+/// Appends bytes to a volume, or makes a volume of them. A refusal changes nothing.
 fn append_to(
     alloc: Global,
     volumes: &mut Vec<(VolName, Vec<u8>)>,
@@ -91,8 +91,8 @@ impl VolumeStore for MemStore {
 
     ghost failures = { λ s. s.failures };
 
-    /// A volume that is made stands behind the others.
-    fn append(&mut self, vol: &VolName, bytes: &[u8]) -> Result<(), StoreFault>
+    /// Appends bytes. A new volume comes after the others.
+    fn append(&mut self, vol: &VolName, bytes: &[u8]) -> Result<(), VolumeFault>
         ensures appended { OnOk result (AppendsTo vol.now bytes.now (Some self.old.volumes) (Some self.new.volumes)) }
         ensures refused { OnErr result (AppendsInPartTo vol.now bytes.now (Some self.old.volumes) (Some self.new.volumes)) }
         ensures counted { self.old.failures ≤ self.new.failures }
@@ -104,13 +104,13 @@ impl VolumeStore for MemStore {
             Ok(()) => Ok(()),
             Err(AllocError) => {
                 self.failures = self.failures.next();
-                Err(StoreFault::VolumeFault)
+                Err(VolumeFault::Failed)
             }
         }
     }
 
-    /// Never refused.
-    fn length(&mut self, vol: &VolName) -> Result<u64, StoreFault>
+    /// Returns the length of a volume. It is never refused.
+    fn length(&mut self, vol: &VolName) -> Result<u64, VolumeFault>
         ensures told { IfOk result (λ n. IsLengthIn (Some self.old.volumes) vol.now n) }
         ensures same { self.new ≡ self.old }
         ensures counted { self.old.failures ≤ self.new.failures }

@@ -8,7 +8,7 @@ use std::os::unix::fs::FileExt;
 use std::test::Fail;
 use std::{env, fs, io, process};
 
-/// The bytes 0, 1, 2 and on, so many.
+/// Returns `len` bytes, 0, 1, 2 and on.
 fn counting(alloc: Global, len: u8) -> Result<Vec<u8>, Fail> {
     let mut bytes = Vec::new(alloc);
     for byte in 0..len {
@@ -17,13 +17,13 @@ fn counting(alloc: Global, len: u8) -> Result<Vec<u8>, Fail> {
     Ok(bytes)
 }
 
-/// A volume of so many bytes.
+/// Returns a volume of `len` bytes.
 fn volume(alloc: Global, name: &[u8], len: u8) -> Result<(VolName, Vec<u8>), Fail> {
     let bytes = counting(alloc, len)?;
     Ok((VolName::new(alloc, name)?, bytes))
 }
 
-/// A volume V of 172 bytes, one E without bytes, and a second V of three bytes.
+/// Returns a volume V of 172 bytes, one E without bytes, and a second V of three bytes.
 fn volumes(alloc: Global) -> Result<Vec<(VolName, Vec<u8>)>, Fail> {
     let mut volumes = Vec::new(alloc);
     volumes.push(volume(alloc, b"V", 172)?)?;
@@ -32,7 +32,7 @@ fn volumes(alloc: Global) -> Result<Vec<(VolName, Vec<u8>)>, Fail> {
     Ok(volumes)
 }
 
-/// What a drive gives, by its trait alone.
+/// Reads a block by the trait alone.
 fn read(
     drive: &mut impl Drive,
     vol: &VolName,
@@ -52,51 +52,51 @@ struct OpenDrive {
 }
 
 impl OpenDrive {
-    /// What the drive gives of the volume.
+    /// Reads a block of the volume.
     fn read(&mut self, addr: u64, size: u32) -> Result<Got, DriveFault> {
         read(&mut self.drive, &self.vol, addr, size, &mut self.buf)
     }
 
-    /// Whether the drive gives so many bytes, of which these are the first and the last.
+    /// Returns whether the drive reads `len` bytes, of which these are the first and the last.
     fn gives(&mut self, at: (u64, u32), len: u32, ends: (u8, u8)) -> Result<bool, DriveFault> {
         let got = self.read(at.0, at.1)?;
         Ok(got == Got::Block(len) && is_run(&self.buf, len as usize, ends))
     }
 
-    /// Whether the drive says that the volume ends here.
+    /// Returns whether the volume ends here.
     fn ends(&mut self, addr: u64) -> Result<bool, DriveFault> {
         let got = self.read(addr, 24)?;
         Ok(got == Got::End && self.buf.is_empty())
     }
 }
 
-/// Whether the bytes are so many, of which these are the first and the last.
+/// Returns whether there are `len` bytes, of which these are the first and the last.
 fn is_run(bytes: &[u8], len: usize, ends: (u8, u8)) -> bool {
     bytes.len() == len
         && bytes.first().copied() == Some(ends.0)
         && bytes.last().copied() == Some(ends.1)
 }
 
-/// A drive and the name of a volume, with a buffer that is not empty.
+/// Returns a drive and the name of a volume, with a buffer that is not empty.
 fn reader_of(alloc: Global, drive: MemDrive, name: &[u8]) -> Result<OpenDrive, Fail> {
     let vol = VolName::new(alloc, name)?;
     let buf = Vec::from_slice(alloc, b"what was there before, and is longer than a block")?;
     Ok(OpenDrive { drive, vol, buf })
 }
 
-/// A drive over the volumes and the name of one.
+/// Returns a drive over the volumes, and the name of one.
 fn reader(alloc: Global, name: &[u8]) -> Result<OpenDrive, Fail> {
     let drive = MemDrive::new(volumes(alloc)?);
     reader_of(alloc, drive, name)
 }
 
-/// A drive over the volumes that fails from its k-th call on, and V.
+/// Returns a drive over the volumes that fails from its `k`-th call on, and V.
 fn failing(alloc: Global, k: u64) -> Result<OpenDrive, Fail> {
     let drive = MemDrive::failing_from(volumes(alloc)?, k);
     reader_of(alloc, drive, b"V")
 }
 
-/// Whether a drive gives blocks at the front and at the end of V, whole and cut off.
+/// Returns whether a drive reads blocks at the front and at the end of V, whole and cut off.
 fn gives_whole_and_cut(reader: &mut OpenDrive) -> Result<bool, DriveFault> {
     let front = reader.gives((0, 24), 24, (0, 23))?;
     let back = reader.gives((148, 24), 24, (148, 171))?;
@@ -104,7 +104,7 @@ fn gives_whole_and_cut(reader: &mut OpenDrive) -> Result<bool, DriveFault> {
     Ok(front && back && cut)
 }
 
-/// Whether a drive gives V's last byte, one byte inside, and all but the first.
+/// Returns whether a drive reads V's last byte, one byte inside, and all but the first.
 fn gives_one_and_all(reader: &mut OpenDrive) -> Result<bool, DriveFault> {
     let last = reader.gives((171, 24), 1, (171, 171))?;
     let inside = reader.gives((100, 1), 1, (100, 100))?;
@@ -113,7 +113,7 @@ fn gives_one_and_all(reader: &mut OpenDrive) -> Result<bool, DriveFault> {
 }
 
 #[test]
-fn a_block_is_so_many_bytes_or_all_that_are_left(rt: HostRuntime) -> Result<(), Fail> {
+fn a_block_has_the_size_asked_for_or_all_that_is_left(rt: HostRuntime) -> Result<(), Fail> {
     let mut reader = reader(rt.alloc(), b"V")?;
     assert!(rt; gives_whole_and_cut(&mut reader)?);
     assert!(rt; gives_one_and_all(&mut reader)?);
@@ -138,7 +138,7 @@ fn the_end_is_at_the_volumes_length(rt: HostRuntime) -> Result<(), Fail> {
 }
 
 #[test]
-fn far_behind_the_end_is_the_end(rt: HostRuntime) -> Result<(), Fail> {
+fn far_past_the_end_is_the_end(rt: HostRuntime) -> Result<(), Fail> {
     let mut reader = reader(rt.alloc(), b"V")?;
     assert!(rt; reader.ends(9_223_372_036_854_775_807)?);
     assert!(rt; reader.ends(u64::MAX)?);
@@ -153,7 +153,7 @@ fn a_volume_without_bytes_ends_at_once(rt: HostRuntime) -> Result<(), Fail> {
 }
 
 #[test]
-fn a_volume_that_is_not_there_is_refused(rt: HostRuntime) -> Result<(), Fail> {
+fn a_volume_that_does_not_exist_is_refused(rt: HostRuntime) -> Result<(), Fail> {
     let mut reader = reader(rt.alloc(), b"v")?;
     let fault = reader.read(0, 24).err().ok_or("a fault")?;
     assert_eq!(rt; fault, DriveFault::UnknownVolume);
@@ -162,13 +162,13 @@ fn a_volume_that_is_not_there_is_refused(rt: HostRuntime) -> Result<(), Fail> {
     Ok(())
 }
 
-/// What a drive gives of a volume that is not there.
+/// Reads a volume that does not exist.
 fn unknown(alloc: Global, reader: &mut OpenDrive) -> Result<Result<Got, DriveFault>, Fail> {
     let vol = VolName::new(alloc, b"v")?;
     Ok(read(&mut reader.drive, &vol, 0, 24, &mut reader.buf))
 }
 
-/// Whether a drive fails three times.
+/// Returns whether a drive fails three times.
 fn fails_on(reader: &mut OpenDrive) -> bool {
     let first = reader.read(0, 24);
     let second = reader.read(0, 24);
@@ -186,7 +186,7 @@ fn a_failing_drive_fails_from_its_kth_call_for_ever(rt: HostRuntime) -> Result<(
     Ok(())
 }
 
-/// What the first call of a drive gives that fails from its k-th on.
+/// Returns the first result of a drive that fails from its `k`-th call on.
 fn first_of_failing(alloc: Global, k: u64) -> Result<Result<Got, DriveFault>, Fail> {
     let mut reader = failing(alloc, k)?;
     Ok(reader.read(0, 24))
@@ -200,12 +200,12 @@ fn a_failing_drive_may_fail_from_its_first_call(rt: HostRuntime) -> Result<(), F
     Ok(())
 }
 
-/// Whether a volume has this name and so many bytes.
+/// Returns whether a volume has this name and `len` bytes.
 fn is_volume(volume: &(VolName, Vec<u8>), name: &[u8], len: usize) -> bool {
     volume.0.bytes() == name && volume.1.len() == len
 }
 
-/// Whether these are the volumes of the tests.
+/// Returns whether these are the volumes of the tests.
 fn are_volumes(volumes: &[(VolName, Vec<u8>)]) -> bool {
     match volumes {
         [a, b, c] => is_volume(a, b"V", 172) && is_volume(b, b"E", 0) && is_volume(c, b"V", 3),
@@ -220,16 +220,17 @@ fn a_drive_gives_its_volumes_back(rt: HostRuntime) -> Result<(), Fail> {
     Ok(())
 }
 
-/// What a store answers, by its trait alone.
-fn append(store: &mut impl VolumeStore, vol: &VolName, bytes: &[u8]) -> Result<(), StoreFault> {
+/// Appends by the trait alone.
+fn append(store: &mut impl VolumeStore, vol: &VolName, bytes: &[u8]) -> Result<(), VolumeFault> {
     store.append(vol, bytes)
 }
 
-fn length(store: &mut impl VolumeStore, vol: &VolName) -> Result<u64, StoreFault> {
+/// Returns a length by the trait alone.
+fn length(store: &mut impl VolumeStore, vol: &VolName) -> Result<u64, VolumeFault> {
     store.length(vol)
 }
 
-/// Appends to the volume of this name.
+/// Appends to the volume with this name.
 fn append_to(
     alloc: Global,
     store: &mut impl VolumeStore,
@@ -248,13 +249,13 @@ fn fill(alloc: Global, store: &mut impl VolumeStore) -> Result<(), Fail> {
     append_to(alloc, store, b"V", b"de")
 }
 
-/// The length of the volume of this name.
+/// Returns the length of the volume with this name.
 fn length_of(alloc: Global, store: &mut impl VolumeStore, name: &[u8]) -> Result<u64, Fail> {
     let vol = VolName::new(alloc, name)?;
     Ok(length(store, &vol)?)
 }
 
-/// The lengths of V, E, W and v.
+/// Returns the lengths of V, E, W and v.
 fn lengths(alloc: Global, store: &mut impl VolumeStore) -> Result<[u64; 4], Fail> {
     let v = length_of(alloc, store, b"V")?;
     let e = length_of(alloc, store, b"E")?;
@@ -263,12 +264,12 @@ fn lengths(alloc: Global, store: &mut impl VolumeStore) -> Result<[u64; 4], Fail
     Ok([v, e, w, unknown])
 }
 
-/// Whether a volume has this name and these bytes.
+/// Returns whether a volume has this name and these bytes.
 fn is_text(volume: &(VolName, Vec<u8>), name: &[u8], text: &[u8]) -> bool {
     volume.0.bytes() == name && volume.1.as_slice() == text
 }
 
-/// Whether these are the volumes that `fill` makes.
+/// Returns whether these are the volumes that `fill` makes.
 fn are_filled(volumes: &[(VolName, Vec<u8>)]) -> bool {
     match volumes {
         [v, e, w] => is_text(v, b"V", b"abcde") && is_text(e, b"E", b"") && is_text(w, b"W", b"x"),
@@ -286,7 +287,7 @@ fn a_store_over_memory_appends(rt: HostRuntime) -> Result<(), Fail> {
     Ok(())
 }
 
-/// A drive over the volumes that `fill` makes, and V.
+/// Returns a drive over the volumes that `fill` makes, and V.
 fn reader_of_store(alloc: Global) -> Result<OpenDrive, Fail> {
     let mut store = MemStore::new(alloc);
     fill(alloc, &mut store)?;
@@ -298,18 +299,18 @@ fn a_store_gives_its_volumes_to_a_drive(rt: HostRuntime) -> Result<(), Fail> {
     let mut reader = reader_of_store(rt.alloc())?;
     assert_eq!(rt; reader.read(2, 24)?, Got::Block(3));
     assert_eq!(rt; reader.buf.as_slice(), b"cde".as_slice());
-    assert_eq!(rt; StoreFault::VolumeFault.number(), 44);
+    assert_eq!(rt; VolumeFault::Failed.number(), 44);
     Ok(())
 }
 
-/// The path of a folder for one test.
+/// Returns the path of a folder for one test.
 fn path_of_folder(rt: &HostRuntime, name: &str) -> Result<String, Fail> {
     let temporary = env::temp_dir(rt)?;
     let id = process::id(rt.process());
     Ok(format!(in rt.alloc(); "{}/br_volume_{name}_{id}", temporary.display())?)
 }
 
-/// A new folder for one test.
+/// Makes a folder for one test.
 fn new_folder(rt: &HostRuntime, name: &str) -> Result<String, Fail> {
     let folder = path_of_folder(rt, name)?;
     fs::create_dir(rt, folder.as_str())?;
@@ -322,20 +323,20 @@ fn fill_folder(rt: &HostRuntime, folder: &str) -> Result<(), Fail> {
     fill(rt.alloc(), &mut store)
 }
 
-/// A new folder with the volumes that `fill` makes.
+/// Makes a folder with the volumes that `fill` makes.
 fn filled_folder(rt: &HostRuntime, name: &str) -> Result<String, Fail> {
     let folder = new_folder(rt, name)?;
     fill_folder(rt, folder.as_str())?;
     Ok(folder)
 }
 
-/// Whether the file of a volume has these bytes.
+/// Returns whether the file of a volume has these bytes.
 fn holds_file(rt: &HostRuntime, folder: &str, name: &str, wanted: &[u8]) -> Result<bool, Fail> {
     let path = format!(in rt.alloc(); "{folder}/{name}")?;
     Ok(fs::read(rt, path.as_str())?.as_slice() == wanted)
 }
 
-/// Whether the files of V, E and W are what `fill` appended, and an `f` behind the first.
+/// Returns whether the files of V, E and W are what `fill` appended, with an `f` after the first.
 fn holds_files(rt: &HostRuntime, folder: &str) -> Result<bool, Fail> {
     let v = holds_file(rt, folder, "V", b"abcdef")?;
     let e = holds_file(rt, folder, "E", b"")?;
@@ -343,7 +344,7 @@ fn holds_files(rt: &HostRuntime, folder: &str) -> Result<bool, Fail> {
     Ok(v && e && w)
 }
 
-/// The length of V after an `f` was appended by a store that is new.
+/// Returns the length of V after a new store appended an `f`.
 fn length_after_f(rt: &HostRuntime, folder: &str) -> Result<u64, Fail> {
     let mut again = FolderStore::new(rt.alloc(), rt, folder)?;
     append_to(rt.alloc(), &mut again, b"V", b"f")?;
@@ -359,8 +360,8 @@ fn a_store_over_a_folder_appends(rt: HostRuntime) -> Result<(), Fail> {
     Ok(())
 }
 
-/// What a store over this folder answers.
-fn answer_over(rt: &HostRuntime, folder: &str) -> Result<Result<(), StoreFault>, Fail> {
+/// Appends by a store over this folder.
+fn answer_over(rt: &HostRuntime, folder: &str) -> Result<Result<(), VolumeFault>, Fail> {
     let vol = VolName::new(rt.alloc(), b"V")?;
     let mut store = FolderStore::new(rt.alloc(), rt, folder)?;
     Ok(append(&mut store, &vol, b"g"))
@@ -371,11 +372,11 @@ fn a_store_without_its_folder_refuses(rt: HostRuntime) -> Result<(), Fail> {
     let folder = new_folder(&rt, "nowhere")?;
     fs::remove_dir_all(&rt, folder.as_str())?;
     let answer = answer_over(&rt, folder.as_str())?;
-    assert_eq!(rt; answer, Err(StoreFault::VolumeFault));
+    assert_eq!(rt; answer, Err(VolumeFault::Failed));
     Ok(())
 }
 
-/// What a drive gives of the volume of this name.
+/// Reads a block of the volume with this name.
 fn read_of(
     alloc: Global,
     drive: &mut impl Drive,
@@ -387,7 +388,7 @@ fn read_of(
     Ok(read(drive, &vol, at.0, at.1, buf)?)
 }
 
-/// Whether a block of so many bytes was given.
+/// Returns whether this is a block of `wanted` bytes.
 fn is_block(got: Got, wanted: usize) -> bool {
     match got {
         Got::Block(len) => len as usize == wanted,
@@ -395,7 +396,7 @@ fn is_block(got: Got, wanted: usize) -> bool {
     }
 }
 
-/// Whether a drive gives these bytes of V.
+/// Returns whether a drive reads these bytes of V.
 fn gives_block(
     alloc: Global,
     drive: &mut impl Drive,
@@ -408,14 +409,15 @@ fn gives_block(
     Ok(is_block(got, wanted.len()) && buf.as_slice() == wanted)
 }
 
-/// Whether a drive says that V ends here.
+/// Returns whether V ends here.
 fn gives_end(alloc: Global, drive: &mut impl Drive, addr: u64) -> Result<bool, Fail> {
     let mut buf = counting(alloc, 50)?;
     let got = read_of(alloc, drive, b"V", (addr, 24), &mut buf)?;
     Ok(got == Got::End && buf.is_empty())
 }
 
-/// Whether a drive gives V, which is `abcde`, at its front and at its end, and where no bytes or very many are asked for.
+/// Returns whether a drive reads V, which is `abcde`, at its front and at its end, and no bytes or
+/// very many of it.
 fn gives_abcde(alloc: Global, drive: &mut impl Drive) -> Result<bool, Fail> {
     let front = gives_block(alloc, drive, 0, 3, b"abc")?;
     let end = gives_block(alloc, drive, 3, 3, b"de")?;
@@ -424,16 +426,16 @@ fn gives_abcde(alloc: Global, drive: &mut impl Drive) -> Result<bool, Fail> {
     Ok(front && end && many && none)
 }
 
-/// Whether a drive gives no bytes of V, which has five, at its end and behind it.
+/// Returns whether a drive reads no bytes of V, which has five, at its end and past it.
 fn gives_five(alloc: Global, drive: &mut impl Drive) -> Result<bool, Fail> {
     let end = gives_end(alloc, drive, 5)?;
-    let behind = gives_end(alloc, drive, 6)?;
+    let past = gives_end(alloc, drive, 6)?;
     let far = gives_end(alloc, drive, 9_223_372_036_854_775_807)?;
     let farthest = gives_end(alloc, drive, u64::MAX)?;
-    Ok(end && behind && far && farthest)
+    Ok(end && past && far && farthest)
 }
 
-/// Whether one drive over a folder gives V and its end.
+/// Returns whether one drive over a folder reads V and its end.
 fn reads_folder(rt: &HostRuntime, folder: &str) -> Result<bool, Fail> {
     let mut drive = FolderDrive::new(rt.alloc(), rt, folder)?;
     let read = gives_abcde(rt.alloc(), &mut drive)?;
@@ -449,7 +451,7 @@ fn a_drive_over_a_folder_reads(rt: HostRuntime) -> Result<(), Fail> {
     Ok(())
 }
 
-/// Whether a drive gives these bytes as the first of a volume.
+/// Returns whether a drive reads these bytes as the first of a volume.
 fn gives_first(
     alloc: Global,
     drive: &mut impl Drive,
@@ -461,7 +463,7 @@ fn gives_first(
     Ok(got != Got::End && buf.as_slice() == wanted)
 }
 
-/// Whether a drive gives V, W twice, and V again.
+/// Returns whether a drive reads V, W twice, and V again.
 fn gives_each(alloc: Global, drive: &mut impl Drive, buf: &mut Vec<u8>) -> Result<bool, Fail> {
     let v = gives_first(alloc, drive, b"V", buf, b"abcde")?;
     let w = gives_first(alloc, drive, b"W", buf, b"x")?;
@@ -470,7 +472,7 @@ fn gives_each(alloc: Global, drive: &mut impl Drive, buf: &mut Vec<u8>) -> Resul
     Ok(v && w && w_again && v_again)
 }
 
-/// Whether one drive over a folder, with one buffer, goes from volume to volume.
+/// Returns whether one drive over a folder, with one buffer, goes from volume to volume.
 fn goes_through_folder(rt: &HostRuntime, folder: &str) -> Result<bool, Fail> {
     let mut drive = FolderDrive::new(rt.alloc(), rt, folder)?;
     let mut buf = Vec::new(rt.alloc());
@@ -485,7 +487,7 @@ fn a_drive_over_a_folder_goes_from_volume_to_volume(rt: HostRuntime) -> Result<(
     Ok(())
 }
 
-/// What a drive answers for the first bytes of a volume.
+/// Returns the refusal of the first bytes of a volume.
 fn fault_of(
     alloc: Global,
     drive: &mut impl Drive,
@@ -496,7 +498,7 @@ fn fault_of(
     Ok(read(drive, &vol, 0, 24, &mut buf).err())
 }
 
-/// What one drive over a folder answers for V and for D.
+/// Returns the refusals of V and of D by one drive over a folder.
 fn faults_of(rt: &HostRuntime, folder: &str) -> Result<[Option<DriveFault>; 2], Fail> {
     let mut drive = FolderDrive::new(rt.alloc(), rt, folder)?;
     let unknown = fault_of(rt.alloc(), &mut drive, b"V")?;
@@ -524,8 +526,8 @@ fn a_drive_over_a_folder_refuses(rt: HostRuntime) -> Result<(), Fail> {
     Ok(())
 }
 
-/// A file of 200,000 bytes, each the low byte of its address, that gives at most 7 at once. Every second read is interrupted, and
-/// one behind `good` fails.
+/// A file of 200,000 bytes, each the low byte of its address. A read gives at most 7 bytes, every
+/// second read is interrupted, and a read past `good` fails.
 #[derive(Drop)]
 struct Slow {
     good: u64,
@@ -555,7 +557,7 @@ impl FileExt for Slow {
     }
 }
 
-/// Such a file, of which nothing was read yet.
+/// Returns such a file, of which nothing was read yet.
 fn slow_file(good: u64) -> Slow {
     Slow {
         good,
@@ -563,7 +565,7 @@ fn slow_file(good: u64) -> Slow {
     }
 }
 
-/// Whether these are the bytes of the file from address 10 on.
+/// Returns whether these are the bytes of the file from address 10 on.
 fn are_from_10(bytes: &[u8]) -> bool {
     let mut same = bytes.len() == 100_000;
     for (at, byte) in [
@@ -588,7 +590,7 @@ fn short_and_interrupted_reads_are_tried_again(rt: HostRuntime) -> Result<(), Fa
     Ok(())
 }
 
-/// What the file gives near its end and at its end, behind a long read.
+/// Reads the file near its end and at its end, after a long read.
 fn at_the_end(file: &Slow, buf: &mut Vec<u8>) -> Result<[Got; 3], DriveFault> {
     let long = read_block(file, 10, 100_000, buf)?;
     let near = read_block(file, 199_990, 24, buf)?;
@@ -604,7 +606,7 @@ fn the_end_of_a_file_is_found_by_short_reads(rt: HostRuntime) -> Result<(), Fail
     Ok(())
 }
 
-/// What a file gives that fails behind address 70,000, up to there and then farther.
+/// Reads a file that fails past address 70,000, up to there and then farther.
 fn up_to_a_fault(alloc: Global) -> [Result<Got, DriveFault>; 2] {
     let file = slow_file(70_000);
     let mut buf = Vec::new(alloc);
