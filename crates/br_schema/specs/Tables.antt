@@ -10,6 +10,11 @@ use Rattle.sqlite_schema.specs.declared.schema.Column.{Column}
 use Rattle.sqlite_schema.specs.declared.schema.Reference.{Reference}
 use Rattle.sqlite_schema.specs.declared.schema.Index.{Index}
 use Rattle.sqlite_schema.specs.declared.schema.Action.TheVariants.{NoAction}
+use Rattle.br_schema.specs.Places.{version_tree, client_tree, client_index_tree, fileset_tree, fileset_index_tree, media_tree, media_index_tree}
+use Rattle.br_schema.specs.Places.{path_tree, path_index_tree, filename_tree, filename_index_tree, job_tree, job_index_tree}
+use Rattle.br_schema.specs.Places.{job_media_tree, job_media_index_tree, file_tree, row_number, name_column}
+use Rattle.br_schema.specs.Places.{job_client, job_fileset, job_session_id, job_session_time, span_job, span_media, span_vol_index}
+use Rattle.br_schema.specs.Places.{file_job, file_path, file_filename}
 
 abbrev pub create_version : List ℕ
 create_version = codes "CREATE TABLE Version(VersionId INTEGER NOT NULL)"
@@ -42,19 +47,23 @@ create_file = codes "CREATE TABLE File(FileId INTEGER PRIMARY KEY, FileIndex INT
 abbrev pub column : List ℕ → Kind → Column
 column name kind = record { name = name; kind = kind; is_strict = false; not_null = true; default = Null; collation = Binary }
 
--- the column of the key
+-- the column of the key, which may be null in the row since the row's number is its value
 abbrev pub key_column : List ℕ → Column
 key_column name = record { name = name; kind = Integer; is_strict = false; not_null = false; default = Null; collation = Binary }
 
--- one column refers to one of another table
+-- the column at a place refers to a column of another table
 abbrev pub refers : ℕ → List ℕ → List ℕ → Reference
-refers at parent name = record { columns = at ∷ []; parent = parent; parent_columns = name ∷ []; on_delete = NoAction; on_update = NoAction; is_deferred = false }
+refers at parent name =
+    record { columns = at ∷ []; parent = parent; parent_columns = name ∷ []; on_delete = NoAction; on_update = NoAction; is_deferred = false }
+
+abbrev pub version_columns : List Column
+version_columns = column (codes "VersionId") Integer ∷ []
 
 abbrev pub version : Table
 version = record {
   name = codes "Version";
-  tree = 0;
-  columns = column (codes "VersionId") Integer ∷ [];
+  tree = version_tree;
+  columns = version_columns;
   key = None;
   primary = [];
   uniques = [];
@@ -66,14 +75,17 @@ version = record {
   is_counted = false;
 }
 
+abbrev pub client_columns : List Column
+client_columns = key_column (codes "ClientId") ∷ column (codes "Name") Text ∷ []
+
 abbrev pub client : Table
 client = record {
   name = codes "Client";
-  tree = 1;
-  columns = key_column (codes "ClientId") ∷ column (codes "Name") Text ∷ [];
+  tree = client_tree;
+  columns = client_columns;
   key = Some 0;
-  primary = 0 ∷ [];
-  uniques = (2 ∷ []) ∷ [];
+  primary = row_number ∷ [];
+  uniques = (name_column ∷ []) ∷ [];
   orders = record { digits = 0 } ∷ [];
   checks = [];
   references = [];
@@ -81,15 +93,18 @@ client = record {
   stamps = record { places = []; terms = []; formats = [] };
   is_counted = false;
 }
+
+abbrev pub fileset_columns : List Column
+fileset_columns = key_column (codes "FileSetId") ∷ column (codes "FileSet") Text ∷ []
 
 abbrev pub fileset : Table
 fileset = record {
   name = codes "FileSet";
-  tree = 3;
-  columns = key_column (codes "FileSetId") ∷ column (codes "FileSet") Text ∷ [];
+  tree = fileset_tree;
+  columns = fileset_columns;
   key = Some 0;
-  primary = 0 ∷ [];
-  uniques = (2 ∷ []) ∷ [];
+  primary = row_number ∷ [];
+  uniques = (name_column ∷ []) ∷ [];
   orders = record { digits = 0 } ∷ [];
   checks = [];
   references = [];
@@ -97,15 +112,20 @@ fileset = record {
   stamps = record { places = []; terms = []; formats = [] };
   is_counted = false;
 }
+
+abbrev pub media_columns : List Column
+media_columns =
+    key_column (codes "MediaId") ∷ column (codes "VolumeName") Text
+    ∷ column (codes "MediaType") Text ∷ []
 
 abbrev pub media : Table
 media = record {
   name = codes "Media";
-  tree = 5;
-  columns = key_column (codes "MediaId") ∷ column (codes "VolumeName") Text ∷ column (codes "MediaType") Text ∷ [];
+  tree = media_tree;
+  columns = media_columns;
   key = Some 0;
-  primary = 0 ∷ [];
-  uniques = (2 ∷ []) ∷ [];
+  primary = row_number ∷ [];
+  uniques = (name_column ∷ []) ∷ [];
   orders = record { digits = 0 } ∷ [];
   checks = [];
   references = [];
@@ -113,15 +133,18 @@ media = record {
   stamps = record { places = []; terms = []; formats = [] };
   is_counted = false;
 }
+
+abbrev pub path_columns : List Column
+path_columns = key_column (codes "PathId") ∷ column (codes "Path") Any ∷ []
 
 abbrev pub path : Table
 path = record {
   name = codes "Path";
-  tree = 7;
-  columns = key_column (codes "PathId") ∷ column (codes "Path") Any ∷ [];
+  tree = path_tree;
+  columns = path_columns;
   key = Some 0;
-  primary = 0 ∷ [];
-  uniques = (2 ∷ []) ∷ [];
+  primary = row_number ∷ [];
+  uniques = (name_column ∷ []) ∷ [];
   orders = record { digits = 0 } ∷ [];
   checks = [];
   references = [];
@@ -129,15 +152,18 @@ path = record {
   stamps = record { places = []; terms = []; formats = [] };
   is_counted = false;
 }
+
+abbrev pub filename_columns : List Column
+filename_columns = key_column (codes "FilenameId") ∷ column (codes "Name") Any ∷ []
 
 abbrev pub filename : Table
 filename = record {
   name = codes "Filename";
-  tree = 9;
-  columns = key_column (codes "FilenameId") ∷ column (codes "Name") Any ∷ [];
+  tree = filename_tree;
+  columns = filename_columns;
   key = Some 0;
-  primary = 0 ∷ [];
-  uniques = (2 ∷ []) ∷ [];
+  primary = row_number ∷ [];
+  uniques = (name_column ∷ []) ∷ [];
   orders = record { digits = 0 } ∷ [];
   checks = [];
   references = [];
@@ -146,78 +172,111 @@ filename = record {
   is_counted = false;
 }
 
+abbrev pub job_columns : List Column
+job_columns =
+    key_column (codes "JobId") ∷ column (codes "Type") Text ∷ column (codes "Level") Text
+    ∷ column (codes "ClientId") Integer ∷ column (codes "JobStatus") Text
+    ∷ column (codes "StartTime") Integer ∷ column (codes "FileSetId") Integer
+    ∷ column (codes "VolSessionId") Integer ∷ column (codes "VolSessionTime") Integer ∷ []
+
+abbrev pub job_references : List Reference
+job_references = refers job_client (codes "Client") (codes "ClientId") ∷ refers job_fileset (codes "FileSet") (codes "FileSetId") ∷ []
+
 abbrev pub job : Table
 job = record {
   name = codes "Job";
-  tree = 11;
-  columns = key_column (codes "JobId") ∷ column (codes "Type") Text ∷ column (codes "Level") Text ∷ column (codes "ClientId") Integer ∷ column (codes "JobStatus") Text ∷ column (codes "StartTime") Integer ∷ column (codes "FileSetId") Integer ∷ column (codes "VolSessionId") Integer ∷ column (codes "VolSessionTime") Integer ∷ [];
+  tree = job_tree;
+  columns = job_columns;
   key = Some 0;
-  primary = 0 ∷ [];
-  uniques = (8 ∷ 9 ∷ []) ∷ [];
+  primary = row_number ∷ [];
+  uniques = (job_session_id ∷ job_session_time ∷ []) ∷ [];
   orders = record { digits = 0 } ∷ [];
   checks = [];
-  references = refers 4 (codes "Client") (codes "ClientId") ∷ refers 7 (codes "FileSet") (codes "FileSetId") ∷ [];
+  references = job_references;
   computed = [];
   stamps = record { places = []; terms = []; formats = [] };
   is_counted = false;
 }
+
+abbrev pub job_media_columns : List Column
+job_media_columns =
+    key_column (codes "JobMediaId") ∷ column (codes "JobId") Integer
+    ∷ column (codes "MediaId") Integer ∷ column (codes "FirstIndex") Integer
+    ∷ column (codes "LastIndex") Integer ∷ column (codes "StartFile") Integer
+    ∷ column (codes "EndFile") Integer ∷ column (codes "StartBlock") Integer
+    ∷ column (codes "EndBlock") Integer ∷ column (codes "VolIndex") Integer ∷ []
+
+abbrev pub job_media_references : List Reference
+job_media_references = refers span_job (codes "Job") (codes "JobId") ∷ refers span_media (codes "Media") (codes "MediaId") ∷ []
 
 abbrev pub job_media : Table
 job_media = record {
   name = codes "JobMedia";
-  tree = 13;
-  columns = key_column (codes "JobMediaId") ∷ column (codes "JobId") Integer ∷ column (codes "MediaId") Integer ∷ column (codes "FirstIndex") Integer ∷ column (codes "LastIndex") Integer ∷ column (codes "StartFile") Integer ∷ column (codes "EndFile") Integer ∷ column (codes "StartBlock") Integer ∷ column (codes "EndBlock") Integer ∷ column (codes "VolIndex") Integer ∷ [];
+  tree = job_media_tree;
+  columns = job_media_columns;
   key = Some 0;
-  primary = 0 ∷ [];
-  uniques = (2 ∷ 10 ∷ []) ∷ [];
+  primary = row_number ∷ [];
+  uniques = (span_job ∷ span_vol_index ∷ []) ∷ [];
   orders = record { digits = 0 } ∷ [];
   checks = [];
-  references = refers 2 (codes "Job") (codes "JobId") ∷ refers 3 (codes "Media") (codes "MediaId") ∷ [];
+  references = job_media_references;
   computed = [];
   stamps = record { places = []; terms = []; formats = [] };
   is_counted = false;
 }
+
+abbrev pub file_columns : List Column
+file_columns =
+    key_column (codes "FileId") ∷ column (codes "FileIndex") Integer
+    ∷ column (codes "JobId") Integer ∷ column (codes "PathId") Integer
+    ∷ column (codes "FilenameId") Integer ∷ column (codes "LStat") Text
+    ∷ column (codes "MD5") Text ∷ []
+
+abbrev pub file_references : List Reference
+file_references =
+    refers file_job (codes "Job") (codes "JobId") ∷ refers file_path (codes "Path") (codes "PathId")
+    ∷ refers file_filename (codes "Filename") (codes "FilenameId") ∷ []
 
 abbrev pub file : Table
 file = record {
   name = codes "File";
-  tree = 15;
-  columns = key_column (codes "FileId") ∷ column (codes "FileIndex") Integer ∷ column (codes "JobId") Integer ∷ column (codes "PathId") Integer ∷ column (codes "FilenameId") Integer ∷ column (codes "LStat") Text ∷ column (codes "MD5") Text ∷ [];
+  tree = file_tree;
+  columns = file_columns;
   key = Some 0;
-  primary = 0 ∷ [];
+  primary = row_number ∷ [];
   uniques = [];
   orders = [];
   checks = [];
-  references = refers 3 (codes "Job") (codes "JobId") ∷ refers 4 (codes "Path") (codes "PathId") ∷ refers 5 (codes "Filename") (codes "FilenameId") ∷ [];
+  references = file_references;
   computed = [];
   stamps = record { places = []; terms = []; formats = [] };
   is_counted = false;
 }
 
--- the index that keeps a list of columns apart
+-- the index of a table that lets no two of its rows have the same values in these columns
 abbrev pub unique_index : List ℕ → ℕ → ℕ → List ℕ → Index
 unique_index name tree table places = record { name = name; tree = tree; table = table; columns = places; order = record { digits = 0 }; is_unique = true }
 
 abbrev pub client_index : Index
-client_index = unique_index (codes "sqlite_autoindex_Client_1") 2 1 (2 ∷ [])
+client_index = unique_index (codes "sqlite_autoindex_Client_1") client_index_tree client_tree (name_column ∷ [])
 
 abbrev pub fileset_index : Index
-fileset_index = unique_index (codes "sqlite_autoindex_FileSet_1") 4 3 (2 ∷ [])
+fileset_index = unique_index (codes "sqlite_autoindex_FileSet_1") fileset_index_tree fileset_tree (name_column ∷ [])
 
 abbrev pub media_index : Index
-media_index = unique_index (codes "sqlite_autoindex_Media_1") 6 5 (2 ∷ [])
+media_index = unique_index (codes "sqlite_autoindex_Media_1") media_index_tree media_tree (name_column ∷ [])
 
 abbrev pub path_index : Index
-path_index = unique_index (codes "sqlite_autoindex_Path_1") 8 7 (2 ∷ [])
+path_index = unique_index (codes "sqlite_autoindex_Path_1") path_index_tree path_tree (name_column ∷ [])
 
 abbrev pub filename_index : Index
-filename_index = unique_index (codes "sqlite_autoindex_Filename_1") 10 9 (2 ∷ [])
+filename_index = unique_index (codes "sqlite_autoindex_Filename_1") filename_index_tree filename_tree (name_column ∷ [])
 
 abbrev pub job_index : Index
-job_index = unique_index (codes "sqlite_autoindex_Job_1") 12 11 (8 ∷ 9 ∷ [])
+job_index = unique_index (codes "sqlite_autoindex_Job_1") job_index_tree job_tree (job_session_id ∷ job_session_time ∷ [])
 
 abbrev pub job_media_index : Index
-job_media_index = unique_index (codes "sqlite_autoindex_JobMedia_1") 14 13 (2 ∷ 10 ∷ [])
+job_media_index = unique_index (codes "sqlite_autoindex_JobMedia_1") job_media_index_tree job_media_tree (span_job ∷ span_vol_index ∷ [])
 
 abbrev pub no_schema : Schema
 no_schema = record { tables = []; indexes = []; views = [] }
