@@ -3,32 +3,32 @@
 
 Two sets of volumes are made: one of many small files (4 KiB to 64 KiB, one session), and one of few large files (256 MiB each, over
 several volumes). Both programs deliver each into a new empty folder, in turns. Turns are taken too by `brestore extract` without a
-folder, which tells what the delivery itself costs, and by `md5sum` of what `bextract` delivered, which is what it leaves unchecked. The
-regular files of both folders are held against the manifest, path by path and digest by digest.
+folder, which shows what the delivery itself costs, and by `md5sum` of what `bextract` delivered, which is what it leaves
+unchecked. The regular files of both folders are compared with the manifest, path by path and digest by digest.
 
 The two don't do the same work:
 
-    brestore    computes the MD5 digest of each file, compares it, and prints the manifest; reads all before it puts anything; puts regular
-                files and folders only, without owner, mode and time
-    bextract    compares the checksum of each block, and no file's digest; puts what it reads at once; puts symbolic links too (and
-                hard ones, of which there are none here), and sets owner, mode and times; prints a line for each file
+    brestore    computes the MD5 digest of each file, compares it, and prints the manifest; reads all before it writes anything;
+                writes regular files and folders only, without owner, mode and time
+    bextract    compares the checksum of each block, and no file's digest; writes what it reads at once; writes symbolic links
+                too (and hard ones, of which there are none here), and sets owner, mode and times; prints a line for each file
 
 Of the folders only regular files are compared. Neither flushes its files to the disk. `bextract` mixes up the files of sessions that
-take turns on a volume, so the small files are of one session here. It is in Debian's package bacula-sd (no daemon is needed). The script
-wants Python 3.11.
+take turns on a volume, so the small files are of one session here. It is in Debian's package bacula-sd (no daemon is needed). The
+script needs Python 3.11.
 
 What was delivered and compared is cut to nothing, so that little goes to the disk, and is deleted only at the end: an ext4 without a
-journal makes new files slowly for six minutes where many were deleted. So wait as long before the next run on such a one.
+journal makes new files slowly for six minutes after many were deleted. So wait as long before the next run on such a one.
 
-    bench/delivering.py                    1 GiB a set; wants 4 GiB of disk and 4 GiB of memory
+    bench/delivering.py                    1 GiB a set; needs 4 GiB of disk and 4 GiB of memory
     bench/delivering.py --quick            16 MiB a set: whether all is right, not how fast it is
     bench/delivering.py --folder DIR       keeps the sets there, and takes those that are there already
     bench/delivering.py --program FILE     another program than crates/brestore/out/brestore
     bench/delivering.py --bextract FILE    another program than the bextract of the system
-    bench/delivering.py --drives N         brestore reads with so many drives
+    bench/delivering.py --drives N         brestore reads with N drives
     bench/delivering.py --unchecked        bextract doesn't compare the blocks' checksums
 
-The status is 1 where a program failed or delivered other files, and with --strict where a target was missed.
+The status is 1 if a program failed or delivered other files, and with --strict if a target was missed.
 """
 
 import argparse
@@ -88,11 +88,11 @@ def read_options():
     parser.add_argument("--quick", action="store_true", help="sets of 16 MiB")
     parser.add_argument("--repeats", type=int, default=3, metavar="N", help="runs of each, of which the best counts (default: %(default)s)")
     parser.add_argument("--kind", choices=KINDS, action="append", help="these sets only (default: all)")
-    parser.add_argument("--drives", type=int, default=DRIVES, metavar="N", help="how many drives brestore reads with (default: %(default)s)")
+    parser.add_argument("--drives", type=int, default=DRIVES, metavar="N", help="the number of drives that brestore reads with (default: %(default)s)")
     parser.add_argument("--unchecked", action="store_true", help="have bextract compare no checksums")
     parser.add_argument("--seed", type=int, default=1, help="of the files' bytes")
     parser.add_argument("--folder", help="where the sets are made and stay, and the files are delivered (default: a temporary folder)")
-    parser.add_argument("--strict", action="store_true", help="status 1 also where a target is missed")
+    parser.add_argument("--strict", action="store_true", help="status 1 also if a target is missed")
     parser.add_argument("--list", nargs=2, help=argparse.SUPPRESS)
     options = parser.parse_args()
     if options.quick:
@@ -252,7 +252,7 @@ def main():
     if not options.bextract or not os.access(options.bextract, os.X_OK):
         print("there is no bextract: it is in Debian's package bacula-sd")
         return 1
-    # bextract asks where it doesn't find a volume, and gets no answer.
+    # bextract asks if it doesn't find a volume, and gets no answer.
     os.dup2(os.open(os.devnull, os.O_RDONLY), 0)
     folder = options.folder or tempfile.mkdtemp(prefix="brestore-bench-")
     os.makedirs(folder, exist_ok=True)

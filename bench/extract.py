@@ -3,16 +3,16 @@
 
 Two sets of volumes are made: one of many small files (4 KiB to 64 KiB, two sessions in turns), and one of few large files
 (256 MiB and more, over several volumes), and of each one with half as many files. Each is restored by its bootstrap, the manifest
-is held against what the generator knows, and the time and the peak memory are printed as ratios. On request there are two sets
+is compared with what the generator knows, and the time and the peak memory are printed as ratios. On request there are two sets
 more, of small files too: one on 2,000 volumes, and one whose blocks go to two volumes in turns, so that its bootstrap has a group
 for each block.
 
-    bench/extract.py                    1 GiB a set; wants 4 GiB of disk and 3 GiB of memory
+    bench/extract.py                    1 GiB a set; needs 4 GiB of disk and 2 GiB of memory
     bench/extract.py --quick            16 MiB a set: whether all is right, not how fast it is
     bench/extract.py --folder DIR       keeps the sets there, and takes those that are there already
     bench/extract.py --program FILE     another program than crates/brestore/out/brestore
 
-The status is 1 where the program failed or printed another manifest, and with --strict where a target was missed.
+The status is 1 if the program failed or printed another manifest, and with --strict if a target was missed.
 """
 
 import argparse
@@ -51,7 +51,7 @@ def read_options():
     parser.add_argument("--folder", help="where the sets are made and stay (default: a temporary folder)")
     parser.add_argument("--read-back", action="store_true", help="read the sets back by a second reader too")
     parser.add_argument("--no-run", action="store_true", help="make the sets, and run no program")
-    parser.add_argument("--strict", action="store_true", help="status 1 also where a target is missed")
+    parser.add_argument("--strict", action="store_true", help="status 1 also if a target is missed")
     parser.add_argument("--make", nargs=5, help=argparse.SUPPRESS)
     options = parser.parse_args()
     if options.quick:
@@ -148,7 +148,7 @@ class Measured:
 
 
 def judge(kind, whole, half):
-    """Each target with the ratio that was reached, and that of the processor's time where time is meant."""
+    """Returns each target with the ratio that was reached, and that of the processor's time if time is meant."""
     extract, md5sum, before = whole.extract, whole.md5sum, half.extract
     memory = max(0, extract.memory - FREE_MEMORY) / whole.facts["restored_bytes"]
     return [
@@ -170,7 +170,7 @@ def show(name, measured):
 
 
 def show_target(name, ratio, busy, most):
-    """Prints a target, and whether it is met. The ratio of the processor's time is told too, for busy machines."""
+    """Prints a target, and whether it is met. The ratio of the processor's time is printed too, for busy machines."""
     shown = f"({busy:.2f} of the processor's)" if busy is not None else ""
     print(f"{name:58} {ratio:6.2f} {shown:26} at most {most:.1f}  {'met' if ratio <= most else 'MISSED'}")
     return ratio <= most

@@ -2,14 +2,14 @@
 """Measures the steps of a selection: the view, the tree, listing, marking and the plan.
 
 `br_bench` makes a history in memory, of a Full and thirty Incrementals, and goes through the steps up to a stage. It tells how long
-each step took of the processor; the peak memory of a stage is what the system says of the process. What it counts is held against
-what a walk over the same paths by this script finds.
+each step took of the processor; the peak memory of a stage is what the system says of the process. What it counts is compared
+with what a walk over the same paths by this script finds.
 
     bench/selecting.py                    1,000,000 paths, and a tenth of that
     bench/selecting.py --paths N          N paths, and a tenth of that
     bench/selecting.py --program FILE     another program than crates/br_bench/out/br_bench
 
-The status is 1 where a count is wrong or the program failed, and with --strict also where a step grows by more than thirteen times.
+The status is 1 if a count is wrong or the program failed, and with --strict also if a step grows by more than thirteen times.
 """
 
 import argparse
@@ -36,7 +36,7 @@ def read_options():
     parser.add_argument("--paths", type=int, default=1_000_000, help="rows of the Full, a multiple of 10,000 (default: %(default)s)")
     parser.add_argument("--jobs", type=int, default=30, help="Incrementals, each of a hundredth of the paths (default: %(default)s)")
     parser.add_argument("--repeats", type=int, default=5, metavar="N", help="runs of each, of which the median counts (default: %(default)s)")
-    parser.add_argument("--strict", action="store_true", help="status 1 also where a step grows by more than thirteen times")
+    parser.add_argument("--strict", action="store_true", help="status 1 also if a step grows by more than thirteen times")
     return parser.parse_args()
 
 
@@ -74,7 +74,7 @@ def newest_jobs(paths, jobs):
 
 
 def names_in(newest, directory):
-    """How many names stand in a directory."""
+    """Returns the number of names in a directory."""
     below = (path[len(directory) :] for path in newest if path.startswith(directory))
     return len({rest.split("/")[0] for rest in below if rest})
 
@@ -96,7 +96,7 @@ def expected_lines(paths, jobs):
 
 
 def run(words, folder):
-    """Status, peak memory in bytes and both outputs of a child."""
+    """Returns status, peak memory in bytes and both outputs of a child."""
     files = [os.path.join(folder, name) for name in ("out", "err")]
     _, memory, _, status = run_measured(words, *files)
     texts = []

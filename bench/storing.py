@@ -1,15 +1,15 @@
 #!/usr/bin/env python3
 """Measures the catalogue: a Full stored into an SQLite file in one transaction, and loaded from it.
 
-`br_bench` makes a Full of 100,000 and of 1,000,000 paths in memory, stores it as a catalogue, and loads that. Beside it SQLite itself, by
-Python's module, puts the same rows into the same tables in one transaction, with prepared statements, and reads them back by
-the same joined selects. Both are told in seconds of the processor, and as a ratio.
+`br_bench` makes a Full of 100,000 and of 1,000,000 paths in memory, stores it as a catalogue, and loads that. Beside it SQLite
+itself, by Python's module, inserts the same rows into the same tables in one transaction, with prepared statements, and reads
+them back by the same joined selects. Both are printed in seconds of the processor, and as a ratio.
 
     bench/storing.py                    100,000 and 1,000,000 paths
     bench/storing.py --paths N ..       these
     bench/storing.py --program FILE     another program than crates/br_bench/out/br_bench
 
-The status is 1 where something is wrong.
+The status is 1 if something is wrong.
 """
 
 import argparse
@@ -31,7 +31,7 @@ def lines_of(file):
 
 
 def run(words):
-    """The lines of both outputs of a child, and its peak memory in bytes."""
+    """Returns the lines of both outputs of a child, and its peak memory in bytes."""
     with tempfile.TemporaryDirectory() as folder:
         files = [os.path.join(folder, name) for name in ("out", "err")]
         _, memory, _, status = run_measured(words, *files)
@@ -59,7 +59,7 @@ def rows_of(file):
 
 
 def put(file, rows):
-    """Seconds in which SQLite puts the rows into new tables, numbers of paths and names looked up as it goes."""
+    """Returns the seconds in which SQLite inserts the rows into new tables, looking up paths and names as it goes."""
     paths, names = dict(rows["Path"]), dict(rows["Filename"])
     start = time.process_time()
     db = sqlite3.connect(file, isolation_level=None)
@@ -97,7 +97,7 @@ def select(file):
 
 
 def files_of(file):
-    """A database, and what stands beside it of its log."""
+    """Returns a database, and the files of its log beside it."""
     return [it for it in (file, f"{file}-wal", f"{file}-shm") if os.path.exists(it)]
 
 

@@ -91,7 +91,7 @@ class Volumes:
         return self.names[-1], self.at
 
     def put(self, parts, length, number, session_id, session_time):
-        """Puts a block behind the others, and says where its last byte stands."""
+        """Appends a block to the others, and returns the address of its last byte."""
         size = BLOCK_HEADER.size + length
         header = BLOCK_HEADER.pack(0, size, number, b"BB02", session_id, session_time)[4:]
         checksum = zlib.crc32(header)
