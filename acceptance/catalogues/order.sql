@@ -1,5 +1,5 @@
--- A catalogue of the three jobs whose sessions stand on bench/sets/order/Vol-0001, as Bacula's own manifests and bootstraps tell of them.
--- sqlite3 order.db < bench/catalogues/order.sql
+-- A catalogue of the three jobs whose sessions are on acceptance/sets/order/Vol-0001, by Bacula's own manifests and bootstraps.
+-- sqlite3 order.db < acceptance/catalogues/order.sql
 CREATE TABLE Version(VersionId INTEGER NOT NULL);
 CREATE TABLE Client(ClientId INTEGER PRIMARY KEY, Name TEXT NOT NULL UNIQUE);
 CREATE TABLE FileSet(FileSetId INTEGER PRIMARY KEY, FileSet TEXT NOT NULL UNIQUE);
