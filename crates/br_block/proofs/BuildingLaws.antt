@@ -1,4 +1,4 @@
--- A block that is being written, from its first byte to its header.
+-- A block under construction, from its first byte to its header.
 use Rattle.std.proofs.Common.{◌≡◌, ℕ, suc, ◌*◌, ◌/◌, ◌^◌, ◌<◌, ◌≤◌, List, [], ◌∷◌, ◌++◌, length, take, drop, Ok, refl, sym, ap, ◌∙◌, inl, inr, arith}
 use Rattle.std.proofs.lemmas.Bool.{cases_lt, le-ltb}
 use Rattle.std.proofs.lemmas.List.{append-nil, length-append, length-drop, nil_from_length, take_all, drop-append-le}
@@ -14,7 +14,7 @@ use Rattle.br_model.proofs.ListLaws.{all_append}
 use Rattle.br_model.proofs.SpanLaws.{read_header_front}
 use Rattle.br_model.proofs.VolumeLaws.{header_has_24}
 use Rattle.br_model.proofs.WrittenBlockLaws.{IsHeader, header_is_read, length-fragments}
-use Rattle.br_block.specs.Building.{fragments_behind, IsBuilding}
+use Rattle.br_block.specs.Building.{fragments_after, IsBuilding}
 use Rattle.br_block.proofs.HeaderLaws.{header_is}
 
 -- ---- headers
@@ -25,20 +25,20 @@ header_reads_back h bytes e is = ap read_header (e ∙ sym (append-nil (header_b
 
 -- ---- fragments
 
--- fragments behind the room for a header are the ones that were put there
-pub behind_is : (key : SessionKey) (bytes : List ℕ) (fs : List Fragment) → drop 24 bytes ≡ flat_map fragment_bytes fs → AreFilled fs [] → AllByRecursion (IsFragmentOf key) fs
-    → fragments_behind key bytes ≡ fs
-unfolding fragments_behind
-behind_is key bytes fs joined filled each =
+-- the fragments after the room for a header are those that were added
+pub fragments_after_is : (key : SessionKey) (bytes : List ℕ) (fs : List Fragment) → drop 24 bytes ≡ flat_map fragment_bytes fs → AreFilled fs [] → AllByRecursion (IsFragmentOf key) fs
+    → fragments_after key bytes ≡ fs
+unfolding fragments_after
+fragments_after_is key bytes fs joined filled each =
     let whole : drop 24 bytes ≡ flat_map fragment_bytes fs ++ [] = joined ∙ sym (append-nil (flat_map fragment_bytes fs)) in
     let fewer : length (flat_map fragment_bytes fs ++ []) < 12 * suc (length bytes / 12) = omega (arith, ap length whole, length-drop 24 bytes) in
     ap (fragments_in key (length bytes / 12)) whole ∙ read_as key fs (length bytes / 12) [] each filled (omega arith) fewer
 
--- bytes with fragments behind the room for a header are a block that is being written
+-- bytes with fragments after the room for a header are a block under construction
 building : (key : SessionKey) (limit number : ℕ) (bytes : List ℕ) (fs : List Fragment) → number < 2 ^ 32 → 24 ≤ length bytes → length bytes ≤ limit → limit ≤ 64512 → drop 24 bytes ≡ flat_map fragment_bytes fs
     → AreFilled fs [] → AllByRecursion (IsFragmentOf key) fs → IsBuilding key limit number bytes
 building key limit number bytes fs fits least most bound joined filled each =
-    let is = behind_is key bytes fs joined filled each in
+    let is = fragments_after_is key bytes fs joined filled each in
     record {
       number_to = fits;
       least = least;
@@ -50,18 +50,18 @@ building key limit number bytes fs fits least most bound joined filled each =
     }
 
 -- room for a header alone
-pub nothing_behind : (key : SessionKey) (limit number : ℕ) (bytes : List ℕ) → number < 2 ^ 32 → length bytes ≡ 24 → 24 ≤ limit → limit ≤ 64512
-    → IsBuilding key limit number bytes × (fragments_behind key bytes ≡ [])
-nothing_behind key limit number bytes fits alone most bound =
+pub no_fragments : (key : SessionKey) (limit number : ℕ) (bytes : List ℕ) → number < 2 ^ 32 → length bytes ≡ 24 → 24 ≤ limit → limit ≤ 64512
+    → IsBuilding key limit number bytes × (fragments_after key bytes ≡ [])
+no_fragments key limit number bytes fits alone most bound =
     let none : drop 24 bytes ≡ [] = nil_from_length (drop 24 bytes) (omega (arith, length-drop 24 bytes, alone)) in
-    (building key limit number bytes [] fits (omega (arith, alone)) (omega (arith, alone, most)) bound none tt tt, behind_is key bytes [] none tt tt)
+    (building key limit number bytes [] fits (omega (arith, alone)) (omega (arith, alone, most)) bound none tt tt, fragments_after_is key bytes [] none tt tt)
 
--- the bytes are as many as the size of a block counts
-pub size_is : (key : SessionKey) (limit number : ℕ) (bytes : List ℕ) → IsBuilding key limit number bytes → block_size (fragments_behind key bytes) ≡ length bytes
+-- the number of bytes is the size of the block
+pub size_is : (key : SessionKey) (limit number : ℕ) (bytes : List ℕ) → IsBuilding key limit number bytes → block_size (fragments_after key bytes) ≡ length bytes
 size_is key limit number bytes is =
-    omega (arith, sym (length-fragments (fragments_behind key bytes)), ap length is.joined, length-drop 24 bytes, is.least)
+    omega (arith, sym (length-fragments (fragments_after key bytes)), ap length is.joined, length-drop 24 bytes, is.least)
 
--- one more fragment behind fragments with all their data
+-- one more fragment after fragments with all their data
 filled_more : (fs : List Fragment) (f : Fragment) → AllByRecursion (λ (g : Fragment). length g.bytes ≡ g.size) fs → length f.bytes ≤ f.size → AreFilled (fs ++ f ∷ []) []
 filled_more [] f whole within =
     elim (cases_lt (length f.bytes) f.size) [
@@ -72,26 +72,26 @@ filled_more (g ∷ []) f whole within = (whole.0, filled_more [] f tt within)
 filled_more (g ∷ h ∷ more) f whole within = (whole.0, filled_more (h ∷ more) f whole.1 within)
 
 pub added : (key : SessionKey) (limit number : ℕ) (bytes more : List ℕ) (f : Fragment) → IsBuilding key limit number bytes → more ≡ bytes ++ fragment_bytes f → length more ≤ limit
-    → AllByRecursion (λ (g : Fragment). length g.bytes ≡ g.size) (fragments_behind key bytes) → length f.bytes ≤ f.size → IsFragmentOf key f
-    → IsBuilding key limit number more × (fragments_behind key more ≡ fragments_behind key bytes ++ f ∷ [])
+    → AllByRecursion (λ (g : Fragment). length g.bytes ≡ g.size) (fragments_after key bytes) → length f.bytes ≤ f.size → IsFragmentOf key f
+    → IsBuilding key limit number more × (fragments_after key more ≡ fragments_after key bytes ++ f ∷ [])
 added key limit number bytes more f is joined most whole within of_key =
-    let fs = fragments_behind key bytes in
+    let fs = fragments_after key bytes in
     let behind : drop 24 more ≡ flat_map fragment_bytes (fs ++ f ∷ []) =
     ap (drop 24) joined ∙ drop-append-le 24 bytes (fragment_bytes f) is.least ∙ ap (λ (x : List ℕ). x ++ fragment_bytes f) is.joined
     ∙ ap (λ (x : List ℕ). flat_map fragment_bytes fs ++ x) (sym (append-nil (fragment_bytes f))) ∙ sym (flat_map-append fragment_bytes fs (f ∷ [])) in
     let filled = filled_more fs f whole within in
     let each = all_append (IsFragmentOf key) fs (f ∷ []) is.each (of_key, tt) in
     let least : 24 ≤ length more = omega (arith, ap length joined, length-append bytes (fragment_bytes f), is.least) in
-    (building key limit number more (fs ++ f ∷ []) is.number_to least most is.bound behind filled each, behind_is key more (fs ++ f ∷ []) behind filled each)
+    (building key limit number more (fs ++ f ∷ []) is.number_to least most is.bound behind filled each, fragments_after_is key more (fs ++ f ∷ []) behind filled each)
 
 -- ---- the closed block
 
 -- its header, and then its fragments
 pub closed_is : (key : SessionKey) (limit number : ℕ) (bytes : List ℕ) → IsBuilding key limit number bytes
-    → header_bytes (record { checksum = 0; size = length bytes; number = number; session = key }) ++ drop 24 bytes ≡ written_block key (number, fragments_behind key bytes)
+    → header_bytes (record { checksum = 0; size = length bytes; number = number; session = key }) ++ drop 24 bytes ≡ written_block key (number, fragments_after key bytes)
 closed_is key limit number bytes is = rw (← size_is key limit number bytes is, is.joined, mod-eq_of_lt is.number_to) refl
 
--- a header is read whatever stands behind it
+-- a header is read whatever follows it
 pub header_in_front : (h : Header) (bytes more : List ℕ) → bytes ≡ header_bytes h → read_header bytes ≡ Ok h → read_header (bytes ++ more) ≡ Ok h
 header_in_front h bytes more e read = read_header_front bytes more (header_has_24 bytes h read).0 ∙ read
 
@@ -102,7 +102,7 @@ closed_is_whole block h read size =
     rw (read, le-ltb (length block) h.size (omega (arith, size)))
     (ap (λ (x : List ℕ). Ok x) (take_all h.size block (omega (arith, size))))
 
--- and its fragments are those behind its header
+-- and its fragments are those after its header
 pub closed_reads_back : (block : List ℕ) (h : Header) (fs : List Fragment) → read_header block ≡ Ok h → drop 24 block ≡ flat_map fragment_bytes fs → AreFilled fs []
     → AllByRecursion (IsFragmentOf h.session) fs → fragments_of block ≡ fs
 closed_reads_back block h fs read behind filled each =
@@ -114,7 +114,7 @@ closed_reads_back block h fs read behind filled each =
       each = rw (header_is block h read).0 each;
     })
 
--- what is written back to a vector of as many bytes is all of it
+-- what is written over a vector of the same length is all of it
 pub written_back : (new old : List ℕ) (len : ℕ) → length new ≡ len → length old ≡ len → take len (new ++ drop (length new) old) ≡ new
 written_back new old len e e2 =
     let none : drop (length new) old ≡ [] = nil_from_length (drop (length new) old) (omega (arith, length-drop (length new) old, e, e2)) in

@@ -6,7 +6,7 @@ use Rattle.br_model.specs.Name.{SessionKey}
 use Rattle.br_model.specs.Block.{Header, u32_at, session_of, read_header, Fragment, first_fragment, fragments_in, fragments_of}
 use Rattle.br_block.proofs.HeaderLaws.{header_is}
 
--- what stands behind the first fragment
+-- what follows the first fragment
 abbrev pub behind_first : List ℕ → List ℕ
 behind_first bytes = drop (u32_at 8 bytes) (drop 12 bytes)
 
@@ -69,7 +69,7 @@ pub first_left : (key : SessionKey) (bytes : List ℕ) → 12 ≤ length bytes
     → fragments_in key (length bytes / 12) bytes ≡ first_fragment key bytes ∷ fragments_in key (length (behind_first bytes) / 12) (behind_first bytes)
 first_left key bytes long = first_by key (length bytes / 12) bytes long (omega arith)
 
--- behind the header of a block stand its fragments
+-- the fragments of a block follow its header
 pub of_block : (block bytes rest : List ℕ) (h k : Header) → read_header block ≡ Ok h → k ≡ h → bytes ≡ block → rest ≡ drop 24 bytes
     → fragments_in k.session (length rest / 12) rest ≡ fragments_of block
 unfolding fragments_of

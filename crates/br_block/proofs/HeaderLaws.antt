@@ -1,4 +1,4 @@
--- What the header at the front of some bytes says of them.
+-- The header at the front of some bytes, and what it says of them.
 use Rattle.std.proofs.Common.{◌≡◌, ℕ, ◌≤◌, Bool, true, false, not, ◌||◌, ltb, List, length, take, drop, Result, Ok, refl, sym, ap, subst, ◌∙◌, inl, inr, arith}
 use Rattle.std.proofs.lemmas.Bool.{cases_lt, ltb-false}
 use Rattle.std.proofs.lemmas.List.{length-take, length-take-le, take-append-drop, get_or-take, get_or_past}
@@ -40,7 +40,7 @@ AreBytes-take n bytes fits i =
       | inr le ↦ rw (get_or_past (take n bytes) i 0 (omega (arith, length-take n bytes))) (omega arith)
     ]
 
--- the block alone has the same header, and as many bytes as it says
+-- the block alone has the same header, and the number of bytes that it says
 pub block_is_whole : (bytes : List ℕ) (h k : Header) → read_header bytes ≡ Ok h → k ≡ h → k.size ≤ length bytes → AreBytes bytes
     → (read_header (take k.size bytes) ≡ Ok h) × (length (take k.size bytes) ≡ h.size) × AreBytes (take k.size bytes)
 block_is_whole bytes h k e same whole fits =
@@ -52,6 +52,6 @@ block_is_whole bytes h k e same whole fits =
       AreBytes-take k.size bytes fits,
     )
 
--- the header of a block stands in it
+-- a block contains its header
 pub holds_header : (block bytes : List ℕ) (h : Header) → read_header block ≡ Ok h → bytes ≡ block → 24 ≤ length bytes
 holds_header block bytes h e same = rw same (header_has_24 block h e).0

@@ -1,4 +1,4 @@
--- What a refused block says.
+-- The numbers of refused blocks.
 use Rattle.std.specs.Prelude.{ℕ}
 use Rattle.br_block.specs.declared.fault.BlockFault.{BlockFault}
 use Rattle.br_block.specs.declared.fault.BlockFault.TheVariants.{BadId, BadBlockSize, Truncated}

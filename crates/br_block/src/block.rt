@@ -10,7 +10,7 @@ use crate::head::{BlockHead, HEADER_LEN};
 use br_model::fragments_are_exact;
 use std::marker::Model;
 
-/// A whole block: its header, and behind it its records, as they stand in the bytes that it was read from.
+/// A whole block: its header and the records that follow it, in the bytes from which it was read.
 #[derive(Clone, Debug, Drop)]
 pub struct Block<'a> {
     head: BlockHead,
@@ -30,8 +30,12 @@ impl<'a> Model for Block<'a> {
 }
 
 impl<'a> Block<'a> {
-    /// The block at the front of the bytes; what stands behind it is not looked at. The faults are those of
-    /// `BlockHead::read`, and then `Truncated` where fewer bytes are there than the header names.
+    /// Reads the block at the front of the bytes. What follows the block is ignored.
+    ///
+    /// # Errors
+    ///
+    /// - Those of `BlockHead::read`.
+    /// - `Truncated` if there are fewer bytes than the header says.
     #[tactic(auto, unfolding(br_model::specs::Block::read_block))]
     pub fn read(bytes: &'a [u8]) -> Result<Block<'a>, BlockFault>
         ensures { AnswersAlways (λ block. block) fault_number result (read_block bytes.now) }
@@ -47,7 +51,7 @@ impl<'a> Block<'a> {
         })
     }
 
-    /// The header.
+    /// Returns the header.
     pub fn head(&self) -> BlockHead
         ensures header { read_header self.now ≡ Ok result }
         ensures whole { length self.now ≡ result.size }
@@ -57,7 +61,7 @@ impl<'a> Block<'a> {
         self.head
     }
 
-    /// The bytes of the block, the header among them.
+    /// Returns the bytes of the block, with its header.
     pub fn bytes(&self) -> &'a [u8]
         ensures same { result.now ≡ self.now }
         ensures bytes { AreBytes self.now }
@@ -65,7 +69,8 @@ impl<'a> Block<'a> {
         self.bytes
     }
 
-    /// The fragments of the block, in order: its header, these and a rest of fewer than 12 bytes are the block.
+    /// Returns the fragments of the block in order. The block is its header, these, and a rest of
+    /// fewer than 12 bytes.
     pub fn fragments(&self) -> Fragments<'a>
         ensures read { result ≡ fragments_of self.now }
         ensures exact { AreFragments self.now result }

@@ -3,6 +3,7 @@ ghost use Rattle.std.specs.Int.{w32};
 ghost use Rattle.std.specs.List.{AllByRecursion};
 ghost use Rattle.br_model.specs.Block.{fragment_bytes, header_bytes, fragments_of, read_block, read_header};
 ghost use Rattle.br_model.specs.Session.{block_size, written_block};
+ghost use Rattle.br_block.specs.Building.{IsBlockLimit};
 
 use crate::fragments::{Fragment, RECORD_HEADER_LEN};
 use crate::head::{BlockHead, HEADER_LEN};
@@ -10,28 +11,28 @@ use br_types::SessionKey;
 use std::alloc::{AllocError, Global};
 use std::marker::Model;
 
-/// A block that is being written: fragments of records are added behind one another, and closing it writes its header in front
-/// of them.
+/// A block under construction: fragments of records are added one after another, and closing it
+/// writes its header before them.
 #[derive(Debug, Drop)]
 pub struct BlockBuilder {
     session: SessionKey,
     limit: u32,
     number: u32,
-    /// Room for the header, and the fragments behind it.
+    /// Room for the header, and the fragments after it.
     bytes: Vec<u8>,
 }
 
 impl Model for BlockBuilder {
-    ghost use Rattle.br_block.specs.Building.{Building, fragments_behind, IsBuilding};
+    ghost use Rattle.br_block.specs.Building.{Building, fragments_after, IsBuilding};
 
     ghost Value = { Building };
 
-    ghost view = { λ b. record { session = b.session; limit = b.limit; number = b.number; fragments = fragments_behind b.session b.bytes.items } };
+    ghost view = { λ b. record { session = b.session; limit = b.limit; number = b.number; fragments = fragments_after b.session b.bytes.items } };
 
     ghost invariant = { λ b. IsBuilding b.session b.limit b.number b.bytes.items };
 }
 
-/// The header of a record, as it stands in front of the fragment's data.
+/// Returns the record header that precedes the fragment's data.
 #[tactic(auto, unfolding(br_model::specs::Block::fragment_bytes))]
 fn record_header(fragment: &Fragment<'_>) -> [u8; 12]
     ensures text { result ++ fragment.now.bytes ≡ fragment_bytes fragment.now }
@@ -58,16 +59,15 @@ fn put_header(bytes: &mut [u8], head: BlockHead)
 }
 
 impl BlockBuilder {
-    /// A block of a session, with this number and no fragment yet. It may get at most `limit` bytes, which is from 64 to 64,512:
-    /// memory for these is reserved.
+    /// Makes a block of a session, with this number and without fragments. It reserves memory for
+    /// `limit` bytes, the most that the block may have.
     pub fn new(
         alloc: Global,
         session: SessionKey,
         limit: u32,
         number: u32,
     ) -> Result<BlockBuilder, AllocError>
-        requires least { 64 ≤ limit }
-        requires most { limit ≤ 64512 }
+        requires bounds { IsBlockLimit limit }
         ensures { IfOk result (λ block. block ≡ record { session = session; limit = limit; number = number; fragments = [] }) }
     {
         let mut bytes = Vec::with_capacity(alloc, limit as usize)?;
@@ -80,15 +80,15 @@ impl BlockBuilder {
         })
     }
 
-    /// How many bytes are left below the limit.
+    /// Returns the number of bytes that are left up to the limit.
     pub fn room(&self) -> u32
         ensures { result + block_size self.now.fragments ≡ self.now.limit }
     {
         self.limit - self.bytes.len() as u32
     }
 
-    /// Adds a fragment of the session behind those of before, of which each has all its data: a fragment with less is the last.
-    /// An error is want of memory, and nothing was added then.
+    /// Appends a fragment of the session. Each fragment so far has all its data: one with less is the
+    /// last of its block. If memory runs out, nothing was added.
     pub fn add(&mut self, fragment: &Fragment<'_>) -> Result<(), AllocError>
         requires fits { block_size self.old.fragments + 12 + length fragment.now.bytes ≤ self.old.limit }
         requires within { length fragment.now.bytes ≤ fragment.now.size }
@@ -105,7 +105,7 @@ impl BlockBuilder {
         Ok(())
     }
 
-    /// The bytes of the block: its header, with CheckSum 0, and the fragments. They are read as a whole block of these fragments.
+    /// Returns the bytes of the block: its header, with CheckSum 0, and the fragments.
     pub fn close(self) -> Vec<u8>
         ensures block { result.items ≡ written_block self.session (self.number, self.fragments) }
         ensures whole { read_block result.items ≡ Ok result.items }

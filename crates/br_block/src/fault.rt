@@ -6,17 +6,17 @@ use thiserror::Error;
 /// Why bytes were refused as a block.
 #[derive(Clone, Copy, Debug, PartialEq, Eq, Error)]
 pub enum BlockFault {
-    #[error("not a block: the letters BB02 do not stand at byte 12 of its header")]
+    #[error("not a block: bytes 12 to 15 of its header are not BB02")]
     BadId,
     #[error("not a block: its header gives a size outside 24 to 4194304 bytes")]
     BadBlockSize,
-    #[error("the block is cut off: the bytes end before its header does, or before the size that its header gives")]
+    #[error("the block is cut off: the bytes end within its header, or before the size that its header gives")]
     Truncated,
 }
 
 impl BlockFault {
-    /// The number of the refusal: 10 other letters than `BB02`, 11 a size outside 24 to 4,194,304 bytes, 12 fewer bytes than
-    /// the header has or names.
+    /// Returns the number of the refusal: 10 for other letters than `BB02`, 11 for a size outside 24
+    /// to 4,194,304 bytes, 12 for bytes that end too early.
     pub fn number(self) -> u32
         ensures { result ≡ fault_number self }
     {

@@ -6,22 +6,22 @@ use crate::numbers::{i32_from, u32_from};
 use br_types::SessionKey;
 use std::marker::Model;
 
-/// The bytes of a record's header.
+/// The number of bytes of a record's header.
 pub(crate) const RECORD_HEADER_LEN: usize = 12;
 
-/// A record in a block, or the part of it that stands there: the record's header is FileIndex, Stream and DataSize, four
-/// bytes each, and its data stands behind it.
+/// A record in a block, or the part of it that the block contains. The record's header is FileIndex,
+/// Stream and DataSize, four bytes each, and its data follows.
 #[derive(Clone, Debug, Drop)]
 pub struct Fragment<'a> {
     /// The session of the block.
     pub session: SessionKey,
     /// The number of the file in its session; 0 and below for a label.
     pub index: i32,
-    /// What the data is; negative where it goes on with a record of an earlier block.
+    /// The kind of the data; negative if it continues a record of an earlier block.
     pub stream: i32,
-    /// The bytes of data that the header names.
+    /// The number of bytes of data that the header gives.
     pub size: u32,
-    /// The data in this block: fewer than `size` bytes where the record goes on in a later block.
+    /// The data in this block: fewer than `size` bytes if the record continues in a later block.
     pub bytes: &'a [u8],
 }
 
@@ -49,25 +49,25 @@ impl<'a> Model for Fragments<'a> {
     ghost view = { λ f. model.fragments_in f.session (length f.rest.now / 12) f.rest.now };
 }
 
-/// The first bytes, as many as the size says or all there are, and the bytes behind them.
+/// Returns the first `size` bytes, or all if there are fewer, and the bytes after them.
 fn cut(bytes: &[u8], size: usize) -> (&[u8], &[u8])
     ensures front { result.0.now ≡ take size bytes.now }
-    ensures behind { result.1.now ≡ drop size bytes.now }
+    ensures rest { result.1.now ≡ drop size bytes.now }
 {
     bytes.split_at(size.min(bytes.len()))
 }
 
-/// The fragment at the front of the bytes, and the bytes behind it.
+/// Reads the fragment at the front of the bytes. Returns it and the bytes after it.
 fn first_of(session: SessionKey, bytes: &[u8]) -> (Fragment<'_>, &[u8])
     requires { 12 ≤ length bytes.now }
     ensures first { result.0 ≡ first_fragment session bytes.now }
-    ensures behind { result.1.now ≡ drop (u32_at 8 bytes.now) (drop 12 bytes.now) }
+    ensures rest { result.1.now ≡ drop (u32_at 8 bytes.now) (drop 12 bytes.now) }
 {
     let index = i32_from(bytes, 0);
     let stream = i32_from(bytes, 4);
     let size = u32_from(bytes, 8);
     let (_, rest) = bytes.split_at(RECORD_HEADER_LEN);
-    let (front, behind) = cut(rest, size as usize);
+    let (front, left) = cut(rest, size as usize);
     let fragment = Fragment {
         session,
         index,
@@ -75,11 +75,11 @@ fn first_of(session: SessionKey, bytes: &[u8]) -> (Fragment<'_>, &[u8])
         size,
         bytes: front,
     };
-    (fragment, behind)
+    (fragment, left)
 }
 
 impl<'a> Fragments<'a> {
-    /// The fragments in the bytes behind a block's header.
+    /// Returns the fragments in the bytes after a block's header.
     pub(crate) fn new(session: SessionKey, rest: &'a [u8]) -> Fragments<'a>
         ensures { result ≡ fragments_in session (length rest.now / 12) rest.now }
     {

@@ -8,26 +8,26 @@ use crate::numbers::u32_from;
 use br_types::SessionKey;
 use std::marker::Model;
 
-/// The bytes of a block's header.
+/// The number of bytes of a block's header.
 pub(crate) const HEADER_LEN: usize = 24;
 
-/// The fewest bytes that a block has.
+/// The least number of bytes of a block.
 const MIN_SIZE: u32 = 24;
 
-/// The most bytes that a block has.
+/// The greatest number of bytes of a block.
 const MAX_SIZE: u32 = 4_194_304;
 
-/// The header of a block: 24 bytes, namely CheckSum, BlockSize, BlockNumber, the letters `BB02`, VolSessionId and
+/// The header of a block: CheckSum, BlockSize, BlockNumber, the letters `BB02`, VolSessionId and
 /// VolSessionTime, four bytes each.
 #[derive(Clone, Copy, Debug, PartialEq, Eq)]
 pub struct BlockHead {
-    /// The checksum as it stands there: it is not verified.
+    /// The checksum, which is not verified.
     pub checksum: u32,
-    /// The bytes of the whole block, the header among them.
+    /// The number of bytes of the whole block, with its header.
     pub size: u32,
     /// The number of the block in its session.
     pub number: u32,
-    /// The session that all records of the block belong to.
+    /// The session of all records of the block.
     pub session: SessionKey,
 }
 
@@ -42,9 +42,13 @@ impl Model for BlockHead {
 }
 
 impl BlockHead {
-    /// The header at the front of the bytes. The first fault of these is answered: `Truncated` where there are fewer than 24
-    /// bytes, `BadId` for other letters than `BB02`, `BadBlockSize` for a size outside 24 to 4,194,304. Whether the block is
-    /// there whole is not looked at.
+    /// Reads the header at the front of the bytes. It does not test whether the whole block follows.
+    ///
+    /// # Errors
+    ///
+    /// - `Truncated` if there are fewer than 24 bytes.
+    /// - `BadId` for other letters than `BB02`.
+    /// - `BadBlockSize` for a size outside 24 to 4,194,304.
     #[tactic(auto, unfolding(br_model::specs::Block::read_header))]
     pub fn read(bytes: &[u8]) -> Result<BlockHead, BlockFault>
         ensures exact { AnswersAlways (λ head. head) fault_number result (read_header bytes.now) }
@@ -72,7 +76,7 @@ impl BlockHead {
         })
     }
 
-    /// Writes the 24 bytes of the header. Where its size is from 24 to 4,194,304, `read` gives it back.
+    /// Writes the 24 bytes of the header. `read` reads it back if its size is from 24 to 4,194,304.
     #[tactic(auto, unfolding(br_model::specs::Block::header_bytes))]
     pub fn write(&self, bytes: &mut [u8; 24])
         ensures text { bytes.new ≡ header_bytes self.now }

@@ -1,7 +1,7 @@
 ghost use Rattle.std.specs.Prelude.{◌≡◌, ◌+◌, ◌≤◌, length};
 ghost use Rattle.br_model.specs.Block.{u32_at, i32_at};
 
-/// The number in the four bytes from a place on.
+/// Reads the number in the four bytes from a place on.
 pub fn u32_from(bytes: &[u8], at: usize) -> u32
     requires { at + 4 ≤ length bytes.now }
     ensures { result ≡ u32_at at bytes.now }
@@ -11,7 +11,7 @@ pub fn u32_from(bytes: &[u8], at: usize) -> u32
     u32::from_be_bytes([four[0], four[1], four[2], four[3]])
 }
 
-/// The signed number in the four bytes from a place on.
+/// Reads the signed number in the four bytes from a place on.
 pub fn i32_from(bytes: &[u8], at: usize) -> i32
     requires { at + 4 ≤ length bytes.now }
     ensures { result ≡ i32_at at bytes.now }

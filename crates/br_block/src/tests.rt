@@ -13,11 +13,13 @@ const SESSION: SessionKey = SessionKey { id: 1, time: 100 };
 
 const ATTRIBUTES: &[u8] = b"1 3 /a\0A A IGk B A A A F A A A A A A\0\0";
 
+/// Returns the number of the refusal, if the bytes are refused.
 fn refusal(bytes: &[u8]) -> Option<u32> {
     Block::read(bytes).err().map(|fault| fault.number())
 }
 
-/// Whether the bytes are a block of session 1, 100 with just these fragments: index, stream, size and data.
+/// Returns whether the bytes are a block of session 1, 100 with exactly these fragments: index,
+/// stream, size and data.
 fn has_fragments(bytes: &[u8], wanted: &[(i32, i32, u32, &[u8])]) -> bool {
     let Ok(block) = Block::read(bytes) else {
         return false;
@@ -75,7 +77,7 @@ fn bytes_that_are_cut_off_are_refused(rt: HostRuntime) {
 }
 
 #[test]
-fn the_first_fault_is_answered(rt: HostRuntime) {
+fn the_first_fault_is_returned(rt: HostRuntime) {
     let mut bytes = *BLOCK;
     bytes[15] = b'1';
     assert_eq!(rt; refusal(&bytes), Some(10));
@@ -90,7 +92,10 @@ fn the_first_fault_is_answered(rt: HostRuntime) {
     assert_eq!(rt; refusal(&bytes), Some(11));
     bytes[7] = 0;
     assert_eq!(rt; refusal(&bytes), Some(12));
-    assert!(rt; BlockHead::read(&bytes).is_ok_and(|head| head.size == 4_194_304));
+    assert_eq!(rt;
+        BlockHead::read(&bytes).map(|head| head.size),
+        Ok(4_194_304)
+    );
 }
 
 #[test]
@@ -98,12 +103,12 @@ fn fragments_end_with_the_block(rt: HostRuntime) {
     let mut bytes = *BLOCK;
     bytes[7] = 24;
     assert!(rt; has_fragments(&bytes, &[]));
-    // A header of which one byte is missing is no fragment.
+    // A header without its last byte is not a fragment.
     bytes[7] = 85;
     assert!(rt; has_fragments(&bytes, &[(1, 1, 38, ATTRIBUTES)]));
     bytes[7] = 86;
     assert!(rt; has_fragments(&bytes, &[(1, 1, 38, ATTRIBUTES), (1, 2, 5, b"")]));
-    // The record goes on in another block.
+    // The record continues in another block.
     bytes[7] = 91;
     bytes[85] = 9;
     assert!(rt; has_fragments(&bytes, &[(1, 1, 38, ATTRIBUTES), (1, 2, 9, b"hello")]));
@@ -120,7 +125,7 @@ fn signs_are_kept(rt: HostRuntime) {
 }
 
 #[test]
-fn what_stands_behind_a_block_is_not_read(rt: HostRuntime) {
+fn what_follows_a_block_is_not_read(rt: HostRuntime) {
     let mut bytes = [7u8; 182];
     bytes[..91].copy_from_slice(BLOCK);
     assert!(rt; has_fragments(&bytes, &[(1, 1, 38, ATTRIBUTES), (1, 2, 5, b"hello")]));
@@ -137,7 +142,7 @@ fn message(alloc: Global, fault: BlockFault) -> Result<String, Fail> {
 fn faults_say_what_is_wrong(rt: HostRuntime) -> Result<(), Fail> {
     assert_eq!(rt;
         message(rt.alloc(), BlockFault::BadId)?.as_str(),
-        "not a block: the letters BB02 do not stand at byte 12 of its header"
+        "not a block: bytes 12 to 15 of its header are not BB02"
     );
     assert_eq!(rt;
         message(rt.alloc(), BlockFault::BadBlockSize)?.as_str(),
@@ -145,7 +150,7 @@ fn faults_say_what_is_wrong(rt: HostRuntime) -> Result<(), Fail> {
     );
     assert_eq!(rt;
         message(rt.alloc(), BlockFault::Truncated)?.as_str(),
-        "the block is cut off: the bytes end before its header does, or before the size that its header gives"
+        "the block is cut off: the bytes end within its header, or before the size that its header gives"
     );
     Ok(())
 }
@@ -194,7 +199,7 @@ fn a_block_is_built(rt: HostRuntime) -> Result<(), Fail> {
 }
 
 #[test]
-fn a_record_that_goes_on_is_built(rt: HostRuntime) -> Result<(), Fail> {
+fn a_record_that_continues_is_built(rt: HostRuntime) -> Result<(), Fail> {
     let mut block = BlockBuilder::new(rt.alloc(), SESSION, 64, 3)?;
     block.add(&fragment(SESSION, -2, 72, &[b'x'; 27]))?;
     assert_eq!(rt; block.room(), 1);

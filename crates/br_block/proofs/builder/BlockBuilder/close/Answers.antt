@@ -4,17 +4,17 @@ use Rattle.br_block.proofs.BuildingLaws.{written_back, closed_is, closed_is_whol
 use Rattle.br_model.specs.Block.{Header, header_bytes, read_header, fragment_bytes}
 use Rattle.br_model.proofs.WrittenBlockLaws.{behind_header}
 use Rattle.std.specs.Prelude.{flat_map}
-use Rattle.br_block.specs.Building.{Building, fragments_behind}
+use Rattle.br_block.specs.Building.{Building, fragments_after}
 use Rattle.br_block.proofs.builder.BlockBuilder.close.Goals as goal
 
--- what the vector has behind the call
+-- the bytes of the vector after the call
 back : (c : goal.After-bytes-3-1) → take c.self.inside.bytes.len (c.put_header.new.bytes ++ drop (length c.put_header.new.bytes) c.self.inside.bytes.items) ≡ c.put_header.new.bytes
 back c =
     let b = c.self.inside.bytes in
     let same = c.put_header.auto.bytes in
     written_back c.put_header.new.bytes b.items b.len (omega (arith, b.ok)) (omega (arith, b.ok))
 
-closed : (c : goal.After-bytes-3-1) → c.put_header.new.bytes ≡ written_block c.self.inside.session (c.self.inside.number, fragments_behind c.self.inside.session c.self.inside.bytes.items)
+closed : (c : goal.After-bytes-3-1) → c.put_header.new.bytes ≡ written_block c.self.inside.session (c.self.inside.number, fragments_after c.self.inside.session c.self.inside.bytes.items)
 closed c =
     let b = c.self.inside in
     let len : c.len.result ≡ length b.bytes.items = omega (arith, b.bytes.ok) in
@@ -40,7 +40,7 @@ pub returns-clause-reads_back : goal.returns-clause-reads_back
 returns-clause-reads_back c =
     let b = c.self.inside in
     let i = c.self.invariant in
-    let fs = fragments_behind b.session b.bytes.items in
+    let fs = fragments_after b.session b.bytes.items in
     let behind : drop 24 c.put_header.new.bytes ≡ flat_map fragment_bytes fs =
     ap (drop 24) c.put_header.ensures.text ∙ behind_header _ (drop 24 c.deref_mut.result.now) ∙ ap (drop 24) c.deref_mut.ensures.value ∙ i.joined in
     rw (back c) (closed_reads_back c.put_header.new.bytes (header c) fs (read c) behind i.filled i.each ∙ ap (λ (x : Building). x.fragments) c.self.view_is)

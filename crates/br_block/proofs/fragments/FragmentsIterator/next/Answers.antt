@@ -9,10 +9,10 @@ returns-then-rest-lt-RECORD_HEADER_LEN-clause-steps c =
 pub returns-clause-steps : goal.returns-clause-steps
 returns-clause-steps c =
     let first = sym c.self.view_is ∙ first_left c.self.inside.session c.self.inside.rest.now c.if-rest-lt-RECORD_HEADER_LEN.false in
-    rw (c.first_of-fragment.ensures.first, c.first_of-fragment.ensures.behind) first
+    rw (c.first_of-fragment.ensures.first, c.first_of-fragment.ensures.rest) first
 
 pub returns-clause-goes : goal.returns-clause-goes
 returns-clause-goes c =
     let first = sym c.self.view_is ∙ first_left c.self.inside.session c.self.inside.rest.now c.if-rest-lt-RECORD_HEADER_LEN.false in
     let fewer = ap length first in
-    rw c.first_of-fragment.ensures.behind (record { on = λ _. (tt, tt, omega (arith, fewer)); keeps = tt; rests = λ _. tt })
+    rw c.first_of-fragment.ensures.rest (record { on = λ _. (tt, tt, omega (arith, fewer)); keeps = tt; rests = λ _. tt })
