@@ -30,7 +30,7 @@ seat_told x vs so = token_told builtin.unit hand.the_row vs so.0
 pub kept_told : (x : kept.the_row.Denot) (vs : List Val) → Is kept.the_row x vs → vs ≡ kept_val ∷ []
 kept_told x vs so = let is = so.0 in is.1.0 ∙ ap (λ (ws : List Val). vstruct (of_list (ws ++ [])) ∷ []) (seat_told x.seat is.0.0 is.1.1.0)
 
--- an owner that is used up leaves nothing, where its exit is made of nothing
+-- an owner that is used up leaves nothing, if its exit is made of nothing
 pub Goes-blank : {M : Type 1} {𝓤 : Ura M} (𝓛 : Logic 𝓤) (n : ℕ) (s : Slot n) (k : Kept)
     → ((κs : Lfts n) (x : (s.row κs).Denot) (f : Last ((s.row κs).exit k) x) → T (blank (left ((s.row κs).exit k) x f))) → Goes 𝓛 n s k (stay_dropped s k)
 Goes-blank {𝓤 = 𝓤} 𝓛 n s k is κs x f vs ok = via 𝓤 _ (had 𝓛 (left ((s.row κs).exit k) x f) (is κs x f)) (𝓛.laws.⇛_intro _)

@@ -31,7 +31,7 @@ total_none : (f : Hand → ℕ) (views : List Hand) → total (λ v. v.parts) vi
 total_none f [] none h = refl
 total_none f (u ∷ us) none h = let a = h 0 u refl (omega arith) in let b = total_none f us (omega arith) (λ j v at. h (suc j) v at) in omega (arith, a, b)
 
--- where one seat has all parts, the others count for nothing
+-- if one seat has all parts, the others count for nothing
 total_sole : (f : Hand → ℕ) (views : List Hand) (j : ℕ) (v : Hand) → get_elem? views j ≡ some v → total (λ u. u.parts) views ≡ v.parts
     → ((j : ℕ) (v : Hand) → get_elem? views j ≡ some v → v.parts ≡ 0 → f v ≡ 0) → total f views ≡ f v
 total_sole f [] j v at all h = absurd (some-ne-none v (sym at))
@@ -44,7 +44,7 @@ pub times-append : (x : ℕ) (xs ys : List ℕ) → times x (xs ++ ys) ≡ times
 times-append x [] ys = omega arith
 times-append x (y ∷ xs) ys = let e = times-append x xs ys in omega (arith, e)
 
--- what stands in the list at most as often as in the numbers below k is below k
+-- a number that is in the list at most as often as in the numbers below k is below k
 under_times : (k n : ℕ) (xs : List ℕ) → ((x : ℕ) → times x xs ≤ cond (ltb x k) (once_below x n) 0) → AllUnder k xs
 under_times k n [] h = tt
 under_times k n (y ∷ ys) h = (
@@ -213,7 +213,7 @@ drew_hit limit found past items v w e low d = let P : Hand → Type 0 = λ y. Dr
 pub drew_miss : (limit found past : ℕ) (items : List ℕ) (v w : Hand) → v ≡ hand limit 1 items past → limit ≤ found → Drew v found w → w ≡ hand limit 1 items (past + 1)
 drew_miss limit found past items v w e high d = let P : Hand → Type 0 = λ y. Drew y found w in drew_past limit found past items w (ltb found limit) (grind (arith, nat_tests)) (subst P e d)
 
--- what the claims' own view is once these seats were joined
+-- the claims' own view after these seats are joined
 pub with_seats-snoc : (v : Hand) (ss : List Seated) (s : Seated) → with_seats v (ss ++ s ∷ []) ≡ with_seat (with_seats v ss) s
 with_seats-snoc v [] s = refl
 with_seats-snoc v (t ∷ ss) s = with_seats-snoc (with_seat v t) ss s
@@ -247,7 +247,7 @@ looks n id v [] views h at = absurd h
 looks n id v (word ∷ also ∷ words) views h at = absurd h
 looks n id v (word ∷ []) views h at = subst (λ (y : List Hand). IsGiven n word y) (sym (set_again views id v at)) h
 
--- the claims' own view once every seat was joined
+-- the claims' own view after every seat is joined
 pub all_parts : (limit made : ℕ) (own me : Hand) (ss : List Seated) → own ≡ hand limit (65536 - made) [] 0 → made ≤ 65536 → length ss ≡ made → me ≡ with_seats own ss → me.parts ≡ 65536
 all_parts limit made own me ss is few all e = let a = ap (λ (y : Hand). y.parts) e in let b = with_seats-parts own ss in let c = ap (λ (y : Hand). y.parts) is in omega (arith, a, b, c, all)
 

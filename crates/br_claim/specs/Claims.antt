@@ -1,22 +1,23 @@
--- What callers see of the claims and of their seats.
-use Rattle.std.specs.Prelude.{◌≡◌, ℕ, ◌≤◌, ◌+◌, Bool, true, false, cond, List, [], ◌∷◌, ◌++◌}
+-- What callers see of claims and of their seats.
+use Rattle.std.specs.Prelude.{◌≡◌, ℕ, ◌≤◌, ◌+◌, Bool, true, false, cond, List, [], ◌∷◌, ◌++◌, Option, MatchOption}
 use Rattle.std.specs.List.{AllByRecursion, list_any}
 use Rattle.atomic_table.specs.Seated.{TableId}
 use Rattle.br_claim.specs.declared.rule.Hand.{Hand}
 use Rattle.br_claim.specs.Rule.{hand, times, once_below, RisesFrom}
 
--- which claims the word belongs to, and the numbers' limit
+-- the claims of the word, and the numbers' limit
 pub record Counted : Type 0 where
   pub claims : TableId
   pub limit : ℕ
 
--- which claims they are, the numbers' limit, and how many seats were made
+-- the claims' identity, the numbers' limit, and the number of seats made
 pub record Claimed : Type 0 where
   pub claims : TableId
   pub limit : ℕ
   pub seats : ℕ
 
--- the claims it draws from, their limit, what it drew, and whether it was told that none is left
+-- the claims from which it draws, their limit, the numbers that it drew, and whether it found that
+-- none is left
 pub record Seated : Type 0 where
   pub claims : TableId
   pub limit : ℕ
@@ -27,19 +28,23 @@ pub record Seated : Type 0 where
 abbrev pub fresh_seat : Claimed → Seated
 fresh_seat c = record { claims = c.claims; limit = c.limit; drawn = []; ended = false }
 
--- the seat once it drew a number more
+-- the seat after it drew one more number
 abbrev pub with_number : Seated → ℕ → Seated
 with_number s x = record s { drawn = s.drawn ++ x ∷ [] }
 
--- the seat once it was told that none is left
+-- the seat after it found that none is left
 abbrev pub told_none : Seated → Seated
 told_none s = record s { ended = true }
+
+-- A draw gave one more number to a seat that had not ended, or the seat ended.
+abbrev pub HasDrawn : Seated → Seated → Option ℕ → Type 0
+HasDrawn before after result = MatchOption result (after ≡ told_none before) (λ x. (before.ended ≡ false) × (after ≡ with_number before x))
 
 -- each is greater than the one before it
 abbrev pub IsAscending : List ℕ → Type 0
 IsAscending xs = RisesFrom 0 xs
 
--- how often x stands in the lists
+-- the number of times that x is in the lists
 abbrev pub times_in : ℕ → List (List ℕ) → ℕ
 times_in x [] = 0
 times_in x (xs ∷ lists) = times x xs + times_in x lists
@@ -48,7 +53,7 @@ times_in x (xs ∷ lists) = times x xs + times_in x lists
 abbrev pub AllAscending : List (List ℕ) → Type 0
 AllAscending lists = AllByRecursion IsAscending lists
 
--- whether some seat was told that none is left
+-- whether some seat found that none is left
 abbrev pub some_ended : List Seated → Bool
 some_ended seats = list_any (λ (s : Seated). s.ended) seats
 
@@ -56,12 +61,13 @@ some_ended seats = list_any (λ (s : Seated). s.ended) seats
 abbrev pub AllOf : TableId → List Seated → Type 0
 AllOf claims seats = AllByRecursion (λ (s : Seated). s.claims ≡ claims) seats
 
--- the lists have the numbers below some k up to n, each once and ascending in each list; all numbers below n where a seat was told that none is left
+-- The lists have the numbers below some k up to n, each once and ascending in each list: all numbers
+-- below n if a seat found that none is left.
 pub record AreDealt (n : ℕ) (ended : Bool) (lists : List (List ℕ)) : Type 0 where
   pub ascending : AllAscending lists
   pub each : (k : ℕ) × (k ≤ n) × ((x : ℕ) → times_in x lists ≡ once_below x k) × (ended ≡ true → k ≡ n)
 
--- the claims' own view after a seat was joined
+-- the claims' own view after a seat is joined
 abbrev pub with_seat : Hand → Seated → Hand
 with_seat v s = hand v.limit (v.parts + 1) (v.drawn ++ s.drawn) (v.past + cond s.ended 1 0)
 

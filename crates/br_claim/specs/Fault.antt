@@ -1,4 +1,4 @@
--- What refused claims say.
+-- The numbers of refused claims.
 use Rattle.std.specs.Prelude.{ℕ}
 use Rattle.br_claim.specs.declared.fault.ClaimFault.{ClaimFault}
 use Rattle.br_claim.specs.declared.fault.ClaimFault.TheVariants.{Memory, MissingSeat}

@@ -11,7 +11,7 @@ hand limit parts drawn past = record { limit = limit; parts = parts; drawn = dra
 abbrev pub nobody : Hand
 nobody = hand 0 0 [] 0
 
--- how often x stands in the list
+-- the number of times that x is in the list
 abbrev pub times : ℕ → List ℕ → ℕ
 times x [] = 0
 times x (y ∷ ys) = cond (y == x) 1 0 + times x ys
@@ -34,7 +34,8 @@ abbrev pub AllUnder : ℕ → List ℕ → Type 0
 AllUnder n [] = Unit {0}
 AllUnder n (x ∷ xs) = (x < n) × AllUnder n xs
 
--- a seat that is not spent knows the limit. A seat with no part has drawn nothing, and one that drew past the end knows that the word is there
+-- A seat that is not spent knows the limit. A seat without parts has drawn nothing, and one that drew
+-- past the end knows that the word is there.
 pub record FitsHand (n word : ℕ) (v : Hand) : Type 0 where
   pub limit : 0 < v.parts → v.limit ≡ n
   pub past : v.past ≤ v.parts
@@ -52,7 +53,7 @@ Given n [] views = ⊥
 Given n (word ∷ []) views = IsGiven n word views
 Given n (word ∷ other ∷ words) views = ⊥
 
--- what a draw tells: the number found is the seat's, and above all that it drew, or the end was reached
+-- a draw: the number found is the seat's, and above all that it drew, or the end is reached
 abbrev pub Drew : Hand → ℕ → Hand → Type 0
 Drew v found w = MatchBool (ltb found v.limit)
     ((w ≡ hand v.limit v.parts (v.drawn ++ found ∷ []) v.past) × AllUnder found v.drawn)

@@ -1,5 +1,5 @@
-ghost use Rattle.std.specs.Prelude.{◌≡◌, ◌≢◌, ◌+◌, ◌<◌, ◌≤◌, [], false, length, map, IfOk, IfSome, OnOk, OnErr, MatchOption, ◌↔◌};
-ghost use Rattle.br_claim.specs.Claims.{fresh_seat, told_none, with_number, AllOf, AreDealt, IsAscending, some_ended, with_seat};
+ghost use Rattle.std.specs.Prelude.{◌≡◌, ◌≢◌, ◌+◌, ◌<◌, ◌≤◌, [], length, map, IfOk, IfSome, OnErr, ◌↔◌};
+ghost use Rattle.br_claim.specs.Claims.{fresh_seat, AllOf, AreDealt, HasDrawn, IsAscending, some_ended, with_seat};
 
 use crate::fault::ClaimFault;
 use crate::kept::Kept;
@@ -10,8 +10,8 @@ use atomic_table::Seat;
 use std::alloc::{AllocError, Global};
 use std::marker::Model;
 
-/// The numbers below a limit, which seats draw, each number once. Threads share the claims by `&`, and each draws with a
-/// seat of its own.
+/// The numbers below a limit, which seats draw, each number once. Threads share the claims by `&`,
+/// and each draws with its own seat.
 #[derive(Drop)]
 pub struct Claims {
     alloc: Global,
@@ -33,7 +33,8 @@ impl Model for Claims {
 }
 
 impl Claims {
-    /// Claims of the numbers below `n`, of which none is drawn, without seats. They take their memory from `alloc` from now on.
+    /// Makes claims of the numbers below `n`, without seats and with no number drawn. They take their
+    /// memory from `alloc`.
     pub fn new(alloc: Global, n: u32) -> Result<Claims, AllocError>
         ensures { IfOk result (λ c. (c.limit ≡ n) × (c.seats ≡ 0)) }
     {
@@ -46,8 +47,7 @@ impl Claims {
         })
     }
 
-    /// A new seat, with room for as many numbers as there are. Fewer than 65,536 seats may have been made before. `AllocError`
-    /// where memory is short; the claims are then unchanged.
+    /// Makes a new seat, with room for all numbers.
     pub fn seat(&mut self) -> Result<ClaimSeat, AllocError>
         requires { self.old.seats < MOST_SEATS }
         ensures ok { IfOk result (λ s. (s ≡ fresh_seat self.old) × (self.new ≡ record self.old { seats = self.old.seats + 1 })) }
@@ -73,20 +73,24 @@ impl Claims {
         })
     }
 
-    /// The next number, noted in the seat, or `None` where all were drawn. It is one atomic step, takes no memory and waits
-    /// for nobody. A seat that was told `None` takes no further step, and is told `None` again. The seat is one of these claims.
+    /// Draws the next number and notes it in the seat. Returns `None` if all are drawn, and for this
+    /// seat from then on. It is one atomic step, takes no memory and never waits.
     pub fn draw(&self, seat: &mut ClaimSeat) -> Option<u32>
         requires { seat.old.claims ≡ self.now.claims }
-        ensures step { MatchOption result (seat.new ≡ told_none seat.old) (λ x. (seat.old.ended ≡ false) × (seat.new ≡ with_number seat.old x)) }
+        ensures step { HasDrawn seat.old seat.new result }
         ensures below { IfSome result (λ x. x < seat.old.limit) }
         ensures few { IfSome result (λ x. length seat.new.drawn ≤ seat.new.limit) }
     {
         self.word.draw(seat)
     }
 
-    /// The numbers that each seat drew, in the order drawn, for the seats in the order given. All seats that were made have
-    /// to be given back, and only seats of these claims may be. `MissingSeat` where one is missing, and else `Memory` where
-    /// memory is short; the claims are given up in both cases.
+    /// Returns the numbers that each seat drew, in the order drawn, for the seats in the order given.
+    /// All seats that were made must be given back.
+    ///
+    /// # Errors
+    ///
+    /// - `MissingSeat` if a seat is missing.
+    /// - `Memory` if memory ran out.
     pub fn gather(self, seats: Vec<ClaimSeat>) -> Result<Vec<Vec<u32>>, ClaimFault>
         requires { AllOf self.claims seats.items }
         ensures lists { IfOk result (λ lists. map (λ v. v.items) lists.items ≡ map (λ s. s.drawn) seats.items) }
@@ -115,9 +119,10 @@ impl Claims {
     }
 }
 
-// Joins a seat to the claims' own, and gives what it drew.
+/// Joins a seat to the claims' own seat, and returns the numbers that it drew.
 fn joined(table: &ClaimTable, own: &mut Seat<(), Hand>, seat: ClaimSeat) -> Vec<u32>
-    requires table { (table.now.shared.table_id.words ≡ 1) × (own.old.table_id ≡ table.now.shared.table_id) × (own.old.me ≡ (own.old.me.0, [])) × (own.old.me.0.limit ≡ table.now.shared.key) }
+    requires table { (table.now.shared.table_id.words ≡ 1) × (own.old.table_id ≡ table.now.shared.table_id)
+        × (own.old.me ≡ (own.old.me.0, [])) × (own.old.me.0.limit ≡ table.now.shared.key) }
     requires seat { seat.claims ≡ table.now.shared.table_id }
     ensures drawn { (result.items ≡ seat.drawn) × IsAscending seat.drawn }
     ensures own { (own.new.table_id ≡ own.old.table_id) × (own.new.me ≡ (with_seat own.old.me.0 seat, [])) }

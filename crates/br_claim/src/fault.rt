@@ -3,7 +3,7 @@ ghost use Rattle.br_claim.specs.Fault.{fault_number};
 
 use thiserror::Error;
 
-/// Why no numbers were gathered.
+/// Why the numbers were not gathered.
 #[derive(Clone, Copy, Debug, PartialEq, Eq, Error)]
 pub enum ClaimFault {
     #[error("out of memory")]
@@ -13,7 +13,7 @@ pub enum ClaimFault {
 }
 
 impl ClaimFault {
-    /// The number of the refusal: 1 want of memory, 71 a seat that is missing.
+    /// Returns the number of the refusal: 1 for memory, 71 for a missing seat.
     pub fn number(self) -> u32
         ensures { result ≡ fault_number self }
     {

@@ -5,7 +5,7 @@ use crate::rule::Hand;
 use atomic_table::Seat;
 use std::marker::Model;
 
-// The claims' own seat. Nothing can be done with it behind a `&`, so threads can share what it lies in.
+/// The claims' own seat. It cannot be used through a `&`, so threads can share the claims that keep it.
 pub(crate) struct Kept {
     pub(crate) seat: Seat<(), Hand>,
 }

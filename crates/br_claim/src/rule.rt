@@ -1,8 +1,9 @@
-//! What a seat knows of the claim word, and the rule that ties the seats to it.
+//! What a seat knows of the claim word, and the rule that ties the seats to the word.
 use atomic_table::{Join, Play, Split, TableRule};
 use std::collections::LinkedList;
 
-// The numbers' limit, the seat's parts of the right to know the whole, what it drew, and how often it drew past the end. No value of it is made.
+/// What a seat knows: the numbers' limit, its parts of the right to know the whole, the numbers that
+/// it drew, and how often it drew past the end. No value of this type is made.
 pub struct Hand {
     pub limit: u32,
     pub parts: u64,
@@ -10,7 +11,7 @@ pub struct Hand {
     pub past: u64,
 }
 
-// The word is how many numbers were asked for.
+/// The rule: the word is the number of draws.
 pub struct Dealt;
 
 impl TableRule<(), Hand, u32> for Dealt {
@@ -22,6 +23,7 @@ impl TableRule<(), Hand, u32> for Dealt {
     ghost first = { λ n. hand n 65536 [] 0 };
 }
 
+/// The step of a draw.
 pub struct Draw;
 
 impl Play<(), Hand> for Draw {
@@ -31,6 +33,7 @@ impl Play<(), Hand> for Draw {
     ghost then = { λ _ me found after. Drew me.0 found after.0 × (after.1 ≡ me.1) };
 }
 
+/// The step that reads the word with all parts.
 pub struct Whole;
 
 impl Play<(), Hand> for Whole {
@@ -40,6 +43,7 @@ impl Play<(), Hand> for Whole {
     ghost then = { λ _ me found after. (after ≡ me) × KnowsAll me.0 };
 }
 
+/// Splits off and joins one seat.
 pub struct OneSeat;
 
 impl Split<Hand> for OneSeat {

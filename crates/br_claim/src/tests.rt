@@ -16,12 +16,13 @@ fn two_seats_draw_in_turn(rt: HostRuntime) -> Result<(), Fail> {
     let fourth = claims.draw(&mut t);
     let fifth = claims.draw(&mut s);
     assert_eq!(rt; [first, second, third], [Some(0), Some(1), Some(2)]);
-    assert!(rt; fourth.is_none() && fifth.is_none());
+    assert_eq!(rt; [fourth, fifth], [None, None]);
     let lists = claims.gather(Vec::from_array(rt.alloc(), [s, t])?)?;
     assert!(rt; are_these(lists.as_slice(), &[0, 2], &[1]));
     Ok(())
 }
 
+/// Returns whether there are two lists, with these numbers.
 fn are_these(lists: &[Vec<u32>], first: &[u32], second: &[u32]) -> bool {
     match lists {
         [a, b] => a.as_slice() == first && b.as_slice() == second,
@@ -45,14 +46,14 @@ fn a_missing_seat_is_refused(rt: HostRuntime) -> Result<(), Fail> {
 fn claims_of_nothing(rt: HostRuntime) -> Result<(), Fail> {
     let mut claims = Claims::new(rt.alloc(), 0)?;
     let mut s = claims.seat()?;
-    assert!(rt; claims.draw(&mut s).is_none());
+    assert_eq!(rt; claims.draw(&mut s), None);
     let unused = Claims::new(rt.alloc(), 5)?;
     let none = unused.gather(Vec::new(rt.alloc()))?;
-    assert!(rt; none.is_empty());
+    assert_eq!(rt; none.len(), 0);
     Ok(())
 }
 
-// Draws until none is left.
+/// Draws until none is left.
 fn drained(claims: &Claims, mut seat: ClaimSeat) -> ClaimSeat
     requires { seat.claims ≡ claims.now.claims }
     ensures { (result.claims ≡ claims.now.claims) × (result.ended ≡ true) }
@@ -74,6 +75,7 @@ fn two_threads_draw_each_number_once(rt: HostRuntime) -> Result<(), Fail> {
     Ok(())
 }
 
+/// Returns the numbers of all lists in order.
 fn merged(alloc: Global, lists: &[Vec<u32>]) -> Result<Vec<u32>, AllocError> {
     let mut all = Vec::new(alloc);
     for list in lists {
@@ -83,6 +85,7 @@ fn merged(alloc: Global, lists: &[Vec<u32>]) -> Result<Vec<u32>, AllocError> {
     Ok(all)
 }
 
+/// Returns whether the numbers are those below `n` in order.
 fn are_all_below(n: u32, numbers: &[u32]) -> bool {
     numbers.len() == n as usize && (0..n).all(|x| numbers.get(x as usize).copied() == Some(x))
 }

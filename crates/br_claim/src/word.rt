@@ -1,5 +1,5 @@
-ghost use Rattle.std.specs.Prelude.{◌≡◌, ◌-◌, ◌+◌, ◌<◌, ◌≤◌, [], false, length, IfOk, IfSome, MatchOption};
-ghost use Rattle.br_claim.specs.Claims.{told_none, with_number};
+ghost use Rattle.std.specs.Prelude.{◌≡◌, ◌-◌, ◌+◌, ◌<◌, ◌≤◌, [], length, IfOk, IfSome};
+ghost use Rattle.br_claim.specs.Claims.{HasDrawn};
 ghost use Rattle.br_claim.specs.Rule.{hand};
 ghost use Rattle.br_claim.specs.Own.{IsOwn};
 
@@ -10,12 +10,12 @@ use atomic_table::{Seat, Table};
 use std::alloc::{AllocError, Global};
 use std::marker::Model;
 
-/// How many seats claims can have.
+/// The greatest number of seats of claims.
 pub const MOST_SEATS: u32 = 65_536;
 
 pub(crate) type ClaimTable = Table<(), Hand, u32, Dealt, Global>;
 
-// The word that threads share: how many numbers were asked for.
+/// The word that threads share: the number of draws.
 #[derive(Drop)]
 pub(crate) struct ClaimWord {
     pub(crate) table: ClaimTable,
@@ -35,6 +35,7 @@ impl Model for ClaimWord {
 }
 
 impl ClaimWord {
+    /// Makes the word of the numbers below `n`, and its own seat, which has all parts.
     pub(crate) fn new(alloc: Global, n: u32) -> Result<(ClaimWord, Seat<(), Hand>), AllocError>
         ensures { IfOk result (λ r. (r.0.limit ≡ n) × (r.1.table_id ≡ r.0.claims) × (r.1.me ≡ (hand n 65536 [] 0, []))) }
     {
@@ -42,7 +43,7 @@ impl ClaimWord {
         Ok((ClaimWord { table, limit: n }, own))
     }
 
-    // The claims' own seat, taken out of what keeps it.
+    /// Takes the claims' own seat out.
     pub(crate) fn own_seat(&self, kept: Option<Kept>, made: u32) -> Seat<(), Hand>
         requires { IsOwn self.now.claims self.now.limit made kept }
         ensures { (result.table_id ≡ self.now.claims) × (result.me ≡ (hand self.now.limit (65536 - made) [] 0, [])) }
@@ -51,7 +52,7 @@ impl ClaimWord {
         kept.into_seat()
     }
 
-    // Cuts a seat off the claims' own.
+    /// Splits a seat off the claims' own.
     pub(crate) fn split(&self, own: &mut Seat<(), Hand>, made: u32) -> Seat<(), Hand>
         requires own { (own.old.table_id ≡ self.now.claims) × (own.old.me ≡ (hand self.now.limit (65536 - made) [] 0, [])) }
         requires few { made < MOST_SEATS }
@@ -61,10 +62,10 @@ impl ClaimWord {
         self.table.shared.split_seat::<OneSeat>(own)
     }
 
-    // The next number, noted in the seat.
+    /// Draws the next number and notes it in the seat.
     pub(crate) fn draw(&self, seat: &mut ClaimSeat) -> Option<u32>
         requires { seat.old.claims ≡ self.now.claims }
-        ensures step { MatchOption result (seat.new ≡ told_none seat.old) (λ x. (seat.old.ended ≡ false) × (seat.new ≡ with_number seat.old x)) }
+        ensures step { HasDrawn seat.old seat.new result }
         ensures below { IfSome result (λ x. x < seat.old.limit) }
         ensures few { IfSome result (λ x. length seat.new.drawn ≤ seat.new.limit) }
     {
