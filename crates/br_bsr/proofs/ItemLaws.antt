@@ -13,7 +13,7 @@ use Rattle.br_bsr.proofs.ScanLaws.{any_is_place}
 within : (n m : ℕ) → ltb n m ≡ true → n < m
 within n m e = grind (arith, nat_tests)
 
--- the part before the first byte that passes, and the parts behind it
+-- the part before the first byte that passes, and the parts after it
 pub split_at_first : {X : Type 0} (p : X → Bool) (xs : List X) → list_any p xs ≡ true
     → slice_split p xs ≡ before_first p xs ∷ slice_split p (after_first p xs)
 split_at_first p [] e = absurd cc
@@ -24,7 +24,7 @@ any_parts : (a b : Bool) → (a || b) ≡ false → (a ≡ false) × (b ≡ fals
 any_parts true b e = absurd cc
 any_parts false b e = (refl, e)
 
--- one part, where no byte passes
+-- one part, if no byte passes
 pub split_nowhere : {X : Type 0} (p : X → Bool) (xs : List X) → list_any p xs ≡ false → slice_split p xs ≡ xs ∷ []
 split_nowhere p [] e = refl
 split_nowhere p (x ∷ xs) e =

@@ -1,4 +1,4 @@
--- Which keyword a word is.
+-- The keyword of a word.
 use Rattle.std.proofs.Common.{◌≡◌, ◌||◌, ℕ, Bool, true, false, cond, List, [], ◌∷◌, ◌++◌, Option, Some, None, map, option_map, codes, refl, ap, ◌∙◌}
 use Rattle.std.specs.List.{find, list_any}
 use Rattle.std.specs.Option.{option_or}
@@ -70,7 +70,7 @@ parts is_volume criterion is_passed_over is_unsupported =
 abbrev pub is_volume_word : List ℕ → Bool
 is_volume_word word = is_name_of word (codes "volume")
 
--- a word by its kind: the volume, a criterion, what is passed over, what is not supported
+-- a word by its kind: the volume, a criterion, a word that is ignored, one that is not supported
 keyword_parts : (word : List ℕ) → keyword_of word ≡ parts (is_volume_word word) (criterion_named word) (is_among passed_over word) (is_among unsupported word)
 unfolding keyword_of
 keyword_parts word =

@@ -1,4 +1,4 @@
--- The lines of a text, and what they say one after another.
+-- The lines of a text, and their statements one after another.
 use Rattle.std.proofs.Common.{◌≡◌, ◌<◌, ◌≤◌, ◌+◌, ◌==◌, ℕ, zero, suc, Bool, true, false, not, cond, List, [], ◌∷◌, length, get_or, set, Option, Some, None, Ok, Err, refl, ap, sym, ◌∙◌, arith}
 use Rattle.std.specs.List.{list_any, slice_split, before_first, after_first}
 use Rattle.std.specs.Str.Lines.{lines, lines_of_parts, strip_carriage_return}
@@ -35,7 +35,7 @@ first_open text rest none some e =
     ap lines_of_parts (split_nowhere is_end text none) ∙ last_part text (length text == 0) (ne_eqb (length text) 0 (λ z. omega (arith, z)))
     ∙ ap (λ (r : List ℕ). text ∷ lines r) (sym e)
 
--- ---- a line and the lines behind it
+-- ---- a line and the lines after it
 
 pub line_said : (n : ℕ) (groups : List Group) (has_volume : Bool) (text : List ℕ) (more : List (List ℕ)) (s : Statement) → has_volume ≡ not (is_empty groups)
     → read_line has_volume text ≡ Ok s → read_lines n groups (text ∷ more) ≡ read_lines (n + 1) (with_statement groups s) more

@@ -1,4 +1,4 @@
--- Where a text is cut.
+-- The places at which a text is cut.
 use Rattle.std.proofs.Common.{◌≡◌, ◌<◌, ◌≤◌, ◌+◌, ◌-◌, ◌||◌, ◌&&◌, ◌==◌, ℕ, suc, Bool, true, false, not, cond, ltb, Some, None, List, [], ◌∷◌, ◌++◌, length, take, drop, reverse, get_or, refl, ap, add_comm, add-one, append_assoc, drop-cons, sym, ◌∙◌, inl, inr, arith}
 use Rattle.std.specs.Prelude.{position}
 use Rattle.std.specs.List.{list_any, prefix_len, position_or_len, before_first}
@@ -18,7 +18,7 @@ pub any_is_place : {X : Type 0} (p : X → Bool) (xs : List X) → list_any p xs
 any_is_place p [] = refl
 any_is_place p (x ∷ xs) = any_cond (p x) (position_or_len p xs) (length xs) (list_any p xs) (any_is_place p xs)
 
--- what a place that was found says
+-- the facts of a place that was found
 pub record IsPlace {X : Type 0} (p : X → Bool) (xs : List X) (i : ℕ) : Type 0 where
   pub within : i < length xs
   pub any : list_any p xs ≡ true

@@ -1,4 +1,4 @@
--- What is read is valid: each range is one that its criterion may be given.
+-- A bootstrap that is read is valid: its criteria may have their ranges.
 use Rattle.std.proofs.Common.{◌≡◌, ◌&&◌, ℕ, Bool, true, false, not, cond, List, [], ◌∷◌, ◌++◌, Result, Ok, Err, refl, ap, sym, ◌∙◌, inl, inr}
 use Rattle.std.specs.Prelude.{bytes_eq, nat_lt, length, ⊤}
 use Rattle.std.specs.List.{list_all, list_any, slice_split, before_first, after_first}
@@ -10,7 +10,7 @@ use Rattle.br_model.specs.Bootstrap.{Range, Criterion, SessionId, SessionTime, V
 use Rattle.br_model.specs.BootstrapText.{Keyword, NamesVolume, Asks, PassedOver, Unsupported, Statement, Nothing, OnVolume, Admits, is_range, is_group, is_comma, is_equals, inside, trimmed, has_closed_quotes, keyword_of, needs_volume, is_unsupported, change_last, with_statement, read_ends, read_item, read_items, read_volume, read_value, read_assignment, read_line, before_comment}
 use Rattle.br_model.proofs.AnswerLaws.{bind_ok, refuse_ok, ok_is, chosen}
 
--- ---- what a line says
+-- ---- the statement of a line
 
 abbrev pub IsValid : Statement → Type 0
 IsValid Nothing = ⊤

@@ -14,7 +14,7 @@ use Rattle.br_model.specs.BootstrapText.{inside, read_volume}
 use Rattle.br_bsr.specs.Line.{has_quotes}
 use Rattle.br_bsr.proofs.ScanLaws.{last_apart}
 
--- ---- what stands in quotes
+-- ---- the text in quotes
 
 first_apart : (xs : List ℕ) → 1 ≤ length xs → xs ≡ get_or xs 0 0 ∷ drop 1 xs
 first_apart [] some = absurd (omega arith)
@@ -59,7 +59,7 @@ inside_is (x ∷ y ∷ ys) =
     let long : length (x ∷ y ∷ ys) - 1 ≡ suc (length ys) = omega arith in
     ap (λ n. take n (y ∷ ys)) short ∙ sym (ap (λ n. drop 1 (take n (x ∷ y ∷ ys))) long)
 
--- ---- what is read
+-- ---- the name that is read
 
 none_of : (a b c d : Bool) → ((a && b && false) && c && d) ≡ false
 none_of true true c d = refl

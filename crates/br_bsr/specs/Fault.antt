@@ -1,4 +1,4 @@
--- What a refused bootstrap says.
+-- The numbers and lines of refused bootstraps.
 use Rattle.std.specs.Prelude.{ℕ, Option, Some, None, option_map}
 use Rattle.br_model.specs.BootstrapText.{LineFault}
 use Rattle.br_bsr.specs.declared.fault.Refusal.{Refusal}
@@ -24,7 +24,7 @@ fault_line (UnsupportedKeyword n) = Some n
 fault_line (BadValue n) = Some n
 fault_line (TooLong n) = Some n
 
--- the refusal that the model has, nothing for want of memory
+-- the refusal that the model decides: none if memory ran out
 abbrev pub cause : BsrFault → Option LineFault
 cause Memory = None
 cause (VolumeFirst n) = Some (record { number = 30; line = n })
@@ -33,7 +33,7 @@ cause (UnsupportedKeyword n) = Some (record { number = 32; line = n })
 cause (BadValue n) = Some (record { number = 33; line = n })
 cause (TooLong n) = Some (record { number = 34; line = n })
 
--- the number of the refusal of a line, nothing for want of memory
+-- the number of the refusal of a line: none if memory ran out
 abbrev pub refusal_cause : Refusal → Option ℕ
 refusal_cause refusal.Memory = None
 refusal_cause refusal.VolumeFirst = Some 30
@@ -42,7 +42,7 @@ refusal_cause refusal.UnsupportedKeyword = Some 32
 refusal_cause refusal.BadValue = Some 33
 refusal_cause refusal.TooLong = Some 34
 
--- the same number, and 1 for want of memory
+-- the number of the refusal of a line: 1 if memory ran out
 abbrev pub refusal_number : Refusal → ℕ
 refusal_number refusal.Memory = 1
 refusal_number refusal.VolumeFirst = 30

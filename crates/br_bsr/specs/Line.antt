@@ -1,4 +1,4 @@
--- What a line says, as the model has it.
+-- The statement of a line, as the model has it.
 use Rattle.std.specs.Prelude.{ℕ, ◌-◌, Bool, not, ◌&&◌, ◌==◌, nat_le, List, length, slice_index, Result, Ok}
 use Rattle.br_model.specs.Answer.{◌>>=◌, refuse_if, some_or}
 use Rattle.br_model.specs.BootstrapText as model
@@ -11,7 +11,7 @@ statement_view Nothing = model.Nothing
 statement_view (OnVolume name) = model.OnVolume name
 statement_view (Admits c ranges) = model.Admits (criterion_of c) ranges.items
 
--- the keyword that a word is, before its value is looked at
+-- the keyword with this name, before its value is read
 unfoldable pub check_keyword : Bool → List ℕ → Result model.Keyword ℕ
 check_keyword has_volume word = do
   keyword ← some_or (model.keyword_of (model.trimmed word)) 31

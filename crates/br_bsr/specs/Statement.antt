@@ -16,7 +16,7 @@ criterion_of Stream = model.Stream
 abbrev pub range_between : ℕ × ℕ → model.Range
 range_between ends = record { low = ends.0; high = ends.1 }
 
--- the ranges that were read, and behind them those that are read next
+-- the ranges read before, and those read next; or the refusal
 abbrev pub behind : List model.Range → Result (List model.Range) ℕ → Result (List model.Range) ℕ
 behind ranges (Ok more) = Ok (ranges ++ more)
 behind ranges (Err e) = Err e

@@ -5,11 +5,11 @@ ghost use Rattle.br_model.specs.BootstrapText.{is_group};
 use crate::group::Group;
 use std::marker::Model;
 
-/// The most groups of a bootstrap: 2^32 - 1.
+/// The greatest number of groups of a bootstrap: 2^32 - 1.
 pub const MAX_GROUPS: usize = 4_294_967_295;
 
-/// Which records of which volumes are to be restored: those that one of its groups hits. It has fewer than 2^32 groups, each
-/// of which a text can state.
+/// A selection of the records to restore: those that one of its groups hits. It has fewer than 2^32
+/// groups, and a text can state each of them.
 #[derive(Debug, Drop)]
 pub struct Bootstrap {
     groups: Vec<Group>,
@@ -28,6 +28,7 @@ impl Model for Bootstrap {
     ghost invariant = { λ b. (length b.groups.items < 2 ^ 32) × (list_all is_group b.groups.items ≡ true) };
 }
 
+/// Returns whether a text can state each group.
 fn are_valid(groups: &[Group]) -> bool
     ensures { result ≡ list_all is_group groups.now }
 {
@@ -35,7 +36,8 @@ fn are_valid(groups: &[Group]) -> bool
 }
 
 impl Bootstrap {
-    /// The bootstrap of these groups, in their order; none where they are 2^32 or more, or where one of them is not valid.
+    /// Makes the bootstrap of these groups in their order; `None` if there are 2^32 or more, or one is
+    /// not valid.
     pub fn new(groups: Vec<Group>) -> Option<Bootstrap>
         ensures valid { IsSome result ↔ ((length groups.items < 2 ^ 32) × (list_all is_group groups.items ≡ true)) }
         ensures value { IfSome result (λ bootstrap. bootstrap ≡ groups.items) }
@@ -47,7 +49,7 @@ impl Bootstrap {
         }
     }
 
-    /// The bootstrap of these groups, which are known to be fewer than 2^32 and valid, in their order.
+    /// Makes the bootstrap of these groups in their order.
     pub fn from_valid(groups: Vec<Group>) -> Bootstrap
         requires few { length groups.items < 2 ^ 32 }
         requires valid { list_all is_group groups.items ≡ true }
@@ -56,7 +58,7 @@ impl Bootstrap {
         Bootstrap { groups }
     }
 
-    /// The groups, in order.
+    /// Returns the groups in order.
     pub fn groups(&self) -> &[Group]
         ensures same { result.now ≡ self.now }
         ensures few { length self.now < 2 ^ 32 }

@@ -5,7 +5,7 @@ ghost use Rattle.br_bsr.specs.Statement.{criterion_of, range_between};
 
 use crate::range::Range;
 
-/// What a group may ask of a record.
+/// A number of a record or its block that a group may select by.
 #[derive(Clone, Copy, Debug)]
 pub enum Criterion {
     SessionId,
@@ -27,7 +27,7 @@ const MAX_INDEX: u64 = 2_147_483_647;
 const MAX_ADDRESS: u64 = 9_223_372_036_854_775_807;
 
 impl Criterion {
-    /// The least number that the criterion may be given.
+    /// Returns the least number in a range of the criterion.
     fn least(self) -> u64
         ensures { result ≡ least (criterion_of self) }
     {
@@ -37,7 +37,7 @@ impl Criterion {
         }
     }
 
-    /// The greatest number that the criterion may be given.
+    /// Returns the greatest number in a range of the criterion.
     fn greatest(self) -> u64
         ensures { result ≡ greatest (criterion_of self) }
     {
@@ -48,7 +48,7 @@ impl Criterion {
         }
     }
 
-    /// The range from `low` to `high`, if the criterion may be given it.
+    /// Returns the range from `low` to `high`, if the criterion may have it.
     pub fn range(self, low: u128, high: u128) -> Option<Range>
         ensures { result ≡ if is_range (criterion_of self) (range_between (low, high)) then Some (range_between (low, high)) else None }
     {
@@ -62,14 +62,14 @@ impl Criterion {
         }
     }
 
-    /// Whether the criterion may be given the range.
+    /// Returns whether the criterion may have the range.
     pub fn takes(self, range: Range) -> bool
         ensures { result ≡ is_range (criterion_of self) range }
     {
         self.least() <= range.low && range.low <= range.high && range.high <= self.greatest()
     }
 
-    /// Whether the criterion may be given each of the ranges.
+    /// Returns whether the criterion may have each of the ranges.
     pub fn takes_all(self, ranges: &[Range]) -> bool
         ensures { result ≡ list_all (is_range (criterion_of self)) ranges.now }
     {

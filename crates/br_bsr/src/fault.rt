@@ -6,12 +6,12 @@ ghost use Rattle.br_bsr.specs.declared.fault.BsrFault.TheVariants as fault;
 use std::alloc::{AllocError, AllocFailed};
 use thiserror::Error;
 
-/// Why a bootstrap was refused, and in which line of its text, counted from 1.
+/// Why a bootstrap was refused, with the number of the refused line, from 1.
 #[derive(Clone, Copy, Debug, PartialEq, Eq, Error)]
 pub enum BsrFault {
     #[error("out of memory")]
     Memory,
-    #[error("line {line}: a criterion before the first Volume; put a line Volume=\"name\" above it")]
+    #[error("line {line}: a criterion before the first Volume; write a line Volume=\"name\" above it")]
     VolumeFirst { line: u64 },
     #[error("line {line}: not a keyword of a bootstrap; correct its spelling")]
     UnknownKeyword { line: u64 },
@@ -24,8 +24,9 @@ pub enum BsrFault {
 }
 
 impl BsrFault {
-    /// The number of the refusal: 1 want of memory, 30 a criterion before the first volume, 31 an unknown keyword, 32 an
-    /// unsupported one, 33 a bad value, 34 a line that is too long.
+    /// Returns the number of the refusal: 1 for memory, 30 for a criterion before the first volume, 31
+    /// for an unknown keyword, 32 for an unsupported one, 33 for a bad value, 34 for a line that is
+    /// too long.
     pub fn number(self) -> u32
         ensures { result ≡ fault_number self }
     {
@@ -39,7 +40,7 @@ impl BsrFault {
         }
     }
 
-    /// The refused line, from 1; none where memory ran out.
+    /// Returns the number of the refused line, from 1; `None` if memory ran out.
     pub fn line(self) -> Option<u64>
         ensures { result ≡ fault_line self }
     {
@@ -74,7 +75,7 @@ pub enum Refusal {
 }
 
 impl Refusal {
-    /// The refusal of a text for this refusal of its line with the number `line`.
+    /// Returns the refusal of a text whose line with the number `line` has this refusal.
     pub fn at(self, line: u64) -> BsrFault
         ensures { cause result ≡ at_line line (refusal_cause self) }
     {

@@ -13,33 +13,38 @@ use br_types::{SessionKey, VolName};
 use std::alloc::{AllocError, Global};
 use std::marker::Model;
 
-/// The bytes of a volume that one VolFile counts: 2^32.
+/// The number of bytes of a volume that one VolFile counts: 2^32.
 const FILE_BYTES: u64 = 4_294_967_296;
 
+/// Returns whether one of the ranges contains the number.
 fn contains_any(ranges: &[Range], number: u64) -> bool
     ensures { result ≡ list_any (λ r. is_in_range r.low r.high number) ranges.now }
 {
     ranges.iter().any(|range| range.contains(number))
 }
 
+/// Returns whether a criterion with these ranges admits the number: without ranges it admits all.
 fn admits_number(ranges: &[Range], number: u64) -> bool
     ensures { result ≡ admits ranges.now number }
 {
     ranges.is_empty() || contains_any(ranges, number)
 }
 
+/// Returns whether the index is that of a file.
 fn is_of_file(index: i32) -> bool
     ensures { result ≡ is_positive index }
 {
     index > 0
 }
 
+/// Returns the number without its sign.
 fn magnitude(number: i32) -> u64
     ensures { result ≡ nat_abs number }
 {
     u64::from(number.unsigned_abs())
 }
 
+/// Returns the greatest end of the ranges; 0 without ranges.
 fn greatest_end(ranges: &[Range]) -> u64
     ensures { result ≡ fold (λ n r. max n r.high) 0 ranges.now }
 {
@@ -48,8 +53,8 @@ fn greatest_end(ranges: &[Range]) -> u64
         .fold(0, |greatest, range| range.high.max(greatest))
 }
 
-/// What a bootstrap asks of one volume: the records that meet each criterion. A criterion is met by a number in one of its
-/// ranges, and one without ranges by every number.
+/// A selection of records of one volume: those that each criterion admits. A criterion admits the
+/// numbers in its ranges, and all numbers if it has no ranges.
 #[derive(Debug, Drop)]
 pub struct Group {
     /// The volume.
@@ -75,11 +80,20 @@ impl Model for Group {
 
     ghost Value = { model.Group };
 
-    ghost view = { λ g. record { volume = g.vol; session_ids = g.session_ids.items; session_times = g.session_times.items; files = g.files.items; blocks = g.blocks.items; addresses = g.addrs.items; indexes = g.indexes.items; streams = g.streams.items } };
+    ghost view = { λ g. record {
+      volume = g.vol;
+      session_ids = g.session_ids.items;
+      session_times = g.session_times.items;
+      files = g.files.items;
+      blocks = g.blocks.items;
+      addresses = g.addrs.items;
+      indexes = g.indexes.items;
+      streams = g.streams.items;
+    } };
 }
 
 impl Group {
-    /// The group that asks for every record of a volume.
+    /// Makes the group that selects every record of a volume.
     pub fn on(alloc: Global, vol: VolName) -> Group
         ensures { result ≡ group_on vol }
     {
@@ -95,8 +109,8 @@ impl Group {
         }
     }
 
-    /// Whether the group hits a record in a block at the address `addr` of its volume: a record of this session, with this
-    /// file index and this stream. A record of no file, with an index below 1, is never hit.
+    /// Returns whether the group hits a record of this session, file index and stream, in a block at
+    /// the address `addr` of its volume. It never hits a label, whose index is below 1.
     pub fn hits(&self, addr: u64, session: SessionKey, index: i32, stream: i32) -> bool
         ensures { result ≡ hits_by self.now addr session index stream }
     {
@@ -110,14 +124,14 @@ impl Group {
             && admits_number(&self.streams, magnitude(stream))
     }
 
-    /// Whether the group asks for records of the block at the address `addr`.
+    /// Returns whether the group may hit records of a block at the address `addr`.
     pub fn covers(&self, addr: u64) -> bool
         ensures { result ≡ covers self.now addr }
     {
         admits_number(&self.addrs, addr)
     }
 
-    /// The last address at which the group asks for records; none where it asks for them at every address.
+    /// Returns the last address at which the group may hit records; `None` if there is no last one.
     pub fn last_address(&self) -> Option<u64>
         ensures { result ≡ if is_empty self.now.addresses then None else Some (last_address self.now) }
     {
@@ -128,7 +142,7 @@ impl Group {
         }
     }
 
-    /// An equal group.
+    /// Returns an equal group.
     pub fn copy(&self, alloc: Global) -> Result<Group, AllocError>
         ensures { IfOk result (λ g. g ≡ self.now) }
     {
@@ -144,8 +158,8 @@ impl Group {
         })
     }
 
-    /// Whether a text can state the group: each range has a low end that is at most its high one, both of them numbers
-    /// that the criterion may be given.
+    /// Returns whether a text can state the group: the low end of each range is at most its high end,
+    /// and the criterion may have both numbers.
     #[tactic(auto, unfolding(br_model::specs::BootstrapText::is_group))]
     pub fn is_valid(&self) -> bool
         ensures { result ≡ is_group self.now }
@@ -161,7 +175,7 @@ impl Group {
             && Criterion::Stream.takes_all(&self.streams)
     }
 
-    /// Adds ranges of a criterion behind those that the group has.
+    /// Appends ranges of a criterion to those of the group.
     pub(crate) fn admit(&mut self, criterion: Criterion, ranges: &[Range]) -> Result<(), AllocError>
         ensures { OnOk result (self.new ≡ with_ranges (criterion_of criterion) ranges.now self.old) }
     {

@@ -12,7 +12,7 @@ use crate::range::Range;
 use crate::scan::{cut, trimmed_of};
 use std::alloc::Global;
 
-/// The ends of one number, or of two with a dash between them.
+/// Reads one number, or two with a dash between them, as the ends of a range.
 #[tactic(auto, unfolding(br_model::specs::BootstrapText::read_ends))]
 fn ends_of(text: &[u8]) -> Option<(u128, u128)>
     ensures { some_or (option_map range_between result) 33 ≡ read_ends text.now }
@@ -30,7 +30,7 @@ fn ends_of(text: &[u8]) -> Option<(u128, u128)>
     }
 }
 
-/// The range that an item states, if the criterion may be given it.
+/// Reads an item as a range, if the criterion may have it.
 #[tactic(auto, unfolding(br_model::specs::BootstrapText::read_item))]
 fn range_of(criterion: Criterion, text: &[u8]) -> Option<Range>
     ensures { some_or result 33 ≡ read_item (criterion_of criterion) text.now }
@@ -39,7 +39,11 @@ fn range_of(criterion: Criterion, text: &[u8]) -> Option<Range>
     criterion.range(low, high)
 }
 
-/// The ranges of the items between commas.
+/// Reads the items between commas as ranges.
+///
+/// # Errors
+///
+/// `BadValue` if an item is not a range of the criterion.
 pub fn ranges_of(alloc: Global, criterion: Criterion, text: &[u8]) -> Result<Vec<Range>, Refusal>
     ensures { Answers (λ ranges. ranges.items) refusal_cause result (read_items (criterion_of criterion) (slice_split is_comma text.now)) }
 {

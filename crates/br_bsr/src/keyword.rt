@@ -6,7 +6,7 @@ ghost use Rattle.br_bsr.specs.Keyword.{keyword_view, criterion_named, passed_ove
 
 use crate::criterion::Criterion;
 
-/// What a keyword asks for: a volume, ranges, nothing that is read, or what is not supported.
+/// A keyword by its kind: one that names a volume, gives ranges, is ignored, or is not supported.
 #[derive(Clone, Copy, Debug)]
 pub enum Keyword {
     Volume,
@@ -15,6 +15,7 @@ pub enum Keyword {
     Unsupported,
 }
 
+/// Returns whether a word is this name, in letters of either case.
 fn is_word(word: &[u8], name: &[u8]) -> bool
     requires { str_to_ascii_lowercase name.now ≡ name.now }
     ensures { result ≡ bytes_eq (str_to_ascii_lowercase word.now) name.now }
@@ -22,6 +23,7 @@ fn is_word(word: &[u8], name: &[u8]) -> bool
     word.eq_ignore_ascii_case(name)
 }
 
+/// Returns the criterion with this name, if there is one.
 fn criterion_from(word: &[u8]) -> Option<Criterion>
     ensures { result ≡ criterion_named word.now }
 {
@@ -44,6 +46,7 @@ fn criterion_from(word: &[u8]) -> Option<Criterion>
     }
 }
 
+/// Returns whether the word is a keyword that is ignored.
 fn is_passed_over(word: &[u8]) -> bool
     ensures { result ≡ is_among passed_over word.now }
 {
@@ -54,6 +57,7 @@ fn is_passed_over(word: &[u8]) -> bool
         || is_word(word, b"count")
 }
 
+/// Returns whether the word is a keyword that is not supported.
 fn is_unsupported_word(word: &[u8]) -> bool
     ensures { result ≡ is_among unsupported word.now }
 {
@@ -66,7 +70,7 @@ fn is_unsupported_word(word: &[u8]) -> bool
 }
 
 impl Keyword {
-    /// The keyword that a word is, in letters of either case.
+    /// Returns the keyword with this name, in letters of either case.
     pub fn from_word(word: &[u8]) -> Option<Keyword>
         ensures { option_map keyword_view result ≡ keyword_of word.now }
     {
@@ -83,14 +87,14 @@ impl Keyword {
         }
     }
 
-    /// Whether the keyword has to stand behind a volume.
+    /// Returns whether the keyword must follow a volume.
     pub fn needs_volume(self) -> bool
         ensures { result ≡ needs_volume (keyword_view self) }
     {
         matches!(self, Keyword::Asks(_))
     }
 
-    /// Whether the keyword is one that is not supported.
+    /// Returns whether the keyword is not supported.
     pub fn is_unsupported(self) -> bool
         ensures { result ≡ is_unsupported (keyword_view self) }
     {

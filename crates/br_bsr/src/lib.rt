@@ -1,6 +1,10 @@
-//! Bootstraps: texts that say which records of which volumes are to be restored, as Bacula's Director writes them.
+//! Reads and writes bootstraps: texts that select the records to restore, as Bacula's Director writes
+//! them.
 //!
-//! A `Bootstrap` is read from its text, written as its canonical text, and asked which records it hits.
+//! A `Bootstrap` is read from its text and written as its canonical text, and its groups say which
+//! records they select.
+//!
+//! Any call that returns a `Result` may also fail because memory ran out.
 #![tactic(auto)]
 
 mod bootstrap;

@@ -5,15 +5,12 @@ ghost use Rattle.br_model.specs.Answer.{some_or};
 ghost use Rattle.br_model.specs.Text.{decimal_value};
 ghost use Rattle.br_model.specs.BootstrapText.{read_digits};
 
-/// The most digits of a number.
+use br_types::are_digits;
+
+/// The greatest number of digits of a number.
 const MAX_DIGITS: usize = 20;
 
-fn are_digits(text: &[u8]) -> bool
-    ensures { result ≡ list_all is_ascii_digit text.now }
-{
-    text.iter().all(|byte| byte.is_ascii_digit())
-}
-
+/// Returns the number that decimal digits spell.
 fn spelled(digits: &[u8]) -> u128
     requires few { length digits.now ≤ 20 }
     requires digits { list_all is_ascii_digit digits.now ≡ true }
@@ -26,7 +23,7 @@ fn spelled(digits: &[u8]) -> u128
     value
 }
 
-/// The number that 1 to 20 decimal digits spell; none where the text is anything else.
+/// Returns the number that 1 to 20 decimal digits spell; `None` for any other text.
 #[tactic(auto, unfolding(br_model::specs::BootstrapText::read_digits, br_model::specs::Text::decimal_value))]
 pub fn digits_of(text: &[u8]) -> Option<u128>
     ensures { some_or result 33 ≡ read_digits text.now }

@@ -3,7 +3,7 @@ ghost use Rattle.std.specs.Int.{is_in_range};
 
 use std::marker::Model;
 
-/// The numbers from `low` to `high`, both among them.
+/// The numbers from `low` to `high`, inclusive.
 #[derive(Clone, Copy, Debug, PartialEq, Eq)]
 pub struct Range {
     pub low: u64,
@@ -21,7 +21,7 @@ impl Model for Range {
 }
 
 impl Range {
-    /// Whether the number is in the range.
+    /// Returns whether the number is in the range.
     pub fn contains(&self, number: u64) -> bool
         ensures { result ≡ is_in_range self.now.low self.now.high number }
     {

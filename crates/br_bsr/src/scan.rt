@@ -3,26 +3,23 @@ ghost use Rattle.std.specs.List.{before_first, after_first, list_any};
 ghost use Rattle.br_model.specs.Text.{is_blank, trim_front};
 ghost use Rattle.br_model.specs.BootstrapText.{trimmed, before_comment, has_closed_quotes};
 
-fn is_blank_byte(byte: u8) -> bool
-    ensures { result ≡ is_blank byte }
-{
-    byte == b' ' || byte == b'\t'
-}
+use br_types::is_blank_byte;
 
+/// Returns the text without the blanks at its front.
 fn trimmed_front(text: &[u8]) -> &[u8]
     ensures { result.now ≡ trim_front is_blank text.now }
 {
     let mut rest = text;
-    while let [first, behind @ ..] = rest {
+    while let [first, following @ ..] = rest {
         if !is_blank_byte(*first) {
             break;
         }
-        rest = behind;
+        rest = following;
     }
     rest
 }
 
-/// The text without the blanks at its two ends.
+/// Returns the text without the blanks at its two ends.
 pub fn trimmed_of(text: &[u8]) -> &[u8]
     ensures { result.now ≡ trimmed text.now }
 {
@@ -36,13 +33,14 @@ pub fn trimmed_of(text: &[u8]) -> &[u8]
     rest
 }
 
+/// Returns the place of the first byte `end`, if there is one.
 fn place_of(text: &[u8], end: u8) -> Option<usize>
     ensures { result ≡ position (λ c. c == end) text.now }
 {
     text.iter().position(|byte| *byte == end)
 }
 
-/// What stands before the first byte `end`, and what behind it; none where there is no such byte.
+/// Returns the text before the first byte `end` and the text after it; `None` if there is no such byte.
 pub fn cut(text: &[u8], end: u8) -> Option<(&[u8], &[u8])>
     ensures { MatchOption result
         ((list_any (λ c. c == end) text.now ≡ false) × (before_first (λ c. c == end) text.now ≡ text.now))
@@ -55,7 +53,7 @@ pub fn cut(text: &[u8], end: u8) -> Option<(&[u8], &[u8])>
     }
 }
 
-/// What stands before the comment: before the first `#` outside quotes.
+/// Returns the text before its comment, which begins with the first `#` outside quotes.
 pub fn without_comment(text: &[u8]) -> &[u8]
     ensures { result.now ≡ before_comment false text.now }
 {
@@ -71,13 +69,14 @@ pub fn without_comment(text: &[u8]) -> &[u8]
     text
 }
 
+/// Returns the number of quotes.
 fn count_quotes(text: &[u8]) -> usize
     ensures { result ≡ count_by (λ c. c == 34) text.now }
 {
     text.iter().filter(|byte| **byte == b'"').count()
 }
 
-/// Whether each quote that is opened is closed.
+/// Returns whether each quote that is opened is closed.
 pub fn are_quotes_closed(text: &[u8]) -> bool
     ensures { result ≡ has_closed_quotes text.now }
 {

@@ -15,10 +15,10 @@ use crate::scan::{are_quotes_closed, cut, trimmed_of, without_comment};
 use br_types::{NameFault, VolName};
 use std::alloc::Global;
 
-/// The most bytes that a line has, without its end.
+/// The greatest number of bytes of a line, without its end.
 const MAX_LINE: usize = 4096;
 
-/// What a line says: nothing that matters, the volume of a new group, or ranges of a criterion.
+/// The statement of a line: nothing that selects, the volume of a new group, or ranges of a criterion.
 #[derive(Debug, Drop)]
 pub enum Statement {
     Nothing,
@@ -26,6 +26,7 @@ pub enum Statement {
     Admits(Criterion, Vec<Range>),
 }
 
+/// Makes a volume's name.
 fn named(alloc: Global, bytes: &[u8]) -> Result<VolName, Refusal>
     ensures { Answers (λ name. name) refusal_cause result (refused_as (λ _. 33) (checked_volume_name bytes.now)) }
 {
@@ -36,13 +37,14 @@ fn named(alloc: Global, bytes: &[u8]) -> Result<VolName, Refusal>
     }
 }
 
+/// Returns whether a text begins and ends with a quote.
 fn is_quoted(text: &[u8]) -> bool
     ensures { result ≡ has_quotes text.now }
 {
     text.len() >= 2 && text[0] == b'"' && text[text.len() - 1] == b'"'
 }
 
-/// The name of a volume, in quotes or without a space.
+/// Reads the name of a volume, in quotes or without a space.
 fn volume_of(alloc: Global, text: &[u8]) -> Result<VolName, Refusal>
     ensures { Answers (λ name. name) refusal_cause result (read_volume text.now) }
 {
@@ -55,7 +57,7 @@ fn volume_of(alloc: Global, text: &[u8]) -> Result<VolName, Refusal>
     named(alloc, text)
 }
 
-/// What a keyword and its value say.
+/// Reads the value of a keyword, as the statement of both.
 #[tactic(auto, unfolding(br_model::specs::BootstrapText::read_value))]
 fn value_of(alloc: Global, keyword: Keyword, text: &[u8]) -> Result<Statement, Refusal>
     ensures { Answers statement_view refusal_cause result (read_value (keyword_view keyword) text.now) }
@@ -77,7 +79,7 @@ fn value_of(alloc: Global, keyword: Keyword, text: &[u8]) -> Result<Statement, R
     }
 }
 
-/// The keyword that a word is, if it is one that may stand behind a volume or, where there is none, before the first.
+/// Reads a keyword that is supported here: `has_volume` says whether a volume was named before.
 #[tactic(auto, unfolding(crate::specs::Line::check_keyword))]
 fn checked_keyword(has_volume: bool, word: &[u8]) -> Result<Keyword, Refusal>
     ensures { AnswersAlways keyword_view refusal_number result (check_keyword has_volume word.now) }
@@ -94,7 +96,7 @@ fn checked_keyword(has_volume: bool, word: &[u8]) -> Result<Keyword, Refusal>
     Ok(keyword)
 }
 
-/// What an assignment says, behind a volume or not.
+/// Reads an assignment: `has_volume` says whether a volume was named before.
 #[tactic(auto, unfolding(br_model::specs::BootstrapText::read_assignment, crate::specs::Line::check_keyword))]
 fn assignment_of(alloc: Global, has_volume: bool, text: &[u8]) -> Result<Statement, Refusal>
     ensures { Answers statement_view refusal_cause result (read_assignment has_volume text.now) }
@@ -111,7 +113,7 @@ fn assignment_of(alloc: Global, has_volume: bool, text: &[u8]) -> Result<Stateme
     }
 }
 
-/// What a line says, behind a volume or not.
+/// Reads a line: `has_volume` says whether a volume was named before.
 #[tactic(auto, unfolding(br_model::specs::BootstrapText::read_line))]
 pub fn statement_of(alloc: Global, has_volume: bool, line: &[u8]) -> Result<Statement, Refusal>
     ensures { Answers statement_view refusal_cause result (read_line has_volume line.now) }

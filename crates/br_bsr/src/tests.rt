@@ -60,7 +60,7 @@ const BAD_NUMBERS: [&str; 17] = [
     "Volume=V1\nStream=0-1",
 ];
 
-/// Texts, and the canonical texts of what they mean.
+/// Texts of bootstraps, and their canonical texts.
 const CANONICAL: [(&str, &str); 8] = [
     ("", ""),
     ("\r\n \t\n# \"", ""),
@@ -90,15 +90,15 @@ const CANONICAL: [(&str, &str); 8] = [
     ),
 ];
 
-/// What Bacula's Director wrote for a full and an incremental job on one volume.
+/// A text of Bacula's Director, for a full and an incremental job on one volume.
 const WRITTEN: &str =
     "Storage=\"File1\"\nVolume=\"Vol-0001\"\nMediaType=\"File\"\nDevice=\"FileDev\"\nVolSessionId=1\nVolSessionTime=1795302931\nVolAddr=206-1172\nFileIndex=1-2\nFileIndex=4-5\nCount=4\nStorage=\"File1\"\nVolume=\"Vol-0001\"\nMediaType=\"File\"\nDevice=\"FileDev\"\nVolSessionId=1\nVolSessionTime=1795302940\nVolAddr=1656-2149\nFileIndex=1\nCount=1\n";
 
-/// What it wrote for a restore by a regular expression.
+/// A text of Bacula's Director, for a restore by a regular expression.
 const WITH_REGEX: &str =
     "Storage=\"File1\"\nVolume=\"Vol-0001\"\nMediaType=\"File\"\nFileRegex=tiny\nDevice=\"FileDev\"\nVolSessionId=1\n";
 
-/// What is written of the two jobs.
+/// The canonical text of `WRITTEN`.
 const OF_TWO_JOBS: &[u8] =
     b"Volume=\"Vol-0001\"\nVolSessionId=1\nVolSessionTime=1795302931\nVolAddr=206-1172\nFileIndex=1-2\nFileIndex=4-5\nVolume=\"Vol-0001\"\nVolSessionId=1\nVolSessionTime=1795302940\nVolAddr=1656-2149\nFileIndex=1\n";
 
@@ -108,7 +108,7 @@ const FULL: SessionKey = SessionKey {
     time: 1_795_302_931,
 };
 
-/// Addresses and indexes, and whether the full job has a record there.
+/// Addresses and indexes, and whether the group of the full job hits them.
 const SPOTS: [(u64, i32, bool); 5] = [
     (206, 1, true),
     (205, 1, false),
@@ -120,7 +120,7 @@ const SPOTS: [(u64, i32, bool); 5] = [
 /// A group of three sessions and three files.
 const SESSIONS_AND_FILES: &str = "volume = V1\nVolSessionId=1,3-4\nFileIndex=2\nFileIndex=5-6";
 
-/// Sessions and files, and whether they are of the group.
+/// Sessions and files, and whether `SESSIONS_AND_FILES` hits them.
 const FILES: [(u32, i32, bool); 8] = [
     (3, 5, true),
     (4, 2, true),
@@ -132,7 +132,7 @@ const FILES: [(u32, i32, bool); 8] = [
     (1, 4, false),
 ];
 
-/// Groups, and whether a record of file 1 at address 2^32 + 5 in session 7 of time 9 is of them.
+/// Groups, and whether they hit a record of file 1 at address 2^32 + 5 in session 7 of time 9.
 const CRITERIA: [(&str, bool); 10] = [
     ("Volume=V\nVolFile=1\nVolBlock=5", true),
     ("Volume=V\nVolFile=0", false),
@@ -156,16 +156,18 @@ const FAULTS: [(BsrFault, u32, Option<u64>); 6] = [
     (BsrFault::TooLong { line: 7 }, 34, Some(7)),
 ];
 
+/// Returns why the text is refused, if it is.
 fn fault_of(alloc: Global, text: &[u8]) -> Option<BsrFault> {
     read_bootstrap(alloc, text).err()
 }
 
+/// Returns the canonical text of a bootstrap's text.
 fn canonical_of(alloc: Global, text: &[u8]) -> Result<Vec<u8>, BsrFault> {
     let bootstrap = read_bootstrap(alloc, text)?;
     Ok(write_bootstrap(alloc, &bootstrap)?)
 }
 
-/// The first text that is read, or refused in another way.
+/// Returns the first text that is read, or refused in another way.
 fn wrongly_refused(alloc: Global, texts: &[(&'static str, BsrFault)]) -> Option<&'static str> {
     for (text, fault) in texts {
         if fault_of(alloc, text.as_bytes()) != Some(*fault) {
@@ -175,7 +177,7 @@ fn wrongly_refused(alloc: Global, texts: &[(&'static str, BsrFault)]) -> Option<
     None
 }
 
-/// The first text that has no bad value in this line.
+/// Returns the first text that is not refused for a bad value in this line.
 fn not_refused(alloc: Global, texts: &[&'static str], line: u64) -> Option<&'static str> {
     for text in texts {
         if fault_of(alloc, text.as_bytes()) != Some(BsrFault::BadValue { line }) {
@@ -192,14 +194,14 @@ fn refuses_in_order(rt: HostRuntime) {
     assert_eq!(rt; not_refused(rt.alloc(), &BAD_NUMBERS, 2), None);
 }
 
-/// Whether this is the canonical text of what the text means, and its own canonical text.
+/// Returns whether `canonical` is the canonical text of the text, and of itself.
 fn has_canonical(alloc: Global, text: &[u8], canonical: &[u8]) -> Result<bool, BsrFault> {
     let written = canonical_of(alloc, text)?;
     let again = canonical_of(alloc, &written)?;
     Ok(written.as_slice() == canonical && again.as_slice() == canonical)
 }
 
-/// The first text that has another canonical text.
+/// Returns the first text that has another canonical text.
 fn wrongly_written(
     alloc: Global,
     texts: &[(&'static str, &'static str)],
@@ -212,7 +214,7 @@ fn wrongly_written(
     Ok(None)
 }
 
-/// Whether the first group is that of the full job, the second that of the incremental one.
+/// Returns whether the first group is that of the full job, and the second that of the incremental one.
 fn are_two_jobs(groups: &[Group]) -> bool {
     match groups {
         [full, incremental] => {
@@ -228,12 +230,13 @@ fn are_two_jobs(groups: &[Group]) -> bool {
     }
 }
 
+/// Reads `WRITTEN`, and returns whether its groups are those of the two jobs.
 fn reads_two_jobs(alloc: Global) -> Result<bool, BsrFault> {
     let bootstrap = read_bootstrap(alloc, WRITTEN.as_bytes())?;
     Ok(are_two_jobs(bootstrap.groups()))
 }
 
-/// Many times what Bacula's Director wrote.
+/// Makes a text of 10,000 times `WRITTEN`.
 fn many_groups(alloc: Global) -> Result<Vec<u8>, AllocError> {
     let mut text = Vec::new(alloc);
     for _ in 0..10_000 {
@@ -242,7 +245,7 @@ fn many_groups(alloc: Global) -> Result<Vec<u8>, AllocError> {
     Ok(text)
 }
 
-/// How many groups there are in it.
+/// Returns the number of groups of that text.
 fn count_of_groups(alloc: Global) -> Result<usize, BsrFault> {
     let text = many_groups(alloc)?;
     let bootstrap = read_bootstrap(alloc, &text)?;
@@ -254,15 +257,15 @@ fn reads_and_writes(rt: HostRuntime) -> Result<(), Fail> {
     assert_eq!(rt; wrongly_written(rt.alloc(), &CANONICAL)?, None);
     assert!(rt; reads_two_jobs(rt.alloc())?);
     assert!(rt; has_canonical(rt.alloc(), WRITTEN.as_bytes(), OF_TWO_JOBS)?);
-    assert!(rt;
-        fault_of(rt.alloc(), WITH_REGEX.as_bytes())
-            == Some(BsrFault::UnsupportedKeyword { line: 4 })
+    assert_eq!(rt;
+        fault_of(rt.alloc(), WITH_REGEX.as_bytes()),
+        Some(BsrFault::UnsupportedKeyword { line: 4 })
     );
-    assert!(rt; count_of_groups(rt.alloc())? == 20_000);
+    assert_eq!(rt; count_of_groups(rt.alloc())?, 20_000);
     Ok(())
 }
 
-/// Whether exactly the files of the table that are marked are of the only group.
+/// Returns whether there is one group, and it hits the files that `FILES` says.
 fn hits_files(groups: &[Group]) -> bool {
     match groups {
         [group] => FILES.iter().all(|(id, index, is_hit)| {
@@ -273,13 +276,14 @@ fn hits_files(groups: &[Group]) -> bool {
     }
 }
 
+/// Reads `SESSIONS_AND_FILES`, and returns whether it hits the files that `FILES` says.
 fn reads_sessions_and_files(alloc: Global) -> Result<bool, BsrFault> {
     let bootstrap = read_bootstrap(alloc, SESSIONS_AND_FILES.as_bytes())?;
     Ok(hits_files(bootstrap.groups()))
 }
 
-/// Whether a record at address 2^32 + 5 in session 7 of time 9 is of the only group, of the stream 2^31 that goes on; labels are
-/// not.
+/// Returns whether there is one group, and it hits the record of `CRITERIA` with a continued stream
+/// 2^31, as `is_hit` says, and no label.
 fn is_hit_by(groups: &[Group], is_hit: bool) -> bool {
     let session = SessionKey { id: 7, time: 9 };
     match groups {
@@ -292,7 +296,7 @@ fn is_hit_by(groups: &[Group], is_hit: bool) -> bool {
     }
 }
 
-/// The first group that is hit or not the other way round.
+/// Returns the first text whose group wrongly hits, or wrongly does not.
 fn wrongly_hit(
     alloc: Global,
     texts: &[(&'static str, bool)],
@@ -313,7 +317,7 @@ fn hits_by_every_criterion(rt: HostRuntime) -> Result<(), Fail> {
     Ok(())
 }
 
-/// `Volume=V1`, LF, and `keyword` with so many spaces behind it that its line has `len` bytes.
+/// Makes a text of `Volume=V1`, LF, and a line of `keyword` and spaces that has `len` bytes.
 fn long_line(alloc: Global, keyword: &[u8], len: u32) -> Result<Vec<u8>, AllocError> {
     let mut text = Vec::from_slice(alloc, b"Volume=V1\n")?;
     text.extend_from_slice(keyword)?;
@@ -323,33 +327,42 @@ fn long_line(alloc: Global, keyword: &[u8], len: u32) -> Result<Vec<u8>, AllocEr
     Ok(text)
 }
 
-/// Why such a line is refused, with an end of a line behind it and without.
+/// Returns why such a line is refused, without an end of the line and with one.
 fn faults_of_line(
     alloc: Global,
     keyword: &[u8],
     len: u32,
-) -> Result<(Option<BsrFault>, Option<BsrFault>), AllocError> {
+) -> Result<[Option<BsrFault>; 2], AllocError> {
     let mut text = long_line(alloc, keyword, len)?;
     let open = fault_of(alloc, &text);
     text.extend_from_slice(b"\r\n")?;
-    Ok((open, fault_of(alloc, &text)))
+    Ok([open, fault_of(alloc, &text)])
 }
 
 #[test]
 fn bounds_lines(rt: HostRuntime) -> Result<(), Fail> {
     let too_long = Some(BsrFault::TooLong { line: 2 });
-    assert!(rt; faults_of_line(rt.alloc(), b"FileIndex=1", 4096)? == (None, None));
-    assert!(rt; faults_of_line(rt.alloc(), b"FileIndex=1", 4097)? == (too_long, too_long));
-    assert!(rt; faults_of_line(rt.alloc(), b"Foo=1", 4097)? == (too_long, too_long));
+    assert_eq!(rt;
+        faults_of_line(rt.alloc(), b"FileIndex=1", 4096)?,
+        [None, None]
+    );
+    assert_eq!(rt;
+        faults_of_line(rt.alloc(), b"FileIndex=1", 4097)?,
+        [too_long, too_long]
+    );
+    assert_eq!(rt;
+        faults_of_line(rt.alloc(), b"Foo=1", 4097)?,
+        [too_long, too_long]
+    );
     Ok(())
 }
 
-/// All of the volume V1.
+/// Makes the group of all of the volume V1.
 fn volume(alloc: Global) -> Result<Group, Fail> {
     Ok(Group::on(alloc, VolName::new(alloc, b"V1")?))
 }
 
-/// The addresses 1 to 9 of the volume V1.
+/// Makes the group of the addresses 1 to 9 of the volume V1.
 fn addresses(alloc: Global) -> Result<Group, Fail> {
     let mut group = volume(alloc)?;
     group.addrs.push(Range { low: 3, high: 9 })?;
@@ -357,7 +370,7 @@ fn addresses(alloc: Global) -> Result<Group, Fail> {
     Ok(group)
 }
 
-/// The same with a stream that is none.
+/// Makes the same group with a stream that is out of range.
 fn bad_addresses(alloc: Global) -> Result<Group, Fail> {
     let group = addresses(alloc)?;
     let mut bad = group.copy(alloc)?;
@@ -365,12 +378,12 @@ fn bad_addresses(alloc: Global) -> Result<Group, Fail> {
     Ok(bad)
 }
 
-/// Whether the group is all of a volume.
+/// Returns whether the group is all of a volume.
 fn is_volume(group: &Group) -> bool {
     group.is_valid() && group.covers(5) && group.last_address() == None
 }
 
-/// Whether the group is the addresses 1 to 9.
+/// Returns whether the group is the addresses 1 to 9.
 fn is_addresses(group: &Group) -> bool {
     group.is_valid()
         && group.covers(1)
@@ -380,13 +393,14 @@ fn is_addresses(group: &Group) -> bool {
         && group.last_address() == Some(9)
 }
 
+/// Makes the bootstrap of one group, if it is valid.
 fn bootstrap_of(alloc: Global, group: Group) -> Result<Option<Bootstrap>, Fail> {
     let mut groups = Vec::new(alloc);
     groups.push(group)?;
     Ok(Bootstrap::new(groups))
 }
 
-/// The text of a bootstrap of one group, none where it is not valid.
+/// Returns the text of the bootstrap of one group, if it is valid.
 fn text_of(alloc: Global, group: Group) -> Result<Option<Vec<u8>>, Fail> {
     match bootstrap_of(alloc, group)? {
         Some(bootstrap) => Ok(Some(write_bootstrap(alloc, &bootstrap)?)),
@@ -394,7 +408,7 @@ fn text_of(alloc: Global, group: Group) -> Result<Option<Vec<u8>>, Fail> {
     }
 }
 
-/// Whether the addresses are written as a bootstrap.
+/// Returns whether the addresses are written as this text.
 fn is_written(alloc: Global, wanted: &[u8]) -> Result<bool, Fail> {
     match text_of(alloc, addresses(alloc)?)? {
         Some(text) => Ok(text.as_slice() == wanted),
@@ -402,7 +416,7 @@ fn is_written(alloc: Global, wanted: &[u8]) -> Result<bool, Fail> {
     }
 }
 
-/// Whether the group with a bad stream is refused.
+/// Returns whether the group with a bad stream is refused.
 fn is_refused(alloc: Global) -> Result<bool, Fail> {
     let bad = bad_addresses(alloc)?;
     Ok(!bad.is_valid() && bootstrap_of(alloc, bad)?.is_none())
@@ -422,7 +436,7 @@ fn makes_bootstraps(rt: HostRuntime) -> Result<(), Fail> {
     Ok(())
 }
 
-/// The first fault that has another number or line.
+/// Returns the first fault that has another number or line.
 fn wrong_fault(faults: &[(BsrFault, u32, Option<u64>)]) -> Option<BsrFault> {
     for (fault, number, line) in faults {
         if fault.number() != *number || fault.line() != *line {
@@ -432,6 +446,7 @@ fn wrong_fault(faults: &[(BsrFault, u32, Option<u64>)]) -> Option<BsrFault> {
     None
 }
 
+/// Returns whether the message of the fault is this text.
 fn has_text(alloc: Global, fault: BsrFault, wanted: &str) -> Result<bool, Fail> {
     let message = fault.to_string(alloc)?;
     Ok(message.as_str() == wanted)
@@ -439,7 +454,7 @@ fn has_text(alloc: Global, fault: BsrFault, wanted: &str) -> Result<bool, Fail> 
 
 #[test]
 fn names_faults(rt: HostRuntime) -> Result<(), Fail> {
-    assert!(rt; wrong_fault(&FAULTS) == None);
+    assert_eq!(rt; wrong_fault(&FAULTS), None);
     let too_long = BsrFault::TooLong { line: 7 };
     assert!(rt;
         has_text(

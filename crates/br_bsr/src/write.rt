@@ -10,7 +10,7 @@ use br_model::canonical_reads_back;
 use br_types::push_number;
 use std::alloc::{AllocError, Global};
 
-/// Writes one number, or two with a dash between them.
+/// Appends one number, or two with a dash between them.
 fn push_range(text: &mut Vec<u8>, range: Range) -> Result<(), AllocError>
     ensures { OnOk result (text.new.items ≡ text.old.items ++ range_text range) }
 {
@@ -22,7 +22,7 @@ fn push_range(text: &mut Vec<u8>, range: Range) -> Result<(), AllocError>
     Ok(())
 }
 
-/// Writes a line `keyword=range`.
+/// Appends a line `keyword=range`.
 fn push_range_line(text: &mut Vec<u8>, keyword: &[u8], range: Range) -> Result<(), AllocError>
     ensures { OnOk result (text.new.items ≡ text.old.items ++ line (keyword.now ++ 61 ∷ range_text range)) }
 {
@@ -33,7 +33,7 @@ fn push_range_line(text: &mut Vec<u8>, keyword: &[u8], range: Range) -> Result<(
     Ok(())
 }
 
-/// Writes a line for each range.
+/// Appends a line for each range.
 fn push_ranges(text: &mut Vec<u8>, keyword: &[u8], ranges: &[Range]) -> Result<(), AllocError>
     ensures { OnOk result (text.new.items ≡ text.old.items ++ range_lines keyword.now ranges.now) }
 {
@@ -43,6 +43,7 @@ fn push_ranges(text: &mut Vec<u8>, keyword: &[u8], ranges: &[Range]) -> Result<(
     Ok(())
 }
 
+/// Appends the line that names a volume.
 fn push_volume(text: &mut Vec<u8>, name: &[u8]) -> Result<(), AllocError>
     ensures { OnOk result (text.new.items ≡ text.old.items ++ line (codes "Volume=\"" ++ name.now ++ codes "\"")) }
 {
@@ -52,6 +53,7 @@ fn push_volume(text: &mut Vec<u8>, name: &[u8]) -> Result<(), AllocError>
     Ok(())
 }
 
+/// Appends the lines of a group.
 fn push_group(text: &mut Vec<u8>, group: &Group) -> Result<(), AllocError>
     ensures { OnOk result (text.new.items ≡ text.old.items ++ group_text group.now) }
 {
@@ -66,7 +68,7 @@ fn push_group(text: &mut Vec<u8>, group: &Group) -> Result<(), AllocError>
     Ok(())
 }
 
-/// The lines of the groups.
+/// Returns the lines of the groups.
 #[tactic(auto, unfolding(br_model::specs::Bootstrap::canonical))]
 fn text_of(alloc: Global, groups: &[Group]) -> Result<Vec<u8>, AllocError>
     ensures { IfOk result (λ text. text.items ≡ canonical groups.now) }
@@ -78,9 +80,10 @@ fn text_of(alloc: Global, groups: &[Group]) -> Result<Vec<u8>, AllocError>
     Ok(text)
 }
 
-/// The one text of a bootstrap: for each group a line `Volume="name"`, then a line for each range, as `Keyword=a-b` or, where
-/// both ends are equal, `Keyword=a`, in the order VolSessionId, VolSessionTime, VolFile, VolBlock, VolAddr, FileIndex, Stream.
-/// There are no blanks, and each line ends with LF. Reading the text gives the same groups.
+/// Returns the canonical text of a bootstrap, which `read_bootstrap` reads back. Each group is a line
+/// `Volume="name"` and a line for each range: `Keyword=a-b`, or `Keyword=a` if both ends are equal.
+/// Keywords are in the order VolSessionId, VolSessionTime, VolFile, VolBlock, VolAddr, FileIndex,
+/// Stream. There are no blanks, and each line ends with LF.
 pub fn write_bootstrap(alloc: Global, bootstrap: &Bootstrap) -> Result<Vec<u8>, AllocError>
     ensures canonical { IfOk result (λ text. text.items ≡ canonical bootstrap.now) }
     ensures reads_back { IfOk result (λ text. read_bootstrap text.items ≡ Ok bootstrap.now) }

@@ -4,8 +4,8 @@ use Rattle.br_model.specs.BootstrapText.{with_statement}
 use Rattle.br_bsr.specs.Line.{statement_view}
 use Rattle.br_bsr.specs.Statement.{criterion_of}
 use Rattle.br_bsr.proofs.LineLaws.{last_changed, none_changed}
-use Rattle.br_bsr.proofs.read.put.Goals as goal
-use Rattle.br_bsr.proofs.read.put.Goals.{in-Some+in_ok-admit-in-Admits, in_default}
+use Rattle.br_bsr.proofs.read.add.Goals as goal
+use Rattle.br_bsr.proofs.read.add.Goals.{in-Some+in_ok-admit-in-Admits, in_default}
 
 pub returns-after-last_mut-clause-groups : goal.returns-after-last_mut-clause-groups
 returns-after-last_mut-clause-groups c =

@@ -7,7 +7,7 @@ use Rattle.br_bsr.specs.Fault.{refusal_cause}
 use Rattle.br_bsr.specs.Line.{statement_view}
 use Rattle.br_bsr.proofs.LineLaws.{line_said, lines_refused, lines_over}
 use Rattle.br_bsr.proofs.ValidLaws.{line_valid, statement_valid}
-use Rattle.br_bsr.proofs.read.stated_by.Goals as goal
+use Rattle.br_bsr.proofs.read.groups_in.Goals as goal
 
 pub returns : goal.returns
 unfolding read_bootstrap
@@ -32,11 +32,11 @@ loop-rest-preserved c =
       reads =
           c.loop-rest.invariant.reads ∙ ap (read_lines (c.loop-rest.number + 1) c.loop-rest.groups.items) c.first_line.ensures.first
           ∙ line_said (c.loop-rest.number + 1) c.loop-rest.groups.items (not c.is_empty-in-loop-rest.result) c.first_line.result.0.now (lines c.first_line.result.1.now) (statement_view c.in-Ok.statement) has c.in-Ok.ensures
-          ∙ ap (λ groups. read_lines (c.loop-rest.number + 1 + 1) groups (lines c.first_line.result.1.now)) (sym c.in_ok-put.ensures.groups);
+          ∙ ap (λ groups. read_lines (c.loop-rest.number + 1 + 1) groups (lines c.first_line.result.1.now)) (sym c.in_ok-add.ensures.groups);
       counts = omega (arith, c.first_line.ensures.shorter, c.loop-rest.invariant.counts);
-      few = c.in_ok-put.ensures.few;
+      few = c.in_ok-add.ensures.few;
       valid =
-          ap (list_all is_group) c.in_ok-put.ensures.groups
+          ap (list_all is_group) c.in_ok-add.ensures.groups
           ∙ statement_valid c.loop-rest.groups.items (statement_view c.in-Ok.statement) c.loop-rest.invariant.valid
           (line_valid (not c.is_empty-in-loop-rest.result) c.first_line.result.0.now (statement_view c.in-Ok.statement) c.in-Ok.ensures);
     }

@@ -2,7 +2,7 @@ use Rattle.std.proofs.Common.{◌≡◌, ◌+◌, ◌≤◌, ◌<◌, ◌^◌, t
 use Rattle.std.specs.List.{list_all}
 use Rattle.std.specs.Str.Lines.{lines}
 use Rattle.br_model.specs.BootstrapText.{is_group, read_lines}
-use Rattle.br_bsr.proofs.read.stated_by.Given as goal
+use Rattle.br_bsr.proofs.read.groups_in.Given as goal
 
 abbrev pub invariant-loop-rest : goal.invariant-loop-rest
 invariant-loop-rest l = record {
