@@ -9,11 +9,11 @@ use Rattle.br_model.specs.Record.{Record}
 use Rattle.br_model.specs.File.{Fault, fault, Extent, extent_end, extent_of, extents_from, bytes_from, is_data, is_stream}
 use Rattle.br_model.proofs.AnswerLaws.{bind_ok, refused_as_ok, chosen, ok_is, err_is_not_ok}
 use Rattle.br_join.specs.Data.{laid, laid_from}
-use Rattle.br_join.specs.Making.{cause}
+use Rattle.br_join.specs.Making.{cause, file_fault}
 use Rattle.br_join.specs.declared.making_fault.MakingFault.{MakingFault}
 use Rattle.br_join.specs.declared.making_fault.MakingFault.TheVariants.{Memory, File}
 
--- ---- an extent begins at the end so far, or behind it
+-- ---- an extent begins at the end so far, or past it
 
 address : Record → ℕ
 address r = from_be_bytes w64 (take 8 r.bytes)
@@ -123,13 +123,13 @@ laid_refused bytes r rs f is = all_refused (λ es. bytes ++ bytes_from (length b
     go (Ok e) h = absurd cc
     go (Err n) h = same (fault n) f h
 
--- a refusal, or want of memory
+-- a refusal, or out of memory
 pub laid_given_up : (bytes : List ℕ) (r : Record) (rs : List Record) (whole : Result (List ℕ) ℕ) (e : MakingFault) → whole ≡ laid_from bytes (r ∷ rs)
     → IsRefusal (cause e) (refused_as fault (laid bytes r)) → IsRefusal (cause e) (refused_as fault whole)
 laid_given_up bytes r rs whole Memory same is = tt
-laid_given_up bytes r rs whole (File f) same is = ap (refused_as fault) same ∙ laid_refused bytes r rs f is
+laid_given_up bytes r rs whole (File f) same is = ap (refused_as fault) same ∙ laid_refused bytes r rs (file_fault f) is
 
--- behind the last record nothing comes
+-- nothing comes after the last record
 pub laid_done : (bytes : List ℕ) → laid_from bytes [] ≡ Ok bytes
 unfolding extents_from bytes_from
 laid_done bytes = ap (λ (all : List ℕ). Ok all) (append-nil bytes)

@@ -14,7 +14,7 @@ joined_more parts i x within is =
     ap joined (take_more parts i x within) ∙ flat_map-append part_bytes (take i parts) (get_or parts i x ∷ [])
     ∙ ap (λ (bytes : List ℕ). joined (take i parts) ++ bytes) (append-nil (part_bytes (get_or parts i x)) ∙ ap part_bytes (sym is))
 
--- bytes behind others, with one part more
+-- bytes after others, with one part more
 pub pushed_one : (parts : List Part) (i : ℕ) (x : Part) (first before now : List ℕ) → i < length parts → x ≡ get_or parts i x
     → before ≡ first ++ joined (take i parts) → now ≡ before ++ part_bytes x → now ≡ first ++ joined (take (i + 1) parts)
 pushed_one parts i x first before now within is so_far more =

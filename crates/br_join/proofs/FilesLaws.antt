@@ -107,7 +107,7 @@ put_front : (k : List ℕ) (v : FileKey) (es : List (List ℕ × FileKey)) → A
 put_front k v [] h = refl
 put_front k v (e ∷ es) h = ap (λ o. by_order o ((k, v) ∷ e ∷ es) ((e.0, v) ∷ es) (e ∷ put rank_cmp k v es)) h.0
 
--- a key in front of its run and of hits of files behind it comes first, once
+-- a key before its run and hits of files after it comes first, once
 run_in_front : (key : FileKey) (rs ms : List Hit) → AllByRecursion (λ (h : Hit). h.key ≡ key) rs → AllByRecursion (λ (h : Hit). key_cmp key h.key ≡ Less) ms
     → ranked key_rank (key ∷ keys (rs ++ ms)) ≡ (key_rank key, key) ∷ ranked key_rank (keys ms)
 unfolding ranked put_all
@@ -129,7 +129,7 @@ same_images : {X Y : Type 0} (f g : X → Y) (xs : List X) → AllByRecursion (�
 same_images f g [] h = refl
 same_images f g (x ∷ xs) h = λ i. h.0 i ∷ same_images f g xs h.1 i
 
--- the file of a run comes before those of the hits behind it
+-- the file of a run comes before those of the hits after it
 found_step : (key : FileKey) (r : Hit) (rs ms : List Hit) → AllByRecursion (λ (h : Hit). h.key ≡ key) (r ∷ rs) → AllByRecursion (λ (h : Hit). key_cmp key h.key ≡ Less) ms
     → files_found (listed (r ∷ rs ++ ms)) ≡ record { key = key; outcome = outcome_of key (map (λ (h : Hit). h.fragment) (r ∷ rs)) } ∷ files_found (listed ms)
 unfolding files_found in_order
@@ -160,7 +160,8 @@ found_step key r rs ms own high =
 not_below_itself : (key : FileKey) → key_cmp key key ≡ Less → ⊥
 not_below_itself key e = let tie : key_cmp key key ≡ Equal = tied_itself key_total key in absurd cc
 
--- What hits in order give, by the run of the file of the first of them: this file, then those of fewer hits.
+-- What hits in order give, by the run of the file of the first of them: this file, then those of
+-- fewer hits.
 pub found_turn : (all before run behind : List Hit) (first : Hit) (key : FileKey) → slice_get all 0 ≡ Some first → first.key ≡ key → before ++ (run ++ behind) ≡ all
     → AllByRecursion (λ (h : Hit). key_cmp h.key key ≡ Less) before → AllByRecursion (λ (h : Hit). h.key ≡ key) run → AllByRecursion (λ (h : Hit). key_cmp key h.key ≡ Less) behind
     → (files_found (listed all) ≡ record { key = key; outcome = outcome_of key (map (λ (h : Hit). h.fragment) run) } ∷ files_found (listed behind)) × (length behind < length all)
@@ -195,7 +196,7 @@ unfolding IsStrictlySortedBy
 behind_listed [] ys h = h
 behind_listed (x ∷ xs) ys h = behind_listed xs ys h.1
 
--- of a list in order the hits behind a run are in order
+-- of a list in order the hits after a run are in order
 pub listed_behind : (all before run behind : List Hit) → before ++ (run ++ behind) ≡ all → AreListed all → AreListed behind
 listed_behind all before run behind joined h = behind_listed run behind (behind_listed before (run ++ behind) (subst AreListed (sym joined) h))
 

@@ -10,7 +10,7 @@ use Rattle.br_model.specs.File.{Fault, fault}
 use Rattle.br_model.specs.Meaning.{Hit}
 use Rattle.br_model.specs.Record.{Begun, Record, with_fragment, still_open, given_out, join_from, join}
 use Rattle.br_join.specs.Opening.{begun, begun_from, bytes_between, joined_from}
-use Rattle.br_join.specs.Records.{bytes_in, fragments_in, behind}
+use Rattle.br_join.specs.Records.{bytes_in, fragments_in, prefixed}
 use Rattle.br_join.specs.declared.records.Open.{Open}
 
 -- ---- one fragment
@@ -26,31 +26,31 @@ refused_ok (Err n) b e = absurd cc
 
 -- a fragment that is taken
 pub join_more : (o : Option Begun) (f : Fragment) (fs : List Fragment) (b : Begun) → refused_as fault (with_fragment o f) ≡ Ok b
-    → join_from o (f ∷ fs) ≡ behind (given_out b) (join_from (still_open b) fs)
+    → join_from o (f ∷ fs) ≡ prefixed (given_out b) (join_from (still_open b) fs)
 join_more o f fs b e =
     join_one o f fs ∙ ap (λ (r : Result Begun ℕ). r >>= λ b. (join_from (still_open b) fs >>= λ records. Ok (given_out b ++ records))) (refused_ok (with_fragment o f) b e)
     ∙ go (join_from (still_open b) fs)
   where
-    go : (r : Result (List Record) ℕ) → (r >>= λ records. Ok (given_out b ++ records)) ≡ behind (given_out b) r
+    go : (r : Result (List Record) ℕ) → (r >>= λ records. Ok (given_out b ++ records)) ≡ prefixed (given_out b) r
     go (Ok records) = refl
     go (Err n) = refl
 
 -- a fragment that is refused
 pub join_refused : (front : List Record) (o : Option Begun) (f : Fragment) (fs : List Fragment) (e : Fault) → refused_as fault (with_fragment o f) ≡ Err e
-    → refused_as fault (behind front (join_from o (f ∷ fs))) ≡ Err e
+    → refused_as fault (prefixed front (join_from o (f ∷ fs))) ≡ Err e
 join_refused front o f fs e is =
-    ap (λ r. refused_as fault (behind front r)) (join_one o f fs) ∙ go (with_fragment o f) is
+    ap (λ r. refused_as fault (prefixed front r)) (join_one o f fs) ∙ go (with_fragment o f) is
   where
-    go : (r : Result Begun ℕ) → refused_as fault r ≡ Err e → refused_as fault (behind front (r >>= λ b. (join_from (still_open b) fs >>= λ records. Ok (given_out b ++ records)))) ≡ Err e
+    go : (r : Result Begun ℕ) → refused_as fault r ≡ Err e → refused_as fault (prefixed front (r >>= λ b. (join_from (still_open b) fs >>= λ records. Ok (given_out b ++ records)))) ≡ Err e
     go (Ok b) h = absurd cc
     go (Err n) h = same (fault n) e h
       where
         same : (m k : Fault) → ◌≡◌ {A = Result Begun Fault} (Err m) (Err k) → ◌≡◌ {A = Result (List Record) Fault} (Err m) (Err k)
         same m k d = cc
 
-behind_two : (front more : List Record) (r : Result (List Record) ℕ) → behind front (behind more r) ≡ behind (front ++ more) r
-behind_two front more (Ok records) = ap (λ (rs : List Record). Ok rs) (sym (append_assoc front more records))
-behind_two front more (Err n) = refl
+prefixed_two : (front more : List Record) (r : Result (List Record) ℕ) → prefixed front (prefixed more r) ≡ prefixed (front ++ more) r
+prefixed_two front more (Ok records) = ap (λ (rs : List Record). Ok rs) (sym (append_assoc front more records))
+prefixed_two front more (Err n) = refl
 
 -- ---- at a place of a list of hits
 
@@ -83,7 +83,7 @@ module _ (hits : List Hit) (index : ℕ) (records : List Record) (opened : Optio
   joins_refused e step =
       let bytes = bytes_between first i hits in
       let refused : refused_as fault (with_fragment (begun_from index bytes opened) x.fragment) ≡ Err e = rw key at step bytes nothing_yet in
-      ap (λ fs. refused_as fault (behind records (join_from (begun_from index bytes opened) fs))) (fragments_more hits i x within is)
+      ap (λ fs. refused_as fault (prefixed records (join_from (begun_from index bytes opened) fs))) (fragments_more hits i x within is)
       ∙ join_refused records (begun_from index bytes opened) x.fragment (fragments_in (drop (i + 1) hits)) e refused
 
   module _ (next : Open) (step : (bytes : List ℕ) → IfNone opened (bytes ≡ []) → refused_as fault (with_fragment (begun_from x.key.index bytes opened) x.fragment) ≡ Ok (begun x.key.index (bytes ++ x.fragment.bytes) next)) where
@@ -96,11 +96,11 @@ module _ (hits : List Hit) (index : ℕ) (records : List Record) (opened : Optio
         let at_index : refused_as fault (with_fragment (begun_from index (bytes_between first i hits) opened) x.fragment) ≡ Ok (begun index (bytes_between first i hits ++ x.fragment.bytes) next) = rw key at step (bytes_between first i hits) nothing_yet in
         at_index ∙ ap (λ (bytes : List ℕ). Ok (begun index bytes next)) (sym (between_more hits first i x within is le))
 
-    joined_one : joined_from hits index records opened first i ≡ behind (records ++ given_out after) (join_from (still_open after) (fragments_in (drop (i + 1) hits)))
+    joined_one : joined_from hits index records opened first i ≡ prefixed (records ++ given_out after) (join_from (still_open after) (fragments_in (drop (i + 1) hits)))
     joined_one =
-        ap (λ fs. behind records (join_from (begun_from index (bytes_between first i hits) opened) fs)) (fragments_more hits i x within is)
-        ∙ ap (behind records) (join_more (begun_from index (bytes_between first i hits) opened) x.fragment (fragments_in (drop (i + 1) hits)) after taken)
-        ∙ behind_two records (given_out after) (join_from (still_open after) (fragments_in (drop (i + 1) hits)))
+        ap (λ fs. prefixed records (join_from (begun_from index (bytes_between first i hits) opened) fs)) (fragments_more hits i x within is)
+        ∙ ap (prefixed records) (join_more (begun_from index (bytes_between first i hits) opened) x.fragment (fragments_in (drop (i + 1) hits)) after taken)
+        ∙ prefixed_two records (given_out after) (join_from (still_open after) (fragments_in (drop (i + 1) hits)))
 
     -- the record stays open
     pub joins_open : 0 < next.left → joined_from hits index records opened first i ≡ joined_from hits index records (Some next) first (i + 1)
@@ -117,13 +117,13 @@ module _ (hits : List Hit) (index : ℕ) (records : List Record) (opened : Optio
         let e : eqb next.left 0 ≡ true = eq-eqb next.left 0 whole in
         joined_one ∙ rw e refl
 
--- ---- before the first hit, and behind the last
+-- ---- before the first hit, and after the last
 
 pub joins_begin : (hits : List Hit) (index : ℕ) (records : List Record) → records ≡ [] → join (fragments_in hits) ≡ joined_from hits index records None 0 0
 unfolding join
 joins_begin hits index records none = rw none (go (join_from None (fragments_in hits)))
   where
-    go : (r : Result (List Record) ℕ) → r ≡ behind [] r
+    go : (r : Result (List Record) ℕ) → r ≡ prefixed [] r
     go (Ok rs) = refl
     go (Err n) = refl
 

@@ -4,11 +4,11 @@ use Rattle.std.proofs.lemmas.List.{at_drop_more, at_drop_all}
 use Rattle.br_model.specs.Meaning.{Hit}
 use Rattle.br_join.specs.Records.{bytes_in}
 
--- from a fragment on its bytes come, and then those behind it
+-- from a fragment on its bytes come, and then those after it
 pub bytes_more : (parts : List Hit) (i : ℕ) (x : Hit) → i < length parts → x ≡ get_or parts i x → bytes_in (drop i parts) ≡ x.fragment.bytes ++ bytes_in (drop (i + 1) parts)
 bytes_more parts i x within is = at_drop_more bytes_in parts i x within ∙ ap (λ (h : Hit). h.fragment.bytes ++ bytes_in (drop (i + 1) parts)) (sym is)
 
--- behind the last there are none
+-- there are none after the last
 pub bytes_done : (parts : List Hit) (i : ℕ) → length parts ≤ i → bytes_in (drop i parts) ≡ []
 bytes_done parts i past = at_drop_all bytes_in parts i past
 
@@ -62,7 +62,7 @@ eq_other xs ys zs differ is e =
     let other = unless (bytes_eq xs (take (length xs) zs)) differ is e in
     eq_two xs ys zs ∙ ap (λ (b : Bool). b && bytes_eq ys (drop (length xs) zs)) other
 
--- behind an equal front the rest decides
+-- after an equal front the rest decides
 pub eq_more : (xs ys zs : List ℕ) (differ : Bool) → differ ≡ not (bytes_eq xs (take (length xs) zs)) → differ ≡ false → bytes_eq (xs ++ ys) zs ≡ bytes_eq ys (drop (length xs) zs)
 eq_more xs ys zs differ is e =
     let same = unless_not (bytes_eq xs (take (length xs) zs)) differ is e in

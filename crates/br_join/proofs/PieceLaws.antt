@@ -62,7 +62,7 @@ opened_more ps p = same_map nat_cmp_total nat_cmp-IsAntisymmetric (from_entries 
     get-from_entries nat_cmp_total (opens (ps ++ p ∷ [])) q ∙ find_opened ps p q
     ∙ sym (get-insert nat_cmp_total (from_entries (opens ps)) p.number false q ∙ ap (cond (eq_by_cmp nat_cmp q p.number) (Some false)) (get-from_entries nat_cmp_total (opens ps) q)))
 
--- the next piece of a list, opened behind those before it
+-- the next piece of a list, opened after those before it
 pub opened_step : (m n : BTreeMap ℕ Bool) (ps : List Piece) (i : ℕ) (p : Piece) (k : ℕ) → i < length ps → p ≡ get_or ps i p → k ≡ p.number
     → as_map m ≡ from_entries (opens (take i ps))
     → ((q : ℕ) → lookup (is_at (nat_cmp q)) n.entries ≡ cond (is_at (nat_cmp k) q) (Some false) (lookup (is_at (nat_cmp q)) m.entries))

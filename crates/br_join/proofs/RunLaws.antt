@@ -62,7 +62,7 @@ parts_listed p down (x ∷ xs) h zero (suc j) d le lt e = down x (get_or xs j d)
 parts_listed p down (x ∷ xs) h (suc i) zero d le lt e = absurd (omega arith)
 parts_listed p down (x ∷ xs) h (suc i) (suc j) d le lt e = parts_listed p down xs h.1 i j d (omega arith) (omega arith) e
 
--- of two hits in order the file of the one is not behind that of the other
+-- of two hits in order the file of the one is not after that of the other
 first_is_less : (a b : Ordering) → ordering_then a b ≡ Less → is_le a ≡ true
 first_is_less Less b e = refl
 first_is_less Equal b e = refl
@@ -141,7 +141,7 @@ run_of_key key xs i j low high =
     (take_all (λ (h : Hit). is_before_file key h ≡ false) (drop i xs) j (back_all (λ (h : Hit). is_before_file key h ≡ false) xs i low))
     (front_all (λ (h : Hit). is_up_to_file key h ≡ true) (drop i xs) j high)
 
--- the hits of the files behind it
+-- the hits of the files after it
 pub behind_run : (key : FileKey) (xs : List Hit) (j : ℕ) → AllWithin (λ (h : Hit). is_up_to_file key h ≡ false) xs j (length xs) → AllByRecursion (λ (h : Hit). key_cmp key h.key ≡ Less) (drop j xs)
 behind_run key xs j all =
     all_weaker (λ (h : Hit). is_up_to_file key h ≡ false) (λ (h : Hit). key_cmp key h.key ≡ Less)

@@ -1,4 +1,4 @@
--- The data of records, one behind another.
+-- The data of records, one after another.
 use Rattle.std.specs.Prelude.{ℕ, ◌^◌, nat_lt, if◌then◌else◌, Err, ◌+◌, ◌-◌, List, ◌++◌, length, drop, replicate, Result, Ok}
 use Rattle.br_model.specs.Answer.{◌>>=◌}
 use Rattle.br_model.specs.File as model
@@ -9,7 +9,7 @@ use Rattle.br_join.specs.declared.data.Extent.{Extent}
 abbrev pub shown_extent : List ℕ → Extent → model.Extent
 shown_extent bytes e = record { start = e.start; bytes = drop e.skip bytes }
 
--- the extent of bytes from an address on, 68 where the file would be too large
+-- the extent of bytes from an address on, 68 if the file would be too large
 abbrev pub fitting : ℕ → List ℕ → Result model.Extent model.Fault
 fitting start bytes = if nat_lt (2 ^ 30) (start + length bytes) then Err (model.fault 68) else Ok (record { start = start; bytes = bytes })
 

@@ -1,4 +1,4 @@
--- Why a joiner took nothing.
+-- The reason why a joiner took nothing.
 use Rattle.std.specs.Prelude.{ℕ}
 use Rattle.br_join.specs.declared.fault.JoinFault.{JoinFault}
 use Rattle.br_join.specs.declared.fault.JoinFault.TheVariants.{Memory, StrangerPiece}

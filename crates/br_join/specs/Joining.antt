@@ -1,4 +1,5 @@
--- A joiner: which pieces it waits for, under which names files were planned, and the set of the hits that it took.
+-- A joiner: the pieces that it waits for, the names under which files were planned, and the set of
+-- the hits that it took.
 use Rattle.std.specs.Prelude.{ℕ, Bool, true, false, List, map, Option}
 use Rattle.std.specs.List.{list_all}
 use Rattle.std.specs.Ordering.{nat_cmp}

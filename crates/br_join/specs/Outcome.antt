@@ -1,4 +1,4 @@
--- What a restore gives for one file, as the model says it.
+-- The result of a restore for one file, as the model states it.
 use Rattle.std.specs.Prelude.{Ok, Err}
 use Rattle.br_model.specs.Name as name
 use Rattle.br_model.specs.File as model

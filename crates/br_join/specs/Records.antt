@@ -11,7 +11,7 @@ fragments_in hits = map (λ (h : Hit). h.fragment) hits
 abbrev pub bytes_in : List Hit → List ℕ
 bytes_in hits = flat_map (λ (h : Hit). h.fragment.bytes) hits
 
--- a list that was read, behind what was read before it
-abbrev pub behind : {A E : Type 0} → List A → Result (List A) E → Result (List A) E
-behind front (Ok more) = Ok (front ++ more)
-behind front (Err e) = Err e
+-- a list that was read, after what was read before it
+abbrev pub prefixed : {A E : Type 0} → List A → Result (List A) E → Result (List A) E
+prefixed front (Ok more) = Ok (front ++ more)
+prefixed front (Err e) = Err e

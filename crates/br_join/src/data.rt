@@ -4,22 +4,23 @@ ghost use Rattle.br_model.specs.Answer.{Answers, AnswersAlways, refused_as};
 ghost use Rattle.br_model.specs.File as model;
 ghost use Rattle.br_join.specs.Data.{fitting, laid, laid_from, shown_extent};
 ghost use Rattle.br_join.specs.FileParts.{joined};
-ghost use Rattle.br_join.specs.Making.{cause};
+ghost use Rattle.br_join.specs.Making.{cause, file_fault};
 
 use crate::file_bytes::FileBytes;
 use crate::file_part::{Part, push_gap};
 use crate::making_fault::{FileFault, MakingFault};
-use crate::records::Record;
+use crate::records::FileRecord;
 use crate::streams::{DATA, has_bytes};
 use std::alloc::Global;
 
-/// The greatest length of a file.
+/// The greatest length of a file in bytes.
 const GREATEST_LEN: u64 = 1_073_741_824;
 
-/// The bytes of an address in front of sparse data.
+/// The length in bytes of the address before sparse data.
 const ADDRESS_LEN: usize = 8;
 
-/// Where the data of a record stands in its file: the bytes without the first `skip`, from `start` on to before `end`.
+/// The place of a record's data in its file: the bytes without the first `skip`, from `start` to
+/// before `end`.
 #[derive(Clone, Copy, Debug)]
 struct Extent {
     start: usize,
@@ -27,8 +28,8 @@ struct Extent {
     end: usize,
 }
 
-impl Record<'_> {
-    /// The address in front of sparse data, of eight bytes, the highest first.
+impl FileRecord<'_> {
+    /// Returns the address before sparse data, of eight bytes, the highest first.
     fn address(&self) -> u64
         ensures { result ≡ from_be_bytes w64 (take 8 self.now.bytes) }
     {
@@ -44,17 +45,17 @@ impl Record<'_> {
         ])
     }
 
-    /// The extent of its bytes without the first ones, from an address on; 68 where the file would be too large.
+    /// Returns the extent of the bytes without the first `skip`, from an address on, or `TooLarge`.
     fn extent_at(&self, start: u64, skip: usize) -> Result<Extent, FileFault>
         requires { skip ≤ 8 }
-        ensures same { AnswersAlways (shown_extent self.now.bytes) (λ f. f) result (fitting start (drop skip self.now.bytes)) }
+        ensures same { AnswersAlways (shown_extent self.now.bytes) file_fault result (fitting start (drop skip self.now.bytes)) }
         ensures ends { IfOk result (λ e. e.end ≡ e.start + (length self.now.bytes - e.skip)) }
         ensures begins { IfOk result (λ e. e.start ≡ start) }
     {
         let len = self.len().saturating_sub(skip as u64);
         let end = start.saturating_add(len);
         if end > GREATEST_LEN {
-            return Err(FileFault::new(68));
+            return Err(FileFault::TooLarge);
         }
         Ok(Extent {
             start: start as usize,
@@ -63,10 +64,15 @@ impl Record<'_> {
         })
     }
 
-    /// The extent of its data behind an end: 67 where an address is missing or goes back, 68 where the file would be too large.
+    /// Returns the extent of the data after the end of a file.
+    ///
+    /// # Errors
+    ///
+    /// `SparseBack` if the address is missing or before the end, `TooLarge` if the file would be
+    /// too large.
     #[tactic(auto, unfolding(br_model::specs::File::extent_of))]
-    fn extent_behind(&self, end: usize) -> Result<Extent, FileFault>
-        ensures same { AnswersAlways (shown_extent self.now.bytes) (λ f. f) result (refused_as model.fault (model.extent_of end self.now)) }
+    fn extent_after(&self, end: usize) -> Result<Extent, FileFault>
+        ensures same { AnswersAlways (shown_extent self.now.bytes) file_fault result (refused_as model.fault (model.extent_of end self.now)) }
         ensures ends { IfOk result (λ e. e.end ≡ e.start + (length self.now.bytes - e.skip)) }
         ensures rises { IfOk result (λ e. end ≤ e.start) }
     {
@@ -74,31 +80,35 @@ impl Record<'_> {
             return self.extent_at(end as u64, 0);
         }
         if self.len() < ADDRESS_LEN as u64 {
-            return Err(FileFault::new(67));
+            return Err(FileFault::SparseBack);
         }
         let address = self.address();
         if address < end as u64 {
-            return Err(FileFault::new(67));
+            return Err(FileFault::SparseBack);
         }
         self.extent_at(address, ADDRESS_LEN)
     }
 
-    /// Puts its data behind the parts of a file that end there, with zeros in front of it up to where it stands, and tells the new
-    /// end. It refuses what `extent_behind` does. No byte is copied.
+    /// Appends the data to the parts of a file of length `end`, after zeros up to its address.
+    /// Returns the new end. No byte is copied.
+    ///
+    /// # Errors
+    ///
+    /// As `extent_after`.
     fn push_data(&self, file: &mut Vec<Part>, end: usize) -> Result<usize, MakingFault>
         requires { end ≡ length (joined file.old.items) }
         ensures same { Answers (λ _. joined file.new.items) cause result (refused_as model.fault (laid (joined file.old.items) self.now)) }
         ensures ends { IfOk result (λ end. end ≡ length (joined file.new.items)) }
     {
-        let extent = self.extent_behind(end)?;
+        let extent = self.extent_after(end)?;
         push_gap(file, extent.start - end)?;
-        self.share_behind(file, extent.skip)?;
+        self.share_to(file, extent.skip)?;
         Ok(extent.end)
     }
 }
 
-/// The data of some records: 67 and 68 at the first of them that does not fit.
-fn data_of(alloc: Global, records: &[Record<'_>]) -> Result<FileBytes, MakingFault>
+/// Returns the data of some records, or `SparseBack` or `TooLarge` at the first that does not fit.
+fn data_of(alloc: Global, records: &[FileRecord<'_>]) -> Result<FileBytes, MakingFault>
     ensures { Answers (λ bytes. bytes) cause result (refused_as model.fault (laid_from [] (filter model.is_data records.now))) }
 {
     let mut file = Vec::new(alloc);
@@ -111,12 +121,12 @@ fn data_of(alloc: Global, records: &[Record<'_>]) -> Result<FileBytes, MakingFau
     Ok(FileBytes::from_parts(file, end))
 }
 
-/// The bytes of a file of this type: none but for types 2 and 3.
+/// Returns the bytes of a file of this type. Only files of types 2 and 3 have any.
 #[tactic(auto, unfolding(br_model::specs::File::file_bytes))]
 pub(crate) fn file_bytes(
     alloc: Global,
     kind: u32,
-    records: &[Record<'_>],
+    records: &[FileRecord<'_>],
 ) -> Result<FileBytes, MakingFault>
     ensures { Answers (λ bytes. bytes) cause result (refused_as model.fault (model.file_bytes kind records.now)) }
 {

@@ -3,7 +3,7 @@ ghost use Rattle.br_join.specs.Fault.{fault_number};
 
 use thiserror::Error;
 
-/// Why a joiner took nothing.
+/// The reason why a joiner took nothing.
 #[derive(Clone, Copy, Debug, PartialEq, Eq, Error)]
 pub enum JoinFault {
     #[error("out of memory")]
@@ -13,7 +13,7 @@ pub enum JoinFault {
 }
 
 impl JoinFault {
-    /// The number of the refusal: 1 or 58.
+    /// Returns the number of the refusal: 1 or 58.
     pub fn number(self) -> u32
         ensures { result ≡ fault_number self }
     {
@@ -24,7 +24,7 @@ impl JoinFault {
     }
 }
 
-/// What a joiner did not take, handed back, and why.
+/// A value that a joiner did not take and returns, with the reason.
 #[derive(Debug, Drop)]
 pub struct Refused<T> {
     pub value: T,

@@ -12,8 +12,8 @@ use std::io::Write;
 use std::marker::Model;
 use std::sync::ArcSlice;
 
-/// The bytes of a restored file, in parts that it shares with the fragments in which they were found, beside their number and
-/// their MD5 digest, which is computed once.
+/// The bytes of a restored file, in parts that are shared with the fragments in which they were
+/// found, with their number and their MD5 digest, which is computed once.
 #[derive(Debug, Drop)]
 pub struct FileBytes {
     parts: Vec<Part>,
@@ -33,7 +33,7 @@ impl Model for FileBytes {
     ghost invariant = { λ b. (b.len ≡ length (joined b.parts.items)) × (b.digest ≡ md5 (joined b.parts.items)) };
 }
 
-/// The MD5 digest of the bytes of the parts, one after another.
+/// Returns the MD5 digest of the bytes of the parts, one part after another.
 fn digest_of(parts: &[Part]) -> [u8; 16]
     ensures { result ≡ md5 (joined parts.now) }
 {
@@ -44,7 +44,7 @@ fn digest_of(parts: &[Part]) -> [u8; 16]
     hasher.finalize()
 }
 
-/// Writes the bytes of the parts, one after another.
+/// Writes the bytes of the parts, one part after another.
 fn write_parts<W: Write>(writer: &mut W, parts: &[Part]) -> io::Result<()>
     ensures { OnOk result (Appends (W.contents writer.old) (W.contents writer.new) (joined parts.now)) }
 {
@@ -54,7 +54,7 @@ fn write_parts<W: Write>(writer: &mut W, parts: &[Part]) -> io::Result<()>
     Ok(())
 }
 
-/// Puts copies of the bytes of the parts behind others.
+/// Appends copies of the bytes of the parts.
 fn push_all(bytes: &mut Vec<u8>, parts: &[Part]) -> Result<(), AllocError>
     ensures { OnOk result (bytes.new.items ≡ bytes.old.items ++ joined parts.now) }
 {
@@ -64,7 +64,7 @@ fn push_all(bytes: &mut Vec<u8>, parts: &[Part]) -> Result<(), AllocError>
     Ok(())
 }
 
-/// Parts with the same bytes, which they share.
+/// Returns parts that share the bytes of these.
 fn shared(alloc: Global, parts: &[Part]) -> Result<Vec<Part>, AllocError>
     ensures { IfOk result (λ copies. joined copies.items ≡ joined parts.now) }
 {
@@ -76,7 +76,7 @@ fn shared(alloc: Global, parts: &[Part]) -> Result<Vec<Part>, AllocError>
 }
 
 impl FileBytes {
-    /// These bytes, of which it computes the digest.
+    /// Returns these bytes, and computes their digest.
     pub fn new(alloc: Global, bytes: Vec<u8>) -> Result<FileBytes, AllocError>
         ensures { IfOk result (λ file. file ≡ bytes.items) }
     {
@@ -87,14 +87,14 @@ impl FileBytes {
         Ok(FileBytes::from_parts(parts, len))
     }
 
-    /// No bytes.
+    /// Returns no bytes.
     pub(crate) fn empty(alloc: Global) -> FileBytes
         ensures { result ≡ [] }
     {
         FileBytes::from_parts(Vec::new(alloc), 0)
     }
 
-    /// The bytes of these parts, as many as `len` says. It computes their digest.
+    /// Returns the bytes of these parts, `len` in number, and computes their digest.
     pub(crate) fn from_parts(parts: Vec<Part>, len: usize) -> FileBytes
         requires { len ≡ length (joined parts.items) }
         ensures { result ≡ joined parts.items }
@@ -103,28 +103,29 @@ impl FileBytes {
         FileBytes { parts, len, digest }
     }
 
-    /// How many they are.
+    /// Returns the number of bytes.
     pub fn len(&self) -> u64
         ensures { result ≡ length self.now }
     {
         self.len as u64
     }
 
-    /// Their MD5 digest.
+    /// Returns the MD5 digest of the bytes.
     pub fn digest(&self) -> [u8; 16]
         ensures { result ≡ md5 self.now }
     {
         self.digest
     }
 
-    /// Writes them all, at most 64 KiB by one call. Where a write fails, a front of them may be written.
+    /// Writes all bytes, at most 64 KiB by one call. If a write fails, the first of the bytes may
+    /// be written.
     pub fn write_to<W: Write>(&self, writer: &mut W) -> io::Result<()>
         ensures { OnOk result (Appends (W.contents writer.old) (W.contents writer.new) self.now) }
     {
         write_parts(writer, &self.parts)
     }
 
-    /// A copy of them, one behind the other.
+    /// Returns a copy of the bytes.
     pub fn to_vec(&self, alloc: Global) -> Result<Vec<u8>, AllocError>
         ensures { IfOk result (λ bytes. bytes.items ≡ self.now) }
     {
@@ -133,7 +134,7 @@ impl FileBytes {
         Ok(bytes)
     }
 
-    /// The same bytes, which it shares: no byte is copied, and no digest is computed.
+    /// Returns the same bytes, which are shared: no byte is copied, and no digest is computed.
     pub fn share(&self, alloc: Global) -> Result<FileBytes, AllocError>
         ensures { IfOk result (λ file. file ≡ self.now) }
     {

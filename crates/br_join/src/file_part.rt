@@ -1,4 +1,4 @@
-//! A part of the bytes of a file: zeros, or what stands in one fragment.
+//! A part of the bytes of a file: zeros, or the bytes of one fragment.
 ghost use Rattle.std.specs.Prelude.{◌≡◌, ℕ, List, ◌++◌, drop, replicate, IfOk, OnOk};
 ghost use Rattle.std.specs.Arc.{arc_slice_items};
 ghost use Rattle.std.specs.Io.KnownBytes.{Appends};
@@ -11,29 +11,29 @@ use std::io;
 use std::io::Write;
 use std::sync::ArcSlice;
 
-/// How many zeros are written or digested by one call.
+/// The number of zeros that one call writes or digests.
 const ZEROS_LEN: usize = 4096;
 
-/// How many bytes one call writes. The system takes far more of them at a time more slowly.
+/// The number of bytes that one call writes. The system is slower with far more of them at a time.
 const WRITTEN_LEN: usize = 64 * 1024;
 
 /// A part of the bytes of a file.
 #[derive(Debug, Drop)]
 pub(crate) enum Part {
-    /// As many zeros, the gap in front of sparse data.
+    /// This number of zeros, the gap before sparse data.
     Zeros(usize),
-    /// The bytes of a fragment without the first ones, as many as `skip` says. They are shared with the fragment.
+    /// The bytes of a fragment without the first `skip`. They are shared with the fragment.
     Data { skip: usize, bytes: ArcSlice<u8> },
 }
 
-/// These bytes without the first ones, as many as `skip` says.
-fn behind(bytes: &[u8], skip: usize) -> &[u8]
+/// Returns these bytes without the first `skip`.
+fn without_first(bytes: &[u8], skip: usize) -> &[u8]
     ensures { result.now ≡ drop skip bytes.now }
 {
     &bytes[skip.min(bytes.len())..]
 }
 
-/// Digests so many zeros.
+/// Digests `count` zeros.
 fn digest_zeros(hasher: &mut Md5, count: usize)
     ensures { (m : List ℕ) → Holds hasher.old m → Holds hasher.new (m ++ replicate count 0) }
 {
@@ -47,7 +47,7 @@ fn digest_zeros(hasher: &mut Md5, count: usize)
     }
 }
 
-/// Writes so many zeros.
+/// Writes `count` zeros.
 fn write_zeros<W: Write>(writer: &mut W, count: usize) -> io::Result<()>
     ensures { OnOk result (Appends (W.contents writer.old) (W.contents writer.new) (replicate count 0)) }
 {
@@ -62,7 +62,7 @@ fn write_zeros<W: Write>(writer: &mut W, count: usize) -> io::Result<()>
     Ok(())
 }
 
-/// Writes all of the bytes, 64 KiB by 64 KiB.
+/// Writes all bytes, at most 64 KiB by one call.
 fn write_bytes<W: Write>(writer: &mut W, bytes: &[u8]) -> io::Result<()>
     ensures { OnOk result (Appends (W.contents writer.old) (W.contents writer.new) bytes.now) }
 {
@@ -72,7 +72,7 @@ fn write_bytes<W: Write>(writer: &mut W, bytes: &[u8]) -> io::Result<()>
     Ok(())
 }
 
-/// Puts so many zeros behind the bytes.
+/// Appends `count` zeros to the bytes.
 fn push_zeros(bytes: &mut Vec<u8>, count: usize) -> Result<(), AllocError>
     ensures { OnOk result (bytes.new.items ≡ bytes.old.items ++ replicate count 0) }
 {
@@ -83,37 +83,37 @@ fn push_zeros(bytes: &mut Vec<u8>, count: usize) -> Result<(), AllocError>
 }
 
 impl Part {
-    /// Digests its bytes.
+    /// Digests the bytes of the part.
     pub(crate) fn digest(&self, hasher: &mut Md5)
         ensures { (m : List ℕ) → Holds hasher.old m → Holds hasher.new (m ++ part_bytes self.now) }
     {
         match self {
             Part::Zeros(count) => digest_zeros(hasher, *count),
-            Part::Data { skip, bytes } => hasher.update(behind(bytes, *skip)),
+            Part::Data { skip, bytes } => hasher.update(without_first(bytes, *skip)),
         }
     }
 
-    /// Writes its bytes.
+    /// Writes the bytes of the part.
     pub(crate) fn write_to<W: Write>(&self, writer: &mut W) -> io::Result<()>
         ensures { OnOk result (Appends (W.contents writer.old) (W.contents writer.new) (part_bytes self.now)) }
     {
         match self {
             Part::Zeros(count) => write_zeros(writer, *count),
-            Part::Data { skip, bytes } => write_bytes(writer, behind(bytes, *skip)),
+            Part::Data { skip, bytes } => write_bytes(writer, without_first(bytes, *skip)),
         }
     }
 
-    /// Puts a copy of its bytes behind others.
+    /// Appends a copy of the bytes of the part.
     pub(crate) fn push_to(&self, bytes: &mut Vec<u8>) -> Result<(), AllocError>
         ensures { OnOk result (bytes.new.items ≡ bytes.old.items ++ part_bytes self.now) }
     {
         match self {
             Part::Zeros(count) => push_zeros(bytes, *count),
-            Part::Data { skip, bytes: data } => bytes.extend_from_slice(behind(data, *skip)),
+            Part::Data { skip, bytes: data } => bytes.extend_from_slice(without_first(data, *skip)),
         }
     }
 
-    /// A part with the same bytes, which it shares.
+    /// Returns a part that shares the bytes of this one.
     pub(crate) fn share(&self) -> Result<Part, AllocError>
         ensures { IfOk result (λ part. part_bytes part ≡ part_bytes self.now) }
     {
@@ -127,7 +127,7 @@ impl Part {
     }
 }
 
-/// Puts a part behind others.
+/// Appends a part.
 pub(crate) fn push_part(parts: &mut Vec<Part>, part: Part) -> Result<(), AllocError>
     ensures { OnOk result (joined parts.new.items ≡ joined parts.old.items ++ part_bytes part) }
 {
@@ -135,7 +135,7 @@ pub(crate) fn push_part(parts: &mut Vec<Part>, part: Part) -> Result<(), AllocEr
     Ok(())
 }
 
-/// Puts a gap of so many zeros behind the parts of a file.
+/// Appends a gap of this number of zeros to the parts of a file.
 pub(crate) fn push_gap(parts: &mut Vec<Part>, zeros: usize) -> Result<(), AllocError>
     ensures { OnOk result (joined parts.new.items ≡ joined parts.old.items ++ replicate zeros 0) }
 {
@@ -145,7 +145,8 @@ pub(crate) fn push_gap(parts: &mut Vec<Part>, zeros: usize) -> Result<(), AllocE
     push_part(parts, Part::Zeros(zeros))
 }
 
-/// Puts the bytes of a fragment behind the parts of a file, without the first ones, as many as `skip` says. They are shared.
+/// Appends the bytes of a fragment, without the first `skip`, to the parts of a file. They are
+/// shared.
 pub(crate) fn push_data(
     parts: &mut Vec<Part>,
     skip: usize,

@@ -23,15 +23,15 @@ use std::thread::Threads;
 #[cfg(test)]
 mod tests;
 
-/// Gathers what was found of the pieces of a bootstrap, and makes files of it. Of hits at one place of one file it keeps the
-/// first that was taken.
+/// Gathers what was found of the pieces of a bootstrap, and makes files of it. Of several hits at
+/// one place of one file it keeps the first that was taken.
 #[derive(Debug, Drop)]
 pub struct Joiner {
-    /// Of each piece whether it is closed.
+    /// The number of each piece, and whether the piece is closed.
     pieces: BTreeMap<u32, bool>,
-    /// Under which path each file was planned, if there is a plan.
+    /// The path under which each file was planned, if there is a plan.
     names: Option<Names>,
-    /// In order of arrival, repeats among them.
+    /// In order of arrival, with repeats.
     hits: Vec<Hit>,
 }
 
@@ -48,7 +48,7 @@ impl Model for Joiner {
     ghost view = { λ j. record { pieces = as_map j.pieces; names = j.names; hits = model.hits_of j.hits.items } };
 }
 
-/// The numbers of the pieces, each of them open.
+/// Returns the numbers of the pieces, each of them open.
 fn opened(alloc: Global, pieces: &[Piece]) -> Result<BTreeMap<u32, bool>, AllocError>
     ensures { IfOk result (λ numbers. as_map numbers ≡ finite.from_entries (opens pieces.now)) }
 {
@@ -79,7 +79,7 @@ fn open_again(pieces: &mut BTreeMap<u32, bool>)
     });
 }
 
-/// Puts what was found behind the hits, without a copy of it. Where there is no room for it, it is handed back.
+/// Moves what was found to the end of the hits, or returns it if there is no room.
 fn gather(hits: &mut Vec<Hit>, found: Found) -> Result<(), Found>
     ensures ok { OnOk result (hits.new.items ≡ hits.old.items ++ found.hits.items) }
     ensures err { OnErr result (hits.new.items ≡ hits.old.items) }
@@ -89,12 +89,12 @@ fn gather(hits: &mut Vec<Hit>, found: Found) -> Result<(), Found>
         return Err(found);
     }
     let mut more = found.hits;
-    // The room is there.
+    // There is room.
     let _ = hits.append(&mut more);
     Ok(())
 }
 
-/// Whether each piece is closed.
+/// Returns whether each piece is closed.
 fn all_closed(pieces: &BTreeMap<u32, bool>) -> bool
     ensures all { result ≡ list_all (λ (closed : Bool). closed) (values pieces.now) }
     ensures ordered { IsOrdered nat_cmp pieces.now }
@@ -103,8 +103,8 @@ fn all_closed(pieces: &BTreeMap<u32, bool>) -> bool
 }
 
 impl Joiner {
-    /// A joiner of these pieces, each of them open. With names it restores the planned files and no others, else all that
-    /// are found. It keeps the allocator. `AllocError` where memory is short.
+    /// Returns a joiner of these pieces, each of them open. With names it restores the planned
+    /// files and no others, else all files that are found.
     pub fn new(alloc: Global, pieces: &[Piece], names: Option<Names>) -> Result<Joiner, AllocError>
         ensures { IfOk result (λ joiner. joiner ≡ begun pieces.now names) }
     {
@@ -115,9 +115,13 @@ impl Joiner {
         })
     }
 
-    /// Takes what was found of a piece, and closes the piece. A hit at a place of a file that was taken already changes
-    /// nothing. Where nothing is taken the joiner is unchanged, and what was found is handed back: `StrangerPiece` where the
-    /// number is not that of one of the pieces, else `Memory`. The hits are moved, and their bytes are not copied.
+    /// Takes what was found of a piece, and closes the piece. A hit at a place of a file that was
+    /// taken already changes nothing. The hits are moved, and their bytes are not copied.
+    ///
+    /// # Errors
+    ///
+    /// `StrangerPiece` if the number is not that of one of the pieces, `Memory` if memory runs out.
+    /// Then the joiner is unchanged, and what was found is returned with the fault.
     pub fn take(&mut self, found: Found) -> Result<(), Refused<Found>>
         ensures ok { OnOk result (self.new ≡ taken self.old found.piece found.hits.items) }
         ensures err { OnErr result (self.new ≡ self.old) }
@@ -143,19 +147,23 @@ impl Joiner {
         Ok(())
     }
 
-    /// Whether each piece is closed, so that all was taken.
+    /// Returns whether each piece is closed, so that all was taken.
     pub fn ready(&self) -> bool
         ensures { result ≡ is_ready self.now }
     {
         all_closed(&self.pieces)
     }
 
-    /// The files of what was taken, in order of key, each with its outcome: the planned ones where there are names, and 63 for
-    /// one of which nothing was found. The joiner keeps its names, and is empty again, its pieces open.
+    /// Returns the files of what was taken, in order of key, each with its outcome. If there are
+    /// names, these are the planned files, with 63 for a file of which nothing was found. The
+    /// joiner keeps its names, and is then empty, its pieces open.
     ///
-    /// `AllocError` where memory is short: the joiner is unchanged. The time is n log n in the number of hits and names.
+    /// The files are made in as many threads as there are processors, and the result is that of one
+    /// thread. The time is n log n in the number of hits and names.
     ///
-    /// The files are made in as many threads as there are processors, and the answer is that of one thread.
+    /// # Errors
+    ///
+    /// `AllocError` if memory runs out. Then the joiner is unchanged.
     pub fn finish(
         &mut self,
         rt: &(impl Threads + Sync),

@@ -4,14 +4,14 @@ ghost use Rattle.br_model.specs.Attribute.{read_attributes};
 ghost use Rattle.br_model.specs.File as file;
 ghost use Rattle.br_model.specs.Meaning as meaning;
 ghost use Rattle.br_model.specs.Restored as model;
-ghost use Rattle.br_join.specs.Making.{cause, read_or_64};
+ghost use Rattle.br_join.specs.Making.{cause, file_fault, read_or_64};
 ghost use Rattle.br_join.specs.Outcome.{shown};
 
 use crate::data::file_bytes;
 use crate::file_bytes::FileBytes;
 use crate::item::{Item, Outcome};
 use crate::making_fault::{FileFault, MakingFault};
-use crate::records::{Record, records_of};
+use crate::records::{FileRecord, records_of};
 use crate::streams::{
     ATTRIBUTES, DIGEST, checks_digest, count_in, first_in, refuse_unsupported, skipped_in,
 };
@@ -20,22 +20,22 @@ use br_match::Hit;
 use br_types::{FileIndex, FileKey, Path};
 use std::alloc::{AllocError, Global};
 
-/// The attributes in a record's bytes; 64 where they cannot be read.
+/// Returns the attributes in a record's bytes, or `BadAttributes`.
 fn attributes_in(alloc: Global, index: FileIndex, bytes: &[u8]) -> Result<Attr, MakingFault>
     ensures { Answers (λ attr. attr) cause result (read_or_64 bytes.now index) }
 {
     match Attr::read(alloc, bytes, index) {
         Ok(attr) => Ok(attr),
         Err(AttrFault::Memory) => Err(MakingFault::Memory),
-        Err(_) => Err(MakingFault::File(FileFault::new(64))),
+        Err(_) => Err(MakingFault::File(FileFault::BadAttributes)),
     }
 }
 
-/// The attributes that a record holds; its bytes are copied only where they are in more than one piece.
+/// Returns the attributes in a record. Copies the bytes only if they are in more than one fragment.
 fn attributes_of_record(
     alloc: Global,
     index: FileIndex,
-    found: &Record<'_>,
+    found: &FileRecord<'_>,
 ) -> Result<Attr, MakingFault>
     ensures { Answers (λ attr. attr) cause result (read_or_64 found.now.bytes index) }
 {
@@ -43,31 +43,35 @@ fn attributes_of_record(
         return attributes_in(alloc, index, bytes);
     }
     let mut bytes = Vec::new(alloc);
-    found.push_behind(&mut bytes, 0)?;
+    found.push_to(&mut bytes, 0)?;
     attributes_in(alloc, index, &bytes)
 }
 
-/// The attributes of a file: 63 where no record has them, 64 where two do or they cannot be read.
+/// Returns the attributes of a file.
+///
+/// # Errors
+///
+/// `NoAttributes` if no record has them, `BadAttributes` if two records do or they cannot be read.
 #[tactic(auto, unfolding(br_model::specs::File::attributes_of))]
 fn attributes_of(
     alloc: Global,
     index: FileIndex,
-    records: &[Record<'_>],
+    records: &[FileRecord<'_>],
 ) -> Result<Attr, MakingFault>
     ensures { Answers (λ attr. attr) cause result (refused_as file.fault (file.attributes_of index (filter (file.is_stream 1) records.now))) }
 {
     match first_in(ATTRIBUTES, records) {
-        None => Err(MakingFault::File(FileFault::new(63))),
+        None => Err(MakingFault::File(FileFault::NoAttributes)),
         Some(found) if count_in(ATTRIBUTES, records) == 1 => {
             attributes_of_record(alloc, index, found)
         }
-        Some(_) => Err(MakingFault::File(FileFault::new(64))),
+        Some(_) => Err(MakingFault::File(FileFault::BadAttributes)),
     }
 }
 
-/// Whether there is no digest, or the one that there is is that of the bytes.
+/// Returns whether there is no digest, or one, which is that of the bytes.
 #[tactic(auto, unfolding(br_model::specs::File::digest_fits))]
-fn digest_fits(records: &[Record<'_>], bytes: &FileBytes) -> bool
+fn digest_fits(records: &[FileRecord<'_>], bytes: &FileBytes) -> bool
     ensures { result ≡ file.digest_fits (filter (file.is_stream 3) records.now) bytes.now }
 {
     match first_in(DIGEST, records) {
@@ -76,10 +80,14 @@ fn digest_fits(records: &[Record<'_>], bytes: &FileBytes) -> bool
     }
 }
 
-/// What the records of a file make: 63 and 64 for its attributes, then 65 for its streams, 67 and 68 for its data, 66 for its
-/// digest.
+/// Returns the file that its records make.
+///
+/// # Errors
+///
+/// `NoAttributes`, `BadAttributes`, `Unsupported`, then `SparseBack` or `TooLarge` for the first
+/// data that does not fit, then `DigestDiffers`.
 #[tactic(auto, unfolding(br_model::specs::File::content))]
-fn content(alloc: Global, index: FileIndex, records: &[Record<'_>]) -> Result<Item, MakingFault>
+fn content(alloc: Global, index: FileIndex, records: &[FileRecord<'_>]) -> Result<Item, MakingFault>
     ensures { Answers (λ item. item) cause result (file.content index records.now) }
 {
     let attr = attributes_of(alloc, index, records)?;
@@ -88,7 +96,7 @@ fn content(alloc: Global, index: FileIndex, records: &[Record<'_>]) -> Result<It
     let bytes = file_bytes(alloc, kind, records)?;
     let checked = checks_digest(kind, records);
     if checked && !digest_fits(records, &bytes) {
-        return Err(MakingFault::File(FileFault::new(66)));
+        return Err(MakingFault::File(FileFault::DigestDiffers));
     }
     Ok(Item {
         path,
@@ -100,7 +108,7 @@ fn content(alloc: Global, index: FileIndex, records: &[Record<'_>]) -> Result<It
     })
 }
 
-/// The file that fragments make, given in order of place.
+/// Returns the file that its fragments make, given in order of place.
 #[tactic(auto, unfolding(br_model::specs::Restored::outcome_of))]
 fn file_of(alloc: Global, key: FileKey, hits: &[Hit]) -> Result<Item, MakingFault>
     requires { All (λ (h : meaning.Hit). h.key ≡ key) hits.now }
@@ -110,20 +118,27 @@ fn file_of(alloc: Global, key: FileKey, hits: &[Hit]) -> Result<Item, MakingFaul
     content(alloc, key.index, &records)
 }
 
-/// The outcome that there is no file, unless memory ran out.
+/// Returns the outcome with this fault.
+fn refused(fault: FileFault) -> Outcome
+    ensures { shown result ≡ Err (file_fault fault) }
+{
+    Outcome::Fault {
+        number: fault.number(),
+        stream: fault.stream(),
+    }
+}
+
+/// Returns the outcome of a file that could not be made, unless memory ran out.
 fn no_file(why: MakingFault) -> Result<Outcome, AllocError>
     ensures { MatchOption (cause why) (IsErr result) (λ fault. IfOk result (λ outcome. shown outcome ≡ Err fault)) }
 {
     match why {
         MakingFault::Memory => Err(AllocError),
-        MakingFault::File(fault) => Ok(Outcome::Fault {
-            number: fault.number,
-            stream: fault.stream,
-        }),
+        MakingFault::File(fault) => Ok(refused(fault)),
     }
 }
 
-/// What the fragments of a file make, given in order of place.
+/// Returns the outcome of a file by its fragments, given in order of place.
 pub(crate) fn outcome_of(alloc: Global, key: FileKey, hits: &[Hit]) -> Result<Outcome, AllocError>
     requires { All (λ (h : meaning.Hit). h.key ≡ key) hits.now }
     ensures { IfOk result (λ outcome. shown outcome ≡ model.outcome_of key (map (λ (h : meaning.Hit). h.fragment) hits.now)) }
@@ -134,16 +149,15 @@ pub(crate) fn outcome_of(alloc: Global, key: FileKey, hits: &[Hit]) -> Result<Ou
     }
 }
 
-/// 69 where the file has another path than the planned one.
+/// Returns the outcome, or `NameDiffers` if the file has another path than the planned one.
 #[tactic(auto, unfolding(br_model::specs::Restored::under_name))]
 pub(crate) fn under_name(path: &Path, outcome: Outcome) -> Outcome
     ensures { shown result ≡ model.under_name path.now (shown outcome) }
 {
     match outcome {
-        Outcome::File(item) if item.path.bytes() != path.bytes() => Outcome::Fault {
-            number: 69,
-            stream: 0,
-        },
+        Outcome::File(item) if item.path.bytes() != path.bytes() => {
+            refused(FileFault::NameDiffers)
+        }
         other => other,
     }
 }

@@ -1,7 +1,6 @@
 ghost use Rattle.std.specs.Prelude.{◌≡◌, All, IfOk};
 ghost use Rattle.br_model.specs.Meaning as meaning;
 
-use crate::file_bytes::FileBytes;
 use crate::item::{Item, Outcome};
 use crate::making::{outcome_of, under_name};
 use br_match::{Hit, Spot};
@@ -28,11 +27,11 @@ const MIDDLE: &[u8] = b"CDEFGHIJKLMNOPQRSTUVWXYZ0123";
 
 const BACK: &[u8] = b"456789abcdefghij";
 
-/// A fragment: its stream, the size that it says, its bytes.
+/// A fragment: its stream, the size that it states, its bytes.
 #[derive(Clone, Copy)]
 struct Part<'a>(i32, u32, &'a [u8]);
 
-/// The file whose fragments the tests join.
+/// Returns the key of the file whose fragments the tests join.
 fn key() -> Result<FileKey, Fail> {
     Ok(FileKey {
         session: SessionKey { id: 1, time: 2 },
@@ -40,7 +39,7 @@ fn key() -> Result<FileKey, Fail> {
     })
 }
 
-/// The fragments of a file, each in a block of its own.
+/// Returns the fragments of a file, each in a block of its own.
 fn hits_of(alloc: Global, key: FileKey, parts: &[Part<'_>]) -> Result<Vec<Hit>, AllocError>
     ensures { IfOk result (λ hits. All (λ (h : meaning.Hit). h.key ≡ key) hits.items) }
 {
@@ -48,7 +47,7 @@ fn hits_of(alloc: Global, key: FileKey, parts: &[Part<'_>]) -> Result<Vec<Hit>, 
     for part in parts {
         let hit = Hit {
             key,
-            place: Spot {
+            spot: Spot {
                 group: 0,
                 addr: 0,
                 ordinal: 0,
@@ -62,14 +61,14 @@ fn hits_of(alloc: Global, key: FileKey, parts: &[Part<'_>]) -> Result<Vec<Hit>, 
     Ok(hits)
 }
 
-/// What fragments make.
+/// Returns the outcome of fragments.
 fn made(alloc: Global, parts: &[Part<'_>]) -> Result<Outcome, Fail> {
     let key = key()?;
     let hits = hits_of(alloc, key, parts)?;
     Ok(outcome_of(alloc, key, &hits)?)
 }
 
-/// The file that fragments make.
+/// Returns the file that fragments make.
 fn file_of(alloc: Global, parts: &[Part<'_>]) -> Result<Item, Fail> {
     match made(alloc, parts)? {
         Outcome::File(item) => Ok(item),
@@ -77,7 +76,7 @@ fn file_of(alloc: Global, parts: &[Part<'_>]) -> Result<Item, Fail> {
     }
 }
 
-/// The number of an outcome and its stream, 0 for a file.
+/// Returns the number of an outcome and its stream, 0 for a file.
 fn number(outcome: &Outcome) -> (u32, u32) {
     match outcome {
         Outcome::File(_) => (0, 0),
@@ -85,12 +84,12 @@ fn number(outcome: &Outcome) -> (u32, u32) {
     }
 }
 
-/// The number of what fragments make, and its stream.
+/// Returns the number of the outcome of fragments, and its stream.
 fn number_of(alloc: Global, parts: &[Part<'_>]) -> Result<(u32, u32), Fail> {
     Ok(number(&made(alloc, parts)?))
 }
 
-/// The number of what sparse data makes behind the records (0, `ab`) and (4, `c`).
+/// Returns the number of the outcome of sparse data after the records (0, `ab`) and (4, `c`).
 fn third(alloc: Global, size: u32, bytes: &[u8]) -> Result<(u32, u32), Fail> {
     let parts = [
         Part(1, 38, FILE),
@@ -101,45 +100,34 @@ fn third(alloc: Global, size: u32, bytes: &[u8]) -> Result<(u32, u32), Fail> {
     number_of(alloc, &parts)
 }
 
-/// Whether the file is /a, of type 3, with these numbers and no link text.
-fn is_a(item: &Item) -> bool {
-    item.path.bytes() == b"/a".as_slice()
-        && item.kind == 3
-        && item.stat.mode() == 33188
-        && item.stat.size() == 5
-        && item.link.is_empty()
-}
-
-/// Whether the data is `hello`, with its digest.
-fn is_hello(alloc: Global, bytes: &FileBytes) -> Result<bool, Fail> {
-    let copy = bytes.to_vec(alloc)?;
-    Ok(copy.as_slice() == b"hello".as_slice() && bytes.len() == 5 && bytes.digest() == DIGEST)
+/// Returns the data of the file that fragments make.
+fn data_of(alloc: Global, parts: &[Part<'_>]) -> Result<Vec<u8>, Fail> {
+    Ok(file_of(alloc, parts)?.bytes.to_vec(alloc)?)
 }
 
 #[test]
 fn a_file_has_its_attributes_and_data(rt: HostRuntime) -> Result<(), Fail> {
-    let item = file_of(rt.alloc(), &[Part(1, 38, FILE), Part(2, 5, b"hello")])?;
-    assert!(rt; is_a(&item));
-    assert!(rt; is_hello(rt.alloc(), &item.bytes)?);
+    let item = file_of(rt.alloc(), HELLO)?;
+    assert_eq!(rt; item.path.bytes(), b"/a".as_slice());
+    assert_eq!(rt;
+        (item.kind, item.stat.mode(), item.stat.size()),
+        (3, 33188, 5)
+    );
+    assert!(rt; item.link.is_empty());
+    assert_eq!(rt; item.bytes.len(), 5);
+    assert_eq!(rt; item.bytes.digest(), DIGEST);
     assert_eq!(rt; item.skipped, 0);
+    assert_eq!(rt; data_of(rt.alloc(), HELLO)?.as_slice(), b"hello".as_slice());
     Ok(())
 }
 
-/// How many records of the file that fragments make are passed over.
+/// Returns the number of records that are passed over, of the file that fragments make.
 fn skipped_of(alloc: Global, parts: &[Part<'_>]) -> Result<u64, Fail> {
     Ok(file_of(alloc, parts)?.skipped)
 }
 
-/// Whether fragments make a file with this data.
-fn has_data(alloc: Global, parts: &[Part<'_>], data: &[u8]) -> Result<bool, Fail> {
-    let bytes = file_of(alloc, parts)?.bytes.to_vec(alloc)?;
-    Ok(bytes.as_slice() == data)
-}
-
-/// Whether fragments make the file /a.
-fn has_path(alloc: Global, parts: &[Part<'_>]) -> Result<bool, Fail> {
-    Ok(file_of(alloc, parts)?.path.bytes() == b"/a".as_slice())
-}
+/// `hello` without a digest.
+const HELLO: &[Part<'static>] = &[Part(1, 38, FILE), Part(2, 5, b"hello")];
 
 /// `hello` with its digest.
 const RIGHT: &[Part<'static>] = &[
@@ -163,7 +151,7 @@ const TWO_DIGESTS: &[Part<'static>] = &[
 ];
 
 #[test]
-fn data_is_held_against_its_digest(rt: HostRuntime) -> Result<(), Fail> {
+fn the_digest_of_data_is_checked(rt: HostRuntime) -> Result<(), Fail> {
     assert_eq!(rt; skipped_of(rt.alloc(), RIGHT)?, 0);
     assert_eq!(rt; number_of(rt.alloc(), WRONG)?, (66, 0));
     assert_eq!(rt; number_of(rt.alloc(), TWO_DIGESTS)?, (66, 0));
@@ -177,8 +165,11 @@ const SPARSE: &[Part<'static>] = &[
 ];
 
 #[test]
-fn sparse_data_stands_at_its_address(rt: HostRuntime) -> Result<(), Fail> {
-    assert!(rt; has_data(rt.alloc(), SPARSE, b"ab\0\0c")?);
+fn sparse_data_is_at_its_address(rt: HostRuntime) -> Result<(), Fail> {
+    assert_eq!(rt;
+        data_of(rt.alloc(), SPARSE)?.as_slice(),
+        b"ab\0\0c".as_slice()
+    );
     assert_eq!(rt; third(rt.alloc(), 9, b"\0\0\0\0\0\0\0\x03d")?, (67, 0));
     assert_eq!(rt; third(rt.alloc(), 7, b"\0\0\0\0\0\0\0")?, (67, 0));
     assert_eq!(rt; third(rt.alloc(), 9, b"\0\0\0\0\x40\0\0\0d")?, (68, 0));
@@ -207,21 +198,24 @@ const IN_THREE: &[Part<'static>] = &[
     Part(-2, 16, BACK),
 ];
 
-/// The three parts one behind the other.
+/// The three parts, one after another.
 const WHOLE: &[u8] = b"abcdefghijklmnopqrstuvwxyzABCDEFGHIJKLMNOPQRSTUVWXYZ0123456789abcdefghij";
 
-/// Whether the attributes are joined where they are in two fragments.
-fn joins_attributes(alloc: Global) -> Result<bool, Fail> {
+/// Returns the number of the outcome of attributes in two fragments.
+fn number_of_two(alloc: Global) -> Result<(u32, u32), Fail> {
     let (front, back) = FILE.split_at(7);
-    has_path(alloc, &[Part(1, 38, front), Part(-1, 31, back)])
+    number_of(alloc, &[Part(1, 38, front), Part(-1, 31, back)])
 }
 
 #[test]
 fn fragments_are_joined(rt: HostRuntime) -> Result<(), Fail> {
-    assert!(rt; has_data(rt.alloc(), IN_THREE, WHOLE)?);
-    assert!(rt; joins_attributes(rt.alloc())?);
+    assert_eq!(rt; data_of(rt.alloc(), IN_THREE)?.as_slice(), WHOLE);
+    assert_eq!(rt; number_of_two(rt.alloc())?, (0, 0));
     // An address alone moves the end.
-    assert!(rt; has_data(rt.alloc(), ADDRESS_ALONE, b"ab\0\0c")?);
+    assert_eq!(rt;
+        data_of(rt.alloc(), ADDRESS_ALONE)?.as_slice(),
+        b"ab\0\0c".as_slice()
+    );
     assert_eq!(rt; skipped_of(rt.alloc(), ADDRESS_ALONE)?, 1);
     Ok(())
 }
@@ -277,12 +271,13 @@ const WITH_DIRECTORY: &[Part<'static>] = &[
 fn streams_are_skipped_or_refused(rt: HostRuntime) -> Result<(), Fail> {
     assert_eq!(rt; number_of(rt.alloc(), UNSUPPORTED)?, (65, 4));
     assert_eq!(rt; skipped_of(rt.alloc(), PASSED_OVER)?, 2);
-    assert!(rt; has_data(rt.alloc(), WITH_DIRECTORY, b"")?);
+    assert!(rt; data_of(rt.alloc(), WITH_DIRECTORY)?.is_empty());
     assert_eq!(rt; skipped_of(rt.alloc(), WITH_DIRECTORY)?, 2);
     Ok(())
 }
 
-/// The number of what fragments make where a file of this path was planned, and its stream.
+/// Returns the number of the outcome of fragments, and its stream, if a file of this path was
+/// planned.
 fn number_under(alloc: Global, path: &[u8], parts: &[Part<'_>]) -> Result<(u32, u32), Fail> {
     let path = Path::new(alloc, path)?;
     let outcome = made(alloc, parts)?;

@@ -6,14 +6,14 @@ use crate::file_part::{Part, push_data};
 use br_match::Hit;
 use std::alloc::AllocError;
 
-/// The data of a fragment.
+/// Returns the data of a fragment.
 pub(crate) fn bytes_of(part: &Hit) -> &[u8]
     ensures { result.now ≡ part.now.fragment.bytes }
 {
     &part.bytes
 }
 
-/// How many bytes the parts have together, at most 2^64 - 1.
+/// Returns the number of bytes of the parts together, at most 2^64 - 1.
 pub(crate) fn length_of(parts: &[Hit]) -> u64
     ensures { result ≡ min (length (bytes_in parts.now)) (2 ^ 64 - 1) }
 {
@@ -24,7 +24,7 @@ pub(crate) fn length_of(parts: &[Hit]) -> u64
     len
 }
 
-/// The byte at a place of what the parts have together, 0 behind the last.
+/// Returns the byte at a place of the parts together, 0 past the last.
 pub(crate) fn byte_at(parts: &[Hit], place: usize) -> u8
     ensures { result ≡ slice_index (bytes_in parts.now) place }
 {
@@ -39,30 +39,32 @@ pub(crate) fn byte_at(parts: &[Hit], place: usize) -> u8
     0
 }
 
-/// Puts the bytes of the parts behind others, without the first ones, as many as `skip` says.
-pub(crate) fn push_behind(bytes: &mut Vec<u8>, skip: usize, parts: &[Hit]) -> Result<(), AllocError>
+/// Appends the bytes of the parts, without the first `skip`.
+pub(crate) fn push_bytes(bytes: &mut Vec<u8>, skip: usize, parts: &[Hit]) -> Result<(), AllocError>
     ensures { OnOk result (bytes.new.items ≡ bytes.old.items ++ drop skip (bytes_in parts.now)) }
 {
     let mut left = skip;
     for part in parts {
         let held = bytes_of(part);
         let skipped = left.min(held.len());
-        let (_, behind) = held.split_at(skipped);
-        bytes.extend_from_slice(behind)?;
+        let (_, more) = held.split_at(skipped);
+        bytes.extend_from_slice(more)?;
         left -= skipped;
     }
     Ok(())
 }
 
-/// Puts the data of a fragment behind the parts of a file, without the first bytes, as many as `skip` says. It is shared.
+/// Appends the data of a fragment, without the first `skip` bytes, to the parts of a file. It is
+/// shared.
 fn share_one(file: &mut Vec<Part>, skip: usize, part: &Hit) -> Result<(), AllocError>
     ensures { OnOk result (joined file.new.items ≡ joined file.old.items ++ drop skip part.now.fragment.bytes) }
 {
     push_data(file, skip, &part.bytes)
 }
 
-/// Puts the bytes of the fragments behind the parts of a file, without the first ones, as many as `skip` says. They are shared.
-pub(crate) fn share_behind(
+/// Appends the bytes of the fragments, without the first `skip`, to the parts of a file. They are
+/// shared.
+pub(crate) fn share_bytes(
     file: &mut Vec<Part>,
     skip: usize,
     parts: &[Hit],
@@ -78,7 +80,7 @@ pub(crate) fn share_behind(
     Ok(())
 }
 
-/// Whether the parts together have these bytes.
+/// Returns whether the parts together have these bytes.
 pub(crate) fn are_bytes(parts: &[Hit], bytes: &[u8]) -> bool
     ensures { result ≡ bytes_eq (bytes_in parts.now) bytes.now }
 {
@@ -88,11 +90,11 @@ pub(crate) fn are_bytes(parts: &[Hit], bytes: &[u8]) -> bool
         if rest.len() < held.len() {
             return false;
         }
-        let (front, behind) = rest.split_at(held.len());
+        let (front, more) = rest.split_at(held.len());
         if held != front {
             return false;
         }
-        rest = behind;
+        rest = more;
     }
     rest.is_empty()
 }

@@ -6,27 +6,27 @@ ghost use Rattle.br_model.specs.File as model;
 ghost use Rattle.br_model.specs.Meaning as meaning;
 ghost use Rattle.br_model.specs.Record.{with_fragment, join};
 ghost use Rattle.br_join.specs.FileParts.{joined};
-ghost use Rattle.br_join.specs.Making.{cause};
+ghost use Rattle.br_join.specs.Making.{cause, file_fault};
 ghost use Rattle.br_join.specs.Opening.{begun, begun_from};
 ghost use Rattle.br_join.specs.Records.{fragments_in};
 
 use crate::file_part::Part;
 use crate::making_fault::{FileFault, MakingFault};
-use crate::parts::{are_bytes, byte_at, length_of, push_behind, share_behind};
+use crate::parts::{are_bytes, byte_at, length_of, push_bytes, share_bytes};
 use br_match::Hit;
 use br_types::FileIndex;
 use std::alloc::{AllocError, Global};
 use std::marker::Model;
 
-/// A record of a file: the fragments that make it.
+/// A record of a file, as the fragments that make it.
 #[derive(Debug, Drop)]
-pub(crate) struct Record<'h> {
+pub(crate) struct FileRecord<'h> {
     index: FileIndex,
     stream: u32,
     parts: &'h [Hit],
 }
 
-impl<'h> Model for Record<'h> {
+impl<'h> Model for FileRecord<'h> {
     ghost use Rattle.br_model.specs.Record as model;
     ghost use Rattle.br_join.specs.Records.{bytes_in};
 
@@ -35,43 +35,43 @@ impl<'h> Model for Record<'h> {
     ghost view = { λ r. record { index = r.index; stream = r.stream; bytes = bytes_in r.parts.now } };
 }
 
-impl<'h> Record<'h> {
-    /// What its data is.
+impl<'h> FileRecord<'h> {
+    /// Returns the stream of the record.
     pub(crate) fn stream(&self) -> u32
         ensures { result ≡ self.now.stream }
     {
         self.stream
     }
 
-    /// Whether its data is this.
+    /// Returns whether the record is of this stream.
     pub(crate) fn is_stream(&self, stream: u32) -> bool
         ensures { result ≡ model.is_stream stream self.now }
     {
         self.stream == stream
     }
 
-    /// How many bytes it has, at most 2^64 - 1.
+    /// Returns the number of bytes, at most 2^64 - 1.
     pub(crate) fn len(&self) -> u64
         ensures { result ≡ min (length self.now.bytes) (2 ^ 64 - 1) }
     {
         length_of(self.parts)
     }
 
-    /// The byte at a place, 0 behind the last.
+    /// Returns the byte at a place, 0 past the last.
     pub(crate) fn byte(&self, place: usize) -> u8
         ensures { result ≡ slice_index self.now.bytes place }
     {
         byte_at(self.parts, place)
     }
 
-    /// Whether it has these bytes.
+    /// Returns whether the record has these bytes.
     pub(crate) fn has_bytes(&self, bytes: &[u8]) -> bool
         ensures { result ≡ bytes_eq self.now.bytes bytes.now }
     {
         are_bytes(self.parts, bytes)
     }
 
-    /// Its bytes, where they are in one piece.
+    /// Returns the bytes, if they are in one fragment.
     pub(crate) fn in_one_piece(&self) -> Option<&[u8]>
         ensures { IfSome result (λ bytes. bytes.now ≡ self.now.bytes) }
     {
@@ -81,54 +81,62 @@ impl<'h> Record<'h> {
         }
     }
 
-    /// Puts its bytes behind others, without the first ones, as many as `skip` says.
-    pub(crate) fn push_behind(&self, bytes: &mut Vec<u8>, skip: usize) -> Result<(), AllocError>
+    /// Appends the bytes, without the first `skip`.
+    pub(crate) fn push_to(&self, bytes: &mut Vec<u8>, skip: usize) -> Result<(), AllocError>
         ensures { OnOk result (bytes.new.items ≡ bytes.old.items ++ drop skip self.now.bytes) }
     {
-        push_behind(bytes, skip, self.parts)
+        push_bytes(bytes, skip, self.parts)
     }
 
-    /// Puts its bytes behind the parts of a file, without the first ones, as many as `skip` says. They are shared.
-    pub(crate) fn share_behind(&self, file: &mut Vec<Part>, skip: usize) -> Result<(), AllocError>
+    /// Appends the bytes, without the first `skip`, to the parts of a file. They are shared.
+    pub(crate) fn share_to(&self, file: &mut Vec<Part>, skip: usize) -> Result<(), AllocError>
         ensures { OnOk result (joined file.new.items ≡ joined file.old.items ++ drop skip self.now.bytes) }
     {
-        share_behind(file, skip, self.parts)
+        share_bytes(file, skip, self.parts)
     }
 }
 
-/// Of a record that is open its stream, and how many of its bytes are still to come.
+/// An open record: its stream, and the number of bytes that are still to come.
 #[derive(Clone, Copy, Debug)]
 struct Open {
     stream: u32,
     left: u64,
 }
 
-/// The record after one more fragment: 60 it continues a record where none is open, 61 it does not continue the open one, 62 it
-/// says another number of bytes than are still to come.
+/// Returns the record after one more fragment.
+///
+/// # Errors
+///
+/// `Orphan` if it continues a record and none is open, `Torn` if it does not continue the open one,
+/// `SizeDiffers` if it states another number of bytes than are still to come.
 #[tactic(auto, unfolding(br_model::specs::Record::with_fragment))]
 fn with_hit(opened: Option<Open>, hit: &Hit) -> Result<Open, FileFault>
     ensures { (bytes : List ℕ) → IfNone opened (bytes ≡ [])
-        → AnswersAlways (λ o. begun hit.now.key.index (bytes ++ hit.now.fragment.bytes) o) (λ f. f) result
+        → AnswersAlways (λ o. begun hit.now.key.index (bytes ++ hit.now.fragment.bytes) o) file_fault result
         (refused_as fault (with_fragment (begun_from hit.now.key.index bytes opened) hit.now.fragment)) }
 {
     let left = u64::from(hit.size).saturating_sub(hit.bytes.len() as u64);
     let stream = hit.stream.unsigned_abs();
     match opened {
-        None if hit.stream < 0 => Err(FileFault::new(60)),
+        None if hit.stream < 0 => Err(FileFault::Orphan),
         None => Ok(Open { stream, left }),
-        Some(record) if hit.stream >= 0 || stream != record.stream => Err(FileFault::new(61)),
-        Some(record) if u64::from(hit.size) != record.left => Err(FileFault::new(62)),
+        Some(record) if hit.stream >= 0 || stream != record.stream => Err(FileFault::Torn),
+        Some(record) if u64::from(hit.size) != record.left => Err(FileFault::SizeDiffers),
         Some(_) => Ok(Open { stream, left }),
     }
 }
 
-/// The records of one file's fragments, in order: 60, 61 and 62 where they do not go on with one another, 61 too where the last
-/// record is not whole. Each record borrows its fragments.
+/// Returns the records of one file's fragments, in order. Each record borrows its fragments.
+///
+/// # Errors
+///
+/// `Orphan`, `Torn` or `SizeDiffers` at the first fragment that does not fit, `Torn` if the last
+/// record is not whole.
 pub(crate) fn records_of<'h>(
     alloc: Global,
     index: FileIndex,
     hits: &'h [Hit],
-) -> Result<Vec<Record<'h>>, MakingFault>
+) -> Result<Vec<FileRecord<'h>>, MakingFault>
     requires { All (λ (h : meaning.Hit). h.key.index ≡ index) hits.now }
     ensures { Answers (λ records. records.items) cause result (refused_as fault (join (fragments_in hits.now))) }
 {
@@ -141,7 +149,7 @@ pub(crate) fn records_of<'h>(
             opened = Some(next);
         } else {
             records
-                .push(Record {
+                .push(FileRecord {
                     index,
                     stream: next.stream,
                     parts: &hits[first..i + 1],
@@ -153,6 +161,6 @@ pub(crate) fn records_of<'h>(
     }
     match opened {
         None => Ok(records),
-        Some(_) => Err(MakingFault::File(FileFault::new(61))),
+        Some(_) => Err(MakingFault::File(FileFault::Torn)),
     }
 }

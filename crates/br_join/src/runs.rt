@@ -6,7 +6,7 @@ ghost use Rattle.br_model.specs.Name.{key_cmp};
 ghost use Rattle.br_model.specs.Meaning as model;
 ghost use Rattle.br_model.specs.Restored.{files_found, files_planned, files_listed, planned_in};
 ghost use Rattle.br_join.specs.Outcome.{restored, shown};
-ghost use Rattle.br_join.specs.Runs.{AreListed, file_of_run, listed};
+ghost use Rattle.br_join.specs.Runs.{AreListed, file_of_run, files_of, listed};
 ghost use Rattle.br_join.specs.Runs as run;
 
 use crate::item::Outcome;
@@ -18,7 +18,8 @@ use std::alloc::{AllocError, Global};
 use std::marker::Model;
 use std::thread::Threads;
 
-/// The hits of one file, in order of place, and the path under which it was planned, if it was.
+/// The hits of one file, in order of place, and the path under which the file was planned, if it
+/// was.
 #[derive(Debug, Drop)]
 struct Run<'h> {
     key: FileKey,
@@ -40,7 +41,7 @@ impl<'h> Model for Run<'h> {
     ghost invariant = { λ r. All (λ (h : meaning.Hit). h.key ≡ r.key) r.hits.now };
 }
 
-/// The outcome of a file under its planned path, if it has one.
+/// Returns the outcome of a file under its planned path, if it has one.
 fn named(path: Option<&Path>, outcome: Outcome) -> Outcome
     ensures { shown result ≡ run.named (option_copied path.entry) (shown outcome) }
 {
@@ -51,7 +52,7 @@ fn named(path: Option<&Path>, outcome: Outcome) -> Outcome
 }
 
 impl<'h> Run<'h> {
-    /// The run of these hits.
+    /// Returns the run of these hits.
     fn new(key: FileKey, path: Option<&'h Path>, hits: &'h [Hit]) -> Run<'h>
         requires { All (λ (h : model.Hit). h.key ≡ key) hits.now }
         ensures { result ≡ file_of_run key (option_copied path.entry) hits.now }
@@ -59,8 +60,8 @@ impl<'h> Run<'h> {
         Run { key, path, hits }
     }
 
-    /// The file, with its outcome.
-    fn made(&self, alloc: Global) -> Result<(FileKey, Outcome), AllocError>
+    /// Makes the file, and returns it with its outcome.
+    fn make(&self, alloc: Global) -> Result<(FileKey, Outcome), AllocError>
         ensures { IfOk result (λ file. restored file ≡ self.now) }
     {
         let outcome = outcome_of(alloc, self.key, self.hits)?;
@@ -68,30 +69,30 @@ impl<'h> Run<'h> {
     }
 }
 
-/// Puts hits in order of file and place. Of those at one place of one file the first stays.
+/// Sorts hits by file and place. Of those at one place of one file the first stays.
 pub(crate) fn settle(hits: &mut Vec<Hit>) -> Result<(), AllocError>
     ensures listed { OnOk result (AreListed hits.new.items) }
     ensures same { model.hits_of hits.new.items ≡ model.hits_of hits.old.items }
 {
-    hits.sort_by_key(|hit| (hit.key, hit.place))?;
-    hits.dedup_by_key(|hit| (hit.key, hit.place));
+    hits.sort_by_key(|hit| (hit.key, hit.spot))?;
+    hits.dedup_by_key(|hit| (hit.key, hit.spot));
     Ok(())
 }
 
-/// The hits of the files before this one, of it, and of the files behind it.
+/// Returns the hits of the files before this one, of this one, and of the files after it.
 fn around(hits: &[Hit], key: FileKey) -> (&[Hit], &[Hit], &[Hit])
     requires { AreListed hits.now }
     ensures joined { result.0.now ++ (result.1.now ++ result.2.now) ≡ hits.now }
     ensures before { AllByRecursion (λ (h : model.Hit). key_cmp h.key key ≡ Less) result.0.now }
     ensures of_key { AllByRecursion (λ (h : model.Hit). h.key ≡ key) result.1.now }
-    ensures behind { AllByRecursion (λ (h : model.Hit). key_cmp key h.key ≡ Less) result.2.now }
+    ensures after { AllByRecursion (λ (h : model.Hit). key_cmp key h.key ≡ Less) result.2.now }
 {
     let (before, rest) = hits.split_at(hits.partition_point(|hit| hit.key < key));
-    let (run, behind) = rest.split_at(rest.partition_point(|hit| hit.key <= key));
-    (before, run, behind)
+    let (run, after) = rest.split_at(rest.partition_point(|hit| hit.key <= key));
+    (before, run, after)
 }
 
-/// The runs of the files that were hit, in order of key.
+/// Returns the runs of the files that were hit, in order of key.
 fn found_runs<'h>(alloc: Global, hits: &'h [Hit]) -> Result<Vec<Run<'h>>, AllocError>
     requires { AreListed hits.now }
     ensures { IfOk result (λ runs. runs.items ≡ files_found (listed hits.now)) }
@@ -100,14 +101,15 @@ fn found_runs<'h>(alloc: Global, hits: &'h [Hit]) -> Result<Vec<Run<'h>>, AllocE
     let mut rest = hits;
     while let Some(first) = rest.first() {
         let key = first.key;
-        let (_, run, behind) = around(rest, key);
+        let (_, run, after) = around(rest, key);
         runs.push(Run::new(key, None, run))?;
-        rest = behind;
+        rest = after;
     }
     Ok(runs)
 }
 
-/// The runs of the planned files, in order of key; of a file that was not hit the run is empty.
+/// Returns the runs of the planned files, in order of key. The run of a file that was not hit is
+/// empty.
 fn planned_runs<'h>(
     alloc: Global,
     hits: &'h [Hit],
@@ -124,8 +126,8 @@ fn planned_runs<'h>(
     Ok(runs)
 }
 
-/// The files of runs, in their order, made in as many threads as there are processors.
-fn made(
+/// Makes the files of runs, in their order, in as many threads as there are processors.
+fn make_all(
     rt: &(impl Threads + Sync),
     alloc: Global,
     runs: &[Run<'_>],
@@ -138,12 +140,13 @@ fn made(
         .map(
             |run: &Run<'_>| -> Result<(FileKey, Outcome), AllocError>
                 ensures { IfOk result (λ file. restored file ≡ run.now) }
-            { run.made(alloc) },
+            { run.make(alloc) },
         )
         .collect::<Result<Vec<(FileKey, Outcome)>, AllocError>>(rt, alloc)?
 }
 
-/// The files of hits that are in order: the planned ones where there is a plan, else those that were found.
+/// Returns the files of sorted hits: the planned ones if there is a plan, else those that were
+/// found.
 #[tactic(auto, unfolding(br_model::specs::Restored::files_listed))]
 pub(crate) fn files_of(
     rt: &(impl Threads + Sync),
@@ -152,10 +155,10 @@ pub(crate) fn files_of(
     names: Option<&Names>,
 ) -> Result<Vec<(FileKey, Outcome)>, AllocError>
     requires { AreListed hits.now }
-    ensures { IfOk result (λ outcomes. map restored outcomes.items ≡ files_listed (listed hits.now) (option_map planned_in (option_copied names.entry))) }
+    ensures { IfOk result (λ outcomes. map restored outcomes.items ≡ files_of hits.now (option_copied names.entry)) }
 {
     match names {
-        None => made(rt, alloc, &found_runs(alloc, hits)?),
-        Some(names) => made(rt, alloc, &planned_runs(alloc, hits, names)?),
+        None => make_all(rt, alloc, &found_runs(alloc, hits)?),
+        Some(names) => make_all(rt, alloc, &planned_runs(alloc, hits, names)?),
     }
 }

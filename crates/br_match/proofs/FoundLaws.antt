@@ -9,6 +9,7 @@ use Rattle.br_model.proofs.AnswerLaws.{bind_ok}
 use Rattle.br_match.specs.declared.fault.PieceFault as code
 use Rattle.br_match.specs.declared.hit.Found.{Found}
 use Rattle.br_match.specs.Matching.{AnswersPiece, FoundOver}
+use Rattle.br_match.specs.declared.walk.Step.TheVariants.{End}
 use Rattle.br_match.specs.Walk.{step_on, rest_on, in_front, and_rest, Over, Follows, HasHead, StepAnswers, IsStep, IsWalked}
 use Rattle.br_match.proofs.StepLaws.{rest_is_step_on, rest_from_0}
 use Rattle.br_match.proofs.SeenLaws.{step_above, step_uncovered, step_of_unknown}
@@ -24,7 +25,7 @@ uncovered_step volumes piece a h hits near uncovered has =
 
 -- above the bound
 pub ends_above : (volumes : List Volume) (piece : Piece) (a : ℕ) (hits : List Hit) → is_above (bound_of (just_groups piece.groups)) a ≡ true
-    → Follows volumes piece a → StepAnswers piece a a hits hits (Ok false) volumes
+    → Follows volumes piece a → StepAnswers piece a a hits hits (Ok End) volumes
 ends_above volumes piece a hits above follows = (step_above volumes piece a follows above, refl)
 
 -- ---- the walk

@@ -98,7 +98,7 @@ pub around : (groups : List (ℕ × Group)) (ends starts : List ℕ) (address fi
     → end ≡ max begun first → IsAround address groups (take (end - first) (drop first groups))
 around groups ends starts address first begun end bounded fits past ahead end_is = record {
   before = take first groups;
-  behind = behind;
+  after = behind;
   all = sym (ap (λ (gs : List (ℕ × Group)). take first groups ++ gs) (take-append-drop (end - first) (drop first groups)) ∙ take-append-drop first groups);
   ended = ended;
   begun = not_begun;
@@ -137,9 +137,9 @@ around_seen whole groups given near ends starts seen_ends seen_starts address fi
 pub covered_around : (address : ℕ) (groups near : List (ℕ × Group)) → IsAround address groups near
     → list_any (λ (m : ℕ × Group). covers m.1 address) near ≡ list_any (λ (m : ℕ × Group). covers m.1 address) groups
 covered_around address groups near a =
-    sym (ap (list_any p) a.all ∙ list_any-append p a.before (near ++ a.behind)
-    ∙ ap (λ (b : Bool). b || list_any p (near ++ a.behind)) (list_any_none p a.before a.ended) ∙ list_any-append p near a.behind
-    ∙ ap (λ (b : Bool). list_any p near || b) (list_any_none p a.behind a.begun) ∙ or-false (list_any p near))
+    sym (ap (list_any p) a.all ∙ list_any-append p a.before (near ++ a.after)
+    ∙ ap (λ (b : Bool). b || list_any p (near ++ a.after)) (list_any_none p a.before a.ended) ∙ list_any-append p near a.after
+    ∙ ap (λ (b : Bool). list_any p near || b) (list_any_none p a.after a.begun) ∙ or-false (list_any p near))
   where
     p : ℕ × Group → Bool
     p m = covers m.1 address
@@ -154,9 +154,9 @@ filter_none p (g ∷ gs) none =
 pub admitting_around : (address : ℕ) (session : SessionKey) (groups near : List (ℕ × Group)) → IsAround address groups near
     → filter (λ (m : ℕ × Group). admits_block m.1 address session) near ≡ filter (λ (m : ℕ × Group). admits_block m.1 address session) groups
 admitting_around address session groups near a =
-    sym (ap (filter p) a.all ∙ filter-append p a.before (near ++ a.behind)
-    ∙ ap (λ (gs : List (ℕ × Group)). gs ++ filter p (near ++ a.behind)) (filter_none p a.before (λ k d lt. never (get_or a.before k d) (a.ended k d lt))) ∙ filter-append p near a.behind
-    ∙ ap (λ (gs : List (ℕ × Group)). filter p near ++ gs) (filter_none p a.behind (λ k d lt. never (get_or a.behind k d) (a.begun k d lt))) ∙ append-nil (filter p near))
+    sym (ap (filter p) a.all ∙ filter-append p a.before (near ++ a.after)
+    ∙ ap (λ (gs : List (ℕ × Group)). gs ++ filter p (near ++ a.after)) (filter_none p a.before (λ k d lt. never (get_or a.before k d) (a.ended k d lt))) ∙ filter-append p near a.after
+    ∙ ap (λ (gs : List (ℕ × Group)). filter p near ++ gs) (filter_none p a.after (λ k d lt. never (get_or a.after k d) (a.begun k d lt))) ∙ append-nil (filter p near))
   where
     p : ℕ × Group → Bool
     p m = admits_block m.1 address session

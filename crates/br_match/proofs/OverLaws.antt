@@ -1,4 +1,5 @@
--- From what a drive answers over the volumes that it shows to what a step answers over all that it may be taken to show.
+-- From what a drive answers over the volumes that it shows to what a step answers over all that it
+-- may be taken to show.
 use Rattle.std.proofs.Common.{◌≡◌, ℕ, ◌+◌, true, false, List, ◌++◌, Option, Some, None, Result, Ok, Err, refl, ap, subst, ◌∙◌, ◌⊎◌, inl, inr}
 use Rattle.br_model.specs.Answer.{Answers, IsRefusal, refused_as}
 use Rattle.br_model.specs.Block.{Header, read_header, read_block}

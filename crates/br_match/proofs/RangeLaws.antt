@@ -1,4 +1,5 @@
--- Ranges in order of their low ends, of which each goes on to the greatest high end so far: what is looked up in them.
+-- Ranges in order of their low ends, of which each goes on to the greatest high end so far: what is
+-- looked up in them.
 use Rattle.std.proofs.Common.{◌≡◌, ℕ, ◌+◌, ◌-◌, ◌<◌, ◌≤◌, Bool, true, false, ◌||◌, ◌==◌, leb, List, [], ◌∷◌, ◌++◌, length, take, get_or, refl, ap, sym, ◌∙◌, ◌⊎◌, inl, inr, Some, arith}
 use Rattle.std.proofs.Math.Bool.{or-false}
 use Rattle.std.proofs.Math.Seq.{get_or-append_seam}

@@ -1,4 +1,5 @@
--- What a call of a drive says of the step of a walk, over volumes that the drive may be taken to show.
+-- What a call of a drive says of the step of a walk, over volumes that the drive may be taken to
+-- show.
 use Rattle.std.proofs.Common.{◌≡◌, ℕ, ◌+◌, ◌<◌, ◌≤◌, ◌⊎◌, Bool, true, false, ◌&&◌, ◌||◌, ltb, List, [], ◌∷◌, ◌++◌, length, take, drop, Option, Some, None, Result, Ok, Err, cond, ap, sym, ◌∙◌, refl, subst, inl, inr, arith, append_assoc}
 use Rattle.std.proofs.lemmas.Bool.{cases_lt, ltb-true, ltb-false, le-ltb, lt-ltb, or_right}
 use Rattle.std.proofs.lemmas.Option.{same_Some}

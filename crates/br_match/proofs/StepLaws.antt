@@ -1,4 +1,5 @@
--- The walk of a piece's volume: from an address on it is the step there, and behind it the walk from the next address.
+-- The walk of a piece's volume: from an address on it is the step there, and behind it the walk
+-- from the next address.
 use Rattle.std.proofs.Common.{◌≡◌, ℕ, zero, suc, ◌+◌, ◌*◌, ◌/◌, ◌<◌, Bool, true, false, ◌&&◌, ◌||◌, ltb, List, [], ◌∷◌, ◌++◌, length, drop, Option, Some, None, Result, Ok, Err, cond, ap, sym, ◌∙◌, refl, arith, add-one}
 use Rattle.std.proofs.lemmas.List.{length-drop, drop-drop}
 use Rattle.std.specs.Prelude.{flat_map, option_map}

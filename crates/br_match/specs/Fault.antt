@@ -1,5 +1,5 @@
--- What a refused piece says.
-use Rattle.std.specs.Prelude.{ℕ, List, Option, Some, None}
+-- What the refusal of a piece means.
+use Rattle.std.specs.Prelude.{◌≡◌, ℕ, ◌<◌, List, Option, Some, None, Result, IfErr}
 use Rattle.br_model.specs.Meaning as model
 use Rattle.br_match.specs.declared.fault.PieceCause.{PieceCause}
 use Rattle.br_match.specs.declared.fault.PieceCause.TheVariants.{BadId, BadBlockSize, Truncated, DriveFault, UnknownVolume}
@@ -29,15 +29,23 @@ abbrev pub fault_address : PieceFault → Option ℕ
 fault_address Memory = None
 fault_address (Block why vol addr) = Some addr
 
--- the refusal that the volumes decide, nothing for a drive that failed
+-- a refusal with this number
+abbrev pub refused_with : ℕ → List ℕ → ℕ → Option model.PieceFault
+refused_with number vol addr = Some (record { number = number; volume = vol; address = addr })
+
+-- the refusal that the volumes decide; none if the drive failed
 abbrev pub refusal : PieceCause → List ℕ → ℕ → Option model.PieceFault
 refusal DriveFault vol addr = None
-refusal BadId vol addr = Some (record { number = 10; volume = vol; address = addr })
-refusal BadBlockSize vol addr = Some (record { number = 11; volume = vol; address = addr })
-refusal Truncated vol addr = Some (record { number = 12; volume = vol; address = addr })
-refusal UnknownVolume vol addr = Some (record { number = 14; volume = vol; address = addr })
+refusal BadId vol addr = refused_with 10 vol addr
+refusal BadBlockSize vol addr = refused_with 11 vol addr
+refusal Truncated vol addr = refused_with 12 vol addr
+refusal UnknownVolume vol addr = refused_with 14 vol addr
 
--- the refusal that the volumes decide, nothing for want of memory and for a drive that failed
+-- the refusal that the volumes decide; none if memory ran out or the drive failed
 abbrev pub cause : PieceFault → Option model.PieceFault
 cause Memory = None
 cause (Block why vol addr) = refusal why vol addr
+
+-- A result that is refused with a drive's failure shows that the drive failed meanwhile.
+abbrev pub FailsWithDrive : {D A : Type 0} → (D → ℕ) → D → D → Result A PieceFault → Type 0
+FailsWithDrive failures before after result = IfErr result (λ fault. fault_number fault ≡ 13 → failures before < failures after)

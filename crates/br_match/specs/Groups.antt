@@ -1,4 +1,4 @@
--- Groups made ready for many look-ups.
+-- Groups prepared for many look-ups.
 use Rattle.std.proofs.Math.Bool.{Bool-set}
 use Rattle.std.proofs.Math.Nat.{ℕ_set}
 use Rattle.std.specs.Prelude.{◌≡◌, refl, [], ◌∷◌, filter_map, ℕ, ◌/◌, ◌%◌, ◌^◌, Bool, ◌&&◌, List, Option, option_map, find, ℤ, nat_abs}
@@ -15,7 +15,7 @@ pub record IsRising (ranges : List Range) : Type 0 where
   pub low : IsNonDecreasingBy (λ (r : Range). r.low) ranges
   pub high : IsNonDecreasingBy (λ (r : Range). r.high) ranges
 
--- two groups of one number, of which each criterion admits the same numbers
+-- two groups with one number, whose criteria admit the same numbers
 pub record AreAlike (g h : ℕ × Group) : Type 0 where
   pub number : g.0 ≡ h.0
   pub session_ids : (n : ℕ) → admits g.1.session_ids n ≡ admits h.1.session_ids n
@@ -26,7 +26,7 @@ pub record AreAlike (g h : ℕ × Group) : Type 0 where
   pub indexes : (n : ℕ) → admits g.1.indexes n ≡ admits h.1.indexes n
   pub streams : (n : ℕ) → admits g.1.streams n ≡ admits h.1.streams n
 
--- what a group asks of the block of a fragment
+-- what a group asks of a fragment's block
 abbrev pub admits_block : Group → ℕ → SessionKey → Bool
 admits_block g address session =
     admits g.session_ids session.id && admits g.session_times session.time
@@ -40,10 +40,19 @@ admits_record g index stream = is_positive index && admits g.indexes (nat_abs in
 abbrev pub first_admitting : ℤ → ℤ → List (ℕ × Group) → Option ℕ
 first_admitting index stream numbered = option_map (λ (g : ℕ × Group). g.0) (find (λ (g : ℕ × Group). admits_record g.1 index stream) numbered)
 
--- the hits among some fragments of a block, numbered from n on, where this says which group hits a fragment
+-- the hits among some fragments of a block, numbered from n on, if `first` returns the group that
+-- hits a fragment
 abbrev pub hits_of_fragments : (Fragment → Option ℕ) → ℕ → ℕ → List Fragment → List Hit
 hits_of_fragments first address n fragments =
     filter_map (λ (f : ℕ × Fragment). option_map (hit_at (record { address = address; bytes = [] }) f) (first f.1)) (enumerate_from n fragments)
+
+-- the hit that a numbered fragment of the block at an address is, if one of these groups hits it
+abbrev pub hit_by : List (ℕ × Group) → ℕ → ℕ × Fragment → Option Hit
+hit_by near address f = option_map (hit_at (record { address = address; bytes = [] }) f) (first_admitting f.1.index f.1.stream near)
+
+-- the hits of these groups among all fragments of the block at an address
+abbrev pub hits_by : List (ℕ × Group) → ℕ → List Fragment → List Hit
+hits_by near address fragments = hits_of_fragments (λ f. first_admitting f.index f.stream near) address 0 fragments
 
 -- two groups are alike in one way at most
 alike_once : (g h : ℕ × Group) → IsProp (AreAlike g h)

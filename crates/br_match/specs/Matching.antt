@@ -10,7 +10,8 @@ use Rattle.br_match.specs.Fault.{cause}
 use Rattle.br_match.specs.declared.hit.Found.{Found}
 use Rattle.br_match.specs.declared.fault.PieceFault.{PieceFault}
 
--- the piece has groups, and hits on the volumes, and each of its groups has addresses, of which the last lies in the volume
+-- the piece has groups, and hits on the volumes, and each of its groups has addresses, the last of
+-- them inside the volume
 pub record IsEnclosed (volumes : List Volume) (piece : Piece) : Type 0 where
   pub some : 0 < length piece.groups
   pub hits : List Hit
@@ -19,20 +20,23 @@ pub record IsEnclosed (volumes : List Volume) (piece : Piece) : Type 0 where
   pub found : volume_bytes volumes piece.volume ≡ Some bytes
   pub ended : AllByRecursion (λ (g : ℕ × Group). (is_empty g.1.addresses ≡ false) × (last_address g.1 < length bytes)) piece.groups
 
--- A drive that showed the earlier volumes before and the later ones behind may be taken to show these: they are what it showed
--- throughout, or it showed more than them, and the piece is enclosed in them.
+-- A drive that showed the earlier volumes before a call and the later ones after it may be taken to
+-- show these: they are what it showed throughout, or it showed more than them, and the piece is
+-- enclosed in them.
 abbrev pub StandsFor : List Volume → List Volume → Piece → List Volume → Type 0
 StandsFor earlier later piece volumes = Extends earlier volumes × (Extends volumes later ⊎ IsEnclosed volumes piece)
 
--- the same of several pieces: the volumes are what it showed throughout, or each of the pieces is enclosed in them
+-- the same of several pieces: the volumes are what it showed throughout, or each of the pieces is
+-- enclosed in them
 abbrev pub StandsForEach : List Volume → List Volume → List Piece → List Volume → Type 0
 StandsForEach earlier later pieces volumes = Extends earlier volumes × (Extends volumes later ⊎ AllByRecursion (IsEnclosed volumes) pieces)
 
--- the answer is the hits of the piece on the volumes, or their first fault; a drive may fail, and memory run out, at any time
+-- the result is the hits of the piece on the volumes, or their first fault; a drive may fail, and
+-- memory may run out, at any time
 abbrev pub AnswersPiece : List Volume → Piece → Result Found PieceFault → Type 0
 AnswersPiece volumes piece result = Answers (λ (f : Found). f.hits.items) cause result (hits_on volumes piece)
 
--- where the drive tells its volumes, the answer is that of all volumes that it may be taken to show
+-- if the drive tells its volumes, the result is that of all volumes that it may be taken to show
 abbrev pub FoundOver : Option (List Volume) → Option (List Volume) → Piece → Result Found PieceFault → Type 0
 FoundOver (Some earlier) (Some later) piece result =
     (volumes : List Volume) → StandsFor earlier later piece volumes → AnswersPiece volumes piece result

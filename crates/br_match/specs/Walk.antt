@@ -8,6 +8,8 @@ use Rattle.br_model.specs.Meaning.{Piece, PieceFault, Hit, bound_of, is_covered,
 use Rattle.br_volume.specs.Drive.{bytes_got, bytes_shown}
 use Rattle.br_volume.specs.declared.drive.Got.{Got}
 use Rattle.br_match.specs.declared.fault.PieceFault as code
+use Rattle.br_match.specs.declared.walk.Step.{Step}
+use Rattle.br_match.specs.declared.walk.Step.TheVariants.{Passed, End}
 use Rattle.br_match.specs.Fault.{cause}
 use Rattle.br_match.specs.Matching.{StandsFor}
 
@@ -15,11 +17,12 @@ use Rattle.br_match.specs.Matching.{StandsFor}
 abbrev pub on_volume : List ℕ → BlockFault → PieceFault
 on_volume volume e = record { number = e.number; volume = volume; address = e.address }
 
--- the refusal of a volume that is not there
+-- the refusal of an unknown volume
 abbrev pub unknown : List ℕ → PieceFault
 unknown volume = record { number = 14; volume = volume; address = 0 }
 
--- the hits in the block at an address and the address behind it, none where the walk ends there, or the fault
+-- the hits in the block at an address and the next address, none if the walk ends there, or the
+-- fault
 unfoldable pub step_among : List (ℕ × Group) → List ℕ → ℕ → Result (Option (List Hit × ℕ)) BlockFault
 step_among numbered bytes address = do
   step ← next_block bytes (bound_of (just_groups numbered)) (is_covered (just_groups numbered)) address
@@ -43,24 +46,24 @@ rest_on volumes piece address = do
   bytes ← some_or (volume_bytes volumes piece.volume) (unknown piece.volume)
   refused_as (on_volume piece.volume) (rest_among piece.groups bytes address)
 
--- some hits, and those behind them
+-- some hits, and those after them
 abbrev pub in_front : List Hit → Result (List Hit) PieceFault → Result (List Hit) PieceFault
 in_front found rest = do
   more ← rest
   Ok (found ++ more)
 
--- the hits of a step, and those of the walk from the address behind it
+-- the hits of a step, and those of the walk from the next address
 abbrev pub and_rest : (ℕ → Result (List Hit) PieceFault) → Option (List Hit × ℕ) → Result (List Hit) PieceFault
 and_rest rest None = Ok []
 and_rest rest (Some s) = in_front s.0 (rest s.1)
 
--- a walk may have come to the address: a piece that is not refused is not refused from there on, and only at address 0 is it
--- not known yet that the volume is there
+-- a walk may have come to the address: a piece that is not refused is not refused from there on,
+-- and only at address 0 is it not known yet that the volume is there
 pub record Follows (volumes : List Volume) (piece : Piece) (address : ℕ) : Type 0 where
   pub rest : (hits : List Hit) → hits_on volumes piece ≡ Ok hits → (rest : List Hit) × (rest_on volumes piece address ≡ Ok rest)
   pub there : volume_bytes volumes piece.volume ≡ None → address ≡ 0
 
--- where a drive tells its volumes, this holds of all volumes that it may be taken to show
+-- if a drive tells its volumes, this holds of all volumes that it may be taken to show
 abbrev pub Over : Option (List Volume) → Option (List Volume) → Piece → (List Volume → Type 0) → Type 0
 Over (Some earlier) (Some later) piece P = (volumes : List Volume) → StandsFor earlier later piece volumes → P volumes
 Over None later piece P = ⊤
@@ -77,7 +80,8 @@ pub record HasHead (volumes : List Volume) (piece : Piece) (address : ℕ) (head
   pub within : address < length bytes
   pub read : read_header (drop address bytes) ≡ Ok head
 
--- the same of those volumes over which a walk may have come to the address and which have this header there
+-- the same of those volumes over which a walk may have come to the address and which have this
+-- header there
 abbrev pub AfterHead : Option (List Volume) → Option (List Volume) → Piece → ℕ → Header → (List Volume → Type 0) → Type 0
 AfterHead earlier later piece address head P = AfterWalk earlier later piece address (λ volumes. HasHead volumes piece address head → P volumes)
 
@@ -98,13 +102,13 @@ abbrev pub ReadsOver : Option (List Volume) → List ℕ → ℕ → ℕ → Lis
 ReadsOver None name address size buffer result = ⊤
 ReadsOver (Some volumes) name address size buffer result = ReadsAt name address size buffer result volumes
 
--- the header at the address, none where the walk ends there
+-- the header at the address, none if the walk ends there
 abbrev pub HeadAnswers : Piece → ℕ → Result (Option Header) code.PieceFault → List Volume → Type 0
 HeadAnswers piece address (Ok (Some head)) volumes = HasHead volumes piece address head
 HeadAnswers piece address (Ok None) volumes = step_on volumes piece address ≡ Ok None
 HeadAnswers piece address (Err e) volumes = IsRefusal (cause e) (step_on volumes piece address)
 
--- a step from an address to the next that puts its hits behind those before
+-- a step from an address to the next, which appends its hits
 pub record IsStep (volumes : List Volume) (piece : Piece) (address next : ℕ) (before after : List Hit) : Type 0 where
   pub batch : List Hit
   pub step : step_on volumes piece address ≡ Ok (Some (batch, next))
@@ -115,11 +119,22 @@ abbrev pub BlockAnswers : Piece → ℕ → ℕ → List Hit → List Hit → Re
 BlockAnswers piece address next before after (Ok _) volumes = IsStep volumes piece address next before after
 BlockAnswers piece address next before after (Err e) volumes = IsRefusal (cause e) (step_on volumes piece address)
 
--- a step, or the end of the walk, where the answer is no
-abbrev pub StepAnswers : Piece → ℕ → ℕ → List Hit → List Hit → Result Bool code.PieceFault → List Volume → Type 0
-StepAnswers piece address next before after (Ok true) volumes = IsStep volumes piece address next before after
-StepAnswers piece address next before after (Ok false) volumes = (step_on volumes piece address ≡ Ok None) × (after ≡ before)
+-- over the volumes that a drive may be taken to show: the block at the address, which has this
+-- header, is passed
+abbrev pub PassesBlock : {D : Type 0} → (D → Option (List Volume)) → D → D → Piece → ℕ → Header → List Hit → List Hit → Result (Unit {0}) code.PieceFault → Type 0
+PassesBlock shows earlier later piece address head before after result =
+    AfterHead (shows earlier) (shows later) piece address head (BlockAnswers piece address (address + head.size) before after result)
+
+-- a step past a block, or the end of the walk
+abbrev pub StepAnswers : Piece → ℕ → ℕ → List Hit → List Hit → Result Step code.PieceFault → List Volume → Type 0
+StepAnswers piece address next before after (Ok Passed) volumes = IsStep volumes piece address next before after
+StepAnswers piece address next before after (Ok End) volumes = (step_on volumes piece address ≡ Ok None) × (after ≡ before)
 StepAnswers piece address next before after (Err e) volumes = IsRefusal (cause e) (step_on volumes piece address)
+
+-- over the volumes that a drive may be taken to show: the walk takes a step, or is at its end
+abbrev pub TakesStep : {D : Type 0} → (D → Option (List Volume)) → D → D → Piece → ℕ → ℕ → List Hit → List Hit → Result Step code.PieceFault → Type 0
+TakesStep shows earlier later piece address next before after result =
+    AfterWalk (shows earlier) (shows later) piece address (StepAnswers piece address next before after result)
 
 -- these hits were found of a piece before its walk came to the address
 pub record IsWalked (volumes : List Volume) (piece : Piece) (address : ℕ) (found : List Hit) : Type 0 where

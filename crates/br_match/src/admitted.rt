@@ -7,10 +7,10 @@ use br_bsr::Range;
 use std::alloc::{AllocError, Global};
 use std::marker::Model;
 
-/// The numbers that a criterion admits, made ready for many look-ups.
+/// The numbers that a criterion admits, prepared for many look-ups.
 #[derive(Debug, Drop)]
 pub(crate) struct Admitted {
-    /// In order of their low ends. Each has as its high end the greatest so far.
+    /// In order of their low ends. The high end of each is the greatest so far.
     ranges: Vec<Range>,
 }
 
@@ -26,7 +26,7 @@ impl Model for Admitted {
     ghost invariant = { λ a. IsRising a.ranges.items };
 }
 
-/// The ranges in order of their low ends.
+/// Returns the ranges in order of their low ends.
 fn by_low(alloc: Global, ranges: &[Range]) -> Result<Vec<Range>, AllocError>
     ensures rising { IfOk result (λ v. IsNonDecreasingBy (λ r. r.low) v.items) }
     ensures same { IfOk result (λ v. IsPermutation ranges.now v.items) }
@@ -36,7 +36,7 @@ fn by_low(alloc: Global, ranges: &[Range]) -> Result<Vec<Range>, AllocError>
     Ok(sorted)
 }
 
-/// The ranges, of which each goes on to the greatest high end so far.
+/// Returns the ranges, each of them extended to the greatest high end so far.
 fn widened(alloc: Global, sorted: &[Range]) -> Result<Vec<Range>, AllocError>
     requires { IsNonDecreasingBy (λ r. r.low) sorted.now }
     ensures rising { IfOk result (λ v. IsRising v.items) }
@@ -54,7 +54,7 @@ fn widened(alloc: Global, sorted: &[Range]) -> Result<Vec<Range>, AllocError>
     Ok(widened)
 }
 
-/// How many of the ranges begin at a number or before it.
+/// Returns the number of ranges that begin at a number or before it.
 fn begun(ranges: &[Range], number: u64) -> usize
     requires { IsRising ranges.now }
     ensures bound { result ≤ length ranges.now }
@@ -63,6 +63,7 @@ fn begun(ranges: &[Range], number: u64) -> usize
     ranges.partition_point(|range| range.low <= number)
 }
 
+/// Returns whether the ranges admit a number.
 fn admits_number(ranges: &[Range], number: u64) -> bool
     requires { IsRising ranges.now }
     ensures { result ≡ admits ranges.now number }
@@ -78,7 +79,7 @@ fn admits_number(ranges: &[Range], number: u64) -> bool
     number <= last.high
 }
 
-/// The least end of the ranges; 0 where there are none.
+/// Returns the least end of the ranges, 0 if there are none.
 fn least(ranges: &[Range]) -> u64
     requires { IsRising ranges.now }
     ensures { (n : ℕ) → n < result → admits ranges.now n ≡ false }
@@ -89,7 +90,7 @@ fn least(ranges: &[Range]) -> u64
     }
 }
 
-/// The greatest end of the ranges; the greatest number of all where there are none.
+/// Returns the greatest end of the ranges, the greatest number of all if there are none.
 fn greatest(ranges: &[Range]) -> u64
     requires { IsRising ranges.now }
     ensures { (n : ℕ) → result < n → n < 2 ^ 64 → admits ranges.now n ≡ false }
@@ -101,7 +102,7 @@ fn greatest(ranges: &[Range]) -> u64
 }
 
 impl Admitted {
-    /// The numbers in the ranges, or all where there are none.
+    /// Prepares the numbers in the ranges, or all numbers if there are no ranges.
     pub(crate) fn new(alloc: Global, ranges: &[Range]) -> Result<Admitted, AllocError>
         ensures { IfOk result (λ a. (n : ℕ) → admits a n ≡ admits ranges.now n) }
     {
@@ -111,20 +112,21 @@ impl Admitted {
         })
     }
 
-    /// Whether the number is admitted. It takes a time of log n in the number of ranges.
+    /// Returns whether the number is admitted, in a time of log n in the number of ranges.
     pub(crate) fn contains(&self, number: u64) -> bool
         ensures { result ≡ admits self.now number }
     {
         admits_number(&self.ranges, number)
     }
-    /// No number below this one is admitted.
+
+    /// Returns a number below which none is admitted.
     pub(crate) fn least(&self) -> u64
         ensures { (n : ℕ) → n < result → admits self.now n ≡ false }
     {
         least(&self.ranges)
     }
 
-    /// No number above this one is admitted.
+    /// Returns a number above which none is admitted.
     pub(crate) fn greatest(&self) -> u64
         ensures { (n : ℕ) → result < n → n < 2 ^ 64 → admits self.now n ≡ false }
     {

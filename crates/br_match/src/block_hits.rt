@@ -1,7 +1,7 @@
 ghost use Rattle.std.specs.Prelude.{◌≡◌, ◌<◌, ◌^◌, ◌++◌, [], length, IfOk, OnOk, Some, None, if◌then◌else◌, nat_abs, map, option_map};
 ghost use Rattle.std.specs.Int.{is_positive};
-ghost use Rattle.br_model.specs.Meaning.{hits_in, hit_at};
-ghost use Rattle.br_match.specs.Groups.{first_admitting, hits_of_fragments};
+ghost use Rattle.br_model.specs.Meaning.{hits_in};
+ghost use Rattle.br_match.specs.Groups.{hit_by, hits_by};
 
 use crate::hit::{Hit, Spot};
 use crate::matcher::{Matcher, first_admitting};
@@ -11,7 +11,7 @@ use br_types::{FileIndex, FileKey};
 use std::alloc::{AllocError, Global};
 use std::sync::ArcSlice;
 
-/// The file that the fragment is of; none for a label.
+/// Returns the index of the fragment's file; none for a label.
 fn file_index(fragment: &Fragment<'_>) -> Option<FileIndex>
     ensures { result ≡ if is_positive fragment.now.index then Some (nat_abs fragment.now.index) else None }
 {
@@ -22,7 +22,7 @@ fn file_index(fragment: &Fragment<'_>) -> Option<FileIndex>
     }
 }
 
-/// The hit that a fragment of the block at this address is, if one of the groups hits it.
+/// Returns the hit that a fragment of the block at this address is, if one of the groups hits it.
 fn hit_of(
     alloc: Global,
     near: &[&Matcher],
@@ -30,7 +30,7 @@ fn hit_of(
     ordinal: u32,
     fragment: &Fragment<'_>,
 ) -> Result<Option<Hit>, AllocError>
-    ensures { IfOk result (λ hit. hit ≡ option_map (hit_at (record { address = addr; bytes = [] }) (ordinal, fragment.now)) (first_admitting fragment.now.index fragment.now.stream (map (λ m. m.now) near.now))) }
+    ensures { IfOk result (λ hit. hit ≡ hit_by (map (λ m. m.now) near.now) addr (ordinal, fragment.now)) }
 {
     let Some(index) = file_index(fragment) else {
         return Ok(None);
@@ -43,7 +43,7 @@ fn hit_of(
             session: fragment.session,
             index,
         },
-        place: Spot {
+        spot: Spot {
             group,
             addr,
             ordinal,
@@ -54,8 +54,8 @@ fn hit_of(
     }))
 }
 
-/// Puts the hits among the fragments of the block at this address behind those that were found before it, in order. The
-/// groups are those that may hit a record in the block.
+/// Appends the hits among the fragments of the block at this address, in order. The groups are
+/// those that may hit a record in the block.
 fn push_hits_of(
     alloc: Global,
     near: &[&Matcher],
@@ -64,7 +64,7 @@ fn push_hits_of(
     hits: &mut Vec<Hit>,
 ) -> Result<(), AllocError>
     requires few { length fragments < 2 ^ 32 }
-    ensures { OnOk result (hits.new.items ≡ hits.old.items ++ hits_of_fragments (λ f. first_admitting f.index f.stream (map (λ m. m.now) near.now)) addr 0 fragments.entry) }
+    ensures { OnOk result (hits.new.items ≡ hits.old.items ++ hits_by (map (λ m. m.now) near.now) addr fragments.entry) }
 {
     let mut ordinal: u32 = 0;
     for fragment in fragments {
@@ -76,7 +76,7 @@ fn push_hits_of(
     Ok(())
 }
 
-/// Puts the hits in a block behind those that were found before it, in order.
+/// Appends the hits in a block, in order.
 pub(crate) fn push_hits(
     alloc: Global,
     matchers: &Matchers,

@@ -1,7 +1,7 @@
-ghost use Rattle.std.specs.Prelude.{◌≡◌, ℕ, List, Some};
+ghost use Rattle.std.specs.Prelude.{◌≡◌, ◌==◌, ℕ, List};
 ghost use Rattle.std.specs.Option.{option_copied};
 ghost use Rattle.br_block.specs.Fault as block;
-ghost use Rattle.br_match.specs.Fault.{cause_number, fault_number, fault_volume, fault_address, refusal};
+ghost use Rattle.br_match.specs.Fault.{cause_number, fault_number, fault_volume, fault_address, refusal, refused_with};
 ghost use Rattle.br_match.specs.declared.fault.PieceFault.TheVariants.{Memory};
 
 use br_block::BlockFault;
@@ -9,7 +9,7 @@ use br_types::VolName;
 use std::alloc::AllocError;
 use thiserror::Error;
 
-/// Why a volume can't be searched.
+/// The reason why a volume can't be searched.
 #[derive(Clone, Copy, Debug, PartialEq, Eq, Error)]
 pub enum PieceCause {
     #[error("not a block: the letters BB02 do not stand at byte 12 of its header")]
@@ -25,7 +25,7 @@ pub enum PieceCause {
 }
 
 impl PieceCause {
-    /// The number of the refusal: 10 to 14.
+    /// Returns the number of the refusal: 10 to 14.
     pub fn number(self) -> u32
         ensures { result ≡ cause_number self }
     {
@@ -38,10 +38,10 @@ impl PieceCause {
         }
     }
 
-    /// The cause of a block's refusal.
+    /// Returns the cause that a block's fault is.
     pub(crate) fn of_block(fault: BlockFault) -> PieceCause
         ensures number { cause_number result ≡ block.fault_number fault }
-        ensures told { (vol : List ℕ) (addr : ℕ) → refusal result vol addr ≡ Some (record { number = block.fault_number fault; volume = vol; address = addr }) }
+        ensures told { (vol : List ℕ) (addr : ℕ) → refusal result vol addr ≡ refused_with (block.fault_number fault) vol addr }
     {
         match fault {
             BlockFault::BadId => PieceCause::BadId,
@@ -51,12 +51,12 @@ impl PieceCause {
     }
 }
 
-/// Why the work on a piece was given up.
+/// The reason why the work on a piece was given up.
 #[derive(Debug, Drop, Error)]
 pub enum PieceFault {
     #[error("out of memory")]
     Memory,
-    /// At the block at this address of the volume.
+    /// The block at this address of the volume is refused.
     #[error("{cause}, at address {addr}")]
     Block {
         cause: PieceCause,
@@ -66,7 +66,7 @@ pub enum PieceFault {
 }
 
 impl PieceFault {
-    /// The number of the refusal: 1 or 10 to 14.
+    /// Returns the number of the refusal: 1 or 10 to 14.
     pub fn number(&self) -> u32
         ensures { result ≡ fault_number self.now }
     {
@@ -76,7 +76,17 @@ impl PieceFault {
         }
     }
 
-    /// The volume of the block; none for want of memory.
+    /// Returns whether the drive failed.
+    pub fn is_drive_failure(&self) -> bool
+        ensures { result ≡ (fault_number self.now == 13) }
+    {
+        match self {
+            PieceFault::Memory => false,
+            PieceFault::Block { cause, .. } => *cause == PieceCause::DriveFault,
+        }
+    }
+
+    /// Returns the volume of the block; none if memory ran out.
     pub fn vol(&self) -> Option<&VolName>
         ensures { option_copied result ≡ fault_volume self.now }
     {
@@ -86,7 +96,8 @@ impl PieceFault {
         }
     }
 
-    /// The address of the block, in bytes from the start of the volume; none for want of memory.
+    /// Returns the address of the block, in bytes from the start of the volume; none if memory ran
+    /// out.
     pub fn addr(&self) -> Option<u64>
         ensures { result ≡ fault_address self.now }
     {

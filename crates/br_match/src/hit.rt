@@ -2,14 +2,14 @@ use br_types::FileKey;
 use std::marker::Model;
 use std::sync::ArcSlice;
 
-/// Where a fragment was found. Places are ordered by group, then by address, then by ordinal.
+/// The place of a fragment. Spots are ordered by group, then by address, then by ordinal.
 #[derive(Clone, Copy, Debug, PartialEq, Eq, PartialOrd, Ord)]
 pub struct Spot {
     /// The number of the first group of the bootstrap that hits the fragment.
     pub group: u32,
     /// The address of its block, in bytes from the start of the volume.
     pub addr: u64,
-    /// How many fragments stand before it in the block.
+    /// The number of fragments before it in the block.
     pub ordinal: u32,
 }
 
@@ -28,14 +28,14 @@ impl Model for Spot {
 pub struct Hit {
     /// The file.
     pub key: FileKey,
-    /// Where the fragment was found.
-    pub place: Spot,
-    /// What its data is; negative where it goes on with a record of an earlier block.
+    /// The place of the fragment.
+    pub spot: Spot,
+    /// The stream of its data; negative if it continues a record of an earlier block.
     pub stream: i32,
     /// The bytes of data that the record header names.
     pub size: u32,
-    /// The data in the block: fewer than `size` bytes where the record goes on in a later block. A file that is made of it shares
-    /// it, so that no byte is copied.
+    /// The data in the block: fewer than `size` bytes if the record continues in a later block. A
+    /// file that is made of it shares it, so that no byte is copied.
     pub bytes: ArcSlice<u8>,
 }
 
@@ -48,7 +48,7 @@ impl Model for Hit {
 
     ghost view = { λ h. record {
       key = h.key;
-      spot = h.place;
+      spot = h.spot;
       fragment = record { session = h.key.session; index = pos h.key.index; stream = h.stream; size = h.size; bytes = arc_slice_items h.bytes };
     } };
 }

@@ -1,6 +1,7 @@
-//! Matching: what a drive finds on one volume of the records that a bootstrap asks for.
+//! Matching: the records of one volume that a bootstrap asks for, as a drive finds them.
 //!
-//! `match_piece` walks the volume of a piece and gives the hits. The volumes of the drive may grow meanwhile.
+//! `match_piece` walks the volume of a piece and returns the hits. The volumes of the drive may
+//! grow meanwhile.
 #![tactic(auto)]
 
 mod admitted;

@@ -10,10 +10,10 @@ use br_types::SessionKey;
 use std::alloc::{AllocError, Global};
 use std::marker::Model;
 
-/// The bytes of a volume that one VolFile counts: 2^32.
+/// The number of bytes of a volume in one VolFile: 2^32.
 const FILE_BYTES: u64 = 4_294_967_296;
 
-/// A group of a piece, made ready for many look-ups.
+/// A group of a piece, prepared for many look-ups.
 #[derive(Drop)]
 pub(crate) struct Matcher {
     /// The number of the group in the bootstrap.
@@ -33,11 +33,23 @@ impl Model for Matcher {
 
     ghost Value = { ℕ × model.Group };
 
-    ghost view = { λ m. (m.number, record { volume = []; session_ids = m.session_ids; session_times = m.session_times; files = m.files; blocks = m.blocks; addresses = m.addrs; indexes = m.indexes; streams = m.streams }) };
+    ghost view = { λ m. (
+      m.number,
+      record {
+        volume = [];
+        session_ids = m.session_ids;
+        session_times = m.session_times;
+        files = m.files;
+        blocks = m.blocks;
+        addresses = m.addrs;
+        indexes = m.indexes;
+        streams = m.streams;
+      },
+    ) };
 }
 
 impl Matcher {
-    /// The group of this number.
+    /// Prepares the group with this number.
     fn new(alloc: Global, number: u32, group: &Group) -> Result<Matcher, AllocError>
         ensures { IfOk result (λ m. AreAlike m (number, group.now)) }
     {
@@ -53,32 +65,32 @@ impl Matcher {
         })
     }
 
-    /// Whether the group asks for records of the block at this address.
+    /// Returns whether the group asks for records of the block at this address.
     pub(crate) fn covers(&self, addr: u64) -> bool
         ensures { result ≡ covers self.now.1 addr }
     {
         self.addrs.contains(addr)
     }
 
-    /// The group covers no address below this one.
+    /// Returns an address below which the group covers none.
     pub(crate) fn first_address(&self) -> u64
         ensures { BeginsAt self.now result }
     {
         self.addrs.least()
     }
 
-    /// The group covers no address above this one.
+    /// Returns an address above which the group covers none.
     pub(crate) fn last_address(&self) -> u64
         ensures { EndsBy self.now result }
     {
         self.addrs.greatest()
     }
 
-    /// Whether the group may hit a record in a block of this session at this address.
+    /// Returns whether the group may hit a record in a block of this session at this address.
     pub(crate) fn admits_block(&self, addr: u64, session: SessionKey) -> bool
         ensures { result ≡ admits_block self.now.1 addr session }
     {
-        // Where a volume has many groups, the address tells most of them apart.
+        // If a volume has many groups, the address excludes most of them.
         self.addrs.contains(addr)
             && self.session_ids.contains(u64::from(session.id))
             && self.session_times.contains(u64::from(session.time))
@@ -86,7 +98,8 @@ impl Matcher {
             && self.blocks.contains(addr % FILE_BYTES)
     }
 
-    /// Whether the group hits a record of this index and this stream in a block whose records it may hit.
+    /// Returns whether the group hits a record of this index and stream, in a block whose records
+    /// it may hit.
     fn admits_record(&self, index: i32, stream: i32) -> bool
         ensures { result ≡ admits_record self.now.1 index stream }
     {
@@ -96,7 +109,7 @@ impl Matcher {
     }
 }
 
-/// The groups made ready, in their order.
+/// Prepares the groups, in their order.
 pub(crate) fn matchers_for(
     alloc: Global,
     groups: &[(u32, Group)],
@@ -110,7 +123,7 @@ pub(crate) fn matchers_for(
     Ok(matchers)
 }
 
-/// The number of the first of these groups that hits a record of this index and this stream.
+/// Returns the number of the first of these groups that hits a record of this index and stream.
 pub(crate) fn first_admitting(near: &[&Matcher], index: i32, stream: i32) -> Option<u32>
     ensures { result ≡ first_admitting index stream (map (λ m. m.now) near.now) }
 {

@@ -11,14 +11,14 @@ use br_types::SessionKey;
 use std::alloc::{AllocError, Global};
 use std::marker::Model;
 
-/// The groups of a piece, made ready for many look-ups, of which an address leaves only a few.
+/// The groups of a piece, prepared for many look-ups, of which an address leaves only a few.
 #[derive(Drop)]
 pub(crate) struct Matchers {
     /// In their order.
     groups: Vec<Matcher>,
-    /// For each group the greatest address that it or one before it may cover.
+    /// For each group the greatest address that it or a group before it may cover.
     ends: Vec<u64>,
-    /// For each group the least address that it or one behind it may cover.
+    /// For each group the least address that it or a group after it may cover.
     starts: Vec<u64>,
 }
 
@@ -34,7 +34,7 @@ impl Model for Matchers {
     ghost invariant = { λ m. IsBounded m.groups.items m.ends.items m.starts.items };
 }
 
-/// For each group the greatest address that it or one before it may cover.
+/// Returns for each group the greatest address that it or a group before it may cover.
 fn ends_of(alloc: Global, groups: &[Matcher]) -> Result<Vec<u64>, AllocError>
     ensures { IfOk result (λ v. AreEnds groups.now v.items) }
 {
@@ -47,7 +47,7 @@ fn ends_of(alloc: Global, groups: &[Matcher]) -> Result<Vec<u64>, AllocError>
     Ok(ends)
 }
 
-/// For each group the least address that it or one behind it may cover.
+/// Returns for each group the least address that it or a group after it may cover.
 fn starts_of(alloc: Global, groups: &[Matcher]) -> Result<Vec<u64>, AllocError>
     ensures { IfOk result (λ v. AreStarts groups.now v.items) }
 {
@@ -61,7 +61,7 @@ fn starts_of(alloc: Global, groups: &[Matcher]) -> Result<Vec<u64>, AllocError>
     Ok(starts)
 }
 
-/// How many of the groups end below the address.
+/// Returns the number of groups that end below the address.
 fn ended(ends: &[u64], addr: u64) -> usize
     requires { IsNonDecreasingBy (λ n. n) ends.now }
     ensures bound { result ≤ length ends.now }
@@ -70,7 +70,7 @@ fn ended(ends: &[u64], addr: u64) -> usize
     ends.partition_point(|end| *end < addr)
 }
 
-/// How many of the groups begin at the address or below it.
+/// Returns the number of groups that begin at the address or below it.
 fn begun(starts: &[u64], addr: u64) -> usize
     requires { IsNonDecreasingBy (λ n. n) starts.now }
     ensures bound { result ≤ length starts.now }
@@ -79,7 +79,7 @@ fn begun(starts: &[u64], addr: u64) -> usize
     starts.partition_point(|start| *start <= addr)
 }
 
-/// The groups from a place to another.
+/// Returns the groups from one place to another.
 fn between(groups: &[Matcher], first: usize, end: usize) -> &[Matcher]
     requires ordered { first ≤ end }
     requires bound { end ≤ length groups.now }
@@ -89,7 +89,7 @@ fn between(groups: &[Matcher], first: usize, end: usize) -> &[Matcher]
 }
 
 impl Matchers {
-    /// The groups made ready, in their order.
+    /// Prepares the groups, in their order.
     pub(crate) fn new(alloc: Global, groups: &[(u32, Group)]) -> Result<Matchers, AllocError>
         ensures { IfOk result (λ ms. AllZip AreAlike ms groups.now) }
     {
@@ -103,7 +103,7 @@ impl Matchers {
         })
     }
 
-    /// The groups between those that have ended before the address and those that begin behind it.
+    /// Returns the groups between those that end below the address and those that begin above it.
     fn around(&self, addr: u64) -> &[Matcher]
         ensures { IsAround addr self.now result.now }
     {
@@ -113,21 +113,21 @@ impl Matchers {
     }
 }
 
-/// Whether one of these groups asks for records of the block at this address.
+/// Returns whether one of these groups asks for records of the block at this address.
 fn any_covers(matchers: &[Matcher], addr: u64) -> bool
     ensures { result ≡ list_any (λ m. covers m.1 addr) matchers.now }
 {
     matchers.iter().any(|matcher| matcher.covers(addr))
 }
 
-/// Whether one of the groups asks for records of the block at this address.
+/// Returns whether one of the groups asks for records of the block at this address.
 pub(crate) fn covers_any(matchers: &Matchers, addr: u64) -> bool
     ensures { result ≡ list_any (λ m. covers m.1 addr) matchers.now }
 {
     any_covers(matchers.around(addr), addr)
 }
 
-/// The groups that may hit a record in a block of this session at this address.
+/// Returns the groups that may hit a record in a block of this session at this address.
 pub(crate) fn near<'m>(
     alloc: Global,
     matchers: &'m Matchers,

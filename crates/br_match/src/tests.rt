@@ -6,7 +6,8 @@ use br_volume::MemDrive;
 use std::alloc::Global;
 use std::test::Fail;
 
-/// A block of two whole records of file 1 of session 1, 100: attributes of 38 bytes and data of 5 bytes.
+/// A block of two whole records of file 1 of session 1, 100: attributes of 38 bytes and data of 5
+/// bytes.
 const BLOCK: &[u8; 91] =
     b"\0\0\0\0\0\0\0\x5b\0\0\0\0BB02\0\0\0\x01\0\0\0\x64\0\0\0\x01\0\0\0\x01\0\0\0\x261 3 /a\0A A IGk B A A A F A A A A A A\0\0\0\0\0\x01\0\0\0\x02\0\0\0\x05hello";
 
@@ -17,13 +18,13 @@ fn pieces_of_text(alloc: Global, text: &[u8]) -> Result<Vec<Piece>, BsrFault> {
     Ok(split(alloc, &bootstrap)?)
 }
 
-/// A volume with these bytes.
+/// Returns a volume with these bytes.
 fn volume(alloc: Global, name: &[u8], bytes: &[u8]) -> Result<(VolName, Vec<u8>), Fail> {
     let bytes = Vec::from_slice(alloc, bytes)?;
     Ok((VolName::new(alloc, name)?, bytes))
 }
 
-/// A volume V1 with these bytes, and one E without bytes.
+/// Returns a volume V1 with these bytes, and one E without bytes.
 fn volumes(alloc: Global, bytes: &[u8]) -> Result<Vec<(VolName, Vec<u8>)>, Fail> {
     let mut volumes = Vec::new(alloc);
     volumes.push(volume(alloc, b"V1", bytes)?)?;
@@ -31,20 +32,20 @@ fn volumes(alloc: Global, bytes: &[u8]) -> Result<Vec<(VolName, Vec<u8>)>, Fail>
     Ok(volumes)
 }
 
-/// What is found of a piece where V1 has these bytes.
+/// Matches a piece if V1 has these bytes.
 fn found_of(alloc: Global, bytes: &[u8], piece: &Piece) -> Result<Result<Found, PieceFault>, Fail> {
     let mut drive = MemDrive::new(volumes(alloc, bytes)?);
     Ok(match_piece(alloc, piece, &mut drive))
 }
 
-/// What is found of the first piece of a bootstrap where V1 has these bytes.
+/// Matches the first piece of a bootstrap if V1 has these bytes.
 fn found_on(alloc: Global, bytes: &[u8], text: &[u8]) -> Result<Result<Found, PieceFault>, Fail> {
     let pieces = pieces_of_text(alloc, text)?;
     let piece = pieces.first().ok_or("a piece")?;
     found_of(alloc, bytes, piece)
 }
 
-/// The number and the address of a refusal on V1.
+/// Returns the number and the address of a refusal on V1.
 fn refused(answer: &Result<Found, PieceFault>) -> Option<(u32, u64)> {
     let Err(fault) = answer else {
         return None;
@@ -55,31 +56,31 @@ fn refused(answer: &Result<Found, PieceFault>) -> Option<(u32, u64)> {
     }
 }
 
-/// The groups, addresses and ordinals of the hits, in order.
-fn has_places(found: &Found, places: &[(u32, u64, u32)]) -> bool {
-    if found.hits.len() != places.len() {
-        return false;
-    }
-    for (hit, (group, addr, ordinal)) in found.hits.iter().zip(places) {
-        let place = Spot {
+/// Returns the place of the first hit that does not have the wanted group, address and ordinal.
+fn first_wrong(found: &Found, spots: &[(u32, u64, u32)]) -> Option<usize> {
+    for (place, (hit, (group, addr, ordinal))) in found.hits.iter().zip(spots).enumerate() {
+        let spot = Spot {
             group: *group,
             addr: *addr,
             ordinal: *ordinal,
         };
-        if hit.place != place {
-            return false;
+        if hit.spot != spot {
+            return Some(place);
         }
     }
-    true
+    if found.hits.len() == spots.len() {
+        return None;
+    }
+    Some(found.hits.len().min(spots.len()))
 }
 
-/// Whether a piece is answered where the drive fails from its k-th call on.
+/// Returns whether a piece is matched by a drive that fails from its `k`-th call on.
 fn is_answered(alloc: Global, bytes: &[u8], piece: &Piece, k: u64) -> Result<bool, Fail> {
     let mut drive = MemDrive::failing_from(volumes(alloc, bytes)?, k);
     Ok(match_piece(alloc, piece, &mut drive).is_ok())
 }
 
-/// How many calls of the drive a piece takes, if it is not refused.
+/// Returns the number of calls of the drive that a piece takes, if it is not refused.
 fn calls_of(alloc: Global, bytes: &[u8], piece: &Piece) -> Result<Option<u64>, Fail> {
     for calls in 0..20 {
         if is_answered(alloc, bytes, piece, calls + 1)? {
@@ -89,14 +90,15 @@ fn calls_of(alloc: Global, bytes: &[u8], piece: &Piece) -> Result<Option<u64>, F
     Ok(None)
 }
 
-/// How many calls of the drive the first piece of a bootstrap takes, if it is not refused.
+/// Returns the number of calls of the drive that a bootstrap's first piece takes, if it is not
+/// refused.
 fn calls(alloc: Global, bytes: &[u8], text: &[u8]) -> Result<Option<u64>, Fail> {
     let pieces = pieces_of_text(alloc, text)?;
     let piece = pieces.first().ok_or("a piece")?;
     calls_of(alloc, bytes, piece)
 }
 
-/// The first bytes, so many, of two of the blocks and bytes behind them that are no block.
+/// Returns the first `len` bytes of two of the blocks, which bytes follow that are no block.
 fn with_spoilt_tail(alloc: Global, len: usize) -> Result<Vec<u8>, Fail> {
     let mut bytes = Vec::from_slice(alloc, BLOCK)?;
     bytes.extend_from_slice(BLOCK)?;
@@ -105,38 +107,38 @@ fn with_spoilt_tail(alloc: Global, len: usize) -> Result<Vec<u8>, Fail> {
     Ok(bytes)
 }
 
-/// Whether what is found on V1 has these groups, addresses and ordinals, in order.
-fn has_on(
+/// Returns the place of the first hit on V1 that is not as wanted.
+fn wrong_on(
     alloc: Global,
     bytes: &[u8],
     text: &[u8],
     places: &[(u32, u64, u32)],
-) -> Result<bool, Fail> {
+) -> Result<Option<usize>, Fail> {
     let found = found_on(alloc, bytes, text)??;
-    Ok(has_places(&found, places))
+    Ok(first_wrong(&found, places))
 }
 
-/// Whether nothing is found on V1.
+/// Returns whether nothing is found on V1.
 fn has_none_on(alloc: Global, bytes: &[u8], text: &[u8]) -> Result<bool, Fail> {
     Ok(found_on(alloc, bytes, text)??.hits.is_empty())
 }
 
-/// The number and the address of the refusal on V1.
+/// Returns the number and the address of the refusal on V1.
 fn refused_on(alloc: Global, bytes: &[u8], text: &[u8]) -> Result<Option<(u32, u64)>, Fail> {
     Ok(refused(&found_on(alloc, bytes, text)?))
 }
 
-/// Whether a hit is of file 1 of session 1, 100.
+/// Returns whether a hit is of file 1 of session 1, 100.
 fn is_of_file(hit: &Hit) -> bool {
     hit.key.session.id == 1 && hit.key.session.time == 100 && hit.key.index.get() == 1
 }
 
-/// Whether a hit is of that file and has this stream, size and bytes.
+/// Returns whether a hit is of that file and has this stream, size and bytes.
 fn is_hit(hit: &Hit, stream: i32, size: u32, bytes: &[u8]) -> bool {
     is_of_file(hit) && hit.stream == stream && hit.size == size && hit.bytes.as_slice() == bytes
 }
 
-/// Whether the hits are the two records of the block.
+/// Returns whether the hits are the two records of the block.
 fn are_both(hits: &[Hit]) -> bool {
     match hits {
         [a, b] => is_hit(a, 1, 38, ATTRIBUTES) && is_hit(b, 2, 5, b"hello"),
@@ -148,12 +150,12 @@ fn are_both(hits: &[Hit]) -> bool {
 fn hits_are_found(rt: HostRuntime) -> Result<(), Fail> {
     let found = found_on(rt.alloc(), BLOCK, b"Volume=V1\nFileIndex=1\n")??;
     assert_eq!(rt; found.piece, 0);
-    assert!(rt; has_places(&found, &[(0, 0, 0), (0, 0, 1)]));
+    assert_eq!(rt; first_wrong(&found, &[(0, 0, 0), (0, 0, 1)]), None);
     assert!(rt; are_both(&found.hits));
     Ok(())
 }
 
-/// Whether a drive gives of a piece this number and these places.
+/// Returns whether a piece's match has its number and these places.
 fn gives_piece(
     alloc: Global,
     drive: &mut MemDrive,
@@ -161,10 +163,10 @@ fn gives_piece(
     places: &[(u32, u64, u32)],
 ) -> Result<bool, Fail> {
     let found = match_piece(alloc, piece, drive)?;
-    Ok(found.piece == piece.number && has_places(&found, places))
+    Ok(found.piece == piece.number && first_wrong(&found, places).is_none())
 }
 
-/// Whether a drive gives these pieces, with the groups 0 and 3, and with no hit.
+/// Returns whether the first piece has hits of the groups 0 and 3, and the second none.
 fn gives_both(alloc: Global, drive: &mut MemDrive, pieces: &[Piece]) -> Result<bool, Fail> {
     match pieces {
         [a, b] => {
@@ -176,7 +178,7 @@ fn gives_both(alloc: Global, drive: &mut MemDrive, pieces: &[Piece]) -> Result<b
     }
 }
 
-/// Whether the groups of two pieces keep their numbers.
+/// Returns whether the groups of two pieces keep their numbers.
 fn keep_numbers(alloc: Global) -> Result<bool, Fail> {
     let text = b"Volume=V1\nStream=1\nVolume=E\nVolume=E\nVolume=V1\nStream=2\n";
     let pieces = pieces_of_text(alloc, text)?;
@@ -187,23 +189,26 @@ fn keep_numbers(alloc: Global) -> Result<bool, Fail> {
 #[test]
 fn a_hit_has_the_number_of_the_first_group(rt: HostRuntime) -> Result<(), Fail> {
     let text = b"Volume=V1\nStream=2\nVolume=V1\n";
-    assert!(rt; has_on(rt.alloc(), BLOCK, text, &[(1, 0, 0), (0, 0, 1)])?);
+    assert_eq!(rt;
+        wrong_on(rt.alloc(), BLOCK, text, &[(1, 0, 0), (0, 0, 1)])?,
+        None
+    );
     assert!(rt; keep_numbers(rt.alloc())?);
     Ok(())
 }
 
-/// Whether the first hit is of this stream.
+/// Returns whether the first hit is of this stream.
 fn begins_with(hits: &[Hit], stream: i32) -> bool {
     hits.first().is_some_and(|hit| hit.stream == stream)
 }
 
-/// Whether of a label, and a part of a record that began in an earlier block, the part is the only hit.
+/// Returns whether the only hit is a record's part that continues an earlier block, and no label.
 fn finds_the_part(alloc: Global) -> Result<bool, Fail> {
     let mut bytes = *BLOCK;
     bytes[24..28].copy_from_slice(&[0xff, 0xff, 0xff, 0xff]);
     bytes[78..82].copy_from_slice(&[0xff, 0xff, 0xff, 0xfe]);
     let found = found_on(alloc, &bytes, b"Volume=V1\nStream=1-2\n")??;
-    Ok(has_places(&found, &[(0, 0, 1)]) && begins_with(&found.hits, -2))
+    Ok(first_wrong(&found, &[(0, 0, 1)]).is_none() && begins_with(&found.hits, -2))
 }
 
 #[test]
@@ -218,39 +223,48 @@ fn other_records_are_no_hits(rt: HostRuntime) -> Result<(), Fail> {
     Ok(())
 }
 
-/// Whether what is found on the blocks with a spoilt tail has these places.
-fn has_before_tail(
+/// Returns the place of the first hit on the blocks with a spoilt tail that is not as wanted.
+fn wrong_before_tail(
     alloc: Global,
     len: usize,
     text: &[u8],
     places: &[(u32, u64, u32)],
-) -> Result<bool, Fail> {
+) -> Result<Option<usize>, Fail> {
     let bytes = with_spoilt_tail(alloc, len)?;
-    has_on(alloc, &bytes, text, places)
+    wrong_on(alloc, &bytes, text, places)
 }
 
-/// The refusal on the blocks with a spoilt tail.
+/// Returns the refusal on the blocks with a spoilt tail.
 fn refused_before_tail(alloc: Global, len: usize, text: &[u8]) -> Result<Option<(u32, u64)>, Fail> {
     let bytes = with_spoilt_tail(alloc, len)?;
     refused_on(alloc, &bytes, text)
 }
 
 #[test]
-fn the_walk_ends_behind_the_last_address(rt: HostRuntime) -> Result<(), Fail> {
+fn the_walk_ends_after_the_last_address(rt: HostRuntime) -> Result<(), Fail> {
     let alloc = rt.alloc();
     let first = b"Volume=V1\nVolAddr=0-90\n";
-    assert!(rt; has_before_tail(alloc, 300, first, &[(0, 0, 0), (0, 0, 1)])?);
+    assert_eq!(rt;
+        wrong_before_tail(alloc, 300, first, &[(0, 0, 0), (0, 0, 1)])?,
+        None
+    );
     let second = b"Volume=V1\nVolAddr=91\n";
-    assert!(rt; has_before_tail(alloc, 300, second, &[(0, 91, 0), (0, 91, 1)])?);
+    assert_eq!(rt;
+        wrong_before_tail(alloc, 300, second, &[(0, 91, 0), (0, 91, 1)])?,
+        None
+    );
     let tail = b"Volume=V1\nVolAddr=182\n";
     assert_eq!(rt; refused_before_tail(alloc, 300, tail)?, Some((10, 182)));
     let both = b"Volume=V1\nVolAddr=181\nVolAddr=0-90\nVolume=V1\nVolAddr=50-100\n";
     let places = [(0, 0, 0), (0, 0, 1), (1, 91, 0), (1, 91, 1)];
-    assert!(rt; has_before_tail(alloc, 300, both, &places)?);
+    assert_eq!(rt; wrong_before_tail(alloc, 300, both, &places)?, None);
     // Only one of the groups has addresses.
     let all = b"Volume=V1\nVolAddr=0\nVolume=V1\n";
     assert_eq!(rt; refused_before_tail(alloc, 300, all)?, Some((10, 182)));
-    assert!(rt; has_on(rt.alloc(), BLOCK, b"Volume=V1\n", &[(0, 0, 0), (0, 0, 1)])?);
+    assert_eq!(rt;
+        wrong_on(rt.alloc(), BLOCK, b"Volume=V1\n", &[(0, 0, 0), (0, 0, 1)])?,
+        None
+    );
     Ok(())
 }
 
@@ -259,7 +273,10 @@ fn only_a_covered_block_must_be_whole(rt: HostRuntime) -> Result<(), Fail> {
     // The second block has only its header.
     let alloc = rt.alloc();
     let beside = b"Volume=V1\nVolAddr=0\nVolAddr=92-200\n";
-    assert!(rt; has_before_tail(alloc, 115, beside, &[(0, 0, 0), (0, 0, 1)])?);
+    assert_eq!(rt;
+        wrong_before_tail(alloc, 115, beside, &[(0, 0, 0), (0, 0, 1)])?,
+        None
+    );
     let inside = b"Volume=V1\nVolAddr=0\nVolAddr=91-200\n";
     assert_eq!(rt; refused_before_tail(alloc, 115, inside)?, Some((12, 91)));
     // Not even its header is whole.
@@ -267,17 +284,21 @@ fn only_a_covered_block_must_be_whole(rt: HostRuntime) -> Result<(), Fail> {
     Ok(())
 }
 
-/// Whether what is found on four blocks, at 0, 91, 182 and 273, has these places.
-fn has_on_four(alloc: Global, text: &[u8], places: &[(u32, u64, u32)]) -> Result<bool, Fail> {
+/// Returns the place of the first hit on four blocks, at 0, 91, 182 and 273, that is not as wanted.
+fn wrong_on_four(
+    alloc: Global,
+    text: &[u8],
+    places: &[(u32, u64, u32)],
+) -> Result<Option<usize>, Fail> {
     let mut bytes = Vec::from_slice(alloc, BLOCK)?;
     for _ in 0..3 {
         bytes.extend_from_slice(BLOCK)?;
     }
-    has_on(alloc, &bytes, text, places)
+    wrong_on(alloc, &bytes, text, places)
 }
 
 #[test]
-fn groups_stand_in_any_order(rt: HostRuntime) -> Result<(), Fail> {
+fn groups_come_in_any_order(rt: HostRuntime) -> Result<(), Fail> {
     let falling = b"Volume=V1\nVolAddr=273\nVolume=V1\nVolAddr=0\nVolume=V1\nVolAddr=182\n";
     let places = [
         (1, 0, 0),
@@ -287,7 +308,7 @@ fn groups_stand_in_any_order(rt: HostRuntime) -> Result<(), Fail> {
         (0, 273, 0),
         (0, 273, 1),
     ];
-    assert!(rt; has_on_four(rt.alloc(), falling, &places)?);
+    assert_eq!(rt; wrong_on_four(rt.alloc(), falling, &places)?, None);
     // One of the groups has no addresses.
     let everywhere =
         b"Volume=V1\nVolAddr=182\nVolume=V1\nStream=2\nVolume=V1\nVolAddr=0-91\nStream=1\n";
@@ -300,7 +321,7 @@ fn groups_stand_in_any_order(rt: HostRuntime) -> Result<(), Fail> {
         (0, 182, 1),
         (1, 273, 1),
     ];
-    assert!(rt; has_on_four(rt.alloc(), everywhere, &places)?);
+    assert_eq!(rt; wrong_on_four(rt.alloc(), everywhere, &places)?, None);
     Ok(())
 }
 
@@ -317,7 +338,7 @@ fn ranges_of_groups_may_overlap(rt: HostRuntime) -> Result<(), Fail> {
         (1, 273, 0),
         (2, 273, 1),
     ];
-    assert!(rt; has_on_four(rt.alloc(), nested, &places)?);
+    assert_eq!(rt; wrong_on_four(rt.alloc(), nested, &places)?, None);
     // At the ends of the ranges, and one byte beside them.
     let ends =
         b"Volume=V1\nVolAddr=1-91\nVolume=V1\nVolAddr=92-181\nVolume=V1\nVolAddr=182-272\nVolume=V1\nVolAddr=183-273\n";
@@ -329,11 +350,12 @@ fn ranges_of_groups_may_overlap(rt: HostRuntime) -> Result<(), Fail> {
         (3, 273, 0),
         (3, 273, 1),
     ];
-    assert!(rt; has_on_four(rt.alloc(), ends, &places)?);
+    assert_eq!(rt; wrong_on_four(rt.alloc(), ends, &places)?, None);
     Ok(())
 }
 
-/// How many bytes the block has left where it is cut off and not refused as is wanted, 0 where there is none such.
+/// Returns the first length at which the cut off block is not refused as truncated, 0 if there is
+/// none.
 fn not_refused(alloc: Global) -> Result<usize, Fail> {
     for len in 1..91 {
         if refused_on(alloc, &BLOCK[..len], b"Volume=V1\n")? != Some((12, 0)) {
@@ -343,7 +365,7 @@ fn not_refused(alloc: Global) -> Result<usize, Fail> {
     Ok(0)
 }
 
-/// The refusal of a block with these numbers at the bytes 5 and 7 of its header.
+/// Returns the refusal of a block with these numbers at the bytes 5 and 7 of its header.
 fn refused_at(alloc: Global, fifth: u8, seventh: u8) -> Result<Option<(u32, u64)>, Fail> {
     let mut bytes = *BLOCK;
     bytes[5] = fifth;
@@ -358,12 +380,12 @@ fn a_cut_off_volume_and_a_bad_header_are_refused(rt: HostRuntime) -> Result<(), 
     assert_eq!(rt; refused_at(rt.alloc(), 0, 23)?, Some((11, 0)));
     // 4,194,305.
     assert_eq!(rt; refused_at(rt.alloc(), 0x40, 1)?, Some((11, 0)));
-    // 24: the bytes behind the header are no block.
+    // 24: the bytes after the header are no block.
     assert_eq!(rt; refused_at(rt.alloc(), 0, 24)?, Some((10, 24)));
     Ok(())
 }
 
-/// Whether a fault is that there is no volume Q.
+/// Returns whether a fault is that there is no volume Q.
 fn is_unknown(fault: &PieceFault) -> bool {
     fault.number() == 14
         && fault.addr() == Some(0)
@@ -372,7 +394,7 @@ fn is_unknown(fault: &PieceFault) -> bool {
             .is_some_and(|vol| vol.bytes() == b"Q".as_slice())
 }
 
-/// Whether the piece is refused since there is no volume Q.
+/// Returns whether the piece is refused since there is no volume Q.
 fn refuses_q(alloc: Global, text: &[u8]) -> Result<bool, Fail> {
     match found_on(alloc, BLOCK, text)? {
         Ok(_) => Ok(false),
@@ -381,13 +403,13 @@ fn refuses_q(alloc: Global, text: &[u8]) -> Result<bool, Fail> {
 }
 
 #[test]
-fn a_volume_that_is_not_there_is_refused(rt: HostRuntime) -> Result<(), Fail> {
+fn a_volume_that_does_not_exist_is_refused(rt: HostRuntime) -> Result<(), Fail> {
     assert!(rt; refuses_q(rt.alloc(), b"Volume=Q\n")?);
     assert!(rt; refuses_q(rt.alloc(), b"Volume=Q\nVolAddr=1000-2000\n")?);
     Ok(())
 }
 
-/// A piece 3 of V1 without groups.
+/// Returns a piece 3 of V1 without groups.
 fn without_groups(alloc: Global) -> Result<Piece, Fail> {
     Ok(Piece {
         number: 3,
@@ -396,14 +418,14 @@ fn without_groups(alloc: Global) -> Result<Piece, Fail> {
     })
 }
 
-/// Whether of a piece without groups nothing is found where V1 has these bytes.
+/// Returns whether a piece without groups has no hits if V1 has these bytes.
 fn finds_nothing(alloc: Global, bytes: &[u8]) -> Result<bool, Fail> {
     let piece = without_groups(alloc)?;
     let found = found_of(alloc, bytes, &piece)??;
     Ok(found.piece == 3 && found.hits.is_empty())
 }
 
-/// The refusal of a piece without groups where V1 has these bytes.
+/// Returns the refusal of a piece without groups if V1 has these bytes.
 fn refused_without_groups(alloc: Global, bytes: &[u8]) -> Result<Option<(u32, u64)>, Fail> {
     let piece = without_groups(alloc)?;
     Ok(refused(&found_of(alloc, bytes, &piece)?))
@@ -419,7 +441,8 @@ fn a_piece_without_groups_has_no_hits(rt: HostRuntime) -> Result<(), Fail> {
     Ok(())
 }
 
-/// The refusal where the drive fails from its k-th call on, `None` where the piece is answered.
+/// Returns the refusal by a drive that fails from its `k`-th call on, `None` if the piece is
+/// matched.
 fn refused_from(alloc: Global, k: u64) -> Result<Option<(u32, u64)>, Fail> {
     let pieces = pieces_of_text(alloc, b"Volume=V1\n")?;
     let piece = pieces.first().ok_or("a piece")?;
@@ -427,7 +450,7 @@ fn refused_from(alloc: Global, k: u64) -> Result<Option<(u32, u64)>, Fail> {
     Ok(refused(&match_piece(alloc, piece, &mut drive)))
 }
 
-/// Whether the piece is answered where the drive fails from its k-th call on.
+/// Returns whether the piece is matched by a drive that fails from its `k`-th call on.
 fn answers_before(alloc: Global, k: u64) -> Result<bool, Fail> {
     let pieces = pieces_of_text(alloc, b"Volume=V1\n")?;
     let piece = pieces.first().ok_or("a piece")?;
@@ -435,7 +458,7 @@ fn answers_before(alloc: Global, k: u64) -> Result<bool, Fail> {
 }
 
 #[test]
-fn a_drive_that_fails_is_told_with_the_address(rt: HostRuntime) -> Result<(), Fail> {
+fn a_drive_that_fails_is_refused_with_the_address(rt: HostRuntime) -> Result<(), Fail> {
     assert_eq!(rt; refused_from(rt.alloc(), 1)?, Some((13, 0)));
     assert_eq!(rt; refused_from(rt.alloc(), 2)?, Some((13, 0)));
     assert_eq!(rt; refused_from(rt.alloc(), 3)?, Some((13, 91)));
@@ -443,7 +466,7 @@ fn a_drive_that_fails_is_told_with_the_address(rt: HostRuntime) -> Result<(), Fa
     Ok(())
 }
 
-/// How many calls the two blocks take.
+/// Returns the number of calls that the two blocks take.
 fn calls_of_two(alloc: Global, text: &[u8]) -> Result<Option<u64>, Fail> {
     let two = with_spoilt_tail(alloc, 182)?;
     calls(alloc, &two, text)
@@ -472,7 +495,8 @@ fn only_covered_blocks_are_read(rt: HostRuntime) -> Result<(), Fail> {
     Ok(())
 }
 
-/// A block of session 1, 100 with 100 records of stream 2 without data, of the files 1 to 100.
+/// Returns a block of session 1, 100 with 100 records of stream 2 without data, of the files 1 to
+/// 100.
 fn block_of_100(alloc: Global) -> Result<Vec<u8>, Fail> {
     // 1,224 bytes.
     let mut header = *BLOCK;
@@ -485,7 +509,7 @@ fn block_of_100(alloc: Global) -> Result<Vec<u8>, Fail> {
     Ok(bytes)
 }
 
-/// A bootstrap of V1 with the files 6000, 5997 and on to 3.
+/// Returns a bootstrap of V1 with the files 6000, 5997 and on to 3.
 fn many_ranges(alloc: Global) -> Result<String, Fail> {
     let mut text = String::from_str(alloc, "Volume=V1\n")?;
     for n in 0..2000u32 {
@@ -494,15 +518,15 @@ fn many_ranges(alloc: Global) -> Result<String, Fail> {
     Ok(text)
 }
 
-/// Whether the hits are of files whose number 3 divides, each at the record of this number.
+/// Returns whether the hits are of files whose number 3 divides, each at the record of this number.
 fn are_of_thirds(hits: &[Hit]) -> bool {
     hits.iter().all(|hit| {
         hit.key.index.get() % 3 == 0
-            && u64::from(hit.place.ordinal) + 1 == u64::from(hit.key.index.get())
+            && u64::from(hit.spot.ordinal) + 1 == u64::from(hit.key.index.get())
     })
 }
 
-/// What is found of a bootstrap in the block of 100 records.
+/// Matches a bootstrap in the block of 100 records.
 fn found_in_100(alloc: Global, text: &[u8]) -> Result<Found, Fail> {
     let bytes = block_of_100(alloc)?;
     Ok(found_on(alloc, &bytes, text)??)
@@ -517,7 +541,7 @@ fn many_ranges_are_looked_up(rt: HostRuntime) -> Result<(), Fail> {
     Ok(())
 }
 
-/// Whether the hit at this place is of this file.
+/// Returns whether the hit at this place is of this file.
 fn has_index(hits: &[Hit], place: usize, index: u32) -> bool {
     hits.get(place)
         .is_some_and(|hit| hit.key.index.get() == index)
@@ -533,7 +557,7 @@ fn a_range_may_hold_others(rt: HostRuntime) -> Result<(), Fail> {
     Ok(())
 }
 
-/// What the fault says of a block that is cut off.
+/// Returns the text of the fault of a block that is cut off.
 fn text_of_fault(alloc: Global) -> Result<String, Fail> {
     let fault = found_on(alloc, &BLOCK[..90], b"Volume=V1\n")?
         .err()

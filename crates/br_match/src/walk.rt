@@ -4,10 +4,11 @@ ghost use Rattle.br_match.specs.Groups.{AreAlike, all_alike_once};
 ghost use Rattle.br_model.specs.Meaning.{bound_of, is_covered, just_groups};
 ghost use Rattle.br_model.specs.Volume.{is_above};
 ghost use Rattle.br_volume.specs.Drive.{OnlyGrows, IsSized};
-ghost use Rattle.br_match.specs.Fault.{cause_number, fault_number, cause, refusal};
-ghost use Rattle.br_match.specs.Walk.{AfterHead, AfterWalk, BlockAnswers, HeadAnswers, IsRefusedFor, ReadsOver, StepAnswers, unknown};
+ghost use Rattle.br_match.specs.Fault.{FailsWithDrive, cause_number, fault_number, cause, refusal};
+ghost use Rattle.br_match.specs.Walk.{AfterWalk, HeadAnswers, IsRefusedFor, PassesBlock, ReadsOver, TakesStep, unknown};
 ghost use Rattle.br_volume.specs.Fault as drive;
 ghost use Rattle.br_volume.specs.declared.fault.DriveFault.TheVariants.{Fault};
+ghost use Rattle.br_match.specs.declared.walk.Step.TheVariants.{Passed};
 
 use crate::block_hits::push_hits;
 use crate::fault::{PieceCause, PieceFault};
@@ -20,10 +21,10 @@ use br_types::VolName;
 use br_volume::{Drive, DriveFault, Got};
 use std::alloc::{AllocError, Global};
 
-/// The bytes of a block's header.
+/// The length of a block's header in bytes.
 const HEADER_LEN: u32 = 24;
 
-/// The refusal for this cause of the block at this address; or want of memory.
+/// Returns the refusal of the block at this address for this cause, or `Memory`.
 fn refused(alloc: Global, why: PieceCause, vol: &VolName, addr: u64) -> PieceFault
     ensures why { IsRefusedFor (refusal why vol.now addr) (cause result) }
     ensures number { fault_number result ≡ 13 → cause_number why ≡ 13 }
@@ -38,7 +39,8 @@ fn refused(alloc: Global, why: PieceCause, vol: &VolName, addr: u64) -> PieceFau
     }
 }
 
-/// The refusal where a drive gave no bytes at this address. A volume that is not there is told at address 0.
+/// Returns the refusal for a drive's fault at this address. An unknown volume is refused at address
+/// 0.
 fn refused_by_drive(alloc: Global, fault: DriveFault, vol: &VolName, addr: u64) -> PieceFault
     ensures why { IsRefusedFor (option_map (λ number. unknown vol.now) (drive.cause fault)) (cause result) }
     ensures number { fault_number result ≡ 13 → fault ≡ Fault }
@@ -50,7 +52,7 @@ fn refused_by_drive(alloc: Global, fault: DriveFault, vol: &VolName, addr: u64) 
     }
 }
 
-/// Makes `buf` the bytes of the volume from the address, so many or all that are left.
+/// Reads a block of the volume into `buf`, as `Drive::block_at` does.
 fn read_bytes<D: Drive>(
     alloc: Global,
     drive: &mut D,
@@ -63,7 +65,7 @@ fn read_bytes<D: Drive>(
     ensures sized { IfOk result (IsSized addr size buf.new.items) }
     ensures grows { OnlyGrows (D.shows drive.old) (D.shows drive.new) }
     ensures counted { D.failures drive.old ≤ D.failures drive.new }
-    ensures failed { IfErr result (λ fault. fault_number fault ≡ 13 → D.failures drive.old < D.failures drive.new) }
+    ensures failed { FailsWithDrive D.failures drive.old drive.new result }
 {
     match drive.block_at(vol, addr, size, buf) {
         Ok(got) => Ok(got),
@@ -71,7 +73,8 @@ fn read_bytes<D: Drive>(
     }
 }
 
-/// The header of the block at this address, which is not above the bound; none at the volume's end.
+/// Returns the header of the block at this address, which is not above the bound; none at the
+/// volume's end.
 fn head_at<D: Drive>(
     alloc: Global,
     drive: &mut D,
@@ -86,7 +89,7 @@ fn head_at<D: Drive>(
     ensures sized { IfOk result (λ head. IfSome head (λ h. addr < 2 ^ 63)) }
     ensures grows { OnlyGrows (D.shows drive.old) (D.shows drive.new) }
     ensures counted { D.failures drive.old ≤ D.failures drive.new }
-    ensures failed { IfErr result (λ fault. fault_number fault ≡ 13 → D.failures drive.old < D.failures drive.new) }
+    ensures failed { FailsWithDrive D.failures drive.old drive.new result }
 {
     match read_bytes(alloc, drive, &piece.vol, addr, HEADER_LEN, buf)? {
         Got::End => Ok(None),
@@ -97,60 +100,8 @@ fn head_at<D: Drive>(
     }
 }
 
-/// Reads the block at this address, which a group covers and which has this header, and puts its hits behind those that were
-/// found before it.
-fn push_covered<D: Drive>(
-    alloc: Global,
-    drive: &mut D,
-    piece: &Piece,
-    matchers: &Matchers,
-    addr: u64,
-    head: BlockHead,
-    buf: &mut Vec<u8>,
-    hits: &mut Vec<Hit>,
-) -> Result<(), PieceFault>
-    requires alike { AllZip AreAlike matchers.now piece.now.groups }
-    requires near { is_above (bound_of (just_groups piece.now.groups)) addr ≡ false }
-    requires covered { is_covered (just_groups piece.now.groups) addr ≡ true }
-    ensures hits { AfterHead (D.shows drive.old) (D.shows drive.new) piece.now addr head (BlockAnswers piece.now addr (addr + head.size) hits.old.items hits.new.items result) }
-    ensures grows { OnlyGrows (D.shows drive.old) (D.shows drive.new) }
-    ensures counted { D.failures drive.old ≤ D.failures drive.new }
-    ensures failed { IfErr result (λ fault. fault_number fault ≡ 13 → D.failures drive.old < D.failures drive.new) }
-{
-    read_bytes(alloc, drive, &piece.vol, addr, head.size, buf)?;
-    match Block::read(buf) {
-        Ok(block) => Ok(push_hits(alloc, matchers, addr, &block, hits)?),
-        Err(fault) => Err(refused(alloc, PieceCause::of_block(fault), &piece.vol, addr)),
-    }
-}
-
-/// Puts the hits in the block at this address, which has this header, behind those that were found before it. A block that no
-/// group covers is not read.
-fn push_block<D: Drive>(
-    alloc: Global,
-    drive: &mut D,
-    piece: &Piece,
-    matchers: &Matchers,
-    addr: u64,
-    head: BlockHead,
-    buf: &mut Vec<u8>,
-    hits: &mut Vec<Hit>,
-) -> Result<(), PieceFault>
-    requires alike { AllZip AreAlike matchers.now piece.now.groups }
-    requires near { is_above (bound_of (just_groups piece.now.groups)) addr ≡ false }
-    ensures hits { AfterHead (D.shows drive.old) (D.shows drive.new) piece.now addr head (BlockAnswers piece.now addr (addr + head.size) hits.old.items hits.new.items result) }
-    ensures grows { OnlyGrows (D.shows drive.old) (D.shows drive.new) }
-    ensures counted { D.failures drive.old ≤ D.failures drive.new }
-    ensures failed { IfErr result (λ fault. fault_number fault ≡ 13 → D.failures drive.old < D.failures drive.new) }
-{
-    if covers_any(matchers, addr) {
-        push_covered(alloc, drive, piece, matchers, addr, head, buf, hits)
-    } else {
-        Ok(())
-    }
-}
-
-/// The greatest address at which one of the groups asks for records; none where one of them asks at every address.
+/// Returns the greatest address at which one of the groups asks for records; none if one asks at
+/// every address.
 #[tactic(auto, unfolding(br_model::specs::Meaning::bound_of))]
 fn bound_for(groups: &[(u32, Group)]) -> Option<u64>
     ensures { result ≡ bound_of (just_groups groups.now) }
@@ -165,13 +116,22 @@ fn bound_for(groups: &[(u32, Group)]) -> Option<u64>
     Some(bound)
 }
 
+/// The result of a step of a walk.
+#[derive(Clone, Copy, Debug)]
+pub(crate) enum Step {
+    /// The walk passed a block.
+    Passed,
+    /// The walk is at its end.
+    End,
+}
+
 /// A walk of a piece's volume, before the block at its address.
 #[derive(Drop)]
 pub(crate) struct Walk<'p> {
     piece: &'p Piece,
     /// The groups of the piece.
     matchers: Matchers,
-    /// Above this address the walk ends; none where it goes to the volume's end.
+    /// The walk ends above this address; none if it goes to the volume's end.
     bound: Option<u64>,
     addr: u64,
     ghost alike: { AllZip AreAlike matchers piece.now.groups } by { all_alike_once matchers piece.now.groups },
@@ -179,7 +139,7 @@ pub(crate) struct Walk<'p> {
 }
 
 impl<'p> Walk<'p> {
-    /// The walk before the first block.
+    /// Returns a walk before the first block.
     pub(crate) fn new(alloc: Global, piece: &'p Piece) -> Result<Walk<'p>, AllocError>
         ensures of { IfOk result (λ walk. walk.piece.now ≡ piece.now) }
         ensures start { IfOk result (λ walk. walk.addr ≡ 0) }
@@ -192,7 +152,7 @@ impl<'p> Walk<'p> {
         })
     }
 
-    /// Whether the walk ends here, whatever stands on the volume.
+    /// Returns whether the walk ends here, whatever the volume has.
     fn is_above(&self) -> bool
         ensures { result ≡ is_above (bound_of (just_groups self.now.piece.now.groups)) self.now.addr }
     {
@@ -202,40 +162,80 @@ impl<'p> Walk<'p> {
         }
     }
 
-    /// Goes over one block, and puts its hits behind those that were found before it. The answer is no where the walk ends. Where
-    /// it is refused, the walk stands before that block.
+    /// Reads the block at the address, which a group covers and which has this header, and appends
+    /// its hits.
+    fn push_covered<D: Drive>(
+        &self,
+        alloc: Global,
+        drive: &mut D,
+        head: BlockHead,
+        buf: &mut Vec<u8>,
+        hits: &mut Vec<Hit>,
+    ) -> Result<(), PieceFault>
+        requires near { is_above (bound_of (just_groups self.now.piece.now.groups)) self.now.addr ≡ false }
+        requires covered { is_covered (just_groups self.now.piece.now.groups) self.now.addr ≡ true }
+        ensures hits { PassesBlock D.shows drive.old drive.new self.now.piece.now self.now.addr head hits.old.items hits.new.items result }
+        ensures grows { OnlyGrows (D.shows drive.old) (D.shows drive.new) }
+        ensures counted { D.failures drive.old ≤ D.failures drive.new }
+        ensures failed { FailsWithDrive D.failures drive.old drive.new result }
+    {
+        let piece = self.piece;
+        let addr = self.addr;
+        read_bytes(alloc, drive, &piece.vol, addr, head.size, buf)?;
+        match Block::read(buf) {
+            Ok(block) => Ok(push_hits(alloc, &self.matchers, addr, &block, hits)?),
+            Err(fault) => Err(refused(alloc, PieceCause::of_block(fault), &piece.vol, addr)),
+        }
+    }
+
+    /// Appends the hits in the block at the address, which has this header. A block that no group
+    /// covers is not read.
+    fn push_block<D: Drive>(
+        &self,
+        alloc: Global,
+        drive: &mut D,
+        head: BlockHead,
+        buf: &mut Vec<u8>,
+        hits: &mut Vec<Hit>,
+    ) -> Result<(), PieceFault>
+        requires near { is_above (bound_of (just_groups self.now.piece.now.groups)) self.now.addr ≡ false }
+        ensures hits { PassesBlock D.shows drive.old drive.new self.now.piece.now self.now.addr head hits.old.items hits.new.items result }
+        ensures grows { OnlyGrows (D.shows drive.old) (D.shows drive.new) }
+        ensures counted { D.failures drive.old ≤ D.failures drive.new }
+        ensures failed { FailsWithDrive D.failures drive.old drive.new result }
+    {
+        if covers_any(&self.matchers, self.addr) {
+            self.push_covered(alloc, drive, head, buf, hits)
+        } else {
+            Ok(())
+        }
+    }
+
+    /// Passes one block and appends its hits, or finds the end of the walk. After a refusal the
+    /// walk is still before that block.
     pub(crate) fn step<D: Drive>(
         &mut self,
         alloc: Global,
         drive: &mut D,
         buf: &mut Vec<u8>,
         hits: &mut Vec<Hit>,
-    ) -> Result<bool, PieceFault>
-        ensures hits { AfterWalk (D.shows drive.old) (D.shows drive.new) self.old.piece.now self.old.addr (StepAnswers self.old.piece.now self.old.addr self.new.addr hits.old.items hits.new.items result) }
+    ) -> Result<Step, PieceFault>
+        ensures hits { TakesStep D.shows drive.old drive.new self.old.piece.now self.old.addr self.new.addr hits.old.items hits.new.items result }
         ensures of { self.new.piece.now ≡ self.old.piece.now }
-        ensures nearer { result ≡ Ok true → (self.old.addr < 2 ^ 63) × (self.old.addr < self.new.addr) }
+        ensures nearer { result ≡ Ok Passed → (self.old.addr < 2 ^ 63) × (self.old.addr < self.new.addr) }
         ensures stays { IfErr result (λ _. self.new.addr ≡ self.old.addr) }
         ensures grows { OnlyGrows (D.shows drive.old) (D.shows drive.new) }
         ensures counted { D.failures drive.old ≤ D.failures drive.new }
-        ensures failed { IfErr result (λ fault. fault_number fault ≡ 13 → D.failures drive.old < D.failures drive.new) }
+        ensures failed { FailsWithDrive D.failures drive.old drive.new result }
     {
         if self.is_above() {
-            return Ok(false);
+            return Ok(Step::End);
         }
         let Some(head) = head_at(alloc, drive, self.piece, self.addr, buf)? else {
-            return Ok(false);
+            return Ok(Step::End);
         };
-        push_block(
-            alloc,
-            drive,
-            self.piece,
-            &self.matchers,
-            self.addr,
-            head,
-            buf,
-            hits,
-        )?;
+        self.push_block(alloc, drive, head, buf, hits)?;
         self.addr += u64::from(head.size);
-        Ok(true)
+        Ok(Step::Passed)
     }
 }

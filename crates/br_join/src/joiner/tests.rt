@@ -17,19 +17,20 @@ const FIRST: &[u8] = b"1 3 /a\0A A IGk B A A A O A A A A A A\0\0";
 
 const SECOND: &[u8] = b"2 3 /b\0A A IGk B A A A O A A A A A A\0\0";
 
-/// The pieces 0 and 1, of the volumes A and B.
+/// Returns the pieces 0 and 1, of the volumes A and B.
 fn two_pieces(alloc: Global) -> Result<Vec<Piece>, Fail> {
     let bootstrap = read_bootstrap(alloc, b"Volume=A\nVolume=B\n")?;
     Ok(split(alloc, &bootstrap)?)
 }
 
+/// Returns the key of the file with this index.
 fn key(index: u32) -> Result<FileKey, Fail> {
     let session = SessionKey { id: 1, time: 100 };
     let index = FileIndex::new(index).ok_or("an index")?;
     Ok(FileKey { session, index })
 }
 
-/// A whole record of a file, in the first block of the volume of this group.
+/// Returns a whole record of a file, in the first block of the volume of this group.
 fn hit(
     alloc: Global,
     index: u32,
@@ -39,7 +40,7 @@ fn hit(
 ) -> Result<Hit, Fail> {
     Ok(Hit {
         key: key(index)?,
-        place: Spot {
+        spot: Spot {
             group,
             addr: 0,
             ordinal,
@@ -50,7 +51,8 @@ fn hit(
     })
 }
 
-/// Of piece 0 the attributes of both files and `a` of the first; of piece 1 `c` of the second and `b` of the first.
+/// Returns the attributes of both files and `a` of the first for piece 0, `c` of the second and `b`
+/// of the first for piece 1.
 fn found(alloc: Global, piece: u32) -> Result<Found, Fail> {
     let mut hits = Vec::new(alloc);
     if piece == 0 {
@@ -64,16 +66,18 @@ fn found(alloc: Global, piece: u32) -> Result<Found, Fail> {
     Ok(Found { piece, hits })
 }
 
+/// Takes what was found, which must not be refused.
 fn take(joiner: &mut Joiner, found: Found) -> Result<(), Fail> {
     Ok(joiner.take(found).map_err(|refused| refused.fault)?)
 }
 
-/// Whether a file has these bytes, and their digest.
+/// Returns whether a file has these bytes, and their digest.
 fn has_bytes(alloc: Global, file: &FileBytes, wanted: &[u8]) -> Result<bool, Fail> {
     let bytes = file.to_vec(alloc)?;
     Ok(bytes.as_slice() == wanted && file.digest() == Md5::digest(wanted))
 }
 
+/// Returns whether a file has this index, path and bytes.
 fn is_file(
     alloc: Global,
     file: &(FileKey, Outcome),
@@ -92,7 +96,7 @@ fn is_file(
     }
 }
 
-/// Whether the files are /a with `ab` and /b with `c`.
+/// Returns whether the files are /a with `ab` and /b with `c`.
 fn are_both(alloc: Global, files: &[(FileKey, Outcome)]) -> Result<bool, Fail> {
     match files {
         [a, b] => {
@@ -103,7 +107,7 @@ fn are_both(alloc: Global, files: &[(FileKey, Outcome)]) -> Result<bool, Fail> {
     }
 }
 
-/// A joiner of the two pieces, without names.
+/// Returns a joiner of the two pieces, without names.
 fn new_joiner(alloc: Global) -> Result<Joiner, Fail> {
     let pieces = two_pieces(alloc)?;
     Ok(Joiner::new(alloc, pieces.as_slice(), None)?)
@@ -114,7 +118,7 @@ fn take_piece(alloc: Global, joiner: &mut Joiner, piece: u32) -> Result<(), Fail
     take(joiner, found(alloc, piece)?)
 }
 
-/// The files, none where a piece is open.
+/// Returns the files, none if a piece is open.
 fn finished(
     rt: &(impl Threads + Sync),
     alloc: Global,
@@ -127,7 +131,7 @@ fn finished(
     }
 }
 
-/// Whether there are three hits, and `a` is the last.
+/// Returns whether there are three hits, and `a` is the last.
 fn end_with_a(hits: &[Hit]) -> bool {
     match hits {
         [_, _, last] => last.bytes.as_slice() == b"a".as_slice(),
@@ -135,7 +139,7 @@ fn end_with_a(hits: &[Hit]) -> bool {
     }
 }
 
-/// Whether what is handed back is of the piece 2, which is none of the two.
+/// Returns whether the returned value is of the piece 2, which is none of the two.
 fn is_of_stranger(refused: &Refused<Found>) -> bool {
     refused.fault == JoinFault::StrangerPiece
         && refused.fault.number() == 58
@@ -143,8 +147,8 @@ fn is_of_stranger(refused: &Refused<Found>) -> bool {
         && end_with_a(&refused.value.hits)
 }
 
-/// Whether a joiner hands back what is found of the piece 2.
-fn hands_back(alloc: Global, joiner: &mut Joiner) -> Result<bool, Fail> {
+/// Returns whether a joiner refuses and returns what is found of the piece 2.
+fn returns_stranger(alloc: Global, joiner: &mut Joiner) -> Result<bool, Fail> {
     let hits = found(alloc, 0)?.hits;
     match joiner.take(Found { piece: 2, hits }) {
         Ok(()) => Ok(false),
@@ -153,14 +157,14 @@ fn hands_back(alloc: Global, joiner: &mut Joiner) -> Result<bool, Fail> {
 }
 
 #[test]
-fn hands_back_what_is_of_another_piece(rt: HostRuntime) -> Result<(), Fail> {
+fn returns_what_is_of_another_piece(rt: HostRuntime) -> Result<(), Fail> {
     let mut joiner = new_joiner(rt.alloc())?;
-    assert!(rt; hands_back(rt.alloc(), &mut joiner)?);
+    assert!(rt; returns_stranger(rt.alloc(), &mut joiner)?);
     assert!(rt; !joiner.ready());
     Ok(())
 }
 
-/// Whether a joiner is ready before, between and behind two pieces that it takes.
+/// Returns whether a joiner is ready before, between and after two pieces that it takes.
 fn readiness(
     alloc: Global,
     joiner: &mut Joiner,
@@ -174,7 +178,7 @@ fn readiness(
     Ok([before, between, joiner.ready()])
 }
 
-/// Whether a joiner is ready just behind both pieces, and makes both files of them.
+/// Returns whether a joiner is ready only after both pieces, and makes both files of them.
 fn joins(
     rt: &(impl Threads + Sync),
     alloc: Global,
@@ -187,7 +191,7 @@ fn joins(
     Ok(are_both(alloc, &files)? && ready == [false, false, true])
 }
 
-/// The same of a new joiner.
+/// Returns the same of a new joiner.
 fn joins_anew(
     rt: &(impl Threads + Sync),
     alloc: Global,
@@ -198,13 +202,14 @@ fn joins_anew(
     joins(rt, alloc, &mut joiner, first, second)
 }
 
-/// Takes that nothing is found of a piece.
+/// Takes a piece of which nothing is found.
 fn take_nothing(alloc: Global, joiner: &mut Joiner, piece: u32) -> Result<(), Fail> {
     let hits = Vec::new(alloc);
     take(joiner, Found { piece, hits })
 }
 
-/// Whether a joiner is ready before, between and behind both pieces, of which nothing is found.
+/// Returns whether a joiner is ready before, between and after both pieces, of which nothing is
+/// found.
 fn readiness_of_nothing(alloc: Global, joiner: &mut Joiner) -> Result<[bool; 3], Fail> {
     let before = joiner.ready();
     take_nothing(alloc, joiner, 0)?;
@@ -213,7 +218,8 @@ fn readiness_of_nothing(alloc: Global, joiner: &mut Joiner) -> Result<[bool; 3],
     Ok([before, between, joiner.ready()])
 }
 
-/// Whether a joiner is ready just behind both pieces, of which nothing is found, and makes no file of them.
+/// Returns whether a joiner is ready only after both pieces, of which nothing is found, and makes
+/// no file of them.
 fn joins_nothing(
     rt: &(impl Threads + Sync),
     alloc: Global,
@@ -242,7 +248,7 @@ fn take_repeats(alloc: Global, joiner: &mut Joiner) -> Result<(), Fail> {
     take(joiner, found_at_taken_place(alloc)?)
 }
 
-/// Of piece 1 `z` of the second file, where that piece has `c`.
+/// Returns `z` of the second file for piece 1, at the place of `c`.
 fn found_at_taken_place(alloc: Global) -> Result<Found, Fail> {
     let mut hits = Vec::new(alloc);
     hits.push(hit(alloc, 2, (1, 0), 2, b"z")?)?;
@@ -265,7 +271,7 @@ fn plan(alloc: Global, names: &mut Names, index: u32, path: &[u8]) -> Result<(),
     Ok(())
 }
 
-/// The names of the files 3 and 1.
+/// Returns the names of the files 3 and 1.
 fn planned_names(alloc: Global) -> Result<Names, Fail> {
     let mut names = Names::new(alloc);
     plan(alloc, &mut names, 3, b"/c")?;
@@ -273,14 +279,14 @@ fn planned_names(alloc: Global) -> Result<Names, Fail> {
     Ok(names)
 }
 
-/// A joiner of the two pieces that restores the files 3 and 1.
+/// Returns a joiner of the two pieces that restores the files 3 and 1.
 fn planned_joiner(alloc: Global) -> Result<Joiner, Fail> {
     let pieces = two_pieces(alloc)?;
     let names = planned_names(alloc)?;
     Ok(Joiner::new(alloc, pieces.as_slice(), Some(names))?)
 }
 
-/// Whether of the file with this key nothing was found.
+/// Returns whether this is the file with this key, of which nothing was found.
 fn is_missing(file: &(FileKey, Outcome), key: FileKey) -> bool {
     file.0 == key
         && matches!(
@@ -292,7 +298,7 @@ fn is_missing(file: &(FileKey, Outcome), key: FileKey) -> bool {
         )
 }
 
-/// Whether the files are /a with `ab`, and one of this key of which nothing was found.
+/// Returns whether the files are /a with `ab`, and one with this key of which nothing was found.
 fn are_planned(alloc: Global, files: &[(FileKey, Outcome)], key: FileKey) -> Result<bool, Fail> {
     match files {
         [a, c] => Ok(is_file(alloc, a, 1, b"/a", b"ab")? && is_missing(c, key)),
@@ -310,7 +316,7 @@ fn restores_what_was_planned(rt: HostRuntime) -> Result<(), Fail> {
     Ok(())
 }
 
-/// The bytes of the file of this index among the many, of which no two are of one length.
+/// Returns the bytes of the file of this index among the many, of which no two are of one length.
 fn bytes_of_many(alloc: Global, index: u32) -> Result<Vec<u8>, Fail> {
     let mut bytes = Vec::new(alloc);
     for place in 0..index.wrapping_mul(613) % 997 {
@@ -319,7 +325,7 @@ fn bytes_of_many(alloc: Global, index: u32) -> Result<Vec<u8>, Fail> {
     Ok(bytes)
 }
 
-/// The fragments of one of the many files.
+/// Appends the fragments of one of the many files.
 fn push_one_of_many(alloc: Global, hits: &mut Vec<Hit>, index: u32) -> Result<(), Fail> {
     let attributes = format!(in alloc; "{index} 3 /{index}\0A A IGk B A A A O A A A A A A\0\0")?;
     let bytes = bytes_of_many(alloc, index)?;
@@ -328,7 +334,7 @@ fn push_one_of_many(alloc: Global, hits: &mut Vec<Hit>, index: u32) -> Result<()
     Ok(())
 }
 
-/// Of piece 0 the files 1 to 100, out of order.
+/// Returns the files 1 to 100 for piece 0, out of order.
 fn found_many(alloc: Global) -> Result<Found, Fail> {
     let mut hits = Vec::new(alloc);
     for turn in 1..101u32 {
@@ -337,14 +343,15 @@ fn found_many(alloc: Global) -> Result<Found, Fail> {
     Ok(Found { piece: 0, hits })
 }
 
-/// Whether the file is that of this index among the many.
+/// Returns whether the file is that of this index among the many.
 fn is_one_of_many(alloc: Global, file: &(FileKey, Outcome), index: u32) -> Result<bool, Fail> {
     let path = format!(in alloc; "/{index}")?;
     let bytes = bytes_of_many(alloc, index)?;
     is_file(alloc, file, index, path.as_bytes(), &bytes)
 }
 
-/// The first of the files 1 to 100 that is not in its place with its own bytes and digest, none where all are.
+/// Returns the first of the files 1 to 100 that is not in its place with its own bytes and digest,
+/// if there is one.
 fn wrong_of_many(alloc: Global, files: &[(FileKey, Outcome)]) -> Result<Option<u32>, Fail> {
     if files.len() != 100 {
         return Ok(Some(0));
@@ -357,7 +364,7 @@ fn wrong_of_many(alloc: Global, files: &[(FileKey, Outcome)]) -> Result<Option<u
     Ok(None)
 }
 
-/// The files that a joiner makes where many are found.
+/// Returns the files that a joiner makes of the many.
 fn many_files(rt: &(impl Threads + Sync), alloc: Global) -> Result<Vec<(FileKey, Outcome)>, Fail> {
     let mut joiner = new_joiner(alloc)?;
     take(&mut joiner, found_many(alloc)?)?;

@@ -15,7 +15,7 @@ as_64 result (Err n) is = is
 
 pub returns-in-None : goal.returns-in-None
 unfolding attributes_of
-returns-in-None c = rw (none_in (is_stream 1) c.args.records.now (sym c.in-None.ensures), c.new.ensures) refl
+returns-in-None c = rw (none_in (is_stream 1) c.args.records.now (sym c.in-None.ensures)) refl
 
 pub returns-in-Some : goal.returns-in-Some
 unfolding attributes_of
@@ -27,4 +27,4 @@ pub returns-in-Some-2 : goal.returns-in-Some-2
 unfolding attributes_of
 returns-in-Some-2 c =
     let more = more_in (is_stream 1) c.args.records.now c.in-Some.found.now (sym c.in-Some.ensures) (λ e. c.if-count_in-eq1.false (c.count_in.ensures ∙ e)) in
-    rw (more.2, c.new-in-Some-2.ensures) refl
+    rw more.2 refl

@@ -1,7 +1,7 @@
 use Rattle.std.proofs.Common.{◌≡◌, ◌+◌, ◌++◌, ◌∷◌, [], refl, List, None, Ok, Err, sym, ap, ◌∙◌, arith}
 use Rattle.std.proofs.lemmas.Result.{err_from_is_err_and}
 use Rattle.br_model.specs.Answer.{refused_as}
-use Rattle.br_model.specs.File.{Fault, fault}
+use Rattle.br_model.specs.File.{fault}
 use Rattle.br_model.specs.Record.{Record}
 use Rattle.br_join.specs.Opening.{bytes_between, joined_from}
 use Rattle.br_join.proofs.JoinLaws.{joins_begin, joins_refused, joins_open, joins_whole, joins_done, joins_torn}
@@ -49,4 +49,4 @@ pub returns : goal.returns
 returns c =
     let before = c.loop-i.invariant in
     let joined : refused_as fault (joined_from c.args.hits.now c.args.index c.loop-i.records.items c.loop-i.opened c.loop-i.first c.loop-i.i) ≡ Err (fault 61) = rw c.in-Some.is (joins_torn c.args.hits.now c.args.index c.loop-i.records.items c.loop-i.first c.loop-i.i c.loop-i-test.false c.in-Some.field-0) in
-    ap (refused_as fault) before.joins ∙ joined ∙ ap (λ (f : Fault). Err f) (sym c.new.ensures)
+    ap (refused_as fault) before.joins ∙ joined

@@ -28,8 +28,8 @@ returns-clause-of_key c =
     subst (AllByRecursion (λ (h : Hit). h.key ≡ key)) (sym (c.split_at-2.ensures.front ∙ ap (take j) behind))
     (run_of_key key hits i j part.1 (subst (λ (xs : List Hit). AllWithin (λ (h : Hit). is_up_to_file key h ≡ true) xs 0 j) behind part_2.0))
 
-pub returns-clause-behind : goal.returns-clause-behind
-returns-clause-behind c =
+pub returns-clause-after : goal.returns-clause-after
+returns-clause-after c =
     let key = c.args.key in
     let hits = c.args.hits.now in
     let rest = c.split_at.result.1.now in

@@ -13,7 +13,7 @@ pub loop-first-smaller : goal.loop-first-smaller
 loop-first-smaller c =
     (found_turn c.loop-first.rest.now c.around.result.0.now c.around.result.1.now c.around.result.2.now c.in-Some.first.now c.first-in-Some.inside.key
     (sym c.first.ensures.value ∙ ap option_copied c.in-Some.is) (ap (λ (h : Hit). h.key) (sym c.first-in-Some.view_is))
-    c.around.ensures.joined c.around.ensures.before c.around.ensures.of_key c.around.ensures.behind).1
+    c.around.ensures.joined c.around.ensures.before c.around.ensures.of_key c.around.ensures.after).1
 
 pub loop-first-preserved : goal.loop-first-preserved
 loop-first-preserved c =
@@ -21,7 +21,7 @@ loop-first-preserved c =
     let behind = c.around.result.2.now in
     let turn = found_turn c.loop-first.rest.now c.around.result.0.now c.around.result.1.now behind c.in-Some.first.now key
     (sym c.first.ensures.value ∙ ap option_copied c.in-Some.is) (ap (λ (h : Hit). h.key) (sym c.first-in-Some.view_is))
-    c.around.ensures.joined c.around.ensures.before c.around.ensures.of_key c.around.ensures.behind in
+    c.around.ensures.joined c.around.ensures.before c.around.ensures.of_key c.around.ensures.after in
     let file = c.new.result in
     let next : files_found (listed c.loop-first.rest.now) ≡ file ∷ files_found (listed behind) =
     turn.0 ∙ ap (λ (f : Restored). f ∷ files_found (listed behind)) (sym c.new.ensures) in (

@@ -22,7 +22,7 @@ loop-key-preserved c =
     let rest = c.next.new.self in
     let run : fragments_for key es ≡ _ =
     fragments_in_run key c.args.hits.now c.around.result.0.now c.around.result.1.now c.around.result.2.now
-    c.around.ensures.joined c.around.ensures.before c.around.ensures.of_key c.around.ensures.behind in
+    c.around.ensures.joined c.around.ensures.before c.around.ensures.of_key c.around.ensures.after in
     let file : c.new.result ≡ planned_of es (key, path) =
     c.new.ensures ∙ ap (λ (fs : List Fragment). record { key = key; outcome = under_name path (outcome_of key fs) }) (sym run) in
     let next : map (planned_of es) left ≡ c.new.result ∷ map (planned_of es) rest =

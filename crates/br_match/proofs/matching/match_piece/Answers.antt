@@ -1,9 +1,10 @@
-use Rattle.std.proofs.Common.{Ok, Err, false, true, subst, ◌∙◌, arith}
+use Rattle.std.proofs.Common.{Ok, Err, subst, ◌∙◌, arith}
 use Rattle.std.proofs.lemmas.Result.{err_from_is_err_and}
 use Rattle.br_model.specs.Meaning.{Piece}
 use Rattle.br_match.specs.Fault.{cause}
 use Rattle.br_match.specs.Matching.{AnswersPiece}
 use Rattle.br_match.specs.Walk.{AfterWalk, Follows, IsWalked, StepAnswers}
+use Rattle.br_match.specs.declared.walk.Step.TheVariants.{Passed, End}
 use Rattle.br_match.proofs.FoundLaws.{walk_begins, walk_follows, walk_goes_on, walk_ends, walk_refused, found_over}
 use Rattle.br_match.proofs.GrowthLaws.{grows_itself, grows_more}
 use Rattle.br_match.proofs.OverLaws.{over_any, over_join}
@@ -54,13 +55,13 @@ loop-walk-preserved g c =
     let first = g.D.Drive.shows c.args.drive.now in
     let second = g.D.Drive.shows l.drive in
     let third = g.D.Drive.shows c.step.new.drive in
-    let answer : AfterWalk second third l.walk.piece.now a (StepAnswers l.walk.piece.now a next l.hits.items after (Ok true)) = rw (c.if-branch.true) at c.in_ok-step.ensures.hits in
-    let step = subst (λ (q : Piece). AfterWalk second third q a (StepAnswers q a next l.hits.items after (Ok true))) l.invariant.of answer in
+    let answer : AfterWalk second third l.walk.piece.now a (StepAnswers l.walk.piece.now a next l.hits.items after (Ok Passed)) = rw (c.in-Passed.is) at c.in_ok-step.ensures.hits in
+    let step = subst (λ (q : Piece). AfterWalk second third q a (StepAnswers q a next l.hits.items after (Ok Passed))) l.invariant.of answer in
     record {
       of = c.step.ensures.of ∙ l.invariant.of;
       walked =
           over_join first second third piece (λ volumes. IsWalked volumes piece a l.hits.items)
-          (λ volumes. Follows volumes piece a → StepAnswers piece a next l.hits.items after (Ok true) volumes) (λ volumes. IsWalked volumes piece next after)
+          (λ volumes. Follows volumes piece a → StepAnswers piece a next l.hits.items after (Ok Passed) volumes) (λ volumes. IsWalked volumes piece next after)
           l.invariant.grows c.step.ensures.grows l.invariant.walked step
           (λ volumes walked answer. walk_goes_on volumes piece a next l.hits.items after walked (answer (walk_follows volumes piece a l.hits.items walked)));
       grows = grows_more first second third l.invariant.grows c.step.ensures.grows;
@@ -77,11 +78,11 @@ returns-clause-hits g c =
     let first = g.D.Drive.shows c.args.drive.now in
     let second = g.D.Drive.shows l.drive in
     let third = g.D.Drive.shows c.step.new.drive in
-    let answer : AfterWalk second third l.walk.piece.now a (StepAnswers l.walk.piece.now a next l.hits.items after (Ok false)) = rw (c.if-branch.false) at c.in_ok-step.ensures.hits in
-    let step = subst (λ (q : Piece). AfterWalk second third q a (StepAnswers q a next l.hits.items after (Ok false))) l.invariant.of answer in
+    let answer : AfterWalk second third l.walk.piece.now a (StepAnswers l.walk.piece.now a next l.hits.items after (Ok End)) = rw (c.in_default.is) at c.in_ok-step.ensures.hits in
+    let step = subst (λ (q : Piece). AfterWalk second third q a (StepAnswers q a next l.hits.items after (Ok End))) l.invariant.of answer in
     found_over first third piece (Ok (record { piece = c.piece.inside.number; hits = c.step.new.hits }))
     (over_join first second third piece (λ volumes. IsWalked volumes piece a l.hits.items)
-    (λ volumes. Follows volumes piece a → StepAnswers piece a next l.hits.items after (Ok false) volumes)
+    (λ volumes. Follows volumes piece a → StepAnswers piece a next l.hits.items after (Ok End) volumes)
     (λ volumes. AnswersPiece volumes piece (Ok (record { piece = c.piece.inside.number; hits = c.step.new.hits })))
     l.invariant.grows c.step.ensures.grows l.invariant.walked step
     (λ volumes walked answer. let s = answer (walk_follows volumes piece a l.hits.items walked) in walk_ends volumes piece a l.hits.items after walked s.0 s.1))

@@ -3,7 +3,8 @@ use Rattle.br_volume.specs.Drive.{OnlyGrows}
 use Rattle.br_match.specs.Walk.{Over, IsWalked}
 use Rattle.br_match.proofs.matching.match_piece.Given as goal
 
--- over all volumes that the drive may be taken to have shown so far, these hits were found before the walk came to its address
+-- over all volumes that the drive may be taken to have shown so far, these hits were found before
+-- the walk came to its address
 abbrev pub invariant-loop-walk : goal.invariant-loop-walk
 invariant-loop-walk g l = record {
   of : l.walk.piece.now ≡ l.piece;

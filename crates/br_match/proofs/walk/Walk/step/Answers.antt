@@ -1,7 +1,8 @@
-use Rattle.std.proofs.Common.{◌≡◌, ◌+◌, Ok, Err, Some, false, true, ap, sym, ◌∙◌}
+use Rattle.std.proofs.Common.{◌≡◌, ◌+◌, Ok, Err, Some, true, ap, sym, ◌∙◌}
 use Rattle.std.proofs.lemmas.Result.{err_from_is_err_and}
 use Rattle.br_model.specs.Block.{Header}
 use Rattle.br_match.specs.Walk.{AfterWalk, BlockAnswers, Follows, HasHead, HeadAnswers, IsStep, StepAnswers}
+use Rattle.br_match.specs.declared.walk.Step.TheVariants.{Passed, End}
 use Rattle.br_match.proofs.FoundLaws.{ends_above}
 use Rattle.br_match.proofs.GrowthLaws.{grows_more}
 use Rattle.br_match.proofs.OverLaws.{over_any, over_join}
@@ -13,7 +14,7 @@ returns-then-is_above-clause-hits g c =
     let a = c.args.self.now.addr in
     let hits = c.args.hits.now.items in
     let shows = g.D.Drive.shows c.args.drive.now in
-    over_any shows shows piece (λ volumes. Follows volumes piece a → StepAnswers piece a a hits hits (Ok false) volumes)
+    over_any shows shows piece (λ volumes. Follows volumes piece a → StepAnswers piece a a hits hits (Ok End) volumes)
     (λ volumes follows. ends_above volumes piece a hits (sym c.is_above.ensures ∙ c.if-is_above.true) follows)
 
 pub returns-in_err-head-clause-hits : goal.returns-in_err-head-clause-hits
@@ -60,7 +61,7 @@ returns-clause-hits g c =
     rw size
     (over_join first second third piece (λ volumes. Follows volumes piece a → HasHead volumes piece a h)
     (λ volumes. Follows volumes piece a → HasHead volumes piece a h → IsStep volumes piece a (a + h.size) before after)
-    (λ volumes. Follows volumes piece a → StepAnswers piece a (a + h.size) before after (Ok true) volumes)
+    (λ volumes. Follows volumes piece a → StepAnswers piece a (a + h.size) before after (Ok Passed) volumes)
     c.head_at.ensures.grows c.push_block.ensures.grows head c.in_ok-push_block.ensures.hits
     (λ volumes has block follows. block follows (has follows)))
 

@@ -2,7 +2,7 @@ use Rattle.std.proofs.Common.{◌+◌, List, ℕ, drop, sym, ap, ◌∙◌, ◌+
 use Rattle.br_join.specs.FileParts.{joined}
 use Rattle.br_join.specs.Records.{bytes_in}
 use Rattle.br_join.proofs.PartLaws.{bytes_more, pushed_more}
-use Rattle.br_join.proofs.parts.share_behind.Goals as goal
+use Rattle.br_join.proofs.parts.share_bytes.Goals as goal
 
 pub loop-part-preserved : goal.loop-part-preserved
 loop-part-preserved c =

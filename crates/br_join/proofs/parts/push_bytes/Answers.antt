@@ -1,7 +1,7 @@
 use Rattle.std.proofs.Common.{◌+◌, List, ℕ, drop, sym, ap, ◌∙◌, ◌++◌}
 use Rattle.br_join.specs.Records.{bytes_in}
 use Rattle.br_join.proofs.PartLaws.{bytes_more, pushed_more}
-use Rattle.br_join.proofs.parts.push_behind.Goals as goal
+use Rattle.br_join.proofs.parts.push_bytes.Goals as goal
 
 pub loop-part-preserved : goal.loop-part-preserved
 loop-part-preserved c =

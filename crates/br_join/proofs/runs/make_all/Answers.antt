@@ -2,7 +2,7 @@ use Rattle.std.proofs.Common.{◌≡◌, ap, ◌∙◌, IfOk}
 use Rattle.rayon.proofs.ToStd.{slice-AllZip}
 use Rattle.br_join.specs.Outcome.{restored}
 use Rattle.br_join.proofs.FilesLaws.{answer_made}
-use Rattle.br_join.proofs.runs.made.Goals as goal
+use Rattle.br_join.proofs.runs.make_all.Goals as goal
 
 pub returns : goal.returns
 returns g c =
