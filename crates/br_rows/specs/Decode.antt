@@ -1,5 +1,5 @@
--- What the rows of the catalogue say of a job, and the rows that say it.
-use Rattle.std.specs.Prelude.{◌≡◌, ⊤, length, ℕ, ◌+◌, ◌*◌, ◌/◌, ◌%◌, ◌^◌, pos, ◌==◌, nat_le, if◌then◌else◌, List, [], ◌∷◌, ◌++◌, Option, Some, None, bytes_eq, Result, Ok, Err}
+-- A job, a span and a file as rows of the catalogue, and read from such rows.
+use Rattle.std.specs.Prelude.{◌≡◌, ⊤, length, ℕ, ◌+◌, ◌*◌, ◌/◌, ◌%◌, ◌^◌, ◌<◌, true, pos, ◌==◌, nat_le, if◌then◌else◌, List, [], ◌∷◌, ◌++◌, Option, Some, None, bytes_eq, Result, Ok, Err}
 use Rattle.std.specs.List.{list_any}
 use Rattle.std.specs.Str.{is_utf8}
 use Rattle.sqlite.specs.declared.types.Value.{Value}
@@ -9,7 +9,7 @@ use Rattle.hex.specs.Hex.{IsBytes, encode_lower, decode_sized}
 use Rattle.hex.specs.declared.error.FromHexError.{FromHexError}
 use Rattle.br_model.specs.Answer.{◌>>=◌, refuse_if}
 use Rattle.br_model.specs.Text.{is_empty}
-use Rattle.br_model.specs.Name.{is_letter, is_slash, checked_name, checked_volume_name, checked_path}
+use Rattle.br_model.specs.Name.{is_letter, is_path, is_slash, is_volume_name, checked_name, checked_volume_name, checked_path}
 use Rattle.br_model.specs.Job.{JobRow, FileRow, Span}
 
 -- a number from 0, else 47
@@ -34,7 +34,7 @@ abbrev pub blob : Value → Result (List ℕ) ℕ
 blob (Blob b) = Ok b
 blob _ = Err 47
 
--- the letter that a text of one byte is, else 47
+-- the letter that is the one byte of this text, else 47
 abbrev pub letter : List ℕ → Result ℕ ℕ
 letter (c ∷ []) = if is_letter c then Ok c else Err 47
 letter _ = Err 47
@@ -45,7 +45,7 @@ letter_in v = do
   t ← text v
   letter t
 
--- the refusal of a value is the catalogue's
+-- the refusal of a value is that of the catalogue
 abbrev pub refused : {X : Type 0} → Result X ℕ → Result X ℕ
 refused (Ok x) = Ok x
 refused (Err e) = Err 47
@@ -93,7 +93,7 @@ abbrev pub IsDigest : Option (List ℕ) → Type 0
 IsDigest None = ⊤
 IsDigest (Some bytes) = (length bytes ≡ 16) × IsBytes bytes
 
--- the digest, if these bytes are written as the text
+-- the digest, if the text writes these bytes in lower case digits
 abbrev pub if_written : List ℕ → Result (List ℕ) FromHexError → Result (Option (List ℕ)) ℕ
 if_written t (Ok bytes) = if bytes_eq (encode_lower bytes) t then Ok (Some bytes) else Err 47
 if_written t (Err e) = Err 47
@@ -119,7 +119,7 @@ string_in v = do
 
 -- ---- addresses
 
--- the half of an address that counts 2 ^ 32 bytes, and the half below it
+-- the high and the low 32 bits of an address
 abbrev pub high : ℕ → ℕ
 high address = address / 2 ^ 32
 
@@ -178,7 +178,7 @@ read_span row = do
   vol_index ← small (column row 8)
   Ok (record { volume = volume; first = first; last = last; start = start; end = end; vol_index = vol_index })
 
--- the row of a file that a row shows, else 47
+-- the file that a row shows, else 47
 unfoldable pub read_file : Row → Result FileRow ℕ
 read_file row = do
   index ← small (column row 1)
@@ -186,3 +186,15 @@ read_file row = do
   lstat ← string_in (column row 4)
   digest ← digest_in (column row 5)
   Ok (record { path = path; index = index; lstat = lstat; digest = digest })
+
+-- a span is read back from its row if its name and its numbers are of their types
+abbrev pub SpansReadBack : Type 0
+SpansReadBack =
+    (job : ℕ) (s : Span) → is_volume_name s.volume ≡ true → s.first < 2 ^ 32 → s.last < 2 ^ 32 → s.start < 2 ^ 64 → s.end < 2 ^ 64 → s.vol_index < 2 ^ 32
+    → read_span (span_row job s) ≡ Ok s
+
+-- a file is read back from its row if what it has is of its types
+abbrev pub FilesReadBack : Type 0
+FilesReadBack =
+    (job : ℕ) (f : FileRow) → f.index < 2 ^ 32 → is_path f.path ≡ true → is_utf8 f.lstat ≡ true → IsDigest f.digest
+    → read_file (file_row job f) ≡ Ok f

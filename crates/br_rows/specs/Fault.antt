@@ -1,4 +1,4 @@
--- What a refusal of the catalogue says.
+-- The refusals of the catalogue.
 use Rattle.std.specs.Prelude.{◌≡◌, ℕ, Option, Some, None}
 use Rattle.sqlite.specs.declared.error.Error.{Error}
 use Rattle.br_history.specs.declared.fault.HistoryFault.{HistoryFault}
@@ -14,13 +14,13 @@ fault_number Memory = 1
 fault_number (Store why) = 45
 fault_number BadCatalogue = 47
 
--- the refusal that the rows have, nothing for want of memory and for a failure of the store
+-- the refusal that the rows have; none if memory ran out or the store failed
 abbrev pub cause : StoreFault → Option ℕ
 cause Memory = None
 cause (Store why) = None
 cause BadCatalogue = Some 47
 
--- a bad name or path is a bad catalogue, and want of memory stays so
+-- a bad name or path is a bad catalogue, and out of memory stays so
 abbrev pub of_name_fault : NameFault → StoreFault
 of_name_fault names.Memory = Memory
 of_name_fault names.BadName = BadCatalogue
@@ -30,7 +30,7 @@ of_name_fault names.BadPath = BadCatalogue
 abbrev pub IsStoreFault : StoreFault → Type 0
 IsStoreFault fault = (why : Error) × (fault ≡ Store why)
 
--- rows that cannot stand together are a bad catalogue
+-- rows that form no history are a bad catalogue
 abbrev pub of_history_fault : HistoryFault → StoreFault
 of_history_fault rows.Memory = Memory
 of_history_fault rows.DuplicateJob = BadCatalogue

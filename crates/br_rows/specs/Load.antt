@@ -12,7 +12,7 @@ use Rattle.br_model.specs.Job.{JobRow, Span, JobRows, checked_rows, no_pair, cla
 use Rattle.br_rows.specs.Decode.{natural, small, refused, read_job, read_span, read_file}
 use Rattle.br_rows.specs.Rows.{Rows}
 
--- each row read, or 47 where one can't be
+-- each row read, or 47 if one cannot be read
 unfoldable pub read_all : {A X : Type 0} → (A → Result X ℕ) → List A → Result (List X) ℕ
 read_all read [] = Ok []
 read_all read (a ∷ rest) = do
@@ -20,7 +20,7 @@ read_all read (a ∷ rest) = do
   xs ← read_all read rest
   Ok (x ∷ xs)
 
--- whether this number was read
+-- this number was read
 abbrev pub is_read : ℕ → Result ℕ ℕ → Bool
 is_read n (Ok m) = n == m
 is_read n (Err e) = false
@@ -36,19 +36,19 @@ abbrev pub check_version : List Row → Result (Unit {0}) ℕ
 check_version (row ∷ []) = check_first (column row 0)
 check_version _ = Err 47
 
--- whether a row of a span or a file is of the job with this number
+-- the row of a span or a file belongs to the job with this number
 abbrev pub is_of : ℕ → Row → Bool
 is_of id row = is_read id (small (column row 0))
 
--- whether it is of one of these jobs
+-- the row belongs to one of these jobs
 abbrev pub has_job : List JobRow → Row → Bool
 has_job jobs row = list_any (λ (j : JobRow). is_of j.id row) jobs
 
--- the rows of each job, or 47 where one is of none of these jobs
+-- the rows of each job, or 47 if one belongs to none of these jobs
 unfoldable pub by_job : List JobRow → List Row → Result (ℕ → List Row) ℕ
 by_job jobs rows = if list_all (has_job jobs) rows then Ok (λ id. filter (is_of id) rows) else Err 47
 
--- a span put before the first whose number is not below its own
+-- a span inserted before the first whose number is not below its own
 unfoldable pub put_span : Span → List Span → List Span
 put_span s [] = s ∷ []
 put_span s (t ∷ ts) = if nat_le s.vol_index t.vol_index then s ∷ t ∷ ts else t ∷ put_span s ts
@@ -58,7 +58,7 @@ unfoldable pub by_number : List Span → List Span
 by_number [] = []
 by_number (s ∷ ss) = put_span s (by_number ss)
 
--- a job with its spans and its files, or 47 where they can't be read or can't stand together
+-- a job with its spans and its files, or 47 if they cannot be read or do not fit together
 unfoldable pub read_rows : (ℕ → List Row) → (ℕ → List Row) → JobRow → Result JobRows ℕ
 read_rows spans files job = do
   s ← read_all read_span (spans job.id)
@@ -78,8 +78,8 @@ read_loaded job_rows span_rows file_rows = do
   whole ← read_all (read_rows spans files) jobs
   if_apart whole
 
--- The history that the rows are: the jobs in order of their numbers, each with its spans in order of theirs and its files in
--- order of FileId. 47 where the version is not the one row 1, or the rows form no history.
+-- The history of the rows of a catalogue: the jobs in the order of their rows, each with its spans in order of their numbers and
+-- its files in the order of their rows. 47 if the version is not the one row 1, or the rows form no history.
 unfoldable pub read_history : Rows → Result (List JobRows) ℕ
 read_history rows = do
   _ ← check_version rows.versions
@@ -87,7 +87,7 @@ read_history rows = do
 
 -- ---- rows held by job
 
--- the rows at an entry, none where there is no entry
+-- the rows at an entry, none if there is no entry
 abbrev pub held : Option (Vec (Bor Row) Global) → List Row
 held None = []
 held (Some rows) = map (λ (b : Bor Row). b.now) rows.items
@@ -98,7 +98,7 @@ group_of places id = held (get nat_cmp places id)
 abbrev pub has : BTreeMap ℕ (Vec (Bor Row) Global) → ℕ → Bool
 has places id = is_some (get nat_cmp places id)
 
--- a row was put behind the others of a number
+-- a row was appended to those of a number
 pub record Puts (old : BTreeMap ℕ (Vec (Bor Row) Global)) (id : ℕ) (row : Row) (new : BTreeMap ℕ (Vec (Bor Row) Global)) : Type 0 where
   pub rows : (q : ℕ) → group_of new q ≡ group_of old q ++ (if id == q then row ∷ [] else [])
   pub places : (q : ℕ) → has new q ≡ has old q

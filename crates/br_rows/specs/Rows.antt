@@ -14,22 +14,36 @@ pub record Rows : Type 0 where
   pub spans : List Row
   pub files : List Row
 
--- ---- jobs put among the rows
+-- ---- columns of the rows of jobs
 
--- the job's own row is put in its place, by its number
+abbrev pub shown_number : ℕ
+shown_number = 0
+
+abbrev pub shown_session : ℕ
+shown_session = 7
+
+abbrev pub shown_session_time : ℕ
+shown_session_time = 8
+
+-- ---- a job added to the rows
+
+-- the job's own row is added in order of its number
 abbrev pub with_job : JobRow → Rows → Rows
 with_job j rows = record rows { jobs = put_row (job_row j) rows.jobs }
 
+-- the rows of a job's spans are appended
 abbrev pub with_spans : ℕ → List Span → Rows → Rows
 with_spans id spans rows = record rows { spans = rows.spans ++ map (span_row id) spans }
 
+-- the rows of a job's files are appended
 abbrev pub with_files : ℕ → List FileRow → Rows → Rows
 with_files id files rows = record rows { files = rows.files ++ map (file_row id) files }
 
+-- one row of a file is appended
 abbrev pub with_file_row : Row → Rows → Rows
 with_file_row row rows = record rows { files = rows.files ++ row ∷ [] }
 
--- the rows with those of one more job
+-- the rows of one more job are added
 abbrev pub with_rows : JobRows → Rows → Rows
 with_rows j rows = with_files j.row.id j.files (with_spans j.row.id j.spans (with_job j.row rows))
 

@@ -1,15 +1,12 @@
-//! What the rows that queries show say of jobs, spans and files.
+//! Jobs, spans and files read from the rows that queries show.
 
-ghost use Rattle.std.specs.Prelude.{◌≡◌, ◌++◌, ◌<◌, ◌^◌, ℕ, true, Ok};
+ghost use Rattle.std.specs.Prelude.{◌++◌, Ok};
 ghost use Rattle.std.specs.String.{string_bytes};
-ghost use Rattle.std.specs.Str.{is_utf8};
 ghost use Rattle.sqlite.specs.Order.{column};
 ghost use Rattle.br_model.specs.Answer.{Answers};
-ghost use Rattle.br_model.specs.Name.{is_path, is_volume_name};
-ghost use Rattle.br_model.specs.Job as model;
-ghost use Rattle.br_model.specs.Job.{JobRow as Job, is_job_row};
 ghost use Rattle.br_rows.specs.Fault.{cause};
-ghost use Rattle.br_rows.specs.Decode.{IsDigest, file_row, path_in, digest, digest_in, characters, string_in, address_in, job_row, span_row, read_job, read_span, read_file};
+ghost use Rattle.br_rows.specs.Decode.{address_in, characters, digest, digest_in, path_in, string_in};
+ghost use Rattle.br_rows.specs.Decode.{read_file, read_job, read_span};
 
 use crate::fault::StoreFault;
 use crate::value::{blob_at, letter_at, name_at, natural_at, small_at, text_at, volume_at};
@@ -19,15 +16,7 @@ use br_types::{JobId, Path, SessionKey};
 use sqlite::Row;
 use std::alloc::Global;
 
-/// What is written of a job's own row, of a span and of a file is read as these.
-pub fn rows_read_back()
-    ensures job { (j : Job) → is_job_row j ≡ true → read_job (job_row j) ≡ Ok j }
-    ensures span { (job : ℕ) (s : model.Span) → is_volume_name s.volume ≡ true → s.first < 2 ^ 32 → s.last < 2 ^ 32 → s.start < 2 ^ 64 → s.end < 2 ^ 64 → s.vol_index < 2 ^ 32
-        → read_span (span_row job s) ≡ Ok s }
-    ensures file { (job : ℕ) (f : model.FileRow) → f.index < 2 ^ 32 → is_path f.path ≡ true → is_utf8 f.lstat ≡ true → IsDigest f.digest → read_file (file_row job f) ≡ Ok f }
-{}
-
-/// The bytes of two parts one behind the other.
+/// Returns the bytes of two parts, one after the other.
 fn joined(alloc: Global, front: &[u8], rest: &[u8]) -> Result<Vec<u8>, StoreFault>
     ensures { Answers (λ b. b.items) cause result (Ok (front.now ++ rest.now)) }
 {
@@ -36,7 +25,7 @@ fn joined(alloc: Global, front: &[u8], rest: &[u8]) -> Result<Vec<u8>, StoreFaul
     Ok(bytes)
 }
 
-/// The path whose front and whose rest stand in two columns.
+/// Returns the path whose two parts are in these columns.
 #[tactic(auto, unfolding(crate::specs::Decode::path_in, br_model::specs::Name::checked_path))]
 fn path_at(alloc: Global, row: &Row, front: usize, rest: usize) -> Result<Path, StoreFault>
     ensures { Answers (λ p. p) cause result (path_in (column row.now front) (column row.now rest)) }
@@ -45,7 +34,7 @@ fn path_at(alloc: Global, row: &Row, front: usize, rest: usize) -> Result<Path, 
     Ok(Path::new(alloc, &bytes)?)
 }
 
-/// The digest that a text of digits is.
+/// Returns the digest that this text writes in lower case digits, or none if the text is empty.
 #[tactic(auto, unfolding(crate::specs::Decode::digest))]
 fn digest_of(text: &[u8]) -> Result<Option<[u8; 16]>, StoreFault>
     ensures { Answers (λ d. d) cause result (digest text.now) }
@@ -64,7 +53,7 @@ fn digest_of(text: &[u8]) -> Result<Option<[u8; 16]>, StoreFault>
     Ok(Some(bytes))
 }
 
-/// A digest, if there is one.
+/// Returns the digest in a column, or none if the text there is empty.
 #[tactic(auto, unfolding(crate::specs::Decode::digest_in))]
 fn digest_at(row: &Row, at: usize) -> Result<Option<[u8; 16]>, StoreFault>
     ensures { Answers (λ d. d) cause result (digest_in (column row.now at)) }
@@ -72,7 +61,7 @@ fn digest_at(row: &Row, at: usize) -> Result<Option<[u8; 16]>, StoreFault>
     digest_of(text_at(row, at)?)
 }
 
-/// The characters that bytes are.
+/// Returns the characters that these bytes encode in UTF-8.
 #[tactic(auto, unfolding(crate::specs::Decode::characters))]
 fn characters_of(bytes: &[u8]) -> Result<&str, StoreFault>
     ensures { Answers (λ s. s.now) cause result (characters bytes.now) }
@@ -83,7 +72,7 @@ fn characters_of(bytes: &[u8]) -> Result<&str, StoreFault>
     }
 }
 
-/// A text of characters.
+/// Returns the characters in a column.
 #[tactic(auto, unfolding(crate::specs::Decode::string_in))]
 fn string_at(alloc: Global, row: &Row, at: usize) -> Result<String, StoreFault>
     ensures { Answers string_bytes cause result (string_in (column row.now at)) }
@@ -92,7 +81,7 @@ fn string_at(alloc: Global, row: &Row, at: usize) -> Result<String, StoreFault>
     Ok(String::from_str(alloc, text)?)
 }
 
-/// An address, whose high and low half stand in two columns.
+/// Returns the address whose high and low half are in these columns.
 #[tactic(auto, unfolding(crate::specs::Decode::address_in))]
 fn address_at(row: &Row, file: usize, block: usize) -> Result<u64, StoreFault>
     ensures { Answers (λ n. n) cause result (address_in (column row.now file) (column row.now block)) }
@@ -102,7 +91,7 @@ fn address_at(row: &Row, file: usize, block: usize) -> Result<u64, StoreFault>
     Ok(u64::from(file) * 4_294_967_296 + u64::from(block))
 }
 
-/// The job that a row shows.
+/// Returns the job that a row shows.
 #[tactic(auto, unfolding(crate::specs::Decode::read_job))]
 pub(crate) fn job_of(alloc: Global, row: &Row) -> Result<JobRow, StoreFault>
     ensures { Answers (λ j. j) cause result (read_job row.now) }
@@ -132,7 +121,7 @@ pub(crate) fn job_of(alloc: Global, row: &Row) -> Result<JobRow, StoreFault>
     })
 }
 
-/// The span that a row shows.
+/// Returns the span that a row shows.
 #[tactic(auto, unfolding(crate::specs::Decode::read_span))]
 pub(crate) fn span_of(alloc: Global, row: &Row) -> Result<Span, StoreFault>
     ensures { Answers (λ s. s) cause result (read_span row.now) }
@@ -153,7 +142,7 @@ pub(crate) fn span_of(alloc: Global, row: &Row) -> Result<Span, StoreFault>
     })
 }
 
-/// The row of a file that a row shows.
+/// Returns the file that a row shows.
 #[tactic(auto, unfolding(crate::specs::Decode::read_file))]
 pub(crate) fn file_of(alloc: Global, row: &Row) -> Result<FileRow, StoreFault>
     ensures { Answers (λ f. f) cause result (read_file row.now) }

@@ -1,10 +1,10 @@
-//! What the catalogue keeps of paths, addresses and digests.
+//! Paths, addresses and digests as the catalogue keeps them.
 
 ghost use Rattle.std.specs.Prelude.{◌≡◌, length};
 ghost use Rattle.hex.specs.Hex.{encode_lower};
 ghost use Rattle.br_rows.specs.Decode.{front, rest, high, low};
 
-/// How many bytes of a path stand up to its last slash, which counts.
+/// Returns the number of bytes of a path up to its last slash, with that slash; 0 if it has none.
 fn front_len(path: &[u8]) -> usize
     ensures { result ≡ length (front path.now) }
 {
@@ -17,7 +17,7 @@ fn front_len(path: &[u8]) -> usize
     end
 }
 
-/// A path cut after its last slash.
+/// Returns the part of a path up to its last slash, with that slash, and the rest.
 pub fn cut(path: &[u8]) -> (&[u8], &[u8])
     ensures front { result.0.now ≡ front path.now }
     ensures rest { result.1.now ≡ rest path.now }
@@ -25,21 +25,21 @@ pub fn cut(path: &[u8]) -> (&[u8], &[u8])
     path.split_at(front_len(path))
 }
 
-/// How many times 2^32 bytes stand before an address.
+/// Returns the high 32 bits of an address.
 pub fn high_half(address: u64) -> u32
     ensures { result ≡ high address }
 {
     (address / 4_294_967_296) as u32
 }
 
-/// How many bytes stand before it since then.
+/// Returns the low 32 bits of an address.
 pub fn low_half(address: u64) -> u32
     ensures { result ≡ low address }
 {
     (address % 4_294_967_296) as u32
 }
 
-/// The lower case digits of a digest.
+/// Returns a digest in lower case hexadecimal digits.
 pub fn digits_of(digest: [u8; 16]) -> [u8; 32]
     ensures { result ≡ encode_lower digest }
 {

@@ -1,15 +1,31 @@
-//! What the types of a job's rows say of the values in them. The calls do nothing: their clauses are facts that others need.
+//! Facts about jobs and the rows of a catalogue. The calls do nothing: a caller makes one to have its clauses.
 
-ghost use Rattle.std.specs.Prelude.{◌≡◌, ◌<◌, ◌≤◌, ◌^◌, true, length};
+ghost use Rattle.std.specs.Prelude.{◌≡◌, ◌<◌, ◌≤◌, ◌^◌, Bool, List, Ok, true, length};
 ghost use Rattle.hex.specs.Hex.{IsBytes};
 ghost use Rattle.br_model.specs.Name.{is_letter, is_name};
-ghost use Rattle.br_model.specs.Job.{is_job_row};
-ghost use Rattle.br_rows.specs.Decode.{IsDigest};
-ghost use Rattle.br_rows.specs.Inserted.{IsFile, IsSpan};
+ghost use Rattle.br_model.specs.Job.{JobRow as Job, JobRows as Whole, clash, is_job_row, no_pair};
+ghost use Rattle.br_rows.specs.Decode.{IsDigest, FilesReadBack, SpansReadBack, job_row, read_job};
+ghost use Rattle.br_rows.specs.Inserted.{IsFile, IsSpan, Tried, by_id, taken};
+ghost use Rattle.br_rows.specs.Load.{read_history};
+ghost use Rattle.br_rows.specs.Rows.{Rows};
 
 use br_history::{FileRow, JobRow};
 use br_session::Span;
 use br_types::SessionKey;
+
+/// Shows that a job, a span and a file are read back from the rows that are written of them.
+pub fn rows_read_back()
+    ensures job { (j : Job) → is_job_row j ≡ true → read_job (job_row j) ≡ Ok j }
+    ensures span { SpansReadBack }
+    ensures file { FilesReadBack }
+{}
+
+/// Shows which history is loaded after jobs were tried one after another on a fresh catalogue. The jobs that were taken have
+/// different numbers and sessions. They are loaded in order of their numbers, and refused jobs change nothing.
+pub fn inserted_jobs_load()
+    ensures loads { (tries : List (Whole × Bool)) (rows : Rows) → Tried tries rows → read_history rows ≡ Ok (by_id (taken tries)) }
+    ensures apart { (tries : List (Whole × Bool)) (rows : Rows) → Tried tries rows → no_pair clash (taken tries) ≡ true }
+{}
 
 fn fits_32(number: u32)
     ensures { number < 2 ^ 32 }
@@ -65,7 +81,7 @@ fn are_words(row: &JobRow)
     let _fileset = row.fileset.bytes();
 }
 
-/// A job's number, letters, session and names are of their types.
+/// Shows that a job's number, letters, session and names are of their types.
 pub fn job_is_whole(row: &JobRow)
     ensures { is_job_row row.now ≡ true }
 {
@@ -74,7 +90,7 @@ pub fn job_is_whole(row: &JobRow)
     session_fits(row.session);
 }
 
-/// The numbers of a span and the name of its volume are of their types.
+/// Shows that the numbers of a span and the name of its volume are of their types.
 pub fn span_is_whole(span: &Span)
     ensures { IsSpan span.now }
 {
@@ -86,7 +102,7 @@ pub fn span_is_whole(span: &Span)
     fits_64(span.end);
 }
 
-/// What the row of a file has is of its types.
+/// Shows that the index, the path, the numbers and the digest of a file are of their types.
 pub fn file_is_whole(file: &FileRow)
     ensures { IsFile file.now }
 {

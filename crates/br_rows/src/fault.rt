@@ -1,3 +1,5 @@
+//! Why a call on the catalogue fails.
+
 ghost use Rattle.std.specs.Prelude.{◌≡◌};
 ghost use Rattle.br_rows.specs.Fault.{fault_number, of_history_fault, of_name_fault};
 ghost use Rattle.br_rows.specs.declared.fault.StoreFault.TheVariants.{Memory, Store};
@@ -20,8 +22,8 @@ pub enum StoreFault {
 }
 
 impl StoreFault {
-    /// The number of the refusal: 1 want of memory while rows were read, 45 a failure or a refusal of the store, 47 a catalogue
-    /// of another version, or rows that form no history.
+    /// Returns the number of the refusal: 1 if memory ran out while rows were read, 45 if the store failed or refused, 47 if the
+    /// catalogue is of another version or its rows form no history.
     pub fn number(self) -> u32
         ensures { result ≡ fault_number self }
     {

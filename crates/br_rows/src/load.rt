@@ -1,12 +1,11 @@
-//! A history from the rows that queries show.
+//! A history from the rows of a catalogue.
 
-ghost use Rattle.std.specs.Prelude.{◌≡◌, ◌==◌, ℕ, Bool, List, [], true, Ok, not, map, IfOk, OnOk};
+ghost use Rattle.std.specs.Prelude.{◌≡◌, ◌==◌, ℕ, [], not, map, IfOk, OnOk};
 ghost use Rattle.std.specs.Ordering.{nat_cmp};
 ghost use Rattle.std.specs.List.{list_any};
 ghost use Rattle.std.specs.BTreeMap.{get};
 ghost use Rattle.br_model.specs.Answer.{Answers, refuse_if};
-ghost use Rattle.br_model.specs.Job.{JobRow as Job, JobRows as Whole, no_pair, clash};
-ghost use Rattle.br_rows.specs.Inserted.{by_id, Tried, taken};
+ghost use Rattle.br_model.specs.Job.{JobRow as Job};
 ghost use Rattle.sqlite.specs.Order.{column};
 ghost use Rattle.br_rows.specs.Load as load;
 ghost use Rattle.br_rows.specs.Fault.{cause};
@@ -24,14 +23,7 @@ use std::alloc::{AllocError, Global};
 use std::collections::BTreeMap;
 use std::marker::Model;
 
-/// Jobs that were tried one after another on a fresh catalogue: those that were taken have different numbers and sessions, and
-/// are loaded in order of their numbers, whatever was refused between them.
-pub fn inserted_jobs_load()
-    ensures loads { (tries : List (Whole × Bool)) (rows : Rows) → Tried tries rows → read_history rows ≡ Ok (by_id (taken tries)) }
-    ensures apart { (tries : List (Whole × Bool)) (rows : Rows) → Tried tries rows → no_pair clash (taken tries) ≡ true }
-{}
-
-/// `BadCatalogue` unless a row shows the number 1.
+/// Returns `BadCatalogue` unless a row shows the number 1.
 #[tactic(auto, unfolding(crate::specs::Load::check_first))]
 fn check_first(row: &Row) -> Result<(), StoreFault>
     ensures { Answers (λ u. u) cause result (load.check_first (column row.now 0)) }
@@ -42,7 +34,7 @@ fn check_first(row: &Row) -> Result<(), StoreFault>
     Ok(())
 }
 
-/// `BadCatalogue` unless there is one version, which is 1.
+/// Returns `BadCatalogue` unless there is one version, which is 1.
 fn check_version(rows: &[Row]) -> Result<(), StoreFault>
     ensures { Answers (λ u. u) cause result (load.check_version rows.now) }
 {
@@ -52,7 +44,7 @@ fn check_version(rows: &[Row]) -> Result<(), StoreFault>
     }
 }
 
-/// The jobs of these rows.
+/// Reads a job from each row.
 #[tactic(auto, unfolding(crate::specs::Load::read_all))]
 fn jobs_of(alloc: Global, rows: &[Row]) -> Result<Vec<JobRow>, StoreFault>
     ensures { Answers (λ v. v.items) cause result (read_all read_job rows.now) }
@@ -64,7 +56,7 @@ fn jobs_of(alloc: Global, rows: &[Row]) -> Result<Vec<JobRow>, StoreFault>
     Ok(jobs)
 }
 
-/// The spans of these rows.
+/// Reads a span from each row.
 #[tactic(auto, unfolding(crate::specs::Load::read_all))]
 fn spans_of(alloc: Global, rows: &[&Row]) -> Result<Vec<Span>, StoreFault>
     ensures { Answers (λ v. v.items) cause result (read_all read_span (map (λ r. r.now) rows.now)) }
@@ -76,7 +68,7 @@ fn spans_of(alloc: Global, rows: &[&Row]) -> Result<Vec<Span>, StoreFault>
     Ok(spans)
 }
 
-/// The files of these rows.
+/// Reads a file from each row.
 #[tactic(auto, unfolding(crate::specs::Load::read_all))]
 fn files_of(alloc: Global, rows: &[&Row]) -> Result<Vec<FileRow>, StoreFault>
     ensures { Answers (λ v. v.items) cause result (read_all read_file (map (λ r. r.now) rows.now)) }
@@ -88,7 +80,7 @@ fn files_of(alloc: Global, rows: &[&Row]) -> Result<Vec<FileRow>, StoreFault>
     Ok(files)
 }
 
-/// A place for the rows of each job.
+/// Makes an empty list of rows for each job.
 fn places<'r>(alloc: Global, jobs: &[JobRow]) -> Result<BTreeMap<u32, Vec<&'r Row>>, AllocError>
     ensures jobs { IfOk result (λ m. (id : ℕ) → has m id ≡ list_any (λ (j : Job). j.id == id) jobs.now) }
     ensures empty { IfOk result (λ m. (id : ℕ) → group_of m id ≡ []) }
@@ -100,7 +92,7 @@ fn places<'r>(alloc: Global, jobs: &[JobRow]) -> Result<BTreeMap<u32, Vec<&'r Ro
     Ok(places)
 }
 
-/// Puts a row behind the others of its job. `BadCatalogue` where there is no such job.
+/// Appends a row to those of its job. `BadCatalogue` if there is no such job.
 fn put<'r>(
     places: &mut BTreeMap<u32, Vec<&'r Row>>,
     id: u32,
@@ -116,7 +108,7 @@ fn put<'r>(
     Ok(())
 }
 
-/// The rows of each job in their order. `BadCatalogue` where a row is of none of these jobs.
+/// Returns the rows of each job in their order. `BadCatalogue` if a row belongs to none of these jobs.
 fn by_job<'r>(
     alloc: Global,
     jobs: &[JobRow],
@@ -131,7 +123,7 @@ fn by_job<'r>(
     Ok(places)
 }
 
-/// The spans of a job.
+/// Reads the spans of a job.
 #[tactic(auto, unfolding(crate::specs::Load::read_all))]
 fn spans_at(
     alloc: Global,
@@ -146,7 +138,7 @@ fn spans_at(
     }
 }
 
-/// The files of a job.
+/// Reads the files of a job.
 #[tactic(auto, unfolding(crate::specs::Load::read_all))]
 fn files_at(
     alloc: Global,
@@ -161,7 +153,7 @@ fn files_at(
     }
 }
 
-/// Spans in order of their numbers.
+/// Sorts spans by their numbers (`vol_index`); spans of one number keep their order.
 fn sorted(mut spans: Vec<Span>) -> Result<Vec<Span>, AllocError>
     ensures { IfOk result (λ v. v.items ≡ by_number spans.items) }
 {
@@ -169,7 +161,7 @@ fn sorted(mut spans: Vec<Span>) -> Result<Vec<Span>, AllocError>
     Ok(spans)
 }
 
-/// A job with its spans and its files.
+/// Joins a job with its spans and its files.
 #[tactic(auto, unfolding(crate::specs::Load::read_rows))]
 fn rows_of(
     alloc: Global,
@@ -185,7 +177,7 @@ fn rows_of(
     Ok(JobRows::new(row, files, sorted(spans)?)?)
 }
 
-/// The jobs with their spans and their files.
+/// Joins each job with its spans and its files.
 #[tactic(auto, unfolding(crate::specs::Load::read_all))]
 fn whole_jobs(
     alloc: Global,
@@ -204,7 +196,7 @@ fn whole_jobs(
     Ok(whole)
 }
 
-/// The history of these jobs.
+/// Makes a history of these jobs, in their order.
 #[tactic(auto, unfolding(crate::specs::Load::if_apart))]
 fn joined(alloc: Global, jobs: Vec<JobRows>) -> Result<History, StoreFault>
     ensures { Answers (λ h. h) cause result (if_apart jobs.items) }
@@ -216,24 +208,23 @@ fn joined(alloc: Global, jobs: Vec<JobRows>) -> Result<History, StoreFault>
     Ok(history)
 }
 
-/// What the queries show of a catalogue.
+/// All rows of a catalogue, with names in place of numbers: the versions, the jobs in order of JobId, the spans in order of
+/// JobMediaId and the files in order of FileId.
 #[derive(Drop)]
-pub struct Shown {
+pub struct CatalogueRows {
     pub versions: Vec<Row>,
     pub jobs: Vec<Row>,
     pub spans: Vec<Row>,
     pub files: Vec<Row>,
 }
 
-impl Model for Shown {
-    ghost use Rattle.br_rows.specs.Rows.{Rows};
-
+impl Model for CatalogueRows {
     ghost Value = { Rows };
 
     ghost view = { λ s. record { versions = s.versions.items; jobs = s.jobs.items; spans = s.spans.items; files = s.files.items } };
 }
 
-/// The history of jobs, spans and files.
+/// Makes the history of the rows of jobs, spans and files.
 #[tactic(auto, unfolding(crate::specs::Load::read_loaded))]
 fn loaded(alloc: Global, jobs: &[Row], spans: &[Row], files: &[Row]) -> Result<History, StoreFault>
     ensures { Answers (λ h. h) cause result (read_loaded jobs.now spans.now files.now) }
@@ -244,9 +235,14 @@ fn loaded(alloc: Global, jobs: &[Row], spans: &[Row], files: &[Row]) -> Result<H
     joined(alloc, whole_jobs(alloc, jobs, &spans, &files)?)
 }
 
-/// The history that the rows are. `BadCatalogue` where the version is not 1 or the rows form no history.
+/// Makes the history of a catalogue's rows. It keeps the order of the rows: jobs in the order of `rows.jobs`, the files of each
+/// in the order of `rows.files`, and its spans by their numbers.
+///
+/// # Errors
+///
+/// `BadCatalogue` if the version is not 1 or the rows form no history.
 #[tactic(auto, unfolding(crate::specs::Load::read_history))]
-pub fn history_of(alloc: Global, rows: &Shown) -> Result<History, StoreFault>
+pub fn history_of(alloc: Global, rows: &CatalogueRows) -> Result<History, StoreFault>
     ensures { Answers (λ h. h) cause result (read_history rows.now) }
 {
     check_version(&rows.versions)?;

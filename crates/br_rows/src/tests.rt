@@ -18,8 +18,8 @@ fn rows(alloc: Global, query: &str) -> Result<Vec<Row>, Fail> {
     Ok(conn.query_all(query, &[])?)
 }
 
-fn nothing(alloc: Global) -> Shown {
-    Shown {
+fn no_rows(alloc: Global) -> CatalogueRows {
+    CatalogueRows {
         versions: Vec::new(alloc),
         jobs: Vec::new(alloc),
         spans: Vec::new(alloc),
@@ -27,25 +27,25 @@ fn nothing(alloc: Global) -> Shown {
     }
 }
 
-/// What these queries show.
-fn shown(
+/// Runs a query for each kind of row.
+fn catalogue(
     alloc: Global,
     versions: &str,
     jobs: &str,
     spans: &str,
     files: &str,
-) -> Result<Shown, Fail> {
-    let mut shown = nothing(alloc);
-    shown.versions = rows(alloc, versions)?;
-    shown.jobs = rows(alloc, jobs)?;
-    shown.spans = rows(alloc, spans)?;
-    shown.files = rows(alloc, files)?;
-    Ok(shown)
+) -> Result<CatalogueRows, Fail> {
+    let mut catalogue = no_rows(alloc);
+    catalogue.versions = rows(alloc, versions)?;
+    catalogue.jobs = rows(alloc, jobs)?;
+    catalogue.spans = rows(alloc, spans)?;
+    catalogue.files = rows(alloc, files)?;
+    Ok(catalogue)
 }
 
-/// The number of the refusal of rows, 0 where they are a history.
-fn number_of(alloc: Global, shown: &Shown) -> u32 {
-    match history_of(alloc, shown) {
+/// Returns the number with which the rows are refused, or 0 if they form a history.
+fn number_of(alloc: Global, rows: &CatalogueRows) -> u32 {
+    match history_of(alloc, rows) {
         Ok(_) => 0,
         Err(fault) => fault.number(),
     }
@@ -58,34 +58,28 @@ fn refusal(
     spans: &str,
     files: &str,
 ) -> Result<u32, Fail> {
-    let shown = shown(alloc, versions, jobs, spans, files)?;
-    Ok(number_of(alloc, &shown))
+    let rows = catalogue(alloc, versions, jobs, spans, files)?;
+    Ok(number_of(alloc, &rows))
 }
 
-fn is_the_job(job: &JobRows) -> bool {
-    let paths = match job.files() {
-        [file] => file.path.bytes() == b"/a".as_slice(),
-        _ => false,
-    };
-    paths && job.row().id.get() == 2 && job.spans().len() == 1
+fn first_job(history: &History) -> Result<&JobRows, Fail> {
+    Ok(history.get(0).ok_or("a job")?)
 }
 
-fn is_the_history(history: &History) -> bool {
-    match history.get(0) {
-        Some(job) => history.len() == 1 && is_the_job(job),
-        None => false,
-    }
-}
-
-fn is_read(alloc: Global, shown: &Shown) -> Result<bool, Fail> {
-    let history = history_of(alloc, shown)?;
-    Ok(is_the_history(&history))
+fn first_path(job: &JobRows) -> Result<&[u8], Fail> {
+    Ok(job.files().first().ok_or("a file")?.path.bytes())
 }
 
 #[test]
 fn rows_that_are_a_history(rt: HostRuntime) -> Result<(), Fail> {
-    let shown = shown(rt.alloc(), VERSION, JOB, SPAN, FILE)?;
-    assert!(rt; is_read(rt.alloc(), &shown)?);
+    let rows = catalogue(rt.alloc(), VERSION, JOB, SPAN, FILE)?;
+    let history = history_of(rt.alloc(), &rows)?;
+    assert_eq!(rt; history.len(), 1);
+    let job = first_job(&history)?;
+    assert_eq!(rt; job.row().id.get(), 2);
+    assert_eq!(rt; job.spans().len(), 1);
+    assert_eq!(rt; job.files().len(), 1);
+    assert_eq!(rt; first_path(job)?, b"/a".as_slice());
     Ok(())
 }
 
@@ -121,11 +115,13 @@ fn digests(rt: HostRuntime) -> Result<(), Fail> {
 #[test]
 fn paths_and_digits(rt: HostRuntime) -> Result<(), Fail> {
     let (front, rest) = cut(b"/etc/hosts");
-    assert!(rt; front == b"/etc/".as_slice() && rest == b"hosts".as_slice());
+    assert_eq!(rt; front, b"/etc/".as_slice());
+    assert_eq!(rt; rest, b"hosts".as_slice());
     assert_eq!(rt;
         digits_of([0x0fu8; 16]).as_slice(),
         b"0f0f0f0f0f0f0f0f0f0f0f0f0f0f0f0f".as_slice()
     );
-    assert_eq!(rt; (high_half(4_294_967_299), low_half(4_294_967_299)), (1, 3));
+    assert_eq!(rt; high_half(4_294_967_299), 1);
+    assert_eq!(rt; low_half(4_294_967_299), 3);
     Ok(())
 }

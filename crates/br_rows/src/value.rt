@@ -1,4 +1,4 @@
-//! The values of a row, read as what a column holds.
+//! The values of a row, read by the kind of their column.
 
 ghost use Rattle.std.specs.Prelude.{◌≡◌};
 ghost use Rattle.sqlite.specs.Order.{column};
@@ -12,7 +12,7 @@ use sqlite::Row;
 use sqlite::types::ValueRef;
 use std::alloc::Global;
 
-/// A number from 0.
+/// Returns the number in a column, which is 0 or more.
 pub(crate) fn natural_at(row: &Row, at: usize) -> Result<u64, StoreFault>
     ensures { Answers (λ n. n) cause result (natural (column row.now at)) }
 {
@@ -25,7 +25,7 @@ pub(crate) fn natural_at(row: &Row, at: usize) -> Result<u64, StoreFault>
     }
 }
 
-/// A number of 32 bits.
+/// Returns the number in a column, which fits in 32 bits.
 #[tactic(auto, unfolding(crate::specs::Decode::small))]
 pub(crate) fn small_at(row: &Row, at: usize) -> Result<u32, StoreFault>
     ensures { Answers (λ n. n) cause result (small (column row.now at)) }
@@ -37,7 +37,7 @@ pub(crate) fn small_at(row: &Row, at: usize) -> Result<u32, StoreFault>
     }
 }
 
-/// The bytes of a text.
+/// Returns the bytes of the text in a column.
 pub(crate) fn text_at(row: &Row, at: usize) -> Result<&[u8], StoreFault>
     ensures { Answers (λ t. t.now) cause result (text (column row.now at)) }
 {
@@ -47,7 +47,7 @@ pub(crate) fn text_at(row: &Row, at: usize) -> Result<&[u8], StoreFault>
     }
 }
 
-/// The bytes of a blob.
+/// Returns the bytes of the blob in a column.
 pub(crate) fn blob_at(row: &Row, at: usize) -> Result<&[u8], StoreFault>
     ensures { Answers (λ b. b.now) cause result (blob (column row.now at)) }
 {
@@ -57,7 +57,7 @@ pub(crate) fn blob_at(row: &Row, at: usize) -> Result<&[u8], StoreFault>
     }
 }
 
-/// The letter that a text of one byte is.
+/// Returns the letter that is the one byte of this text.
 fn letter_of(text: &[u8]) -> Result<Letter, StoreFault>
     ensures { Answers (λ l. l) cause result (letter text.now) }
 {
@@ -67,7 +67,7 @@ fn letter_of(text: &[u8]) -> Result<Letter, StoreFault>
     }
 }
 
-/// A letter.
+/// Returns the letter in a column.
 #[tactic(auto, unfolding(crate::specs::Decode::letter_in))]
 pub(crate) fn letter_at(row: &Row, at: usize) -> Result<Letter, StoreFault>
     ensures { Answers (λ l. l) cause result (letter_in (column row.now at)) }
@@ -75,7 +75,7 @@ pub(crate) fn letter_at(row: &Row, at: usize) -> Result<Letter, StoreFault>
     letter_of(text_at(row, at)?)
 }
 
-/// The name of a client or a file set.
+/// Returns the name of a client or a file set in a column.
 #[tactic(auto, unfolding(crate::specs::Decode::name_in, br_model::specs::Name::checked_name))]
 pub(crate) fn name_at(alloc: Global, row: &Row, at: usize) -> Result<Name, StoreFault>
     ensures { Answers (λ n. n) cause result (name_in (column row.now at)) }
@@ -83,7 +83,7 @@ pub(crate) fn name_at(alloc: Global, row: &Row, at: usize) -> Result<Name, Store
     Ok(Name::new(alloc, text_at(row, at)?)?)
 }
 
-/// The name of a volume.
+/// Returns the name of a volume in a column.
 #[tactic(auto, unfolding(crate::specs::Decode::volume_in, br_model::specs::Name::checked_volume_name))]
 pub(crate) fn volume_at(alloc: Global, row: &Row, at: usize) -> Result<VolName, StoreFault>
     ensures { Answers (λ n. n) cause result (volume_in (column row.now at)) }

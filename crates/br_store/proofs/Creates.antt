@@ -79,6 +79,6 @@ made_version old new was a =
     let spans : new.trees 13 ≡ [] = a.others.1.1.1.1.1.1.1.0 (λ e. cc) ∙ was.empty.1.1.1.1.1.1.1.0 in
     let files : new.trees 15 ≡ [] = a.others.1.1.1.1.1.1.1.1.0 (λ e. cc) ∙ was.empty.1.1.1.1.1.1.1.1.0 in
     record {
-      stands = record { schema = a.schema; sound = a.sound; shaped = shaped_all 0 row old.trees new.trees refl a.rows store_schema.tables a.others (shaped_empty store_schema.tables old.trees was.empty) };
+      tables = record { schema = a.schema; sound = a.sound; shaped = shaped_all 0 row old.trees new.trees refl a.rows store_schema.tables a.others (shaped_empty store_schema.tables old.trees was.empty) };
       rows = four (rows_in new.trees) no_rows (ap (map (λ (r : Row). column r 1 ∷ [])) first) (ap (map _) jobs) (ap (map _) spans) (ap (map _) files);
     }

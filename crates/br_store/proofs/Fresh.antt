@@ -22,7 +22,7 @@ use Rattle.sqlite_rules.proofs.ListLemmas.{all_has}
 use Rattle.br_model.specs.Job.{JobRow}
 use Rattle.br_schema.specs.Tables.{job, store_schema}
 use Rattle.br_rows.specs.Inserted.{IsNewIn}
-use Rattle.br_store.specs.Held.{Stands, Added, job_shown, rows_in}
+use Rattle.br_store.specs.Held.{HasTables, Added, job_shown, rows_in}
 use Rattle.br_store.proofs.Values.{names_self}
 use Rattle.br_store.proofs.Joined.{any_true, put_keeps}
 
@@ -85,14 +85,14 @@ sessions_differ trees x row ok has a b first second other =
     cc
 
 -- a job whose row was added was new
-pub new_job : (j : JobRow) (id client fileset start session time : ℕ) (kind level status : List ℕ) (old new : Database) → id ≡ j.id → session ≡ j.session.id → time ≡ j.session.time → Stands old
+pub new_job : (j : JobRow) (id client fileset start session time : ℕ) (kind level status : List ℕ) (old new : Database) → id ≡ j.id → session ≡ j.session.id → time ≡ j.session.time → HasTables old
     → Added 11 (Int (pos id) ∷ Null ∷ Text kind ∷ Text level ∷ Int (pos client) ∷ Text status ∷ Int (pos start) ∷ Int (pos fileset) ∷ Int (pos session) ∷ Int (pos time) ∷ []) old new
     → IsNewIn j (rows_in old.trees)
-new_job j id client fileset start session time kind level status old new e1 e2 e3 stands a =
+new_job j id client fileset start session time kind level status old new e1 e2 e3 tables a =
     let row : Row = Int (pos id) ∷ Null ∷ Text kind ∷ Text level ∷ Int (pos client) ∷ Text status ∷ Int (pos start) ∷ Int (pos fileset) ∷ Int (pos session) ∷ Int (pos time) ∷ [] in
     let jobs = old.trees 11 in
     let f = job_shown (old.trees 1) (old.trees 3) in
-    let numbered = stands.shaped.1.1.1.1.1.1.0.1 in
+    let numbered = tables.shaped.1.1.1.1.1.1.0.1 in
     let uniques = subst (λ s. Keeps Unique s new.trees) a.schema (a.sound.obeys.rules Unique) in
     let ok = all_has _ (new.trees 11) row uniques.1.1.1.1.1.1.0 (subst (λ rows. Has rows row) (sym a.rows) (put_is_there row jobs a.fresh)) in
     record {

@@ -14,7 +14,7 @@ use Rattle.sqlite_value.proofs.OrderLemmas.{value_cmp_total}
 use Rattle.sqlite_sql.proofs.QueryLemmas.{key_cmp_total}
 use Rattle.sqlite_keyed.proofs.SortLemmas.{sorted_unique}
 use Rattle.sqlite_rules.proofs.ListLemmas.{all_has, all_from}
-use Rattle.br_store.specs.Held.{Stands, is_named, named, rows_in}
+use Rattle.br_store.specs.Held.{HasTables, is_named, named, rows_in}
 use Rattle.br_store.proofs.Values.{tied}
 use Rattle.br_store.proofs.Joined.{are_known}
 use Rattle.br_store.proofs.RowTexts.{versions_query, jobs_query, spans_query, files_query}
@@ -103,8 +103,8 @@ file_env trees r = [] ∷ r ∷ named (trees 7) (column r 4) ∷ named (trees 9)
 abbrev version_env : Row → Env
 version_env r = [] ∷ r ∷ []
 
-pub versions_shown : (db : Database) (rows : List Row) → Stands db → IsAnswer versions_query (overlay db.trees []) [] rows → rows ≡ (rows_in db.trees).versions
-versions_shown db rows stands a =
+pub versions_shown : (db : Database) (rows : List Row) → HasTables db → IsAnswer versions_query (overlay db.trees []) [] rows → rows ≡ (rows_in db.trees).versions
+versions_shown db rows tables a =
     let all = db.trees 0 in
     let out = λ (r : Row). output versions_query (version_env r) in
     let staged : a.staged ≡ map (version_env) all =
@@ -112,48 +112,48 @@ versions_shown db rows stands a =
     let kept : a.kept ≡ map out all = a.distinct ∙ ap (map (output versions_query)) staged ∙ map-map (output versions_query) (version_env) all in
     let up : IsAscending (λ (x y : Output). output_cmp versions_query x y ≡ Less) a.kept =
     subst (IsAscending (λ (x y : Output). output_cmp versions_query x y ≡ Less)) (sym kept)
-    (ascend _ out all (weaker _ _ (λ x y below. ap (λ o. ordering_then o Equal) below) all stands.shaped.0.0)) in
+    (ascend _ out all (weaker _ _ (λ x y below. ap (λ o. ordering_then o Equal) below) all tables.shaped.0.0)) in
     let ordered : a.ordered ≡ a.kept = sorted_unique (output_cmp versions_query) (on_total (λ (o : Output). o.0) (key_cmp_total (map (λ k. k.1) versions_query.order) 0)) a.kept a.ordered up a.same a.sorted in
     a.shown ∙ ap (map (λ (o : Output). o.1)) (ordered ∙ kept) ∙ map-map (λ (o : Output). o.1) out all
 
-pub jobs_shown : (db : Database) (rows : List Row) → Stands db → IsAnswer jobs_query (overlay db.trees []) [] rows → rows ≡ (rows_in db.trees).jobs
-jobs_shown db rows stands a =
+pub jobs_shown : (db : Database) (rows : List Row) → HasTables db → IsAnswer jobs_query (overlay db.trees []) [] rows → rows ≡ (rows_in db.trees).jobs
+jobs_shown db rows tables a =
     let all = db.trees 11 in
-    let known = are_known db stands.schema stands.sound in
+    let known = are_known db tables.schema tables.sound in
     let out = λ (r : Row). output jobs_query (job_env db.trees r) in
     let staged : a.staged ≡ map (job_env db.trees) all =
-    a.grouped ∙ singles _ (job_env db.trees) all (all_from _ all (λ r in_it. two_picked (λ c f. [] ∷ r ∷ c ∷ f ∷ []) (column r 4) (column r 7) (db.trees 1) (db.trees 3) stands.shaped.1.0.0 stands.shaped.1.1.0.0 (all_has _ all r known.jobs in_it).0 (all_has _ all r known.jobs in_it).1)) in
+    a.grouped ∙ singles _ (job_env db.trees) all (all_from _ all (λ r in_it. two_picked (λ c f. [] ∷ r ∷ c ∷ f ∷ []) (column r 4) (column r 7) (db.trees 1) (db.trees 3) tables.shaped.1.0.0 tables.shaped.1.1.0.0 (all_has _ all r known.jobs in_it).0 (all_has _ all r known.jobs in_it).1)) in
     let kept : a.kept ≡ map out all = a.distinct ∙ ap (map (output jobs_query)) staged ∙ map-map (output jobs_query) (job_env db.trees) all in
     let up : IsAscending (λ (x y : Output). output_cmp jobs_query x y ≡ Less) a.kept =
     subst (IsAscending (λ (x y : Output). output_cmp jobs_query x y ≡ Less)) (sym kept)
-    (ascend _ out all (weaker _ _ (λ x y below. ap (λ o. ordering_then o Equal) below) all stands.shaped.1.1.1.1.1.1.0.0)) in
+    (ascend _ out all (weaker _ _ (λ x y below. ap (λ o. ordering_then o Equal) below) all tables.shaped.1.1.1.1.1.1.0.0)) in
     let ordered : a.ordered ≡ a.kept = sorted_unique (output_cmp jobs_query) (on_total (λ (o : Output). o.0) (key_cmp_total (map (λ k. k.1) jobs_query.order) 0)) a.kept a.ordered up a.same a.sorted in
     a.shown ∙ ap (map (λ (o : Output). o.1)) (ordered ∙ kept) ∙ map-map (λ (o : Output). o.1) out all
 
-pub spans_shown : (db : Database) (rows : List Row) → Stands db → IsAnswer spans_query (overlay db.trees []) [] rows → rows ≡ (rows_in db.trees).spans
-spans_shown db rows stands a =
+pub spans_shown : (db : Database) (rows : List Row) → HasTables db → IsAnswer spans_query (overlay db.trees []) [] rows → rows ≡ (rows_in db.trees).spans
+spans_shown db rows tables a =
     let all = db.trees 13 in
-    let known = are_known db stands.schema stands.sound in
+    let known = are_known db tables.schema tables.sound in
     let out = λ (r : Row). output spans_query (span_env db.trees r) in
     let staged : a.staged ≡ map (span_env db.trees) all =
-    a.grouped ∙ singles _ (span_env db.trees) all (all_from _ all (λ r in_it. one_picked (λ c. [] ∷ r ∷ c ∷ []) (column r 3) (db.trees 5) stands.shaped.1.1.1.0.0 (all_has _ all r known.spans in_it))) in
+    a.grouped ∙ singles _ (span_env db.trees) all (all_from _ all (λ r in_it. one_picked (λ c. [] ∷ r ∷ c ∷ []) (column r 3) (db.trees 5) tables.shaped.1.1.1.0.0 (all_has _ all r known.spans in_it))) in
     let kept : a.kept ≡ map out all = a.distinct ∙ ap (map (output spans_query)) staged ∙ map-map (output spans_query) (span_env db.trees) all in
     let up : IsAscending (λ (x y : Output). output_cmp spans_query x y ≡ Less) a.kept =
     subst (IsAscending (λ (x y : Output). output_cmp spans_query x y ≡ Less)) (sym kept)
-    (ascend _ out all (weaker _ _ (λ x y below. ap (λ o. ordering_then o Equal) below) all stands.shaped.1.1.1.1.1.1.1.0.0)) in
+    (ascend _ out all (weaker _ _ (λ x y below. ap (λ o. ordering_then o Equal) below) all tables.shaped.1.1.1.1.1.1.1.0.0)) in
     let ordered : a.ordered ≡ a.kept = sorted_unique (output_cmp spans_query) (on_total (λ (o : Output). o.0) (key_cmp_total (map (λ k. k.1) spans_query.order) 0)) a.kept a.ordered up a.same a.sorted in
     a.shown ∙ ap (map (λ (o : Output). o.1)) (ordered ∙ kept) ∙ map-map (λ (o : Output). o.1) out all
 
-pub files_shown : (db : Database) (rows : List Row) → Stands db → IsAnswer files_query (overlay db.trees []) [] rows → rows ≡ (rows_in db.trees).files
-files_shown db rows stands a =
+pub files_shown : (db : Database) (rows : List Row) → HasTables db → IsAnswer files_query (overlay db.trees []) [] rows → rows ≡ (rows_in db.trees).files
+files_shown db rows tables a =
     let all = db.trees 15 in
-    let known = are_known db stands.schema stands.sound in
+    let known = are_known db tables.schema tables.sound in
     let out = λ (r : Row). output files_query (file_env db.trees r) in
     let staged : a.staged ≡ map (file_env db.trees) all =
-    a.grouped ∙ singles _ (file_env db.trees) all (all_from _ all (λ r in_it. two_picked (λ c f. [] ∷ r ∷ c ∷ f ∷ []) (column r 4) (column r 5) (db.trees 7) (db.trees 9) stands.shaped.1.1.1.1.0.0 stands.shaped.1.1.1.1.1.0.0 (all_has _ all r known.files in_it).0 (all_has _ all r known.files in_it).1)) in
+    a.grouped ∙ singles _ (file_env db.trees) all (all_from _ all (λ r in_it. two_picked (λ c f. [] ∷ r ∷ c ∷ f ∷ []) (column r 4) (column r 5) (db.trees 7) (db.trees 9) tables.shaped.1.1.1.1.0.0 tables.shaped.1.1.1.1.1.0.0 (all_has _ all r known.files in_it).0 (all_has _ all r known.files in_it).1)) in
     let kept : a.kept ≡ map out all = a.distinct ∙ ap (map (output files_query)) staged ∙ map-map (output files_query) (file_env db.trees) all in
     let up : IsAscending (λ (x y : Output). output_cmp files_query x y ≡ Less) a.kept =
     subst (IsAscending (λ (x y : Output). output_cmp files_query x y ≡ Less)) (sym kept)
-    (ascend _ out all (weaker _ _ (λ x y below. ap (λ o. ordering_then o Equal) below) all stands.shaped.1.1.1.1.1.1.1.1.0.0)) in
+    (ascend _ out all (weaker _ _ (λ x y below. ap (λ o. ordering_then o Equal) below) all tables.shaped.1.1.1.1.1.1.1.1.0.0)) in
     let ordered : a.ordered ≡ a.kept = sorted_unique (output_cmp files_query) (on_total (λ (o : Output). o.0) (key_cmp_total (map (λ k. k.1) files_query.order) 0)) a.kept a.ordered up a.same a.sorted in
     a.shown ∙ ap (map (λ (o : Output). o.1)) (ordered ∙ kept) ∙ map-map (λ (o : Output). o.1) out all

@@ -10,7 +10,7 @@ use Rattle.sqlite_trees.specs.declared.store.Shape.TheVariants.{Table}
 use Rattle.sqlite_catalog.specs.Listing.{AreListed, IsTableRow, is_table_row}
 use Rattle.sqlite_catalog.proofs.LayoutLemmas.{laid_out, objects_rise}
 use Rattle.br_schema.specs.Tables.{no_schema, store_schema, version, client, fileset, media, path, filename, job, job_media, file}
-use Rattle.br_store.specs.Held.{Stands}
+use Rattle.br_store.specs.Held.{HasTables}
 use Rattle.br_store.specs.Made.{Finds, IsMade}
 
 shaped : (v : View) (trees : Trees) → trees ≡ v.trees → IsOrdered v.shape v.trees → (tables : List Declared) → AllByRecursion (λ (t : Declared). v.shape t.tree ≡ Table) tables
@@ -19,7 +19,7 @@ shaped v trees same ordered [] laid = tt
 shaped v trees same ordered (t ∷ tables) laid =
     (subst (IsShaped Table) (ap (λ (all : Trees). all t.tree) (sym same)) (subst (λ s. IsShaped s (v.trees t.tree)) laid.0 (ordered t.tree)), shaped v trees same ordered tables laid.1)
 
-pub stands_in : (v : View) (db : Database) → db.trees ≡ v.trees → db.schema ≡ store_schema → IsDatabase db → IsListed (v.trees catalog_tree) v.shape v.reals → IsOrdered v.shape v.trees → Stands db
+pub stands_in : (v : View) (db : Database) → db.trees ≡ v.trees → db.schema ≡ store_schema → IsDatabase db → IsListed (v.trees catalog_tree) v.shape v.reals → IsOrdered v.shape v.trees → HasTables db
 stands_in v db trees schema sound listed ordered =
     let are = subst₂ (λ (t : Trees) s. AreListed (t catalog_tree) s) trees schema sound.lists.listed in
     let laid = laid_out listed (objects_rise v listed ordered) are in

@@ -1,6 +1,7 @@
 -- What calls one after another leave of a store that may be shut.
 use Rattle.std.proofs.Common.{◌≡◌, IsTrue, Result, Ok, Err, IfOk, IfErr, OnOk, OnErr, sym, ◌∙◌}
 use Rattle.sqlite.specs.State.{State, KeepsCommit}
+use Rattle.br_store.specs.Calls.{IsSettled, Stays}
 
 pub from_both : {T E P Q R : Type 0} (r : Result T E) → OnOk r P → OnErr r Q → (P → R) → (Q → R) → R
 from_both (Ok x) p q f g = f p
@@ -9,14 +10,6 @@ from_both (Err e) p q f g = g q
 pub from_each : {T E R : Type 0} (r : Result T E) (P : T → Type 0) (Q : E → Type 0) → IfOk r P → IfErr r Q → ((x : T) → P x → R) → ((e : E) → Q e → R) → R
 from_each (Ok x) P Q p q f g = f x p
 from_each (Err e) P Q p q f g = g e q
-
--- the database that is seen stays, while it is not shut
-abbrev pub Stays : State → State → Type 0
-Stays old new = IsTrue new.is_open → IsTrue old.is_open × (new.now ≡ old.now) × (new.committed ≡ old.committed)
-
--- outside a transaction what is committed is what is seen
-abbrev pub IsSettled : State → Type 0
-IsSettled s = IsTrue s.is_open → s.now ≡ s.committed
 
 pub stays : (old new : State) → IsSettled old → IsSettled new → KeepsCommit old new → Stays old new
 stays old new before after kept up =

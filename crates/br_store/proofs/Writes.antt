@@ -19,7 +19,7 @@ use Rattle.br_store.specs.Names.{tree_of, word, name_row}
 use Rattle.br_rows.specs.Decode.{job_row, span_row, file_row, digest_text, front, rest, high, low}
 use Rattle.br_model.specs.Job.{JobRow, FileRow, Span, JobRows}
 use Rattle.br_rows.specs.Rows.{Rows, with_job, with_spans, with_files, with_rows, with_file_row}
-use Rattle.br_store.specs.Held.{name_at, Added, Stands, Wrote, GoesOn, IsName, rows_in, job_shown, span_shown, file_shown}
+use Rattle.br_store.specs.Held.{name_at, Added, HasTables, Wrote, GoesOn, IsName, rows_in, job_shown, span_shown, file_shown}
 use Rattle.br_store.proofs.Joined.{HasGrown, AreKnown, are_known, grown_has, find_row, put-map, same_jobs, same_spans, same_files}
 use Rattle.br_store.proofs.Appends.{map-append, put_next}
 
@@ -77,21 +77,21 @@ shaped_all tree row old new keyed put [] same shaped = tt
 shaped_all tree row old new keyed put (t ∷ tables) same shaped =
     (shaped_at t.tree tree row old new keyed put same.0 shaped.0, shaped_all tree row old new keyed put tables same.1 shaped.1)
 
-pub still_stands : (tree : ℕ) (row : Row) (old new : Database) → IsTrue (is_int (rowid row)) → Stands old → Added tree row old new → Stands new
-still_stands tree row old new keyed stands a = record {
+pub still_stands : (tree : ℕ) (row : Row) (old new : Database) → IsTrue (is_int (rowid row)) → HasTables old → Added tree row old new → HasTables new
+still_stands tree row old new keyed tables a = record {
   schema = a.schema;
   sound = a.sound;
-  shaped = shaped_all tree row old.trees new.trees keyed a.rows store_schema.tables a.others stands.shaped;
+  shaped = shaped_all tree row old.trees new.trees keyed a.rows store_schema.tables a.others tables.shaped;
 }
 
 -- what one more row of a table makes of the rows
-pub wrote_row : (tree : ℕ) (row : Row) (rows : Rows) (old new : State) → IsTrue (is_int (rowid row)) → Stands old.now → GoesOn old new → Added tree row old.now new.now
+pub wrote_row : (tree : ℕ) (row : Row) (rows : Rows) (old new : State) → IsTrue (is_int (rowid row)) → HasTables old.now → GoesOn old new → Added tree row old.now new.now
     → rows_in new.now.trees ≡ rows → Wrote rows old new
-wrote_row tree row rows old new keyed stands on a has = record {
+wrote_row tree row rows old new keyed tables on a has = record {
   was_open = λ up. on.was_open;
   mode = subst IsTrue (sym on.mode) refl;
   committed = on.committed_is;
-  stands = still_stands tree row old.now new.now keyed stands a;
+  tables = still_stands tree row old.now new.now keyed tables a;
   names = names_kept old.now.trees new.now.trees (names_grow tree row old.now new.now a);
   has = has;
 }
@@ -123,29 +123,29 @@ name_keyed Media id name = refl
 name_keyed Path id name = refl
 name_keyed Filename id name = refl
 
-pub wrote_name : (d : Dictionary) (name : List ℕ) (old new : State) → Stands old.now → GoesOn old new
+pub wrote_name : (d : Dictionary) (name : List ℕ) (old new : State) → HasTables old.now → GoesOn old new
     → Added (tree_of d) (name_row d (next_rowid (old.now.trees (tree_of d))) name) old.now new.now → Wrote (rows_in old.now.trees) old new
-wrote_name d name old new stands on a =
+wrote_name d name old new tables on a =
     let row = name_row d (next_rowid (old.now.trees (tree_of d))) name in
-    wrote_row (tree_of d) row (rows_in old.now.trees) old new (name_keyed d _ name) stands on a
+    wrote_row (tree_of d) row (rows_in old.now.trees) old new (name_keyed d _ name) tables on a
     (rows_are old.now.trees new.now.trees
     (a.others.0 (apart d (λ n. 0 ≡ n → ⊥) (λ e. cc) (λ e. cc) (λ e. cc) (λ e. cc) (λ e. cc)))
-    (names_grow (tree_of d) row old.now new.now a) (are_known old.now stands.schema stands.sound)
+    (names_grow (tree_of d) row old.now new.now a) (are_known old.now tables.schema tables.sound)
     (a.others.1.1.1.1.1.1.0 (apart d (λ n. 11 ≡ n → ⊥) (λ e. cc) (λ e. cc) (λ e. cc) (λ e. cc) (λ e. cc)))
     (a.others.1.1.1.1.1.1.1.0 (apart d (λ n. 13 ≡ n → ⊥) (λ e. cc) (λ e. cc) (λ e. cc) (λ e. cc) (λ e. cc)))
     (a.others.1.1.1.1.1.1.1.1.0 (apart d (λ n. 15 ≡ n → ⊥) (λ e. cc) (λ e. cc) (λ e. cc) (λ e. cc) (λ e. cc))))
 
 -- ---- rows of jobs, spans and files
 
-find_name : (trees : Trees) (d : Dictionary) (name : List ℕ) (id : ℕ) (stands : IsTable (trees (tree_of d))) (is : IsName trees d name id)
+find_name : (trees : Trees) (d : Dictionary) (name : List ℕ) (id : ℕ) (tables : IsTable (trees (tree_of d))) (is : IsName trees d name id)
     → name_at (trees (tree_of d)) (Int (pos id)) ≡ word d name
 find_name trees d name id up is = ap (λ (o : Option Row). column (unwrap_or o []) 2) (find_row (trees (tree_of d)) is.0 (pos id) up is.1 is.2) ∙ is.3
 
-pub wrote_job : (j : JobRow) (client fileset : ℕ) (old new : State) → Stands old.now → GoesOn old new
+pub wrote_job : (j : JobRow) (client fileset : ℕ) (old new : State) → HasTables old.now → GoesOn old new
     → IsName old.now.trees Client j.client client → IsName old.now.trees FileSet j.fileset fileset
     → Added 11 (Int (pos j.id) ∷ Null ∷ Text (j.kind ∷ []) ∷ Text (j.level ∷ []) ∷ Int (pos client) ∷ Text (j.status ∷ []) ∷ Int (pos j.start) ∷ Int (pos fileset) ∷ Int (pos j.session.id) ∷ Int (pos j.session.time) ∷ []) old.now new.now
     → Wrote (with_job j (rows_in old.now.trees)) old new
-wrote_job j client fileset old new stands on is_client is_fileset a =
+wrote_job j client fileset old new tables on is_client is_fileset a =
     let before = old.now.trees in
     let after = new.now.trees in
     let row : Row = Int (pos j.id) ∷ Null ∷ Text (j.kind ∷ []) ∷ Text (j.level ∷ []) ∷ Int (pos client) ∷ Text (j.status ∷ []) ∷ Int (pos j.start) ∷ Int (pos fileset) ∷ Int (pos j.session.id) ∷ Int (pos j.session.time) ∷ [] in
@@ -153,7 +153,7 @@ wrote_job j client fileset old new stands on is_client is_fileset a =
     let filesets : after 3 ≡ before 3 = a.others.1.1.0 (λ e. cc) in
     let shown : job_shown (before 1) (before 3) row ≡ job_row j =
     ap₂ (λ c f. Int (pos j.id) ∷ Text (j.kind ∷ []) ∷ Text (j.level ∷ []) ∷ c ∷ Text (j.status ∷ []) ∷ Int (pos j.start) ∷ f ∷ Int (pos j.session.id) ∷ Int (pos j.session.time) ∷ [])
-    (find_name before Client j.client client stands.shaped.1.0.0 is_client) (find_name before FileSet j.fileset fileset stands.shaped.1.1.0.0 is_fileset) in
+    (find_name before Client j.client client tables.shaped.1.0.0 is_client) (find_name before FileSet j.fileset fileset tables.shaped.1.1.0.0 is_fileset) in
     let jobs : map (job_shown (after 1) (after 3)) (after 11) ≡ put_row (job_row j) (map (job_shown (before 1) (before 3)) (before 11)) =
     ap₂ (λ c f. map (job_shown c f) (after 11)) clients filesets ∙ ap (map (job_shown (before 1) (before 3))) a.rows
     ∙ put-map (job_shown (before 1) (before 3)) (λ r. refl) row (before 11) ∙ ap (λ r. put_row r (map (job_shown (before 1) (before 3)) (before 11))) shown in
@@ -161,20 +161,20 @@ wrote_job j client fileset old new stands on is_client is_fileset a =
     let spans : (rows_in after).spans ≡ (rows_in before).spans = ap₂ (λ m s. map (span_shown m) s) (a.others.1.1.1.0 (λ e. cc)) (a.others.1.1.1.1.1.1.1.0 (λ e. cc)) in
     let files : (rows_in after).files ≡ (rows_in before).files =
     ap₂ (λ p n. map (file_shown p n) (after 15)) (a.others.1.1.1.1.0 (λ e. cc)) (a.others.1.1.1.1.1.0 (λ e. cc)) ∙ ap (map (file_shown (before 7) (before 9))) (a.others.1.1.1.1.1.1.1.1.0 (λ e. cc)) in
-    wrote_row 11 row (with_job j (rows_in before)) old new refl stands on a (four _ _ versions jobs spans files)
+    wrote_row 11 row (with_job j (rows_in before)) old new refl tables on a (four _ _ versions jobs spans files)
 
-pub wrote_span : (job : ℕ) (s : Span) (media : ℕ) (old new : State) → Stands old.now → GoesOn old new → IsName old.now.trees Media s.volume media
+pub wrote_span : (job : ℕ) (s : Span) (media : ℕ) (old new : State) → HasTables old.now → GoesOn old new → IsName old.now.trees Media s.volume media
     → Added 13 (Int (next_rowid (old.now.trees 13)) ∷ Null ∷ Int (pos job) ∷ Int (pos media) ∷ Int (pos s.first) ∷ Int (pos s.last) ∷ Int (pos (high s.start)) ∷ Int (pos (high s.end)) ∷ Int (pos (low s.start)) ∷ Int (pos (low s.end)) ∷ Int (pos s.vol_index) ∷ []) old.now new.now
     → Wrote (with_spans job (s ∷ []) (rows_in old.now.trees)) old new
-wrote_span job s media old new stands on is_media a =
+wrote_span job s media old new tables on is_media a =
     let before = old.now.trees in
     let after = new.now.trees in
     let rest : Row = Null ∷ Int (pos job) ∷ Int (pos media) ∷ Int (pos s.first) ∷ Int (pos s.last) ∷ Int (pos (high s.start)) ∷ Int (pos (high s.end)) ∷ Int (pos (low s.start)) ∷ Int (pos (low s.end)) ∷ Int (pos s.vol_index) ∷ [] in
     let row : Row = Int (next_rowid (before 13)) ∷ rest in
-    let last : after 13 ≡ before 13 ++ row ∷ [] = a.rows ∙ put_next rest (before 13) stands.shaped.1.1.1.1.1.1.1.0 in
+    let last : after 13 ≡ before 13 ++ row ∷ [] = a.rows ∙ put_next rest (before 13) tables.shaped.1.1.1.1.1.1.1.0 in
     let shown : span_shown (before 5) row ≡ span_row job s =
     ap (λ m. Int (pos job) ∷ m ∷ Int (pos s.first) ∷ Int (pos s.last) ∷ Int (pos (high s.start)) ∷ Int (pos (high s.end)) ∷ Int (pos (low s.start)) ∷ Int (pos (low s.end)) ∷ Int (pos s.vol_index) ∷ [])
-    (find_name before Media s.volume media stands.shaped.1.1.1.0.0 is_media) in
+    (find_name before Media s.volume media tables.shaped.1.1.1.0.0 is_media) in
     let spans : (rows_in after).spans ≡ (rows_in before).spans ++ span_row job s ∷ [] =
     ap₂ (λ m l. map (span_shown m) l) (a.others.1.1.1.0 (λ e. cc)) last ∙ map-append (span_shown (before 5)) (before 13) (row ∷ []) ∙ ap (λ r. (rows_in before).spans ++ r ∷ []) shown in
     let versions : (rows_in after).versions ≡ (rows_in before).versions = ap (map (λ (r : Row). column r 1 ∷ [])) (a.others.0 (λ e. cc)) in
@@ -182,22 +182,22 @@ wrote_span job s media old new stands on is_media a =
     ap₂ (λ c f. map (job_shown c f) (after 11)) (a.others.1.0 (λ e. cc)) (a.others.1.1.0 (λ e. cc)) ∙ ap (map (job_shown (before 1) (before 3))) (a.others.1.1.1.1.1.1.0 (λ e. cc)) in
     let files : (rows_in after).files ≡ (rows_in before).files =
     ap₂ (λ p n. map (file_shown p n) (after 15)) (a.others.1.1.1.1.0 (λ e. cc)) (a.others.1.1.1.1.1.0 (λ e. cc)) ∙ ap (map (file_shown (before 7) (before 9))) (a.others.1.1.1.1.1.1.1.1.0 (λ e. cc)) in
-    wrote_row 13 row (with_spans job (s ∷ []) (rows_in before)) old new refl stands on a (four _ _ versions jobs spans files)
+    wrote_row 13 row (with_spans job (s ∷ []) (rows_in before)) old new refl tables on a (four _ _ versions jobs spans files)
 
-pub wrote_file : (index job path filename : ℕ) (front rest lstat digest : List ℕ) (old new : State) → Stands old.now → GoesOn old new
+pub wrote_file : (index job path filename : ℕ) (front rest lstat digest : List ℕ) (old new : State) → HasTables old.now → GoesOn old new
     → IsName old.now.trees Path front path → IsName old.now.trees Filename rest filename
     → Added 15 (Int (next_rowid (old.now.trees 15)) ∷ Null ∷ Int (pos index) ∷ Int (pos job) ∷ Int (pos path) ∷ Int (pos filename) ∷ Text lstat ∷ Text digest ∷ []) old.now new.now
     → Wrote (with_file_row (Int (pos job) ∷ Int (pos index) ∷ Blob front ∷ Blob rest ∷ Text lstat ∷ Text digest ∷ []) (rows_in old.now.trees)) old new
-wrote_file index job path filename front rest lstat digest old new stands on is_path is_filename a =
+wrote_file index job path filename front rest lstat digest old new tables on is_path is_filename a =
     let before = old.now.trees in
     let after = new.now.trees in
     let shows : Row = Int (pos job) ∷ Int (pos index) ∷ Blob front ∷ Blob rest ∷ Text lstat ∷ Text digest ∷ [] in
     let more : Row = Null ∷ Int (pos index) ∷ Int (pos job) ∷ Int (pos path) ∷ Int (pos filename) ∷ Text lstat ∷ Text digest ∷ [] in
     let row : Row = Int (next_rowid (before 15)) ∷ more in
-    let last : after 15 ≡ before 15 ++ row ∷ [] = a.rows ∙ put_next more (before 15) stands.shaped.1.1.1.1.1.1.1.1.0 in
+    let last : after 15 ≡ before 15 ++ row ∷ [] = a.rows ∙ put_next more (before 15) tables.shaped.1.1.1.1.1.1.1.1.0 in
     let shown : file_shown (before 7) (before 9) row ≡ shows =
     ap₂ (λ p n. Int (pos job) ∷ Int (pos index) ∷ p ∷ n ∷ Text lstat ∷ Text digest ∷ [])
-    (find_name before Path front path stands.shaped.1.1.1.1.0.0 is_path) (find_name before Filename rest filename stands.shaped.1.1.1.1.1.0.0 is_filename) in
+    (find_name before Path front path tables.shaped.1.1.1.1.0.0 is_path) (find_name before Filename rest filename tables.shaped.1.1.1.1.1.0.0 is_filename) in
     let files : (rows_in after).files ≡ (rows_in before).files ++ shows ∷ [] =
     ap₂ (λ p n. map (file_shown p n) (after 15)) (a.others.1.1.1.1.0 (λ e. cc)) (a.others.1.1.1.1.1.0 (λ e. cc)) ∙ ap (map (file_shown (before 7) (before 9))) last
     ∙ map-append (file_shown (before 7) (before 9)) (before 15) (row ∷ []) ∙ ap (λ r. (rows_in before).files ++ r ∷ []) shown in
@@ -205,16 +205,16 @@ wrote_file index job path filename front rest lstat digest old new stands on is_
     let jobs : (rows_in after).jobs ≡ (rows_in before).jobs =
     ap₂ (λ c f. map (job_shown c f) (after 11)) (a.others.1.0 (λ e. cc)) (a.others.1.1.0 (λ e. cc)) ∙ ap (map (job_shown (before 1) (before 3))) (a.others.1.1.1.1.1.1.0 (λ e. cc)) in
     let spans : (rows_in after).spans ≡ (rows_in before).spans = ap₂ (λ m s. map (span_shown m) s) (a.others.1.1.1.0 (λ e. cc)) (a.others.1.1.1.1.1.1.1.0 (λ e. cc)) in
-    wrote_row 15 row (with_file_row shows (rows_in before)) old new refl stands on a (four _ _ versions jobs spans files)
+    wrote_row 15 row (with_file_row shows (rows_in before)) old new refl tables on a (four _ _ versions jobs spans files)
 
 -- ---- one after the other
 
-pub wrote_none : (old new : State) → IsTrue old.in_transaction → Stands old.now → IsUnchanged old new → Wrote (rows_in old.now.trees) old new
-wrote_none old new inside stands same = record {
+pub wrote_none : (old new : State) → IsTrue old.in_transaction → HasTables old.now → IsUnchanged old new → Wrote (rows_in old.now.trees) old new
+wrote_none old new inside tables same = record {
   was_open = λ up. same.0.was_open;
   mode = subst IsTrue (sym same.0.mode) inside;
   committed = same.0.committed_is;
-  stands = subst Stands (sym same.0.now_is) stands;
+  tables = subst HasTables (sym same.0.now_is) tables;
   names = λ d name id is. subst (λ (db : Database). IsName db.trees d name id) (sym same.0.now_is) is;
   has = ap (λ (db : Database). rows_in db.trees) same.0.now_is;
 }
@@ -224,7 +224,7 @@ wrote_then rows more a b c one two = record {
   was_open = λ up. one.was_open (two.was_open up);
   mode = two.mode;
   committed = two.committed ∙ one.committed;
-  stands = two.stands;
+  tables = two.tables;
   names = λ d name id is. two.names d name id (one.names d name id is);
   has = two.has;
 }
@@ -268,11 +268,11 @@ rows_are_all j id row spans files rows e1 e2 e3 e4 = rw (e1, e2, e3, e4) refl
 -- a job's row whose values are told in other words
 pub wrote_job_as : (j : JobRow) (id client fileset start session time : ℕ) (kind level status : List ℕ) (old new : State)
     → id ≡ j.id → start ≡ j.start → session ≡ j.session.id → time ≡ j.session.time → kind ≡ j.kind ∷ [] → level ≡ j.level ∷ [] → status ≡ j.status ∷ []
-    → Stands old.now → GoesOn old new → IsName old.now.trees Client j.client client → IsName old.now.trees FileSet j.fileset fileset
+    → HasTables old.now → GoesOn old new → IsName old.now.trees Client j.client client → IsName old.now.trees FileSet j.fileset fileset
     → Added 11 (Int (pos id) ∷ Null ∷ Text kind ∷ Text level ∷ Int (pos client) ∷ Text status ∷ Int (pos start) ∷ Int (pos fileset) ∷ Int (pos session) ∷ Int (pos time) ∷ []) old.now new.now
     → Wrote (with_job j (rows_in old.now.trees)) old new
-wrote_job_as j id client fileset start session time kind level status old new e1 e2 e3 e4 e5 e6 e7 stands on is_client is_fileset a =
-    wrote_job j client fileset old new stands on is_client is_fileset (rw (e1, e2, e3, e4, e5, e6, e7) at a)
+wrote_job_as j id client fileset start session time kind level status old new e1 e2 e3 e4 e5 e6 e7 tables on is_client is_fileset a =
+    wrote_job j client fileset old new tables on is_client is_fileset (rw (e1, e2, e3, e4, e5, e6, e7) at a)
 
 pub on_ok_both : {T E P Q R : Type 0} (r : Result T E) → (P → Q → R) → OnOk r P → OnOk r Q → OnOk r R
 on_ok_both (Ok x) f p q = f p q

@@ -1,7 +1,7 @@
 -- The rows that a database holds, with names in place of numbers, and what a call adds to them.
 use Rattle.std.specs.Prelude.{◌≡◌, ℕ, pos, List, [], ◌∷◌, Bool, true, map, find, unwrap_or, IsTrue, false}
 use Rattle.std.specs.List.{AllByRecursion}
-use Rattle.sqlite.specs.declared.types.Value.TheVariants.{Int}
+use Rattle.sqlite.specs.declared.types.Value.TheVariants.{Int, Text, Blob}
 use Rattle.sqlite.specs.declared.types.Value.{Value}
 use Rattle.sqlite.specs.Collation.TheVariants.{Binary}
 use Rattle.sqlite_schema.specs.Rules.{equal}
@@ -21,45 +21,65 @@ use Rattle.br_rows.specs.Inserted.{IsNewIn}
 use Rattle.br_store.specs.declared.names.Dictionary.{Dictionary}
 use Rattle.br_store.specs.Names.{tree_of, word}
 use Rattle.br_rows.specs.Rows.{Rows, with_job}
+use Rattle.br_schema.specs.Places.{version_tree, client_tree, fileset_tree, media_tree, path_tree, filename_tree}
+use Rattle.br_schema.specs.Places.{job_tree, job_media_tree, file_tree, row_number, version_id, name_column}
+use Rattle.br_schema.specs.Places.{job_type, job_level, job_client, job_status, job_start_time, job_fileset}
+use Rattle.br_schema.specs.Places.{job_session_id, job_session_time, span_job, span_media, span_first_index, span_last_index}
+use Rattle.br_schema.specs.Places.{span_start_file, span_end_file, span_start_block, span_end_block, span_vol_index}
+use Rattle.br_schema.specs.Places.{file_index, file_job, file_path, file_filename, file_lstat, file_md5}
 use Rattle.br_schema.specs.Tables.{store_schema}
 
 -- ---- names for numbers
 
--- the row that has this number
+-- the row has this number
 abbrev pub is_named : Value → Row → Bool
-is_named id row = equal Binary (column row 0) id
+is_named id row = equal Binary (column row row_number) id
 
+-- the first row with this number
 abbrev pub named : List Row → Value → Row
 named rows id = unwrap_or (find (is_named id) rows) []
 
+-- the name that belongs to a number in a table of names
 abbrev pub name_at : List Row → Value → Value
-name_at rows id = column (named rows id) 2
+name_at rows id = column (named rows id) name_column
 
+-- a row of Job, with the names of its client and its file set in place of their numbers
 abbrev pub job_shown : List Row → List Row → Row → Row
 job_shown clients filesets job =
-    column job 0 ∷ column job 2 ∷ column job 3 ∷ name_at clients (column job 4) ∷ column job 5 ∷ column job 6 ∷ name_at filesets (column job 7)
-    ∷ column job 8 ∷ column job 9 ∷ []
+    column job row_number ∷ column job job_type ∷ column job job_level ∷ name_at clients (column job job_client)
+    ∷ column job job_status ∷ column job job_start_time ∷ name_at filesets (column job job_fileset)
+    ∷ column job job_session_id ∷ column job job_session_time ∷ []
 
+-- a row of JobMedia, with the name of its volume in place of its number
 abbrev pub span_shown : List Row → Row → Row
 span_shown media span =
-    column span 2 ∷ name_at media (column span 3) ∷ column span 4 ∷ column span 5 ∷ column span 6 ∷ column span 7 ∷ column span 8 ∷ column span 9
-    ∷ column span 10 ∷ []
+    column span span_job ∷ name_at media (column span span_media) ∷ column span span_first_index ∷ column span span_last_index
+    ∷ column span span_start_file ∷ column span span_end_file ∷ column span span_start_block ∷ column span span_end_block
+    ∷ column span span_vol_index ∷ []
 
+-- a row of File, with the two parts of its path in place of their numbers
 abbrev pub file_shown : List Row → List Row → Row → Row
 file_shown paths filenames file =
-    column file 3 ∷ column file 2 ∷ name_at paths (column file 4) ∷ name_at filenames (column file 5) ∷ column file 6 ∷ column file 7 ∷ []
+    column file file_job ∷ column file file_index ∷ name_at paths (column file file_path) ∷ name_at filenames (column file file_filename)
+    ∷ column file file_lstat ∷ column file file_md5 ∷ []
 
+-- the row that shows a file of a job: its index, the two parts of its path, its numbers and its digest
+abbrev pub file_cells : ℕ → ℕ → List ℕ → List ℕ → List ℕ → List ℕ → Row
+file_cells job index front rest lstat digest =
+    Int (pos job) ∷ Int (pos index) ∷ Blob front ∷ Blob rest ∷ Text lstat ∷ Text digest ∷ []
+
+-- the catalogue's rows in the trees of a database
 abbrev pub rows_in : Trees → Rows
 rows_in trees = record {
-  versions = map (λ (r : Row). column r 1 ∷ []) (trees 0);
-  jobs = map (job_shown (trees 1) (trees 3)) (trees 11);
-  spans = map (span_shown (trees 5)) (trees 13);
-  files = map (file_shown (trees 7) (trees 9)) (trees 15);
+  versions = map (λ (version : Row). column version version_id ∷ []) (trees version_tree);
+  jobs = map (job_shown (trees client_tree) (trees fileset_tree)) (trees job_tree);
+  spans = map (span_shown (trees media_tree)) (trees job_media_tree);
+  files = map (file_shown (trees path_tree) (trees filename_tree)) (trees file_tree);
 }
 
 -- ---- databases
 
--- one row was added to one table, and the others are as before
+-- one row was added to one table, and the other tables are as before
 pub record Added (tree : ℕ) (row : Row) (old new : Database) : Type 0 where
   pub schema : new.schema ≡ store_schema
   pub sound : IsDatabase new
@@ -67,29 +87,30 @@ pub record Added (tree : ℕ) (row : Row) (old new : Database) : Type 0 where
   pub fresh : is_taken (old.trees tree) row ≡ false
   pub others : AllByRecursion (λ (t : Table). (t.tree ≡ tree → ⊥) → new.trees t.tree ≡ old.trees t.tree) store_schema.tables
 
--- a sound database with these tables, whose rows ascend
-pub record Stands (db : Database) : Type 0 where
+-- a sound database with the catalogue's tables, each with its rows in ascending order
+pub record HasTables (db : Database) : Type 0 where
   pub schema : db.schema ≡ store_schema
   pub sound : IsDatabase db
   pub shaped : AllByRecursion (λ (t : Table). IsShaped Shaped (db.trees t.tree)) store_schema.tables
 
--- what a store keeps true of its connection: no transaction is open, and while it is not shut the database has these tables
+-- what a store keeps true of its connection: no transaction is open, and while the connection is open the database has the tables
 pub record IsCatalogue {S : Type 0} (g : Ghosts S) (h : Held S) : Type 0 where
   pub idle : h.in_transaction ≡ false
-  pub stands : HasCleanDisk (state g h) → IsTrue (state g h).is_open → Stands (state g h).now
+  pub tables : HasCleanDisk (state g h) → IsTrue (state g h).is_open → HasTables (state g h).now
 
--- the rows that a store shows
+-- the catalogue's rows in a store
 abbrev pub rows_of : {S : Type 0} → Ghosts S → Held S → Rows
 rows_of g h = rows_in (state g h).now.trees
 
 -- a row of the table has this number and this name
 abbrev pub IsName : Trees → Dictionary → List ℕ → ℕ → Type 0
-IsName trees dictionary name id = (row : Row) × Has (trees (tree_of dictionary)) row × (column row 0 ≡ Int (pos id)) × (column row 2 ≡ word dictionary name)
+IsName trees dictionary name id =
+    (row : Row) × Has (trees (tree_of dictionary)) row × (column row row_number ≡ Int (pos id)) × (column row name_column ≡ word dictionary name)
 
--- the row that is shown has the number of such a row
+-- a query shows the number of a row of the table that has this name
 abbrev pub IsNumberOf : Trees → Dictionary → List ℕ → Row → Type 0
 IsNumberOf trees dictionary name shown =
-    (row : Row) × Has (trees (tree_of dictionary)) row × (shown ≡ column row 0 ∷ []) × (column row 2 ≡ word dictionary name)
+    (row : Row) × Has (trees (tree_of dictionary)) row × (shown ≡ column row row_number ∷ []) × (column row name_column ≡ word dictionary name)
 
 -- the transaction goes on, and nothing is committed
 abbrev pub GoesOn : State → State → Type 0
@@ -100,10 +121,18 @@ pub record Wrote (rows : Rows) (old new : State) : Type 0 where
   pub was_open : IsTrue new.is_open → IsTrue old.is_open
   pub mode : IsTrue new.in_transaction
   pub committed : new.committed ≡ old.committed
-  pub stands : Stands new.now
+  pub tables : HasTables new.now
   pub names : (d : Dictionary) (name : List ℕ) (id : ℕ) → IsName old.now.trees d name id → IsName new.now.trees d name id
   pub has : rows_in new.now.trees ≡ rows
 
--- the job's own row was written so, and the job was new
-abbrev pub WroteJob : JobRow → State → State → Type 0
-WroteJob j old new = Wrote (with_job j (rows_in old.now.trees)) old new × IsNewIn j (rows_in old.now.trees)
+-- the transaction goes on with the rows that this makes of those before
+abbrev pub Writes : (Rows → Rows) → State → State → Type 0
+Writes more old new = Wrote (more (rows_in old.now.trees)) old new
+
+-- the transaction goes on with the rows as before
+abbrev pub WritesNoRow : State → State → Type 0
+WritesNoRow old new = Wrote (rows_in old.now.trees) old new
+
+-- the job's own row was written, and the job was new
+abbrev pub WritesJob : JobRow → State → State → Type 0
+WritesJob j old new = Wrote (with_job j (rows_in old.now.trees)) old new × IsNewIn j (rows_in old.now.trees)

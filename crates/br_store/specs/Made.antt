@@ -7,9 +7,9 @@ use Rattle.sqlite.specs.Effect.{Database, IsDatabase}
 use Rattle.sqlite.specs.State.{State}
 use Rattle.br_rows.specs.Rows.{no_rows}
 use Rattle.br_schema.specs.Tables.{no_schema}
-use Rattle.br_store.specs.Held.{Stands, rows_in}
+use Rattle.br_store.specs.Held.{HasTables, rows_in}
 
--- a sound database with these tables, which have no row
+-- a database with these tables, which have no row
 pub record HasEmptied (schema : Schema) (db : Database) : Type 0 where
   pub is : db.schema ≡ schema
   pub empty : AllByRecursion (λ (t : Table). db.trees t.tree ≡ []) schema.tables
@@ -23,7 +23,7 @@ pub record MakesTables (schema : Schema) (old new : State) : Type 0 where
 
 -- a catalogue of version 1 with no job
 pub record IsMade (db : Database) : Type 0 where
-  pub stands : Stands db
+  pub tables : HasTables db
   pub rows : rows_in db.trees ≡ no_rows
 
 -- the transaction goes on with such a catalogue, and nothing is committed
@@ -33,6 +33,6 @@ pub record HasMade (old new : State) : Type 0 where
   pub committed : new.committed ≡ old.committed
   pub made : IsMade new.now
 
--- what an open finds is kept as it was, or was a database with no table, and is now a catalogue with no job
+-- an open keeps the database that it finds, or makes a catalogue with no job in a database with no table
 abbrev pub Finds : Database → Database → Type 0
 Finds before after = (after.trees ≡ before.trees) ⊎ (IsDatabase (record before { schema = no_schema }) × IsMade after)

@@ -1,20 +1,20 @@
-//! Names and the numbers that the catalogue has in their place.
+//! Names, and the numbers that the catalogue keeps in their place.
 
-ghost use Rattle.std.specs.Prelude.{◌≡◌, pos, ℕ, IsTrue, IfOk, IfSome, OnOk, OnErr};
+ghost use Rattle.std.specs.Prelude.{◌≡◌, pos, IfOk, IfSome, OnOk, OnErr};
 ghost use Rattle.std.specs.List.{AllByRecursion};
 ghost use Rattle.sqlite_value.specs.declared.value.Value.TheVariants.{Int};
 ghost use Rattle.sqlite_value.specs.Value.{owned};
-ghost use Rattle.sqlite.specs.Held.{state};
 ghost use Rattle.sqlite.specs.Order.{column};
-ghost use Rattle.sqlite.specs.State.{HasCleanDisk, IsUnchanged, KeepsCommit, Survives};
+ghost use Rattle.sqlite.specs.State.{IsUnchanged, KeepsCommit};
 ghost use Rattle.sqlite_rules.specs.Lists.{Has};
 ghost use Rattle.br_store.specs.Names.{word, select_text, insert_text};
-ghost use Rattle.br_store.specs.Held.{Stands, Wrote, IsName, IsNumberOf, rows_in};
+ghost use Rattle.br_store.specs.Calls.{BorrowsSame, CommitsNothing, InCatalogue, InTransaction, OnTables};
+ghost use Rattle.br_store.specs.Held.{IsName, IsNumberOf, WritesNoRow};
 
 use sqlite::types::ValueRef;
 use sqlite::{Alter, Error, Row, Transaction};
 
-/// A table that gives names their numbers.
+/// A table of names, in which each name has a number.
 #[derive(Clone, Copy, Debug, PartialEq, Eq)]
 pub(crate) enum Dictionary {
     Client,
@@ -24,7 +24,7 @@ pub(crate) enum Dictionary {
     Filename,
 }
 
-/// The text that asks for the number of a name.
+/// Returns the query for the number of a name.
 fn select_of(dictionary: Dictionary) -> &'static str
     ensures { result.now ≡ select_text dictionary }
 {
@@ -37,7 +37,7 @@ fn select_of(dictionary: Dictionary) -> &'static str
     }
 }
 
-/// The text that adds a name.
+/// Returns the statement that adds a name.
 fn insert_of(dictionary: Dictionary) -> &'static str
     ensures { result.now ≡ insert_text dictionary }
 {
@@ -50,7 +50,7 @@ fn insert_of(dictionary: Dictionary) -> &'static str
     }
 }
 
-/// The value that a name is in its table.
+/// Returns the value of a name in its table: a text, or a blob for the parts of paths.
 fn word_of(dictionary: Dictionary, name: &[u8]) -> ValueRef<'_>
     ensures { owned result ≡ word dictionary name.now }
 {
@@ -60,23 +60,23 @@ fn word_of(dictionary: Dictionary, name: &[u8]) -> ValueRef<'_>
     }
 }
 
-/// The numbers of a name.
+/// Reads the numbers of a name.
 fn numbers_of<S: Alter>(
     tx: &mut Transaction<'_, S>,
     dictionary: Dictionary,
     name: &[u8],
 ) -> Result<Vec<Row>, Error>
-    ensures same_reference { tx.new.conn.ghost_name ≡ tx.old.conn.ghost_name }
-    ensures found { HasCleanDisk (state S.Store tx.new.conn.now) → Stands (state S.Store tx.old.conn.now).now
-        → IfOk result (λ rows. AllByRecursion (IsNumberOf (state S.Store tx.old.conn.now).now.trees dictionary name.now) rows.items) }
-    ensures same { HasCleanDisk (state S.Store tx.new.conn.now) → Stands (state S.Store tx.old.conn.now).now → OnOk result (IsUnchanged (state S.Store tx.old.conn.now) (state S.Store tx.new.conn.now)) }
-    ensures kept { HasCleanDisk (state S.Store tx.new.conn.now) → Stands (state S.Store tx.old.conn.now).now → OnErr result (KeepsCommit (state S.Store tx.old.conn.now) (state S.Store tx.new.conn.now)) }
-    ensures survives { Survives (state S.Store tx.old.conn.now) (state S.Store tx.new.conn.now) (λ _. ⊥) }
+    ensures same_reference { BorrowsSame tx.old.conn tx.new.conn }
+    ensures found { OnTables S.Store tx.old.conn.now tx.new.conn.now (λ old new.
+        IfOk result (λ rows. AllByRecursion (IsNumberOf old.now.trees dictionary name.now) rows.items)) }
+    ensures same { OnTables S.Store tx.old.conn.now tx.new.conn.now (λ old new. OnOk result (IsUnchanged old new)) }
+    ensures kept { OnTables S.Store tx.old.conn.now tx.new.conn.now (λ old new. OnErr result (KeepsCommit old new)) }
+    ensures survives { CommitsNothing S.Store tx.old.conn.now tx.new.conn.now }
 {
     tx.query_all(select_of(dictionary), &[word_of(dictionary, name)])
 }
 
-/// The number in the first of such rows, if there is one.
+/// Returns the number in the first row, if there is one.
 fn first_id(rows: &[Row]) -> Result<Option<u32>, Error>
     ensures { IfOk result (λ o. IfSome o (λ id. (row : _) × Has rows.now row × (column row 0 ≡ Int (pos id)))) }
 {
@@ -86,17 +86,17 @@ fn first_id(rows: &[Row]) -> Result<Option<u32>, Error>
     }
 }
 
-/// The number of a name that has a row.
+/// Reads the number of a name, if it has a row.
 fn known_id<S: Alter>(
     tx: &mut Transaction<'_, S>,
     dictionary: Dictionary,
     name: &[u8],
 ) -> Result<Option<u32>, Error>
-    ensures same_reference { tx.new.conn.ghost_name ≡ tx.old.conn.ghost_name }
-    ensures found { HasCleanDisk (state S.Store tx.new.conn.now) → Stands (state S.Store tx.old.conn.now).now
-        → IfOk result (λ o. IsUnchanged (state S.Store tx.old.conn.now) (state S.Store tx.new.conn.now) × IfSome o (IsName (state S.Store tx.old.conn.now).now.trees dictionary name.now)) }
-    ensures kept { HasCleanDisk (state S.Store tx.new.conn.now) → Stands (state S.Store tx.old.conn.now).now → OnErr result (KeepsCommit (state S.Store tx.old.conn.now) (state S.Store tx.new.conn.now)) }
-    ensures survives { Survives (state S.Store tx.old.conn.now) (state S.Store tx.new.conn.now) (λ _. ⊥) }
+    ensures same_reference { BorrowsSame tx.old.conn tx.new.conn }
+    ensures found { OnTables S.Store tx.old.conn.now tx.new.conn.now (λ old new.
+        IfOk result (λ o. IsUnchanged old new × IfSome o (IsName old.now.trees dictionary name.now))) }
+    ensures kept { OnTables S.Store tx.old.conn.now tx.new.conn.now (λ old new. OnErr result (KeepsCommit old new)) }
+    ensures survives { CommitsNothing S.Store tx.old.conn.now tx.new.conn.now }
 {
     let rows = numbers_of(tx, dictionary, name)?;
     first_id(&rows)
@@ -108,28 +108,27 @@ fn put_name<S: Alter>(
     dictionary: Dictionary,
     name: &[u8],
 ) -> Result<(), Error>
-    ensures same_reference { tx.new.conn.ghost_name ≡ tx.old.conn.ghost_name }
-    ensures added { HasCleanDisk (state S.Store tx.new.conn.now) → IsTrue tx.old.conn.now.in_transaction → Stands (state S.Store tx.old.conn.now).now
-        → OnOk result (Wrote (rows_in (state S.Store tx.old.conn.now).now.trees) (state S.Store tx.old.conn.now) (state S.Store tx.new.conn.now)) }
-    ensures kept { HasCleanDisk (state S.Store tx.new.conn.now) → IsTrue tx.old.conn.now.in_transaction → OnErr result (KeepsCommit (state S.Store tx.old.conn.now) (state S.Store tx.new.conn.now)) }
-    ensures survives { Survives (state S.Store tx.old.conn.now) (state S.Store tx.new.conn.now) (λ _. ⊥) }
+    ensures same_reference { BorrowsSame tx.old.conn tx.new.conn }
+    ensures added { InCatalogue S.Store tx.old.conn.now tx.new.conn.now (λ old new. OnOk result (WritesNoRow old new)) }
+    ensures kept { InTransaction S.Store tx.old.conn.now tx.new.conn.now (λ old new.
+        OnErr result (KeepsCommit old new)) }
+    ensures survives { CommitsNothing S.Store tx.old.conn.now tx.new.conn.now }
 {
     tx.execute(insert_of(dictionary), &[word_of(dictionary, name)])?;
     Ok(())
 }
 
-/// The number of a name, which gets a row if it has none.
+/// Returns the number of a name; adds its row if it has none.
 pub(crate) fn name_id<S: Alter>(
     tx: &mut Transaction<'_, S>,
     dictionary: Dictionary,
     name: &[u8],
 ) -> Result<u32, Error>
-    ensures same_reference { tx.new.conn.ghost_name ≡ tx.old.conn.ghost_name }
-    ensures found { HasCleanDisk (state S.Store tx.new.conn.now) → IsTrue tx.old.conn.now.in_transaction → Stands (state S.Store tx.old.conn.now).now
-        → IfOk result (λ id. Wrote (rows_in (state S.Store tx.old.conn.now).now.trees) (state S.Store tx.old.conn.now) (state S.Store tx.new.conn.now)
-        × IsName (state S.Store tx.new.conn.now).now.trees dictionary name.now id) }
-    ensures kept { HasCleanDisk (state S.Store tx.new.conn.now) → IsTrue tx.old.conn.now.in_transaction → Stands (state S.Store tx.old.conn.now).now → OnErr result (KeepsCommit (state S.Store tx.old.conn.now) (state S.Store tx.new.conn.now)) }
-    ensures survives { Survives (state S.Store tx.old.conn.now) (state S.Store tx.new.conn.now) (λ _. ⊥) }
+    ensures same_reference { BorrowsSame tx.old.conn tx.new.conn }
+    ensures found { InCatalogue S.Store tx.old.conn.now tx.new.conn.now (λ old new.
+        IfOk result (λ id. WritesNoRow old new × IsName new.now.trees dictionary name.now id)) }
+    ensures kept { InCatalogue S.Store tx.old.conn.now tx.new.conn.now (λ old new. OnErr result (KeepsCommit old new)) }
+    ensures survives { CommitsNothing S.Store tx.old.conn.now tx.new.conn.now }
 {
     if let Some(id) = known_id(tx, dictionary, name)? {
         return Ok(id);

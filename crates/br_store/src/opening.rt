@@ -1,28 +1,28 @@
-//! How a database becomes a catalogue.
+//! A database made into a catalogue, or opened as one.
 
 ghost use Rattle.std.specs.Prelude.{◌≡◌, false, IsTrue, IfOk, OnOk, OnErr};
 ghost use Rattle.sqlite.specs.Held.{state};
 ghost use Rattle.sqlite.specs.Effect.{IsDatabase};
-ghost use Rattle.sqlite.specs.State.{HasCleanDisk, Opens, Survives};
+ghost use Rattle.sqlite.specs.State.{Opens, Survives};
 ghost use Rattle.br_schema.specs.Tables.{no_schema, store_schema};
-ghost use Rattle.br_store.specs.Held.{IsCatalogue, Stands};
-ghost use Rattle.br_store.specs.Made.{Finds, HasEmptied, IsMade};
+ghost use Rattle.br_store.specs.Calls.{IsSame, OnCleanDisk, WhileClean};
+ghost use Rattle.br_store.specs.Held.{IsCatalogue, HasTables};
+ghost use Rattle.br_store.specs.Made.{Finds, IsMade};
 
 use crate::tables::make_tables;
 use br_schema::{is_empty, is_ours};
 use sqlite::{Alter, Connection, Error, ErrorCode};
 use std::alloc::Global;
 
-/// Makes the tables and the row of the version in a database with no table, in one transaction. Where it fails the database is as
-/// before. A crash leaves what it could leave before, or a catalogue with no job.
+/// Makes the tables and the row of the version in a database with no table, in one transaction. If it fails and the database is
+/// still open, the database is as before. A crash leaves what it could leave before, or a catalogue with no job.
 pub fn create<S: Alter>(conn: &mut Connection<S>) -> Result<(), Error>
     requires idle { conn.old.in_transaction ≡ false }
     requires empty { conn.old.schema ≡ no_schema }
-    ensures made { HasCleanDisk (state S.Store conn.new) → OnOk result (IsMade (state S.Store conn.new).now × ((state S.Store conn.new).committed ≡ (state S.Store conn.new).now)) }
-    ensures refused { HasCleanDisk (state S.Store conn.new) → IsTrue (state S.Store conn.new).is_open
-        → OnErr result (((state S.Store conn.new).now ≡ (state S.Store conn.old).now) × ((state S.Store conn.new).committed ≡ (state S.Store conn.old).committed)) }
+    ensures made { OnCleanDisk S.Store conn.old conn.new (λ old new. OnOk result (IsMade new.now × (new.committed ≡ new.now))) }
+    ensures refused { OnCleanDisk S.Store conn.old conn.new (λ old new. IsTrue new.is_open → OnErr result (IsSame old new)) }
     ensures crash { Survives (state S.Store conn.old) (state S.Store conn.new) (λ trees. (db : _) × IsMade db × (trees ≡ db.trees)) }
-    ensures open { HasCleanDisk (state S.Store conn.new) → OnOk result (IsTrue (state S.Store conn.new).is_open) }
+    ensures open { OnCleanDisk S.Store conn.old conn.new (λ old new. OnOk result (IsTrue new.is_open)) }
     ensures idle { conn.new.in_transaction ≡ false }
 {
     let _idle = conn.is_autocommit();
@@ -31,12 +31,14 @@ pub fn create<S: Alter>(conn: &mut Connection<S>) -> Result<(), Error>
     tx.commit()
 }
 
-/// The same database, whose tables ascend, as the store keeps them.
+/// Opens the store of this connection again: the same database, with the rows of each table in ascending order.
 fn opened<S: Alter + Drop>(alloc: Global, conn: Connection<S>) -> Result<Connection<S>, Error>
-    ensures stands { IfOk result (λ c. HasCleanDisk (state S.Store c) → c.schema ≡ store_schema → Stands (state S.Store c).now) }
-    ensures opens { IfOk result (λ c. HasCleanDisk (state S.Store c) → Opens (state S.Store c)) }
-    ensures found { IfOk result (λ c. HasCleanDisk (state S.Store c) → IsDatabase (state S.Store c).now × ((state S.Store c).now.trees ≡ (state S.Store conn).committed.trees)) }
-    ensures fresh { IfOk result (λ c. HasCleanDisk (state S.Store c) → (state S.Store conn).committed.schema ≡ no_schema → IsDatabase (record { schema = no_schema; trees = (state S.Store c).now.trees })) }
+    ensures tables { IfOk result (λ c. WhileClean S.Store c (λ is. is.now.schema ≡ store_schema → HasTables is.now)) }
+    ensures opens { IfOk result (λ c. WhileClean S.Store c Opens) }
+    ensures found { IfOk result (λ c. WhileClean S.Store c (λ is.
+        IsDatabase is.now × (is.now.trees ≡ (state S.Store conn).committed.trees))) }
+    ensures fresh { IfOk result (λ c. WhileClean S.Store c (λ is.
+        (state S.Store conn).committed.schema ≡ no_schema → IsDatabase (record { schema = no_schema; trees = is.now.trees }))) }
     ensures idle { IfOk result (λ c. c.in_transaction ≡ false) }
 {
     let _schema = conn.schema();
@@ -50,16 +52,17 @@ fn opened<S: Alter + Drop>(alloc: Global, conn: Connection<S>) -> Result<Connect
     }
 }
 
-/// A connection over a catalogue: a database with no table gets the tables, and another is refused unless it has them.
+/// Opens a catalogue: makes the tables in a database with no table, and refuses another database unless it has just these tables.
 pub(crate) fn opened_or_made<S: Alter + Drop>(
     alloc: Global,
     conn: Connection<S>,
 ) -> Result<Connection<S>, Error>
     ensures catalogue { IfOk result (λ c. IsCatalogue S.Store c) }
-    ensures open { IfOk result (λ c. HasCleanDisk (state S.Store c) → IsTrue (state S.Store c).is_open) }
-    ensures settled { IfOk result (λ c. HasCleanDisk (state S.Store c) → (state S.Store c).now ≡ (state S.Store c).committed) }
-    ensures finds { IfOk result (λ c. HasCleanDisk (state S.Store c) → Finds (state S.Store conn).committed (state S.Store c).now) }
-    ensures fresh { IfOk result (λ c. HasCleanDisk (state S.Store c) → (state S.Store conn).committed.schema ≡ no_schema → IsMade (state S.Store c).now) }
+    ensures open { IfOk result (λ c. WhileClean S.Store c (λ is. IsTrue is.is_open)) }
+    ensures settled { IfOk result (λ c. WhileClean S.Store c (λ is. is.now ≡ is.committed)) }
+    ensures finds { IfOk result (λ c. WhileClean S.Store c (λ is. Finds (state S.Store conn).committed is.now)) }
+    ensures fresh { IfOk result (λ c. WhileClean S.Store c (λ is.
+        (state S.Store conn).committed.schema ≡ no_schema → IsMade is.now)) }
 {
     let mut conn = opened(alloc, conn)?;
     if is_empty(conn.schema()) {

@@ -1,31 +1,37 @@
-//! The queries over the catalogue.
+//! The queries that read the catalogue.
 
 ghost use Rattle.std.specs.Prelude.{◌≡◌, false, IsTrue, IfOk, OnOk, OnErr};
 ghost use Rattle.sqlite.specs.Held.{state};
-ghost use Rattle.sqlite.specs.State.{HasCleanDisk, IsUnchanged, KeepsCommit, Survives};
-ghost use Rattle.br_store.specs.Held.{IsCatalogue, Stands, rows_in};
+ghost use Rattle.sqlite.specs.State.{IsUnchanged, KeepsCommit};
+ghost use Rattle.br_store.specs.Calls.{CommitsNothing, IsReadable, IsSame, OnCleanDisk, Stays, StaysIdle};
+ghost use Rattle.br_store.specs.Held.{IsCatalogue, rows_in};
 
-use br_rows::Shown;
+use crate::facts::idle_is_settled;
+use br_rows::CatalogueRows;
 use sqlite::{Alter, Connection, Error, Row};
 
+/// Reads the versions.
 fn versions<S: Alter>(conn: &mut Connection<S>) -> Result<Vec<Row>, Error>
-    requires { HasCleanDisk (state S.Store conn.old) → Stands (state S.Store conn.old).now }
-    ensures rows { HasCleanDisk (state S.Store conn.new) → IfOk result (λ rows. rows.items ≡ (rows_in (state S.Store conn.old).now.trees).versions) }
-    ensures same { HasCleanDisk (state S.Store conn.new) → OnOk result (IsUnchanged (state S.Store conn.old) (state S.Store conn.new)) }
-    ensures idle { conn.old.in_transaction ≡ false → conn.new.in_transaction ≡ false }
-    ensures kept { HasCleanDisk (state S.Store conn.new) → OnErr result (KeepsCommit (state S.Store conn.old) (state S.Store conn.new)) }
-    ensures survives { Survives (state S.Store conn.old) (state S.Store conn.new) (λ _. ⊥) }
+    requires { IsReadable S.Store conn.old }
+    ensures rows { OnCleanDisk S.Store conn.old conn.new (λ old new.
+        IfOk result (λ rows. rows.items ≡ (rows_in old.now.trees).versions)) }
+    ensures same { OnCleanDisk S.Store conn.old conn.new (λ old new. OnOk result (IsUnchanged old new)) }
+    ensures idle { StaysIdle conn.old conn.new }
+    ensures kept { OnCleanDisk S.Store conn.old conn.new (λ old new. OnErr result (KeepsCommit old new)) }
+    ensures survives { CommitsNothing S.Store conn.old conn.new }
 {
     conn.query_all("SELECT VersionId FROM Version ORDER BY rowid", &[])
 }
 
+/// Reads the jobs with the names of their clients and file sets, in order of JobId.
 fn jobs<S: Alter>(conn: &mut Connection<S>) -> Result<Vec<Row>, Error>
-    requires { HasCleanDisk (state S.Store conn.old) → Stands (state S.Store conn.old).now }
-    ensures rows { HasCleanDisk (state S.Store conn.new) → IfOk result (λ rows. rows.items ≡ (rows_in (state S.Store conn.old).now.trees).jobs) }
-    ensures same { HasCleanDisk (state S.Store conn.new) → OnOk result (IsUnchanged (state S.Store conn.old) (state S.Store conn.new)) }
-    ensures idle { conn.old.in_transaction ≡ false → conn.new.in_transaction ≡ false }
-    ensures kept { HasCleanDisk (state S.Store conn.new) → OnErr result (KeepsCommit (state S.Store conn.old) (state S.Store conn.new)) }
-    ensures survives { Survives (state S.Store conn.old) (state S.Store conn.new) (λ _. ⊥) }
+    requires { IsReadable S.Store conn.old }
+    ensures rows { OnCleanDisk S.Store conn.old conn.new (λ old new.
+        IfOk result (λ rows. rows.items ≡ (rows_in old.now.trees).jobs)) }
+    ensures same { OnCleanDisk S.Store conn.old conn.new (λ old new. OnOk result (IsUnchanged old new)) }
+    ensures idle { StaysIdle conn.old conn.new }
+    ensures kept { OnCleanDisk S.Store conn.old conn.new (λ old new. OnErr result (KeepsCommit old new)) }
+    ensures survives { CommitsNothing S.Store conn.old conn.new }
 {
     conn.query_all(
         "SELECT Job.JobId, Job.Type, Job.Level, Client.Name, Job.JobStatus, Job.StartTime, FileSet.FileSet, Job.VolSessionId, Job.VolSessionTime FROM Job JOIN Client ON Client.ClientId = Job.ClientId JOIN FileSet ON FileSet.FileSetId = Job.FileSetId ORDER BY Job.JobId",
@@ -33,13 +39,15 @@ fn jobs<S: Alter>(conn: &mut Connection<S>) -> Result<Vec<Row>, Error>
     )
 }
 
+/// Reads the spans with the names of their volumes, in order of JobMediaId.
 fn spans<S: Alter>(conn: &mut Connection<S>) -> Result<Vec<Row>, Error>
-    requires { HasCleanDisk (state S.Store conn.old) → Stands (state S.Store conn.old).now }
-    ensures rows { HasCleanDisk (state S.Store conn.new) → IfOk result (λ rows. rows.items ≡ (rows_in (state S.Store conn.old).now.trees).spans) }
-    ensures same { HasCleanDisk (state S.Store conn.new) → OnOk result (IsUnchanged (state S.Store conn.old) (state S.Store conn.new)) }
-    ensures idle { conn.old.in_transaction ≡ false → conn.new.in_transaction ≡ false }
-    ensures kept { HasCleanDisk (state S.Store conn.new) → OnErr result (KeepsCommit (state S.Store conn.old) (state S.Store conn.new)) }
-    ensures survives { Survives (state S.Store conn.old) (state S.Store conn.new) (λ _. ⊥) }
+    requires { IsReadable S.Store conn.old }
+    ensures rows { OnCleanDisk S.Store conn.old conn.new (λ old new.
+        IfOk result (λ rows. rows.items ≡ (rows_in old.now.trees).spans)) }
+    ensures same { OnCleanDisk S.Store conn.old conn.new (λ old new. OnOk result (IsUnchanged old new)) }
+    ensures idle { StaysIdle conn.old conn.new }
+    ensures kept { OnCleanDisk S.Store conn.old conn.new (λ old new. OnErr result (KeepsCommit old new)) }
+    ensures survives { CommitsNothing S.Store conn.old conn.new }
 {
     conn.query_all(
         "SELECT JobMedia.JobId, Media.VolumeName, JobMedia.FirstIndex, JobMedia.LastIndex, JobMedia.StartFile, JobMedia.EndFile, JobMedia.StartBlock, JobMedia.EndBlock, JobMedia.VolIndex FROM JobMedia JOIN Media ON Media.MediaId = JobMedia.MediaId ORDER BY JobMedia.JobMediaId",
@@ -47,13 +55,15 @@ fn spans<S: Alter>(conn: &mut Connection<S>) -> Result<Vec<Row>, Error>
     )
 }
 
+/// Reads the files with the two parts of their paths, in order of FileId.
 fn files<S: Alter>(conn: &mut Connection<S>) -> Result<Vec<Row>, Error>
-    requires { HasCleanDisk (state S.Store conn.old) → Stands (state S.Store conn.old).now }
-    ensures rows { HasCleanDisk (state S.Store conn.new) → IfOk result (λ rows. rows.items ≡ (rows_in (state S.Store conn.old).now.trees).files) }
-    ensures same { HasCleanDisk (state S.Store conn.new) → OnOk result (IsUnchanged (state S.Store conn.old) (state S.Store conn.new)) }
-    ensures idle { conn.old.in_transaction ≡ false → conn.new.in_transaction ≡ false }
-    ensures kept { HasCleanDisk (state S.Store conn.new) → OnErr result (KeepsCommit (state S.Store conn.old) (state S.Store conn.new)) }
-    ensures survives { Survives (state S.Store conn.old) (state S.Store conn.new) (λ _. ⊥) }
+    requires { IsReadable S.Store conn.old }
+    ensures rows { OnCleanDisk S.Store conn.old conn.new (λ old new.
+        IfOk result (λ rows. rows.items ≡ (rows_in old.now.trees).files)) }
+    ensures same { OnCleanDisk S.Store conn.old conn.new (λ old new. OnOk result (IsUnchanged old new)) }
+    ensures idle { StaysIdle conn.old conn.new }
+    ensures kept { OnCleanDisk S.Store conn.old conn.new (λ old new. OnErr result (KeepsCommit old new)) }
+    ensures survives { CommitsNothing S.Store conn.old conn.new }
 {
     conn.query_all(
         "SELECT File.JobId, File.FileIndex, Path.Path, Filename.Name, File.LStat, File.MD5 FROM File JOIN Path ON Path.PathId = File.PathId JOIN Filename ON Filename.FilenameId = File.FilenameId ORDER BY File.FileId",
@@ -61,20 +71,21 @@ fn files<S: Alter>(conn: &mut Connection<S>) -> Result<Vec<Row>, Error>
     )
 }
 
-/// All rows of the catalogue.
-fn shown<S: Alter>(conn: &mut Connection<S>) -> Result<Shown, Error>
-    requires { HasCleanDisk (state S.Store conn.old) → Stands (state S.Store conn.old).now }
-    ensures rows { HasCleanDisk (state S.Store conn.new) → IfOk result (λ rows. rows ≡ rows_in (state S.Store conn.old).now.trees) }
-    ensures same { HasCleanDisk (state S.Store conn.new) → OnOk result (IsUnchanged (state S.Store conn.old) (state S.Store conn.new)) }
-    ensures idle { conn.old.in_transaction ≡ false → conn.new.in_transaction ≡ false }
-    ensures kept { HasCleanDisk (state S.Store conn.new) → OnErr result (KeepsCommit (state S.Store conn.old) (state S.Store conn.new)) }
-    ensures survives { Survives (state S.Store conn.old) (state S.Store conn.new) (λ _. ⊥) }
+/// Reads all rows of the catalogue.
+fn catalogue_rows<S: Alter>(conn: &mut Connection<S>) -> Result<CatalogueRows, Error>
+    requires { IsReadable S.Store conn.old }
+    ensures rows { OnCleanDisk S.Store conn.old conn.new (λ old new.
+        IfOk result (λ rows. rows ≡ rows_in old.now.trees)) }
+    ensures same { OnCleanDisk S.Store conn.old conn.new (λ old new. OnOk result (IsUnchanged old new)) }
+    ensures idle { StaysIdle conn.old conn.new }
+    ensures kept { OnCleanDisk S.Store conn.old conn.new (λ old new. OnErr result (KeepsCommit old new)) }
+    ensures survives { CommitsNothing S.Store conn.old conn.new }
 {
     let versions = versions(conn)?;
     let jobs = jobs(conn)?;
     let spans = spans(conn)?;
     let files = files(conn)?;
-    Ok(Shown {
+    Ok(CatalogueRows {
         versions,
         jobs,
         spans,
@@ -82,44 +93,36 @@ fn shown<S: Alter>(conn: &mut Connection<S>) -> Result<Shown, Error>
     })
 }
 
-/// Outside a transaction a database shows what was last committed.
-fn settles<S: Alter>(conn: &Connection<S>)
-    ensures { conn.now.in_transaction ≡ false → IsTrue (state S.Store conn.now).is_open → (state S.Store conn.now).now ≡ (state S.Store conn.now).committed }
-{
-    let _idle = conn.is_autocommit();
-}
-
-/// An error where the database is shut.
+/// Returns an error if the database is shut.
 pub(crate) fn ready<S: Alter>(conn: &mut Connection<S>) -> Result<(), Error>
     requires { conn.old.in_transaction ≡ false }
     ensures idle { conn.new.in_transaction ≡ false }
-    ensures open { HasCleanDisk (state S.Store conn.new) → OnOk result (IsTrue (state S.Store conn.new).is_open) }
-    ensures same { HasCleanDisk (state S.Store conn.new) → IsTrue (state S.Store conn.new).is_open
-        → IsTrue (state S.Store conn.old).is_open × ((state S.Store conn.new).now ≡ (state S.Store conn.old).now) × ((state S.Store conn.new).committed ≡ (state S.Store conn.old).committed) }
-    ensures survives { Survives (state S.Store conn.old) (state S.Store conn.new) (λ _. ⊥) }
+    ensures open { OnCleanDisk S.Store conn.old conn.new (λ old new. OnOk result (IsTrue new.is_open)) }
+    ensures same { OnCleanDisk S.Store conn.old conn.new Stays }
+    ensures survives { CommitsNothing S.Store conn.old conn.new }
 {
-    settles(conn);
+    idle_is_settled(conn);
     let prepared = conn.prepare("SELECT VersionId FROM Version");
-    settles(conn);
+    idle_is_settled(conn);
     match prepared {
         Ok(_) => Ok(()),
         Err(error) => Err(error),
     }
 }
 
-/// All rows of a catalogue that may be shut.
-pub(crate) fn read<S: Alter>(conn: &mut Connection<S>) -> Result<Shown, Error>
+/// Reads all rows of a catalogue that may be shut.
+pub(crate) fn read<S: Alter>(conn: &mut Connection<S>) -> Result<CatalogueRows, Error>
     requires { IsCatalogue S.Store conn.old }
     ensures catalogue { IsCatalogue S.Store conn.new }
-    ensures rows { HasCleanDisk (state S.Store conn.new) → IfOk result (λ rows. rows ≡ rows_in (state S.Store conn.old).now.trees) }
-    ensures open { HasCleanDisk (state S.Store conn.new) → OnOk result (IsTrue (state S.Store conn.new).is_open) }
-    ensures same { HasCleanDisk (state S.Store conn.new) → IsTrue (state S.Store conn.new).is_open
-        → ((state S.Store conn.new).now ≡ (state S.Store conn.old).now) × ((state S.Store conn.new).committed ≡ (state S.Store conn.old).committed) }
-    ensures survives { Survives (state S.Store conn.old) (state S.Store conn.new) (λ _. ⊥) }
+    ensures rows { OnCleanDisk S.Store conn.old conn.new (λ old new.
+        IfOk result (λ rows. rows ≡ rows_in old.now.trees)) }
+    ensures open { OnCleanDisk S.Store conn.old conn.new (λ old new. OnOk result (IsTrue new.is_open)) }
+    ensures same { OnCleanDisk S.Store conn.old conn.new (λ old new. IsTrue new.is_open → IsSame old new) }
+    ensures survives { CommitsNothing S.Store conn.old conn.new }
 {
     ready(conn)?;
-    settles(conn);
-    let rows = shown(conn);
-    settles(conn);
+    idle_is_settled(conn);
+    let rows = catalogue_rows(conn);
+    idle_is_settled(conn);
     rows
 }

@@ -1,15 +1,15 @@
-//! The catalogue in a store of rows.
+//! The catalogue as a store of jobs.
 
 ghost use Rattle.std.specs.Prelude.{◌≡◌, false, IsTrue, IfOk, IfErr, OnOk, OnErr};
 ghost use Rattle.sqlite.specs.Held.{state};
-ghost use Rattle.sqlite.specs.State.{HasCleanDisk, Survives};
 ghost use Rattle.br_model.specs.Answer.{Answers};
 ghost use Rattle.br_schema.specs.Tables.{no_schema};
 ghost use Rattle.br_rows.specs.Fault.{IsStoreFault, cause};
-ghost use Rattle.br_rows.specs.Inserted.{Adds};
 ghost use Rattle.br_rows.specs.Load.{read_history};
 ghost use Rattle.br_rows.specs.Rows.{no_rows};
-ghost use Rattle.br_store.specs.Held.{IsCatalogue, Stands, rows_in, rows_of};
+ghost use Rattle.br_store.specs.Calls.{AddsJob, CommitsNothing, IsCommitted, IsDurable, IsReadable, IsSame};
+ghost use Rattle.br_store.specs.Calls.{MayCommit, OnCleanDisk, WhileClean};
+ghost use Rattle.br_store.specs.Held.{IsCatalogue, HasTables, rows_in};
 ghost use Rattle.br_store.specs.Made.{Finds};
 
 use crate::opening::opened_or_made;
@@ -21,7 +21,7 @@ use sqlite::{Alter, Connection, Error};
 use std::alloc::Global;
 use std::marker::Model;
 
-/// The catalogue of one version, in a database that nobody else has.
+/// A catalogue of version 1, in a database that nothing else has open.
 #[derive(Drop)]
 pub struct Store<S: Alter> {
     conn: Connection<S>,
@@ -42,15 +42,19 @@ impl<S: Alter> Model for Store<S> {
 }
 
 impl<S: Alter + Drop> Store<S> {
-    /// The catalogue in a database: what was committed there, or in a database with no table a catalogue with no job, made in one
-    /// transaction by `create`. A crash afterwards leaves just that. `Store`, with its cause, where the database fails, or has
-    /// other tables than a catalogue.
+    /// Opens the catalogue in a database: what was committed there. In a database with no table it makes a catalogue with no job,
+    /// in one transaction (`create`). A crash afterwards leaves just that.
+    ///
+    /// # Errors
+    ///
+    /// `Store`, with its cause, if the database fails or has other tables than a catalogue.
     pub fn open(alloc: Global, conn: Connection<S>) -> Result<Store<S>, StoreFault>
-        ensures open { IfOk result (λ s. HasCleanDisk (state S.Store s) → IsTrue (state S.Store s).is_open) }
-        ensures finds { IfOk result (λ s. HasCleanDisk (state S.Store s) → Finds (state S.Store conn).committed (state S.Store s).now) }
-        ensures fresh { IfOk result (λ s. HasCleanDisk (state S.Store s) → (state S.Store conn).committed.schema ≡ no_schema → rows_of S.Store s ≡ no_rows) }
-        ensures settled { IfOk result (λ s. HasCleanDisk (state S.Store s) → (state S.Store s).now ≡ (state S.Store s).committed) }
-        ensures crash { IfOk result (λ s. HasCleanDisk (state S.Store s) → (trees : _) → (state S.Store s).may_leave trees → rows_in trees ≡ rows_of S.Store s) }
+        ensures open { IfOk result (λ s. WhileClean S.Store s (λ is. IsTrue is.is_open)) }
+        ensures finds { IfOk result (λ s. WhileClean S.Store s (λ is. Finds (state S.Store conn).committed is.now)) }
+        ensures fresh { IfOk result (λ s. WhileClean S.Store s (λ is.
+            (state S.Store conn).committed.schema ≡ no_schema → rows_in is.now.trees ≡ no_rows)) }
+        ensures settled { IfOk result (λ s. WhileClean S.Store s (λ is. is.now ≡ is.committed)) }
+        ensures crash { IfOk result (λ s. WhileClean S.Store s IsDurable) }
         ensures cause { IfErr result (λ e. IsStoreFault e) }
     {
         let conn = opened_or_made(alloc, conn)?;
@@ -59,35 +63,41 @@ impl<S: Alter + Drop> Store<S> {
 }
 
 impl<S: Alter> Store<S> {
-    /// Adds a job with all its rows, in one transaction. `Store`, with its cause, where the number or the session of the job is
-    /// there, or the database fails: then the rows are as before. After a crash the rows are those before, or those with the
-    /// job; after `Ok` those with the job.
+    /// Adds a job with all its rows, in one transaction. A crash meanwhile leaves the rows as before, or with the job; a crash after
+    /// `Ok` leaves them with the job.
+    ///
+    /// # Errors
+    ///
+    /// `Store`, with its cause, if the catalogue has the number or the session of the job, or the database fails. If the store is
+    /// still open then, the rows are as before (`refused`).
     pub fn insert_job(&mut self, job: &JobRows) -> Result<(), StoreFault>
-        ensures added { HasCleanDisk (state S.Store self.new) → OnOk result (Adds job.now (rows_of S.Store self.old) (rows_of S.Store self.new)) }
-        ensures settled { HasCleanDisk (state S.Store self.new) → OnOk result (IsTrue (state S.Store self.new).is_open × ((state S.Store self.new).now ≡ (state S.Store self.new).committed)) }
-        ensures refused { HasCleanDisk (state S.Store self.new) → IsTrue (state S.Store self.new).is_open
-            → OnErr result (((state S.Store self.new).now ≡ (state S.Store self.old).now) × ((state S.Store self.new).committed ≡ (state S.Store self.old).committed)) }
-        ensures crash { Survives (state S.Store self.old) (state S.Store self.new) (λ trees. Adds job.now (rows_of S.Store self.old) (rows_in trees)) }
-        ensures durable { HasCleanDisk (state S.Store self.new) → OnOk result ((trees : _) → (state S.Store self.new).may_leave trees → rows_in trees ≡ rows_of S.Store self.new) }
+        ensures added { OnCleanDisk S.Store self.old self.new (λ old new. OnOk result (AddsJob job.now old new)) }
+        ensures settled { OnCleanDisk S.Store self.old self.new (λ old new. OnOk result (IsCommitted new)) }
+        ensures refused { OnCleanDisk S.Store self.old self.new (λ old new. IsTrue new.is_open → OnErr result (IsSame old new)) }
+        ensures crash { MayCommit S.Store self.old self.new job.now }
+        ensures durable { OnCleanDisk S.Store self.old self.new (λ old new. OnOk result (IsDurable new)) }
         ensures cause { IfErr result (λ e. IsStoreFault e) }
     {
         Ok(insert(&mut self.conn, job)?)
     }
 
-    /// All jobs, in order of their numbers. `BadCatalogue` where the version is not 1 or the rows form no history, `Store` where
-    /// the database fails. The rows are as before.
+    /// Loads the history that the rows form. If the store is still open then, the rows are as before (`same`).
+    ///
+    /// # Errors
+    ///
+    /// `Store`, with its cause, if the database fails; `BadCatalogue` if the version is not 1 or the rows form no history.
     pub fn load_history(&mut self) -> Result<History, StoreFault>
-        ensures answers { HasCleanDisk (state S.Store self.new) → Answers (λ h. h) cause result (read_history (rows_of S.Store self.old)) }
-        ensures same { HasCleanDisk (state S.Store self.new) → IsTrue (state S.Store self.new).is_open
-            → ((state S.Store self.new).now ≡ (state S.Store self.old).now) × ((state S.Store self.new).committed ≡ (state S.Store self.old).committed) }
-        ensures open { HasCleanDisk (state S.Store self.new) → OnOk result (IsTrue (state S.Store self.new).is_open) }
-        ensures survives { Survives (state S.Store self.old) (state S.Store self.new) (λ _. ⊥) }
+        ensures answers { OnCleanDisk S.Store self.old self.new (λ old new.
+            Answers (λ h. h) cause result (read_history (rows_in old.now.trees))) }
+        ensures same { OnCleanDisk S.Store self.old self.new (λ old new. IsTrue new.is_open → IsSame old new) }
+        ensures open { OnCleanDisk S.Store self.old self.new (λ old new. OnOk result (IsTrue new.is_open)) }
+        ensures survives { CommitsNothing S.Store self.old self.new }
     {
         let rows = read(&mut self.conn)?;
         history_of(self.alloc, &rows)
     }
 
-    /// The database.
+    /// Returns the connection to the database.
     pub fn into_connection(self) -> Connection<S>
         ensures same { result ≡ self }
         ensures catalogue { IsCatalogue S.Store result }
@@ -97,18 +107,17 @@ impl<S: Alter> Store<S> {
     }
 }
 
-/// Adds a job with all its rows to a catalogue that is not shut, or nothing.
+/// Adds a job with all its rows to a catalogue that is open, or nothing.
 fn insert_all<S: Alter>(conn: &mut Connection<S>, job: &JobRows) -> Result<(), Error>
     requires idle { conn.old.in_transaction ≡ false }
-    requires tables { HasCleanDisk (state S.Store conn.old) → Stands (state S.Store conn.old).now }
+    requires tables { IsReadable S.Store conn.old }
     ensures idle { conn.new.in_transaction ≡ false }
-    ensures tables { HasCleanDisk (state S.Store conn.new) → OnOk result (Stands (state S.Store conn.new).now) }
-    ensures settled { HasCleanDisk (state S.Store conn.new) → OnOk result (IsTrue (state S.Store conn.new).is_open × ((state S.Store conn.new).now ≡ (state S.Store conn.new).committed)) }
-    ensures added { HasCleanDisk (state S.Store conn.new) → OnOk result (Adds job.now (rows_in (state S.Store conn.old).now.trees) (rows_in (state S.Store conn.new).now.trees)) }
-    ensures refused { HasCleanDisk (state S.Store conn.new) → IsTrue (state S.Store conn.new).is_open
-        → OnErr result (((state S.Store conn.new).now ≡ (state S.Store conn.old).now) × ((state S.Store conn.new).committed ≡ (state S.Store conn.old).committed)) }
-    ensures crash { Survives (state S.Store conn.old) (state S.Store conn.new) (λ trees. Adds job.now (rows_in (state S.Store conn.old).now.trees) (rows_in trees)) }
-    ensures durable { HasCleanDisk (state S.Store conn.new) → OnOk result ((trees : _) → (state S.Store conn.new).may_leave trees → rows_in trees ≡ rows_in (state S.Store conn.new).now.trees) }
+    ensures tables { OnCleanDisk S.Store conn.old conn.new (λ old new. OnOk result (HasTables new.now)) }
+    ensures settled { OnCleanDisk S.Store conn.old conn.new (λ old new. OnOk result (IsCommitted new)) }
+    ensures added { OnCleanDisk S.Store conn.old conn.new (λ old new. OnOk result (AddsJob job.now old new)) }
+    ensures refused { OnCleanDisk S.Store conn.old conn.new (λ old new. IsTrue new.is_open → OnErr result (IsSame old new)) }
+    ensures crash { MayCommit S.Store conn.old conn.new job.now }
+    ensures durable { OnCleanDisk S.Store conn.old conn.new (λ old new. OnOk result (IsDurable new)) }
 {
     let _idle = conn.is_autocommit();
     let mut tx = conn.transaction();
@@ -120,12 +129,11 @@ fn insert_all<S: Alter>(conn: &mut Connection<S>, job: &JobRows) -> Result<(), E
 fn insert<S: Alter>(conn: &mut Connection<S>, job: &JobRows) -> Result<(), Error>
     requires { IsCatalogue S.Store conn.old }
     ensures catalogue { IsCatalogue S.Store conn.new }
-    ensures added { HasCleanDisk (state S.Store conn.new) → OnOk result (Adds job.now (rows_of S.Store conn.old) (rows_of S.Store conn.new)) }
-    ensures settled { HasCleanDisk (state S.Store conn.new) → OnOk result (IsTrue (state S.Store conn.new).is_open × ((state S.Store conn.new).now ≡ (state S.Store conn.new).committed)) }
-    ensures refused { HasCleanDisk (state S.Store conn.new) → IsTrue (state S.Store conn.new).is_open
-        → OnErr result (((state S.Store conn.new).now ≡ (state S.Store conn.old).now) × ((state S.Store conn.new).committed ≡ (state S.Store conn.old).committed)) }
-    ensures crash { Survives (state S.Store conn.old) (state S.Store conn.new) (λ trees. Adds job.now (rows_of S.Store conn.old) (rows_in trees)) }
-    ensures durable { HasCleanDisk (state S.Store conn.new) → OnOk result ((trees : _) → (state S.Store conn.new).may_leave trees → rows_in trees ≡ rows_of S.Store conn.new) }
+    ensures added { OnCleanDisk S.Store conn.old conn.new (λ old new. OnOk result (AddsJob job.now old new)) }
+    ensures settled { OnCleanDisk S.Store conn.old conn.new (λ old new. OnOk result (IsCommitted new)) }
+    ensures refused { OnCleanDisk S.Store conn.old conn.new (λ old new. IsTrue new.is_open → OnErr result (IsSame old new)) }
+    ensures crash { MayCommit S.Store conn.old conn.new job.now }
+    ensures durable { OnCleanDisk S.Store conn.old conn.new (λ old new. OnOk result (IsDurable new)) }
 {
     ready(conn)?;
     insert_all(conn, job)

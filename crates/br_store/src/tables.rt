@@ -1,20 +1,21 @@
 //! The tables of the catalogue, made in an empty database.
 
-ghost use Rattle.std.specs.Prelude.{◌≡◌, IsTrue, OnOk, OnErr};
-ghost use Rattle.sqlite.specs.Held.{state};
-ghost use Rattle.sqlite.specs.State.{HasCleanDisk, KeepsCommit, Survives};
+ghost use Rattle.std.specs.Prelude.{OnOk, OnErr};
+ghost use Rattle.sqlite.specs.State.{KeepsCommit};
 ghost use Rattle.br_schema.specs.Tables.{no_schema, three_tables, six_tables, store_schema};
-ghost use Rattle.br_store.specs.Made.{HasEmptied, HasMade, MakesTables};
+ghost use Rattle.br_store.specs.Calls.{BorrowsSame, CommitsNothing, InEmptied};
+ghost use Rattle.br_store.specs.Made.{HasMade, MakesTables};
 
 use sqlite::{Alter, Error, Transaction};
 
 /// Makes the tables of the version, clients and file sets.
 fn make_first<S: Alter>(tx: &mut Transaction<'_, S>) -> Result<(), Error>
-    ensures same_reference { tx.new.conn.ghost_name ≡ tx.old.conn.ghost_name }
-    ensures made { HasCleanDisk (state S.Store tx.new.conn.now) → IsTrue tx.old.conn.now.in_transaction → HasEmptied no_schema (state S.Store tx.old.conn.now).now
-        → OnOk result (MakesTables three_tables (state S.Store tx.old.conn.now) (state S.Store tx.new.conn.now)) }
-    ensures kept { HasCleanDisk (state S.Store tx.new.conn.now) → IsTrue tx.old.conn.now.in_transaction → HasEmptied no_schema (state S.Store tx.old.conn.now).now → OnErr result (KeepsCommit (state S.Store tx.old.conn.now) (state S.Store tx.new.conn.now)) }
-    ensures survives { Survives (state S.Store tx.old.conn.now) (state S.Store tx.new.conn.now) (λ _. ⊥) }
+    ensures same_reference { BorrowsSame tx.old.conn tx.new.conn }
+    ensures made { InEmptied no_schema S.Store tx.old.conn.now tx.new.conn.now (λ old new.
+        OnOk result (MakesTables three_tables old new)) }
+    ensures kept { InEmptied no_schema S.Store tx.old.conn.now tx.new.conn.now (λ old new.
+        OnErr result (KeepsCommit old new)) }
+    ensures survives { CommitsNothing S.Store tx.old.conn.now tx.new.conn.now }
 {
     tx.execute("CREATE TABLE Version(VersionId INTEGER NOT NULL)", &[])?;
     tx.execute(
@@ -30,11 +31,12 @@ fn make_first<S: Alter>(tx: &mut Transaction<'_, S>) -> Result<(), Error>
 
 /// Makes the tables of volumes and the parts of paths.
 fn make_names<S: Alter>(tx: &mut Transaction<'_, S>) -> Result<(), Error>
-    ensures same_reference { tx.new.conn.ghost_name ≡ tx.old.conn.ghost_name }
-    ensures made { HasCleanDisk (state S.Store tx.new.conn.now) → IsTrue tx.old.conn.now.in_transaction → HasEmptied three_tables (state S.Store tx.old.conn.now).now
-        → OnOk result (MakesTables six_tables (state S.Store tx.old.conn.now) (state S.Store tx.new.conn.now)) }
-    ensures kept { HasCleanDisk (state S.Store tx.new.conn.now) → IsTrue tx.old.conn.now.in_transaction → HasEmptied three_tables (state S.Store tx.old.conn.now).now → OnErr result (KeepsCommit (state S.Store tx.old.conn.now) (state S.Store tx.new.conn.now)) }
-    ensures survives { Survives (state S.Store tx.old.conn.now) (state S.Store tx.new.conn.now) (λ _. ⊥) }
+    ensures same_reference { BorrowsSame tx.old.conn tx.new.conn }
+    ensures made { InEmptied three_tables S.Store tx.old.conn.now tx.new.conn.now (λ old new.
+        OnOk result (MakesTables six_tables old new)) }
+    ensures kept { InEmptied three_tables S.Store tx.old.conn.now tx.new.conn.now (λ old new.
+        OnErr result (KeepsCommit old new)) }
+    ensures survives { CommitsNothing S.Store tx.old.conn.now tx.new.conn.now }
 {
     tx.execute(
         "CREATE TABLE Media(MediaId INTEGER PRIMARY KEY, VolumeName TEXT NOT NULL UNIQUE, MediaType TEXT NOT NULL)",
@@ -53,11 +55,12 @@ fn make_names<S: Alter>(tx: &mut Transaction<'_, S>) -> Result<(), Error>
 
 /// Makes the tables of jobs, spans and files.
 fn make_rows<S: Alter>(tx: &mut Transaction<'_, S>) -> Result<(), Error>
-    ensures same_reference { tx.new.conn.ghost_name ≡ tx.old.conn.ghost_name }
-    ensures made { HasCleanDisk (state S.Store tx.new.conn.now) → IsTrue tx.old.conn.now.in_transaction → HasEmptied six_tables (state S.Store tx.old.conn.now).now
-        → OnOk result (MakesTables store_schema (state S.Store tx.old.conn.now) (state S.Store tx.new.conn.now)) }
-    ensures kept { HasCleanDisk (state S.Store tx.new.conn.now) → IsTrue tx.old.conn.now.in_transaction → HasEmptied six_tables (state S.Store tx.old.conn.now).now → OnErr result (KeepsCommit (state S.Store tx.old.conn.now) (state S.Store tx.new.conn.now)) }
-    ensures survives { Survives (state S.Store tx.old.conn.now) (state S.Store tx.new.conn.now) (λ _. ⊥) }
+    ensures same_reference { BorrowsSame tx.old.conn tx.new.conn }
+    ensures made { InEmptied six_tables S.Store tx.old.conn.now tx.new.conn.now (λ old new.
+        OnOk result (MakesTables store_schema old new)) }
+    ensures kept { InEmptied six_tables S.Store tx.old.conn.now tx.new.conn.now (λ old new.
+        OnErr result (KeepsCommit old new)) }
+    ensures survives { CommitsNothing S.Store tx.old.conn.now tx.new.conn.now }
 {
     tx.execute(
         "CREATE TABLE Job(JobId INTEGER PRIMARY KEY, Type TEXT NOT NULL, Level TEXT NOT NULL, ClientId INTEGER NOT NULL REFERENCES Client(ClientId), JobStatus TEXT NOT NULL, StartTime INTEGER NOT NULL, FileSetId INTEGER NOT NULL REFERENCES FileSet(FileSetId), VolSessionId INTEGER NOT NULL, VolSessionTime INTEGER NOT NULL, UNIQUE(VolSessionId, VolSessionTime))",
@@ -74,13 +77,14 @@ fn make_rows<S: Alter>(tx: &mut Transaction<'_, S>) -> Result<(), Error>
     Ok(())
 }
 
-/// Adds the row that says that the version is 1.
+/// Adds the row of version 1.
 fn put_version<S: Alter>(tx: &mut Transaction<'_, S>) -> Result<(), Error>
-    ensures same_reference { tx.new.conn.ghost_name ≡ tx.old.conn.ghost_name }
-    ensures made { HasCleanDisk (state S.Store tx.new.conn.now) → IsTrue tx.old.conn.now.in_transaction → HasEmptied store_schema (state S.Store tx.old.conn.now).now
-        → OnOk result (HasMade (state S.Store tx.old.conn.now) (state S.Store tx.new.conn.now)) }
-    ensures kept { HasCleanDisk (state S.Store tx.new.conn.now) → IsTrue tx.old.conn.now.in_transaction → HasEmptied store_schema (state S.Store tx.old.conn.now).now → OnErr result (KeepsCommit (state S.Store tx.old.conn.now) (state S.Store tx.new.conn.now)) }
-    ensures survives { Survives (state S.Store tx.old.conn.now) (state S.Store tx.new.conn.now) (λ _. ⊥) }
+    ensures same_reference { BorrowsSame tx.old.conn tx.new.conn }
+    ensures made { InEmptied store_schema S.Store tx.old.conn.now tx.new.conn.now (λ old new.
+        OnOk result (HasMade old new)) }
+    ensures kept { InEmptied store_schema S.Store tx.old.conn.now tx.new.conn.now (λ old new.
+        OnErr result (KeepsCommit old new)) }
+    ensures survives { CommitsNothing S.Store tx.old.conn.now tx.new.conn.now }
 {
     tx.execute("INSERT INTO Version (VersionId) VALUES (1)", &[])?;
     Ok(())
@@ -88,11 +92,12 @@ fn put_version<S: Alter>(tx: &mut Transaction<'_, S>) -> Result<(), Error>
 
 /// Makes the tables and the row of the version in an empty database.
 pub(crate) fn make_tables<S: Alter>(tx: &mut Transaction<'_, S>) -> Result<(), Error>
-    ensures same_reference { tx.new.conn.ghost_name ≡ tx.old.conn.ghost_name }
-    ensures made { HasCleanDisk (state S.Store tx.new.conn.now) → IsTrue tx.old.conn.now.in_transaction → HasEmptied no_schema (state S.Store tx.old.conn.now).now
-        → OnOk result (HasMade (state S.Store tx.old.conn.now) (state S.Store tx.new.conn.now)) }
-    ensures kept { HasCleanDisk (state S.Store tx.new.conn.now) → IsTrue tx.old.conn.now.in_transaction → HasEmptied no_schema (state S.Store tx.old.conn.now).now → OnErr result (KeepsCommit (state S.Store tx.old.conn.now) (state S.Store tx.new.conn.now)) }
-    ensures survives { Survives (state S.Store tx.old.conn.now) (state S.Store tx.new.conn.now) (λ _. ⊥) }
+    ensures same_reference { BorrowsSame tx.old.conn tx.new.conn }
+    ensures made { InEmptied no_schema S.Store tx.old.conn.now tx.new.conn.now (λ old new.
+        OnOk result (HasMade old new)) }
+    ensures kept { InEmptied no_schema S.Store tx.old.conn.now tx.new.conn.now (λ old new.
+        OnErr result (KeepsCommit old new)) }
+    ensures survives { CommitsNothing S.Store tx.old.conn.now tx.new.conn.now }
 {
     make_first(tx)?;
     make_names(tx)?;

@@ -30,7 +30,7 @@ fn a_row(alloc: Global, id: u32, session: u32) -> Result<JobRow, Fail> {
     })
 }
 
-/// A file that was saved.
+/// Makes the row of a file that was saved.
 fn saved(alloc: Global, path: &[u8]) -> Result<FileRow, Fail> {
     let path = Path::new(alloc, path)?;
     Ok(FileRow {
@@ -41,7 +41,7 @@ fn saved(alloc: Global, path: &[u8]) -> Result<FileRow, Fail> {
     })
 }
 
-/// A directory that was deleted.
+/// Makes the row of a directory that was deleted.
 fn gone(alloc: Global) -> Result<FileRow, Fail> {
     Ok(FileRow {
         path: Path::new(alloc, b"/a/gone/")?,
@@ -91,7 +91,7 @@ fn empty(alloc: Global) -> Result<Store<MemStore>, Fail> {
     Ok(Store::open(alloc, Connection::open_in_memory(alloc)?)?)
 }
 
-/// The number of the refusal of a job, 0 where it is taken.
+/// Returns the number with which a job is refused, or 0 if it is taken.
 fn put<S: Alter>(store: &mut Store<S>, job: &JobRows) -> u32 {
     match store.insert_job(job) {
         Ok(()) => 0,
@@ -110,37 +110,20 @@ fn insert<S: Alter>(
     Ok(put(store, &job))
 }
 
-/// The number of the refusal of a load, and how many jobs are loaded.
-fn loaded<S: Alter>(store: &mut Store<S>) -> (u32, usize) {
+/// Returns the number with which a load is refused, or 0 if it is not.
+fn refused<S: Alter>(store: &mut Store<S>) -> u32 {
     match store.load_history() {
-        Ok(history) => (0, history.len()),
-        Err(fault) => (fault.number(), 0),
+        Ok(_) => 0,
+        Err(fault) => fault.number(),
     }
 }
 
-fn is_job(job: Option<&JobRows>, id: u32, path: &[u8]) -> bool {
-    match job {
-        Some(job) => {
-            job.row().id.get() == id
-                && match job.files().first() {
-                    Some(file) => file.path.bytes() == path,
-                    None => false,
-                }
-        }
-        None => false,
-    }
+fn job_at(history: &History, place: usize) -> Result<&JobRows, Fail> {
+    Ok(history.get(place).ok_or("a job")?)
 }
 
-/// Whether two jobs are loaded, the one first and then the other.
-fn are_two(history: &History) -> bool {
-    history.len() == 2
-        && is_job(history.get(0), 1, b"/a/one")
-        && is_job(history.get(1), 2, b"/a/two")
-}
-
-/// Whether one job is loaded, the other.
-fn is_one(history: &History) -> bool {
-    history.len() == 1 && is_job(history.get(0), 2, b"/a/two")
+fn first_path(job: &JobRows) -> Result<&[u8], Fail> {
+    Ok(job.files().first().ok_or("a file")?.path.bytes())
 }
 
 #[test]
@@ -149,7 +132,10 @@ fn two_jobs_in_order(rt: HostRuntime) -> Result<(), Fail> {
     let mut store = empty(alloc)?;
     assert_eq!(rt; insert(alloc, &mut store, 2, 1, b"/a/two")?, 0);
     assert_eq!(rt; insert(alloc, &mut store, 1, 2, b"/a/one")?, 0);
-    assert!(rt; are_two(&store.load_history()?));
+    let history = store.load_history()?;
+    assert_eq!(rt; history.len(), 2);
+    assert_eq!(rt; first_path(job_at(&history, 0)?)?, b"/a/one".as_slice());
+    assert_eq!(rt; first_path(job_at(&history, 1)?)?, b"/a/two".as_slice());
     Ok(())
 }
 
@@ -160,69 +146,106 @@ fn repeated(rt: HostRuntime) -> Result<(), Fail> {
     assert_eq!(rt; insert(alloc, &mut store, 2, 1, b"/a/two")?, 0);
     assert_eq!(rt; insert(alloc, &mut store, 2, 3, b"/a/one")?, 45);
     assert_eq!(rt; insert(alloc, &mut store, 3, 1, b"/a/one")?, 45);
-    assert!(rt; is_one(&store.load_history()?));
+    let history = store.load_history()?;
+    assert_eq!(rt; history.len(), 1);
+    assert_eq!(rt; first_path(job_at(&history, 0)?)?, b"/a/two".as_slice());
     Ok(())
 }
 
-fn is_the_span(job: &JobRows) -> bool {
-    match job.spans().first() {
-        Some(span) => {
-            span.start == 4_294_967_297
-                && span.end == 8_589_934_599
-                && span.vol.bytes() == b"V1".as_slice()
-                && job.spans().len() == 1
-        }
-        None => false,
-    }
+fn letters(row: &JobRow) -> [u8; 3] {
+    [row.kind.get(), row.level.get(), row.status.get()]
 }
 
-fn are_the_files(job: &JobRows) -> bool {
-    match job.files() {
-        [saved, gone] => {
-            saved.lstat.as_str() == LSTAT
-                && saved.md5 == Some([0xabu8; 16])
-                && gone.path.bytes() == b"/a/gone/".as_slice()
-                && gone.index == 0
-                && gone.md5.is_none()
-        }
-        _ => false,
-    }
+fn numbers(row: &JobRow) -> [u64; 4] {
+    let session = row.session;
+    [
+        u64::from(row.id.get()),
+        row.start,
+        u64::from(session.id),
+        u64::from(session.time),
+    ]
 }
 
-fn is_the_row(row: &JobRow) -> bool {
-    let letters = [row.kind.get(), row.level.get(), row.status.get()];
-    row.start == 4_999_999_998
-        && letters.as_slice() == b"BFT".as_slice()
-        && (row.session.id, row.session.time) == (7, 9)
-        && row.client.bytes() == b"web".as_slice()
-        && row.fileset.bytes() == b"all".as_slice()
+fn span_numbers(span: &Span) -> [u64; 5] {
+    [
+        u64::from(span.first),
+        u64::from(span.last),
+        span.start,
+        span.end,
+        u64::from(span.vol_index),
+    ]
 }
 
-fn is_whole(history: &History) -> bool {
-    match history.get(0) {
-        Some(job) => is_the_row(job.row()) && is_the_span(job) && are_the_files(job),
-        None => false,
+#[test]
+fn the_row_of_a_job(rt: HostRuntime) -> Result<(), Fail> {
+    let alloc = rt.alloc();
+    let mut store = empty(alloc)?;
+    assert_eq!(rt; insert(alloc, &mut store, 2, 7, b"/a/two")?, 0);
+    let history = store.load_history()?;
+    let row = job_at(&history, 0)?.row();
+    assert_eq!(rt;
+        numbers(row).as_slice(),
+        [2, 4_999_999_998, 7, 9].as_slice()
+    );
+    assert_eq!(rt; letters(row).as_slice(), b"BFT".as_slice());
+    assert_eq!(rt; row.client.bytes(), b"web".as_slice());
+    assert_eq!(rt; row.fileset.bytes(), b"all".as_slice());
+    Ok(())
+}
+
+fn only_span(job: &JobRows) -> Result<&Span, Fail> {
+    match job.spans() {
+        [span] => Ok(span),
+        _ => Err(Fail::from("not one span")),
     }
 }
 
 #[test]
-fn a_whole_job(rt: HostRuntime) -> Result<(), Fail> {
+fn the_span_of_a_job(rt: HostRuntime) -> Result<(), Fail> {
     let alloc = rt.alloc();
     let mut store = empty(alloc)?;
     assert_eq!(rt; insert(alloc, &mut store, 2, 7, b"/a/two")?, 0);
-    assert!(rt; is_whole(&store.load_history()?));
+    let history = store.load_history()?;
+    let span = only_span(job_at(&history, 0)?)?;
+    assert_eq!(rt;
+        span_numbers(span).as_slice(),
+        [1, 1, 4_294_967_297, 8_589_934_599, 1].as_slice()
+    );
+    assert_eq!(rt; span.vol.bytes(), b"V1".as_slice());
     Ok(())
 }
 
-/// The number of the refusal of a database, or of loading it; 0 where it is loaded.
+fn file_at(job: &JobRows, place: usize) -> Result<&FileRow, Fail> {
+    Ok(job.files().get(place).ok_or("a file")?)
+}
+
+#[test]
+fn the_files_of_a_job(rt: HostRuntime) -> Result<(), Fail> {
+    let alloc = rt.alloc();
+    let mut store = empty(alloc)?;
+    assert_eq!(rt; insert(alloc, &mut store, 2, 7, b"/a/two")?, 0);
+    let history = store.load_history()?;
+    let job = job_at(&history, 0)?;
+    assert_eq!(rt; job.files().len(), 2);
+    let saved = file_at(job, 0)?;
+    assert_eq!(rt; saved.lstat.as_str(), LSTAT);
+    assert_eq!(rt; saved.md5, Some([0xabu8; 16]));
+    let gone = file_at(job, 1)?;
+    assert_eq!(rt; gone.path.bytes(), b"/a/gone/".as_slice());
+    assert_eq!(rt; gone.index, 0);
+    assert_eq!(rt; gone.md5, None);
+    Ok(())
+}
+
+/// Returns the number with which a database or its load is refused, or 0 if it is loaded.
 fn refusal(alloc: Global, conn: Connection<MemStore>) -> u32 {
     match Store::open(alloc, conn) {
-        Ok(mut store) => loaded(&mut store).0,
+        Ok(mut store) => refused(&mut store),
         Err(fault) => fault.number(),
     }
 }
 
-/// The number of the refusal of a catalogue with one job that was changed by hand.
+/// Returns the number with which a catalogue with one job is refused after this change, or 0 if it is loaded.
 fn changed(alloc: Global, change: &str) -> Result<u32, Fail> {
     let mut store = empty(alloc)?;
     let _ = insert(alloc, &mut store, 2, 1, b"/a/two")?;
@@ -277,7 +300,7 @@ fn other_tables(rt: HostRuntime) -> Result<(), Fail> {
     Ok(())
 }
 
-/// How many jobs a database has.
+/// Returns the number of jobs in a database.
 fn count<S: Alter + Drop>(
     alloc: Global,
     opened: Result<Connection<S>, (Error, S)>,
@@ -285,13 +308,13 @@ fn count<S: Alter + Drop>(
     match opened {
         Ok(conn) => {
             let mut store = Store::open(alloc, conn)?;
-            Ok(loaded(&mut store).1)
+            Ok(store.load_history()?.len())
         }
         Err(_) => Err(Fail::from("the database was not opened")),
     }
 }
 
-/// How many jobs are there after a crash.
+/// Returns the number of jobs after a crash.
 fn after_crash<S: Alter + Reopen + Drop>(alloc: Global, store: Store<S>) -> Result<usize, Fail> {
     let mut files = store.into_connection().into_store();
     match files.crash_and_reopen() {
@@ -300,7 +323,7 @@ fn after_crash<S: Alter + Reopen + Drop>(alloc: Global, store: Store<S>) -> Resu
     }
 }
 
-/// How many jobs are there after an insert and a crash, if there was a catalogue.
+/// Inserts a job and crashes. Returns the number of jobs afterwards, or none if there was no catalogue.
 fn insert_and_crash<S: Alter + Reopen + Drop>(
     alloc: Global,
     conn: Connection<S>,
@@ -312,7 +335,7 @@ fn insert_and_crash<S: Alter + Reopen + Drop>(
     Ok(Some(after_crash(alloc, store)?))
 }
 
-/// A database on a disk whose log fails from the given call on, if it opens.
+/// Opens a database on a disk whose log fails from this call on, or returns none if it does not open.
 fn failing(alloc: Global, calls: u64) -> Option<Connection<FileStore<Fuse<Memory>>>> {
     let files = Files {
         log: Fuse::new(Memory::new(alloc), calls),
@@ -321,7 +344,8 @@ fn failing(alloc: Global, calls: u64) -> Option<Connection<FileStore<Fuse<Memory
     Connection::open_files(alloc, files, Options::new(1)).ok()
 }
 
-/// How many jobs are there after an insert and a crash on a disk whose log fails from the given call on, if there was a catalogue.
+/// Inserts a job and crashes on a disk whose log fails from this call on. Returns the number of jobs afterwards, or none if
+/// there was no catalogue.
 fn left(alloc: Global, calls: u64) -> Result<Option<usize>, Fail> {
     match failing(alloc, calls) {
         Some(conn) => insert_and_crash(alloc, conn),
@@ -329,22 +353,34 @@ fn left(alloc: Global, calls: u64) -> Result<Option<usize>, Fail> {
     }
 }
 
-/// Which outcomes came, over disks that fail at one call or another: no job, and one job.
-fn outcomes(alloc: Global) -> Result<(bool, bool), Fail> {
-    let (mut without, mut with) = (false, false);
+/// What crashes left on disks that failed at one call or another.
+#[derive(Clone, Copy)]
+struct Outcomes {
+    no_job: bool,
+    one_job: bool,
+}
+
+/// Runs the crashes.
+fn crash_often(alloc: Global) -> Result<Outcomes, Fail> {
+    let mut found = Outcomes {
+        no_job: false,
+        one_job: false,
+    };
     for calls in [12, 20, 22, 24, 26, 28, 40] {
         match left(alloc, calls)? {
             None => {}
-            Some(0) => without = true,
-            Some(1) => with = true,
+            Some(0) => found.no_job = true,
+            Some(1) => found.one_job = true,
             Some(_) => return Err(Fail::from("more jobs than were inserted")),
         }
     }
-    Ok((without, with))
+    Ok(found)
 }
 
 #[test]
 fn a_crash_leaves_all_or_none(rt: HostRuntime) -> Result<(), Fail> {
-    assert_eq!(rt; outcomes(rt.alloc())?, (true, true));
+    let found = crash_often(rt.alloc())?;
+    assert_eq!(rt; found.no_job, true);
+    assert_eq!(rt; found.one_job, true);
     Ok(())
 }

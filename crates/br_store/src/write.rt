@@ -1,14 +1,13 @@
 //! A job written row by row, in a transaction that a caller commits.
 
-ghost use Rattle.std.specs.Prelude.{◌≡◌, ℕ, pos, List, [], ◌∷◌, ◌++◌, string_bytes, IsTrue, OnOk, OnErr};
+ghost use Rattle.std.specs.Prelude.{◌≡◌, ℕ, List, [], ◌∷◌, OnOk, OnErr};
 ghost use Rattle.std.specs.List.{AllByRecursion};
-ghost use Rattle.sqlite_value.specs.declared.value.Value.TheVariants.{Int, Text, Blob};
-ghost use Rattle.sqlite.specs.Held.{state};
-ghost use Rattle.sqlite.specs.State.{HasCleanDisk, KeepsCommit, Survives};
+ghost use Rattle.sqlite.specs.State.{KeepsCommit};
 ghost use Rattle.br_store.specs.declared.names.Dictionary.TheVariants.{Client, FileSet, Media, Path, Filename};
-ghost use Rattle.br_rows.specs.Rows.{with_job, with_spans, with_files, with_rows, with_file_row};
-ghost use Rattle.br_rows.specs.Inserted.{Adds, IsFile, IsSpan};
-ghost use Rattle.br_store.specs.Held.{Stands, Wrote, WroteJob, IsName, rows_in};
+ghost use Rattle.br_rows.specs.Rows.{with_spans, with_files, with_rows, with_file_row};
+ghost use Rattle.br_rows.specs.Inserted.{IsFile, IsSpan};
+ghost use Rattle.br_store.specs.Calls.{AddsJob, BorrowsSame, CommitsNothing, InCatalogue, InTransaction};
+ghost use Rattle.br_store.specs.Held.{IsName, Writes, WritesJob, file_cells};
 
 use crate::names::{Dictionary, name_id};
 use br_history::{FileRow, JobRow, JobRows};
@@ -18,27 +17,41 @@ use br_types::SessionKey;
 use sqlite::types::{ToSql, ValueRef};
 use sqlite::{Alter, Error, ErrorCode, Transaction};
 
+/// The letters of a job, each as a text.
+#[derive(Clone, Copy)]
+struct Letters<'a> {
+    kind: &'a [u8],
+    level: &'a [u8],
+    status: &'a [u8],
+}
+
+/// The numbers of the two parts of a path.
+#[derive(Clone, Copy)]
+struct PathNumbers {
+    path: u32,
+    filename: u32,
+}
+
 /// Adds the row of a job with these letters and this session, whose client and file set have these numbers.
 fn put_job_row<'a, S: Alter>(
     tx: &mut Transaction<'_, S>,
     job: &JobRow,
-    kind: &'a [u8],
-    level: &'a [u8],
-    status: &'a [u8],
+    letters: &'a Letters<'a>,
     session: SessionKey,
     client: u32,
     fileset: u32,
 ) -> Result<(), Error>
-    requires kind { kind.now ≡ job.now.kind ∷ [] }
-    requires level { level.now ≡ job.now.level ∷ [] }
-    requires status { status.now ≡ job.now.status ∷ [] }
+    requires kind { letters.now.kind.now ≡ job.now.kind ∷ [] }
+    requires level { letters.now.level.now ≡ job.now.level ∷ [] }
+    requires status { letters.now.status.now ≡ job.now.status ∷ [] }
     requires session { session ≡ job.now.session }
-    ensures same_reference { tx.new.conn.ghost_name ≡ tx.old.conn.ghost_name }
-    ensures added { HasCleanDisk (state S.Store tx.new.conn.now) → IsTrue tx.old.conn.now.in_transaction → Stands (state S.Store tx.old.conn.now).now
-        → IsName (state S.Store tx.old.conn.now).now.trees Client job.now.client client → IsName (state S.Store tx.old.conn.now).now.trees FileSet job.now.fileset fileset
-        → OnOk result (WroteJob job.now (state S.Store tx.old.conn.now) (state S.Store tx.new.conn.now)) }
-    ensures kept { HasCleanDisk (state S.Store tx.new.conn.now) → IsTrue tx.old.conn.now.in_transaction → OnErr result (KeepsCommit (state S.Store tx.old.conn.now) (state S.Store tx.new.conn.now)) }
-    ensures survives { Survives (state S.Store tx.old.conn.now) (state S.Store tx.new.conn.now) (λ _. ⊥) }
+    ensures same_reference { BorrowsSame tx.old.conn tx.new.conn }
+    ensures added { InCatalogue S.Store tx.old.conn.now tx.new.conn.now (λ old new.
+        IsName old.now.trees Client job.now.client client → IsName old.now.trees FileSet job.now.fileset fileset
+        → OnOk result (WritesJob job.now old new)) }
+    ensures kept { InTransaction S.Store tx.old.conn.now tx.new.conn.now (λ old new.
+        OnErr result (KeepsCommit old new)) }
+    ensures survives { CommitsNothing S.Store tx.old.conn.now tx.new.conn.now }
 {
     let Ok(start) = i64::try_from(job.start) else {
         return Err(Error::SqliteFailure(ErrorCode::TooBig));
@@ -47,10 +60,10 @@ fn put_job_row<'a, S: Alter>(
         "INSERT INTO Job (JobId, Type, Level, ClientId, JobStatus, StartTime, FileSetId, VolSessionId, VolSessionTime) VALUES (?1, ?2, ?3, ?4, ?5, ?6, ?7, ?8, ?9)",
         &[
             job.id.get().to_sql(),
-            ValueRef::Text(kind),
-            ValueRef::Text(level),
+            ValueRef::Text(letters.kind),
+            ValueRef::Text(letters.level),
             client.to_sql(),
-            ValueRef::Text(status),
+            ValueRef::Text(letters.status),
             ValueRef::Int(start),
             fileset.to_sql(),
             session.id.to_sql(),
@@ -67,12 +80,12 @@ fn put_span_row<S: Alter>(
     span: &Span,
     media: u32,
 ) -> Result<(), Error>
-    ensures same_reference { tx.new.conn.ghost_name ≡ tx.old.conn.ghost_name }
-    ensures added { HasCleanDisk (state S.Store tx.new.conn.now) → IsTrue tx.old.conn.now.in_transaction → Stands (state S.Store tx.old.conn.now).now
-        → IsName (state S.Store tx.old.conn.now).now.trees Media span.now.volume media
-        → OnOk result (Wrote (with_spans job (span.now ∷ []) (rows_in (state S.Store tx.old.conn.now).now.trees)) (state S.Store tx.old.conn.now) (state S.Store tx.new.conn.now)) }
-    ensures kept { HasCleanDisk (state S.Store tx.new.conn.now) → IsTrue tx.old.conn.now.in_transaction → OnErr result (KeepsCommit (state S.Store tx.old.conn.now) (state S.Store tx.new.conn.now)) }
-    ensures survives { Survives (state S.Store tx.old.conn.now) (state S.Store tx.new.conn.now) (λ _. ⊥) }
+    ensures same_reference { BorrowsSame tx.old.conn tx.new.conn }
+    ensures added { InCatalogue S.Store tx.old.conn.now tx.new.conn.now (λ old new.
+        IsName old.now.trees Media span.now.volume media → OnOk result (Writes (with_spans job (span.now ∷ [])) old new)) }
+    ensures kept { InTransaction S.Store tx.old.conn.now tx.new.conn.now (λ old new.
+        OnErr result (KeepsCommit old new)) }
+    ensures survives { CommitsNothing S.Store tx.old.conn.now tx.new.conn.now }
 {
     tx.execute(
         "INSERT INTO JobMedia (JobId, MediaId, FirstIndex, LastIndex, StartFile, EndFile, StartBlock, EndBlock, VolIndex) VALUES (?1, ?2, ?3, ?4, ?5, ?6, ?7, ?8, ?9)",
@@ -91,30 +104,30 @@ fn put_span_row<S: Alter>(
     Ok(())
 }
 
-/// Adds the row of a file with these texts for its numbers and its digest, the two parts of whose path have these numbers.
+/// Adds the row of a file, given the numbers of the two parts of its path, and its numbers and its digest as texts.
 fn put_file_row<'a, S: Alter>(
     tx: &mut Transaction<'_, S>,
     job: u32,
     index: u32,
-    path: u32,
-    filename: u32,
+    parts: PathNumbers,
     lstat: &'a [u8],
     digest: &'a [u8],
 ) -> Result<(), Error>
-    ensures same_reference { tx.new.conn.ghost_name ≡ tx.old.conn.ghost_name }
-    ensures added { HasCleanDisk (state S.Store tx.new.conn.now) → IsTrue tx.old.conn.now.in_transaction → Stands (state S.Store tx.old.conn.now).now
-        → (front rest : List ℕ) → IsName (state S.Store tx.old.conn.now).now.trees Path front path → IsName (state S.Store tx.old.conn.now).now.trees Filename rest filename
-        → OnOk result (Wrote (with_file_row (Int (pos job) ∷ Int (pos index) ∷ Blob front ∷ Blob rest ∷ Text lstat.now ∷ Text digest.now ∷ []) (rows_in (state S.Store tx.old.conn.now).now.trees)) (state S.Store tx.old.conn.now) (state S.Store tx.new.conn.now)) }
-    ensures kept { HasCleanDisk (state S.Store tx.new.conn.now) → IsTrue tx.old.conn.now.in_transaction → OnErr result (KeepsCommit (state S.Store tx.old.conn.now) (state S.Store tx.new.conn.now)) }
-    ensures survives { Survives (state S.Store tx.old.conn.now) (state S.Store tx.new.conn.now) (λ _. ⊥) }
+    ensures same_reference { BorrowsSame tx.old.conn tx.new.conn }
+    ensures added { InCatalogue S.Store tx.old.conn.now tx.new.conn.now (λ old new.
+        (front rest : List ℕ) → IsName old.now.trees Path front parts.path → IsName old.now.trees Filename rest parts.filename
+        → OnOk result (Writes (with_file_row (file_cells job index front rest lstat.now digest.now)) old new)) }
+    ensures kept { InTransaction S.Store tx.old.conn.now tx.new.conn.now (λ old new.
+        OnErr result (KeepsCommit old new)) }
+    ensures survives { CommitsNothing S.Store tx.old.conn.now tx.new.conn.now }
 {
     tx.execute(
         "INSERT INTO File (FileIndex, JobId, PathId, FilenameId, LStat, MD5) VALUES (?1, ?2, ?3, ?4, ?5, ?6)",
         &[
             index.to_sql(),
             job.to_sql(),
-            path.to_sql(),
-            filename.to_sql(),
+            parts.path.to_sql(),
+            parts.filename.to_sql(),
             ValueRef::Text(lstat),
             ValueRef::Text(digest),
         ],
@@ -124,20 +137,22 @@ fn put_file_row<'a, S: Alter>(
 
 /// Adds the row of a job.
 pub(crate) fn put_job<S: Alter>(tx: &mut Transaction<'_, S>, job: &JobRow) -> Result<(), Error>
-    ensures same_reference { tx.new.conn.ghost_name ≡ tx.old.conn.ghost_name }
-    ensures added { HasCleanDisk (state S.Store tx.new.conn.now) → IsTrue tx.old.conn.now.in_transaction → Stands (state S.Store tx.old.conn.now).now
-        → OnOk result (WroteJob job.now (state S.Store tx.old.conn.now) (state S.Store tx.new.conn.now)) }
-    ensures kept { HasCleanDisk (state S.Store tx.new.conn.now) → IsTrue tx.old.conn.now.in_transaction → Stands (state S.Store tx.old.conn.now).now → OnErr result (KeepsCommit (state S.Store tx.old.conn.now) (state S.Store tx.new.conn.now)) }
-    ensures survives { Survives (state S.Store tx.old.conn.now) (state S.Store tx.new.conn.now) (λ _. ⊥) }
+    ensures same_reference { BorrowsSame tx.old.conn tx.new.conn }
+    ensures added { InCatalogue S.Store tx.old.conn.now tx.new.conn.now (λ old new.
+        OnOk result (WritesJob job.now old new)) }
+    ensures kept { InCatalogue S.Store tx.old.conn.now tx.new.conn.now (λ old new. OnErr result (KeepsCommit old new)) }
+    ensures survives { CommitsNothing S.Store tx.old.conn.now tx.new.conn.now }
 {
     let client = name_id(tx, Dictionary::Client, job.client.bytes())?;
     let fileset = name_id(tx, Dictionary::FileSet, job.fileset.bytes())?;
     put_job_row(
         tx,
         job,
-        &[job.kind.get()],
-        &[job.level.get()],
-        &[job.status.get()],
+        &Letters {
+            kind: &[job.kind.get()],
+            level: &[job.level.get()],
+            status: &[job.status.get()],
+        },
         job.session,
         client,
         fileset,
@@ -146,11 +161,11 @@ pub(crate) fn put_job<S: Alter>(tx: &mut Transaction<'_, S>, job: &JobRow) -> Re
 
 /// Adds the row of a span.
 fn put_span<S: Alter>(tx: &mut Transaction<'_, S>, job: u32, span: &Span) -> Result<(), Error>
-    ensures same_reference { tx.new.conn.ghost_name ≡ tx.old.conn.ghost_name }
-    ensures added { HasCleanDisk (state S.Store tx.new.conn.now) → IsTrue tx.old.conn.now.in_transaction → Stands (state S.Store tx.old.conn.now).now
-        → OnOk result (Wrote (with_spans job (span.now ∷ []) (rows_in (state S.Store tx.old.conn.now).now.trees)) (state S.Store tx.old.conn.now) (state S.Store tx.new.conn.now)) }
-    ensures kept { HasCleanDisk (state S.Store tx.new.conn.now) → IsTrue tx.old.conn.now.in_transaction → Stands (state S.Store tx.old.conn.now).now → OnErr result (KeepsCommit (state S.Store tx.old.conn.now) (state S.Store tx.new.conn.now)) }
-    ensures survives { Survives (state S.Store tx.old.conn.now) (state S.Store tx.new.conn.now) (λ _. ⊥) }
+    ensures same_reference { BorrowsSame tx.old.conn tx.new.conn }
+    ensures added { InCatalogue S.Store tx.old.conn.now tx.new.conn.now (λ old new.
+        OnOk result (Writes (with_spans job (span.now ∷ [])) old new)) }
+    ensures kept { InCatalogue S.Store tx.old.conn.now tx.new.conn.now (λ old new. OnErr result (KeepsCommit old new)) }
+    ensures survives { CommitsNothing S.Store tx.old.conn.now tx.new.conn.now }
 {
     let media = name_id(tx, Dictionary::Media, span.vol.bytes())?;
     put_span_row(tx, job, span, media)
@@ -158,29 +173,20 @@ fn put_span<S: Alter>(tx: &mut Transaction<'_, S>, job: u32, span: &Span) -> Res
 
 /// Adds the row of a file.
 fn put_file<S: Alter>(tx: &mut Transaction<'_, S>, job: u32, file: &FileRow) -> Result<(), Error>
-    ensures same_reference { tx.new.conn.ghost_name ≡ tx.old.conn.ghost_name }
-    ensures added { HasCleanDisk (state S.Store tx.new.conn.now) → IsTrue tx.old.conn.now.in_transaction → Stands (state S.Store tx.old.conn.now).now
-        → OnOk result (Wrote (with_files job (file.now ∷ []) (rows_in (state S.Store tx.old.conn.now).now.trees)) (state S.Store tx.old.conn.now) (state S.Store tx.new.conn.now)) }
-    ensures kept { HasCleanDisk (state S.Store tx.new.conn.now) → IsTrue tx.old.conn.now.in_transaction → Stands (state S.Store tx.old.conn.now).now → OnErr result (KeepsCommit (state S.Store tx.old.conn.now) (state S.Store tx.new.conn.now)) }
-    ensures survives { Survives (state S.Store tx.old.conn.now) (state S.Store tx.new.conn.now) (λ _. ⊥) }
+    ensures same_reference { BorrowsSame tx.old.conn tx.new.conn }
+    ensures added { InCatalogue S.Store tx.old.conn.now tx.new.conn.now (λ old new.
+        OnOk result (Writes (with_files job (file.now ∷ [])) old new)) }
+    ensures kept { InCatalogue S.Store tx.old.conn.now tx.new.conn.now (λ old new. OnErr result (KeepsCommit old new)) }
+    ensures survives { CommitsNothing S.Store tx.old.conn.now tx.new.conn.now }
 {
     let (front, rest) = cut(file.path.bytes());
     let path = name_id(tx, Dictionary::Path, front)?;
     let filename = name_id(tx, Dictionary::Filename, rest)?;
+    let parts = PathNumbers { path, filename };
     let lstat = file.lstat.as_bytes();
     match file.md5 {
-        Some(digest) => {
-            put_file_row(
-                tx,
-                job,
-                file.index,
-                path,
-                filename,
-                lstat,
-                &digits_of(digest),
-            )
-        }
-        None => put_file_row(tx, job, file.index, path, filename, lstat, &[]),
+        Some(digest) => { put_file_row(tx, job, file.index, parts, lstat, &digits_of(digest)) }
+        None => put_file_row(tx, job, file.index, parts, lstat, &[]),
     }
 }
 
@@ -190,12 +196,12 @@ pub(crate) fn put_spans<S: Alter>(
     job: u32,
     spans: &[Span],
 ) -> Result<(), Error>
-    ensures same_reference { tx.new.conn.ghost_name ≡ tx.old.conn.ghost_name }
-    ensures added { HasCleanDisk (state S.Store tx.new.conn.now) → IsTrue tx.old.conn.now.in_transaction → Stands (state S.Store tx.old.conn.now).now
-        → OnOk result (Wrote (with_spans job spans.now (rows_in (state S.Store tx.old.conn.now).now.trees)) (state S.Store tx.old.conn.now) (state S.Store tx.new.conn.now)) }
+    ensures same_reference { BorrowsSame tx.old.conn tx.new.conn }
+    ensures added { InCatalogue S.Store tx.old.conn.now tx.new.conn.now (λ old new.
+        OnOk result (Writes (with_spans job spans.now) old new)) }
     ensures whole { OnOk result (AllByRecursion IsSpan spans.now) }
-    ensures kept { HasCleanDisk (state S.Store tx.new.conn.now) → IsTrue tx.old.conn.now.in_transaction → Stands (state S.Store tx.old.conn.now).now → OnErr result (KeepsCommit (state S.Store tx.old.conn.now) (state S.Store tx.new.conn.now)) }
-    ensures survives { Survives (state S.Store tx.old.conn.now) (state S.Store tx.new.conn.now) (λ _. ⊥) }
+    ensures kept { InCatalogue S.Store tx.old.conn.now tx.new.conn.now (λ old new. OnErr result (KeepsCommit old new)) }
+    ensures survives { CommitsNothing S.Store tx.old.conn.now tx.new.conn.now }
 {
     for span in spans {
         span_is_whole(span);
@@ -210,12 +216,12 @@ pub(crate) fn put_files<S: Alter>(
     job: u32,
     files: &[FileRow],
 ) -> Result<(), Error>
-    ensures same_reference { tx.new.conn.ghost_name ≡ tx.old.conn.ghost_name }
-    ensures added { HasCleanDisk (state S.Store tx.new.conn.now) → IsTrue tx.old.conn.now.in_transaction → Stands (state S.Store tx.old.conn.now).now
-        → OnOk result (Wrote (with_files job files.now (rows_in (state S.Store tx.old.conn.now).now.trees)) (state S.Store tx.old.conn.now) (state S.Store tx.new.conn.now)) }
+    ensures same_reference { BorrowsSame tx.old.conn tx.new.conn }
+    ensures added { InCatalogue S.Store tx.old.conn.now tx.new.conn.now (λ old new.
+        OnOk result (Writes (with_files job files.now) old new)) }
     ensures whole { OnOk result (AllByRecursion IsFile files.now) }
-    ensures kept { HasCleanDisk (state S.Store tx.new.conn.now) → IsTrue tx.old.conn.now.in_transaction → Stands (state S.Store tx.old.conn.now).now → OnErr result (KeepsCommit (state S.Store tx.old.conn.now) (state S.Store tx.new.conn.now)) }
-    ensures survives { Survives (state S.Store tx.old.conn.now) (state S.Store tx.new.conn.now) (λ _. ⊥) }
+    ensures kept { InCatalogue S.Store tx.old.conn.now tx.new.conn.now (λ old new. OnErr result (KeepsCommit old new)) }
+    ensures survives { CommitsNothing S.Store tx.old.conn.now tx.new.conn.now }
 {
     for file in files {
         file_is_whole(file);
@@ -226,13 +232,13 @@ pub(crate) fn put_files<S: Alter>(
 
 /// Adds the rows of a job, of its spans and of its files.
 pub(crate) fn write_job<S: Alter>(tx: &mut Transaction<'_, S>, rows: &JobRows) -> Result<(), Error>
-    ensures same_reference { tx.new.conn.ghost_name ≡ tx.old.conn.ghost_name }
-    ensures added { HasCleanDisk (state S.Store tx.new.conn.now) → IsTrue tx.old.conn.now.in_transaction → Stands (state S.Store tx.old.conn.now).now
-        → OnOk result (Wrote (with_rows rows.now (rows_in (state S.Store tx.old.conn.now).now.trees)) (state S.Store tx.old.conn.now) (state S.Store tx.new.conn.now)) }
-    ensures adds { HasCleanDisk (state S.Store tx.new.conn.now) → IsTrue tx.old.conn.now.in_transaction → Stands (state S.Store tx.old.conn.now).now
-        → OnOk result (Adds rows.now (rows_in (state S.Store tx.old.conn.now).now.trees) (rows_in (state S.Store tx.new.conn.now).now.trees)) }
-    ensures kept { HasCleanDisk (state S.Store tx.new.conn.now) → IsTrue tx.old.conn.now.in_transaction → Stands (state S.Store tx.old.conn.now).now → OnErr result (KeepsCommit (state S.Store tx.old.conn.now) (state S.Store tx.new.conn.now)) }
-    ensures survives { Survives (state S.Store tx.old.conn.now) (state S.Store tx.new.conn.now) (λ _. ⊥) }
+    ensures same_reference { BorrowsSame tx.old.conn tx.new.conn }
+    ensures added { InCatalogue S.Store tx.old.conn.now tx.new.conn.now (λ old new.
+        OnOk result (Writes (with_rows rows.now) old new)) }
+    ensures adds { InCatalogue S.Store tx.old.conn.now tx.new.conn.now (λ old new.
+        OnOk result (AddsJob rows.now old new)) }
+    ensures kept { InCatalogue S.Store tx.old.conn.now tx.new.conn.now (λ old new. OnErr result (KeepsCommit old new)) }
+    ensures survives { CommitsNothing S.Store tx.old.conn.now tx.new.conn.now }
 {
     let id = rows.row().id.get();
     job_is_whole(rows.row());

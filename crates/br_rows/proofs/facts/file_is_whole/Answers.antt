@@ -1,7 +1,7 @@
 use Rattle.std.proofs.Common.{subst}
 use Rattle.std.proofs.lemmas.Str.{IsUtf8-string_bytes, is_utf8-from_IsUtf8}
 use Rattle.br_rows.specs.Inserted.{IsFile}
-use Rattle.br_rows.proofs.whole.file_is_whole.Goals as goal
+use Rattle.br_rows.proofs.facts.file_is_whole.Goals as goal
 
 pub returns : goal.returns
 returns c =

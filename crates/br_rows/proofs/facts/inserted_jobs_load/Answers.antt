@@ -1,5 +1,5 @@
 use Rattle.br_rows.proofs.InsertedLaws.{reached, tried_load}
-use Rattle.br_rows.proofs.load.inserted_jobs_load.Goals as goal
+use Rattle.br_rows.proofs.facts.inserted_jobs_load.Goals as goal
 
 pub returns-clause-loads : goal.returns-clause-loads
 returns-clause-loads c tries rows h = tried_load tries rows h

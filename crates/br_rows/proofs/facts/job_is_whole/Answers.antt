@@ -2,7 +2,7 @@ use Rattle.std.proofs.Common.{◌<◌, ◌^◌, ap, subst}
 use Rattle.br_model.specs.Job.{JobRow}
 use Rattle.br_model.specs.Name.{SessionKey}
 use Rattle.br_rows.proofs.ReadLaws.{job_row_is}
-use Rattle.br_rows.proofs.whole.job_is_whole.Goals as goal
+use Rattle.br_rows.proofs.facts.job_is_whole.Goals as goal
 
 pub returns : goal.returns
 returns c =

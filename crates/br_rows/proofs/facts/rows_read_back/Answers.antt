@@ -1,5 +1,5 @@
 use Rattle.br_rows.proofs.ReadLaws.{job_ok, span_ok, file_ok}
-use Rattle.br_rows.proofs.decode.rows_read_back.Goals as goal
+use Rattle.br_rows.proofs.facts.rows_read_back.Goals as goal
 
 pub returns-clause-job : goal.returns-clause-job
 returns-clause-job c j is = job_ok j is

@@ -1,6 +1,6 @@
 use Rattle.std.proofs.Common.{subst}
 use Rattle.br_rows.specs.Inserted.{IsSpan}
-use Rattle.br_rows.proofs.whole.span_is_whole.Goals as goal
+use Rattle.br_rows.proofs.facts.span_is_whole.Goals as goal
 
 pub returns : goal.returns
 returns c =

@@ -5,10 +5,10 @@ use Rattle.br_store.proofs.Writes.{wrote_name}
 use Rattle.br_store.proofs.names.put_name.Goals as goal
 
 pub returns-clause-added : goal.returns-clause-added
-returns-clause-added g c clean inside stands =
+returns-clause-added g c clean inside tables =
     let d = c.args.dictionary in
     let name = c.args.name.now in
     let old = state g.S.Store c.args.tx.now.conn.now in
     let new = state g.S.Store c.execute.new.self.conn.now in
     let ran = rw (c.insert_of.ensures, c.word_of.ensures, bound_word d name) at (c.in_ok-execute.ensures.runs clean inside) in
-    wrote_name d name old new stands ran.1 (puts_name d old new name c.in_ok-execute.field-0 stands.schema ran.0)
+    wrote_name d name old new tables ran.1 (puts_name d old new name c.in_ok-execute.field-0 tables.schema ran.0)

@@ -5,8 +5,8 @@ use Rattle.sqlite_trees.specs.View.{IsClean}
 use Rattle.br_store.proofs.Opens.{stands_in, is_up}
 use Rattle.br_store.proofs.opening.opened.Goals as goal
 
-pub returns-in-Ok-clause-stands : goal.returns-in-Ok-clause-stands
-returns-in-Ok-clause-stands g c clean has =
+pub returns-in-Ok-clause-tables : goal.returns-in-Ok-clause-tables
+returns-in-Ok-clause-tables g c clean has =
     let store = c.into_store-store.result in
     let made = c.in-Ok.ensures.opens clean in
     let sound = (made.1 made.0.is_open).0 in

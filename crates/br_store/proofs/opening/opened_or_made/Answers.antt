@@ -6,7 +6,7 @@ use Rattle.br_store.proofs.Opens.{finds_made, finds_kept, not_fresh}
 use Rattle.br_store.proofs.opening.opened_or_made.Goals as goal
 
 pub returns-then-is_empty-clause-catalogue : goal.returns-then-is_empty-clause-catalogue
-returns-then-is_empty-clause-catalogue g c = record { idle = c.create.ensures.idle; stands = λ clean up. (c.in_ok-create.ensures.made clean).0.stands }
+returns-then-is_empty-clause-catalogue g c = record { idle = c.create.ensures.idle; tables = λ clean up. (c.in_ok-create.ensures.made clean).0.tables }
 
 pub returns-then-is_empty-clause-settled : goal.returns-then-is_empty-clause-settled
 returns-then-is_empty-clause-settled g c clean = sym (c.in_ok-create.ensures.made clean).1
@@ -27,7 +27,7 @@ pub returns-then-is_ours-clause-catalogue : goal.returns-then-is_ours-clause-cat
 returns-then-is_ours-clause-catalogue g c =
     let now = state g.S.Store c.in_ok-conn.conn in
     let schema : now.now.schema ≡ store_schema = sym c.schema-2.ensures.value ∙ c.is_ours.ensures.ours c.if-is_ours.true in
-    record { idle = c.in_ok-conn.ensures.idle; stands = λ clean up. c.in_ok-conn.ensures.stands clean schema }
+    record { idle = c.in_ok-conn.ensures.idle; tables = λ clean up. c.in_ok-conn.ensures.tables clean schema }
 
 pub returns-then-is_ours-clause-open : goal.returns-then-is_ours-clause-open
 returns-then-is_ours-clause-open g c clean = (c.in_ok-conn.ensures.opens clean).is_open

@@ -14,9 +14,9 @@ pub returns-clause-rows : goal.returns-clause-rows
 returns-clause-rows g c clean =
     let old = state g.S.Store c.args.conn.now in
     let new = state g.S.Store c.query_all.new.self in
-    let stands = c.requires (omega (arith, clean, c.query_all.ensures.survives.clean)) in
+    let tables = c.requires (omega (arith, clean, c.query_all.ensures.survives.clean)) in
     IfOk-weaker c.query_all.result _ _ (λ rows shown.
-    spans_shown old.now rows.items stands (answers store_schema select_spans [] old new stands.schema select_spans_is.plain spans_query span_names select_spans_is.command select_spans_is.unlisted rows.items shown))
+    spans_shown old.now rows.items tables (answers store_schema select_spans [] old new tables.schema select_spans_is.plain spans_query span_names select_spans_is.command select_spans_is.unlisted rows.items shown))
     (c.query_all.ensures.ok clean)
 
 pub returns-clause-same : goal.returns-clause-same
@@ -32,5 +32,5 @@ returns-clause-survives g c =
     let old = state g.S.Store c.args.conn.now in
     let new = state g.S.Store c.query_all.new.self in
     survives_weaker old new _ (λ _. ⊥) (λ clean db committed.
-    let stands = c.requires (omega (arith, clean, c.query_all.ensures.survives.clean)) in
-    absurd (never_commits select_spans [] old db (subst (λ s. IsPlain (understood s select_spans)) (sym stands.schema) select_spans_is.plain) committed)) c.query_all.ensures.survives
+    let tables = c.requires (omega (arith, clean, c.query_all.ensures.survives.clean)) in
+    absurd (never_commits select_spans [] old db (subst (λ s. IsPlain (understood s select_spans)) (sym tables.schema) select_spans_is.plain) committed)) c.query_all.ensures.survives

@@ -14,9 +14,9 @@ pub returns-clause-rows : goal.returns-clause-rows
 returns-clause-rows g c clean =
     let old = state g.S.Store c.args.conn.now in
     let new = state g.S.Store c.query_all.new.self in
-    let stands = c.requires (omega (arith, clean, c.query_all.ensures.survives.clean)) in
+    let tables = c.requires (omega (arith, clean, c.query_all.ensures.survives.clean)) in
     IfOk-weaker c.query_all.result _ _ (λ rows shown.
-    versions_shown old.now rows.items stands (answers store_schema select_versions [] old new stands.schema select_versions_is.plain versions_query version_names select_versions_is.command select_versions_is.unlisted rows.items shown))
+    versions_shown old.now rows.items tables (answers store_schema select_versions [] old new tables.schema select_versions_is.plain versions_query version_names select_versions_is.command select_versions_is.unlisted rows.items shown))
     (c.query_all.ensures.ok clean)
 
 pub returns-clause-same : goal.returns-clause-same
@@ -32,5 +32,5 @@ returns-clause-survives g c =
     let old = state g.S.Store c.args.conn.now in
     let new = state g.S.Store c.query_all.new.self in
     survives_weaker old new _ (λ _. ⊥) (λ clean db committed.
-    let stands = c.requires (omega (arith, clean, c.query_all.ensures.survives.clean)) in
-    absurd (never_commits select_versions [] old db (subst (λ s. IsPlain (understood s select_versions)) (sym stands.schema) select_versions_is.plain) committed)) c.query_all.ensures.survives
+    let tables = c.requires (omega (arith, clean, c.query_all.ensures.survives.clean)) in
+    absurd (never_commits select_versions [] old db (subst (λ s. IsPlain (understood s select_versions)) (sym tables.schema) select_versions_is.plain) committed)) c.query_all.ensures.survives

@@ -5,7 +5,7 @@ use Rattle.sqlite.specs.State.{HasCleanDisk}
 use Rattle.sqlite.specs.Held.{state}
 use Rattle.sqlite.proofs.StateLemmas.{survives_then, survives_weaker}
 use Rattle.br_rows.specs.Inserted.{Adds}
-use Rattle.br_store.specs.Held.{Stands, rows_in}
+use Rattle.br_store.specs.Held.{HasTables, rows_in}
 use Rattle.br_store.proofs.Ready.{err_with, from_both}
 use Rattle.br_store.proofs.store.insert.Goals as goal
 
@@ -15,17 +15,17 @@ insert_all-requires-clause-idle g c = c.ready.ensures.idle
 pub insert_all-requires-clause-tables : goal.insert_all-requires-clause-tables
 insert_all-requires-clause-tables g c clean =
     let same = c.ready.ensures.same clean (c.in_ok-ready.ensures.open clean) in
-    subst Stands (sym same.1) (c.requires.stands (omega (arith, clean, c.ready.ensures.survives.clean)) same.0)
+    subst HasTables (sym same.1) (c.requires.tables (omega (arith, clean, c.ready.ensures.survives.clean)) same.0)
 
 pub returns-clause-catalogue : goal.returns-clause-catalogue
 returns-clause-catalogue g c = record {
   idle = c.insert_all.ensures.idle;
-  stands = λ clean up.
+  tables = λ clean up.
       let b = state g.S.Store c.ready.new.conn in
       let clean_b : HasCleanDisk b = omega (arith, clean, c.insert_all.ensures.crash.clean) in
       let same = c.ready.ensures.same clean_b (c.in_ok-ready.ensures.open clean_b) in
-      from_both c.insert_all.result (c.insert_all.ensures.tables clean) (c.insert_all.ensures.refused clean up) (λ stands. stands)
-      (λ kept. subst Stands (sym (kept.0 ∙ same.1)) (c.requires.stands (omega (arith, clean_b, c.ready.ensures.survives.clean)) same.0));
+      from_both c.insert_all.result (c.insert_all.ensures.tables clean) (c.insert_all.ensures.refused clean up) (λ tables. tables)
+      (λ kept. subst HasTables (sym (kept.0 ∙ same.1)) (c.requires.tables (omega (arith, clean_b, c.ready.ensures.survives.clean)) same.0));
 }
 
 pub returns-clause-added : goal.returns-clause-added
@@ -56,9 +56,9 @@ returns-clause-crash g c =
 pub returns-in_err-ready-clause-catalogue : goal.returns-in_err-ready-clause-catalogue
 returns-in_err-ready-clause-catalogue g c = record {
   idle = c.ready.ensures.idle;
-  stands = λ clean up.
+  tables = λ clean up.
       let same = c.ready.ensures.same clean up in
-      subst Stands (sym same.1) (c.requires.stands (omega (arith, clean, c.ready.ensures.survives.clean)) same.0);
+      subst HasTables (sym same.1) (c.requires.tables (omega (arith, clean, c.ready.ensures.survives.clean)) same.0);
 }
 
 pub returns-in_err-ready-clause-refused : goal.returns-in_err-ready-clause-refused

@@ -10,12 +10,12 @@ use Rattle.br_store.proofs.Writes.{wrote_next, wrote_as, one_file_more, kept_the
 use Rattle.br_store.proofs.write.put_files.Goals as goal
 
 pub returns-in_err-put_file-clause-kept : goal.returns-in_err-put_file-clause-kept
-returns-in_err-put_file-clause-kept g c clean inside stands =
+returns-in_err-put_file-clause-kept g c clean inside tables =
     let a = state g.S.Store c.args.tx.now.conn.now in
     let b = state g.S.Store c.loop-file.tx.conn.now in
     let d = state g.S.Store c.put_file.new.tx.conn.now in
-    let so = c.loop-file.invariant.3 (omega (arith, c.put_file.ensures.survives.clean)) inside stands in
-    let kept = c.in_err-put_file.ensures.kept clean so.mode so.stands in
+    let so = c.loop-file.invariant.3 (omega (arith, c.put_file.ensures.survives.clean)) inside tables in
+    let kept = c.in_err-put_file.ensures.kept clean so.mode so.tables in
     search (rules, kept_then (with_files c.args.job (take c.loop-file.file-index c.args.files.now) (rows_in a.now.trees)) a b d so kept)
 
 pub loop-file-preserved : goal.loop-file-preserved
@@ -30,9 +30,9 @@ loop-file-preserved g c =
       search rules,
       survives_both a b d c.loop-file.invariant.1 c.put_file.ensures.survives,
       subst (AllByRecursion IsFile) (sym more) (all_push IsFile before item c.loop-file.invariant.2 c.file_is_whole.ensures),
-      λ clean inside stands.
-          let so = c.loop-file.invariant.3 (omega (arith, c.put_file.ensures.survives.clean)) inside stands in
-          let on = c.in_ok-put_file.ensures.added clean so.mode so.stands in
+      λ clean inside tables.
+          let so = c.loop-file.invariant.3 (omega (arith, c.put_file.ensures.survives.clean)) inside tables in
+          let on = c.in_ok-put_file.ensures.added clean so.mode so.tables in
           let next = wrote_next (with_files c.args.job before) (with_files c.args.job (item ∷ [])) (rows_in a.now.trees) a b d so on in
           subst (λ l. Wrote (with_files c.args.job l (rows_in a.now.trees)) a d) (sym more) (wrote_as _ _ a d (one_file_more c.args.job before item (rows_in a.now.trees)) next),
     )

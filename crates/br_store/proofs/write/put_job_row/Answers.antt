@@ -9,7 +9,7 @@ use Rattle.br_store.proofs.Fresh.{new_job}
 use Rattle.br_store.proofs.write.put_job_row.Goals as goal
 
 pub returns-clause-added : goal.returns-clause-added
-returns-clause-added g c clean inside stands is_client is_fileset =
+returns-clause-added g c clean inside tables is_client is_fileset =
     let i = c.job.inside in
     let old = state g.S.Store c.args.tx.now.conn.now in
     let new = state g.S.Store c.execute.new.self.conn.now in
@@ -18,8 +18,8 @@ returns-clause-added g c clean inside stands is_client is_fileset =
     let ids = c.get.ensures.same ∙ ap (λ (j : JobRow). j.id) c.job.view_is in
     let session = ap (λ (s : SessionKey). s.id) (c.session.view_is ∙ c.requires.session) in
     let time = ap (λ (s : SessionKey). s.time) (c.session.view_is ∙ c.requires.session) in
-    let added = puts_job old new (pos c.get.result) (pos c.args.client) (pos i.start) (pos c.args.fileset) (pos c.session.inside.id) (pos c.session.inside.time) c.args.kind.now c.args.level.now c.args.status.now c.in_ok-execute.field-0 stands.schema ran.0 in (
-      wrote_job_as c.args.job.now c.get.result c.args.client c.args.fileset i.start c.session.inside.id c.session.inside.time c.args.kind.now c.args.level.now c.args.status.now old new
-          ids (ap (λ (j : JobRow). j.start) c.job.view_is) session time c.requires.kind c.requires.level c.requires.status stands ran.1 is_client is_fileset added,
-      new_job c.args.job.now c.get.result c.args.client c.args.fileset i.start c.session.inside.id c.session.inside.time c.args.kind.now c.args.level.now c.args.status.now old.now new.now ids session time stands added,
+    let added = puts_job old new (pos c.get.result) (pos c.args.client) (pos i.start) (pos c.args.fileset) (pos c.session.inside.id) (pos c.session.inside.time) c.args.letters.now.kind.now c.args.letters.now.level.now c.args.letters.now.status.now c.in_ok-execute.field-0 tables.schema ran.0 in (
+      wrote_job_as c.args.job.now c.get.result c.args.client c.args.fileset i.start c.session.inside.id c.session.inside.time c.args.letters.now.kind.now c.args.letters.now.level.now c.args.letters.now.status.now old new
+          ids (ap (λ (j : JobRow). j.start) c.job.view_is) session time c.requires.kind c.requires.level c.requires.status tables ran.1 is_client is_fileset added,
+      new_job c.args.job.now c.get.result c.args.client c.args.fileset i.start c.session.inside.id c.session.inside.time c.args.letters.now.kind.now c.args.letters.now.level.now c.args.letters.now.status.now old.now new.now ids session time tables added,
     )

@@ -10,7 +10,7 @@ use Rattle.br_store.proofs.Writes.{wrote_span}
 use Rattle.br_store.proofs.write.put_span_row.Goals as goal
 
 pub returns-clause-added : goal.returns-clause-added
-returns-clause-added g c clean inside stands is_media =
+returns-clause-added g c clean inside tables is_media =
     let old = state g.S.Store c.args.tx.now.conn.now in
     let new = state g.S.Store c.execute.new.self.conn.now in
     let i = c.span.inside in
@@ -30,6 +30,6 @@ returns-clause-added g c clean inside stands is_media =
       c.low_half-2.ensures,
     ) at (c.in_ok-execute.ensures.runs clean inside) in
     subst (λ (s : Span). IsName old.now.trees Media s.volume c.args.media → Wrote (with_spans c.args.job (s ∷ []) (rows_in old.now.trees)) old new) c.span.view_is
-    (λ is. wrote_span c.args.job _ c.args.media old new stands ran.1 is
-    (puts_span old new (pos c.args.job) (pos c.args.media) (pos i.first) (pos i.last) (pos (high i.start)) (pos (high i.end)) (pos (low i.start)) (pos (low i.end)) (pos i.vol_index) c.in_ok-execute.field-0 stands.schema ran.0))
+    (λ is. wrote_span c.args.job _ c.args.media old new tables ran.1 is
+    (puts_span old new (pos c.args.job) (pos c.args.media) (pos i.first) (pos i.last) (pos (high i.start)) (pos (high i.end)) (pos (low i.start)) (pos (low i.end)) (pos i.vol_index) c.in_ok-execute.field-0 tables.schema ran.0))
     is_media

@@ -4,7 +4,7 @@ use Rattle.sqlite.specs.State.{HasCleanDisk, Survives}
 use Rattle.sqlite.specs.Held.{state}
 use Rattle.br_rows.specs.Rows.{with_spans}
 use Rattle.br_rows.specs.Inserted.{IsSpan}
-use Rattle.br_store.specs.Held.{Stands, Wrote, rows_in}
+use Rattle.br_store.specs.Held.{HasTables, Wrote, rows_in}
 use Rattle.br_store.proofs.write.put_spans.Given as goal
 
 abbrev pub invariant-loop-span : goal.invariant-loop-span
@@ -12,5 +12,5 @@ invariant-loop-span g l =
     (l.tx.conn.ghost_name ≡ l.initial.tx.conn.ghost_name)
     × Survives (state g.S.Store l.initial.tx.conn.now) (state g.S.Store l.tx.conn.now) (λ _. ⊥)
     × AllByRecursion IsSpan (take l.span-index l.spans)
-    × (HasCleanDisk (state g.S.Store l.tx.conn.now) → IsTrue l.initial.tx.conn.now.in_transaction → Stands (state g.S.Store l.initial.tx.conn.now).now
+    × (HasCleanDisk (state g.S.Store l.tx.conn.now) → IsTrue l.initial.tx.conn.now.in_transaction → HasTables (state g.S.Store l.initial.tx.conn.now).now
     → Wrote (with_spans l.job (take l.span-index l.spans) (rows_in (state g.S.Store l.initial.tx.conn.now).now.trees)) (state g.S.Store l.initial.tx.conn.now) (state g.S.Store l.tx.conn.now))
