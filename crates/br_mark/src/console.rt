@@ -112,6 +112,14 @@ impl<'h> Console<'h> {
         }
     }
 
+    /// Lends the view with the marks on its paths.
+    pub fn tree(&self) -> &Tree<'h>
+        ensures view { result.now.view ≡ self.now.view }
+        ensures marked { result.now.marked ≡ self.now.state.marked }
+    {
+        &self.tree
+    }
+
     /// The marked paths in byte order.
     pub fn marked(&self, alloc: Global) -> Result<Vec<Path>, AllocError>
         ensures same { IfOk result (λ paths. paths.items ≡ self.now.state.marked) }

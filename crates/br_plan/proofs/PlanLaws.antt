@@ -1,20 +1,22 @@
 -- The groups of files are the plan's groups, and a plan step by step.
-use Rattle.std.proofs.Common.{◌≡◌, ℕ, ◌<◌, Bool, true, false, not, ◌&&◌, cond, eqb, List, [], ◌∷◌, ◌++◌, map, filter, Ok, Err, refl, sym, ap, subst, ◌∙◌, inl, inr, arith}
+use Rattle.std.proofs.Common.{◌≡◌, ℕ, ◌<◌, Bool, true, false, not, ◌&&◌, cond, eqb, List, [], ◌∷◌, ◌++◌, length, map, filter, Result, Ok, Err, refl, sym, ap, subst, ◌∙◌, inl, inr, arith}
 use Rattle.std.proofs.lemmas.Bool.{and_parts, eqb-true}
-use Rattle.std.specs.Prelude.{Contains, flat_map}
+use Rattle.std.specs.Prelude.{Contains, flat_map, IfOk}
 use Rattle.std.specs.Int.{is_in_range}
 use Rattle.std.specs.List.Sorted.{IsStrictlySortedBy}
 use Rattle.std.specs.Ordering.{nat_cmp, ordering_then}
 use Rattle.std.specs.declared.cmp.Ordering.{Ordering}
 use Rattle.std.specs.declared.cmp.Ordering.TheVariants.{Less, Equal, Greater}
-use Rattle.br_model.specs.Answer.{IsRefusal}
+use Rattle.br_model.specs.Answer.{Answers, IsRefusal}
 use Rattle.br_model.specs.Order.{in_order}
 use Rattle.br_model.specs.Text.{is_empty}
 use Rattle.br_model.specs.Bootstrap.{Group}
-use Rattle.br_model.specs.Job.{Span, JobRows}
+use Rattle.br_model.specs.Job.{Span, JobRows, is_history}
 use Rattle.br_model.specs.Choice.{Request, choose}
 use Rattle.br_model.specs.View.{Entry, view_of}
-use Rattle.br_model.specs.Plan.{selection, indexes_in, span_group, job_groups, plan_groups, plan_of}
+use Rattle.br_model.specs.Plan.{Plan, selection, indexes_in, span_group, job_groups, plan_groups, plan_of}
+use Rattle.br_model.specs.PlanMeaning.{PlanMeansSelection}
+use Rattle.br_model.proofs.ChosenPlanLaws.{chosen_is_history}
 use Rattle.br_model.proofs.ListLaws.{cons_not_empty, first_in, later_in, first_or_later, none_in, of_each, contains_filter, kept_passes, kept_pass, contains_map, from_image}
 use Rattle.br_model.proofs.OrderLaws.{rank_cmp, in_order_from, in_order_rises, numbers_in_order}
 use Rattle.br_model.proofs.PairLaws.{EachPair, pairs_weaker, pairs_with, pairs_filter, pairs_map}
@@ -22,9 +24,12 @@ use Rattle.br_choose.specs.declared.fault.ChooseFault.{ChooseFault}
 use Rattle.br_choose.specs.declared.fault.ChooseFault.TheVariants as choosing
 use Rattle.br_choose.specs.Fault as choice
 use Rattle.br_plan.specs.Fault.{cause, from_choice}
-use Rattle.br_plan.specs.Selected.{FileOf, file_cmp, file_of}
+use Rattle.br_view.specs.Shown.{shown_pair}
+use Rattle.br_plan.specs.declared.fault.PlanFault.{PlanFault}
+use Rattle.br_plan.specs.Selected.{FileOf, file_cmp, file_of, Pair, flags_in, selected_by}
 use Rattle.br_plan.specs.Parts.{Rise, AreFiles, is_within, part_of, groups_of_job, groups_of_jobs}
-use Rattle.br_plan.specs.Means.{plan_with}
+use Rattle.br_plan.specs.Means.{plan_unless_empty, MeansSelection}
+use Rattle.br_plan.proofs.SelectLaws.{selected_is}
 use Rattle.br_plan.proofs.PartLaws.{lower, file_less}
 
 -- ---- rising numbers
@@ -149,19 +154,20 @@ choice_refused history q marks choosing.NoFull e = rw e refl
 choice_refused history q marks choosing.UnknownClient e = rw e refl
 choice_refused history q marks choosing.UnknownFileSet e = rw e refl
 
--- nothing is marked
-pub nothing_marked : (history : List JobRows) (q : Request) (marks : List (List ℕ)) (jobs : List JobRows) → choose history q ≡ Ok jobs → is_empty (selection (view_of jobs) marks) ≡ true
-    → plan_of history q marks ≡ Err 51
+-- the plan of what is selected by the flags of marks on the view of the chosen jobs
+pub planned : (history : List JobRows) (q : Request) (marks : List (List ℕ)) (jobs : List JobRows) (pairs : List Pair) (flags : List Bool) → is_history history ≡ true → choose history q ≡ Ok jobs
+    → map shown_pair pairs ≡ view_of jobs → flags ≡ flags_in marks (map shown_pair pairs) → plan_of history q marks ≡ plan_unless_empty (map shown_pair (selected_by pairs flags)) jobs
 unfolding plan_of
-nothing_marked history q marks jobs chosen none = rw (chosen, none) refl
+planned history q marks jobs pairs flags is chosen viewed flagged =
+    of_jobs ∙ ap (λ (s : List Entry). plan_unless_empty s jobs) (sym (selected_is jobs marks pairs flags (chosen_is_history history jobs q is chosen) viewed flagged))
+  where
+    of_jobs : plan_of history q marks ≡ plan_unless_empty (selection (view_of jobs) marks) jobs
+    of_jobs = rw chosen refl
 
--- the plan
-pub planned : (history : List JobRows) (q : Request) (marks : List (List ℕ)) (jobs : List JobRows) → choose history q ≡ Ok jobs → is_empty (selection (view_of jobs) marks) ≡ false
-    → plan_of history q marks ≡ Ok (plan_with (selection (view_of jobs) marks) jobs)
-unfolding plan_of
-planned history q marks jobs chosen some = rw (chosen, some) refl
-
--- a list of images is empty where that of the elements is
-pub shown_empty : {X Y : Type 0} (f : X → Y) (xs : List X) (ys : List Y) → map f xs ≡ ys → is_empty xs ≡ is_empty ys
-shown_empty f [] ys e = ap is_empty e
-shown_empty f (x ∷ xs) ys e = cons_not_empty x xs ∙ sym (cons_not_empty (f x) (map f xs)) ∙ ap is_empty e
+-- what is planned means the selection
+pub plan_means : PlanMeansSelection → (history : List JobRows) (q : Request) (marks : List (List ℕ)) → is_history history ≡ true
+    → (r : Result Plan PlanFault) → Answers (λ plan. plan) cause r (plan_of history q marks) → IfOk r (MeansSelection history q marks)
+plan_means law history q marks valid (Err why) e = tt
+plan_means law history q marks valid (Ok plan) e = λ jobs chosen volumes later same are is_chosen stand extends.
+    law jobs q marks chosen plan volumes later (ap is_history same ∙ valid) are (ap (λ (h : List JobRows). choose h q) same ∙ is_chosen)
+    (ap (λ (h : List JobRows). plan_of h q marks) same ∙ e) stand extends

@@ -1,9 +1,9 @@
 -- The entries that one test selects are the model's selection.
-use Rattle.std.proofs.Common.{◌≡◌, ℕ, Bool, true, false, ◌&&◌, ◌||◌, cond, eqb, List, [], ◌∷◌, ◌++◌, map, filter, Option, Some, None, ℤ, pos, negsuc, refl, sym, ap, subst, ◌∙◌, inl, inr}
+use Rattle.std.proofs.Common.{◌≡◌, ℕ, Bool, true, false, ◌&&◌, ◌||◌, cond, eqb, List, [], ◌∷◌, ◌++◌, length, map, filter, Option, Some, None, ℤ, pos, negsuc, refl, sym, ap, subst, ◌∙◌, append_assoc, inl, inr}
 use Rattle.std.proofs.lemmas.Bool.{and_parts, and_from, or_cases, or_left, both_ways, eqb-true}
+use Rattle.std.proofs.lemmas.List.{nil_from_length}
 use Rattle.std.proofs.lemmas.Slice.Eq.{bytes_eq-Decides}
 use Rattle.std.specs.Prelude.{Contains, bytes_eq, find, flat_map, option_to_list, nat_lt}
-use Rattle.std.specs.Borrow.{Bor}
 use Rattle.std.specs.BTreeSet.{BTreeSet}
 use Rattle.std.specs.List.{AllByRecursion, list_any}
 use Rattle.std.specs.declared.cmp.Ordering.TheVariants.{Less}
@@ -19,7 +19,8 @@ use Rattle.br_model.proofs.OrderLaws.{rank_cmp, not_below_itself, in_order_from,
 use Rattle.br_model.proofs.PairLaws.{one_if_unrelated}
 use Rattle.br_model.proofs.ViewLaws.{view_rises}
 use Rattle.std.proofs.lemmas.List.Elements.{Contains-append_left, Contains-append_right, Contains-append_cases}
-use Rattle.br_plan.specs.Selected.{FileOf, file_of, has_path, ArePaths, has_file, AreLinked, links_to, passes, is_selected, selected_of}
+use Rattle.br_view.specs.Shown.{shown_pair}
+use Rattle.br_plan.specs.Selected.{FileOf, file_of, has_file, links_to, AddsIf, Pair, flags_in, is_linked_by, kept_of, selected_by, is_selected, selected_of}
 
 -- ---- lists
 
@@ -69,20 +70,68 @@ is_among-true paths p e = let r = from_some (bytes_eq p) paths e in subst (Conta
 pub among_is : (paths : List (List ℕ)) (p : List ℕ) → Contains paths p → is_among paths p ≡ true
 among_is paths p inside = some_passes (bytes_eq p) paths p inside ((bytes_eq-Decides p p).1 refl)
 
--- ---- what the code tests
+-- ---- entries and flags, one after another
 
--- entries with a path or a file of the sets
-pub selected_by_sets : (paths : BTreeSet (Bor (List ℕ))) (files : BTreeSet FileOf) (marks : List (List ℕ)) (entries : List Entry) → ArePaths paths marks → AreLinked files (has_path paths) entries
-    → filter (passes (has_path paths) (has_file files)) entries ≡ selected_of marks entries
-selected_by_sets paths files marks entries marked linked =
-    ap (λ (p : Entry → Bool). filter p entries) (λ i e. test e i)
+or_none : (b : Bool) → (b || false) ≡ b
+or_none true = refl
+or_none false = refl
+
+or_grouped : (a b c : Bool) → ((a || b) || c) ≡ (a || (b || c))
+or_grouped true b c = refl
+or_grouped false b c = refl
+
+-- a link more, of those that are left
+pub link_more : (before after : BTreeSet FileOf) (rest : List Pair) (left : List Bool) (p : Pair) (more : List Pair) (flag : Bool) (others : List Bool) (total : FileOf → Bool)
+    → ((q : FileOf) → (has_file before q || is_linked_by rest left q) ≡ total q) → rest ≡ p ∷ more → left ≡ flag ∷ others → AddsIf before flag p.1 after
+    → (q : FileOf) → (has_file after q || is_linked_by more others q) ≡ total q
+link_more before after rest left p more flag others total h is_rest is_left adds q =
+    ap (λ b. b || is_linked_by more others q) (adds q) ∙ or_grouped (has_file before q) (flag && links_to q (shown_pair p)) (is_linked_by more others q)
+    ∙ ap (λ r. has_file before q || is_linked_by r (flag ∷ others) q) (sym is_rest) ∙ ap (λ fs. has_file before q || is_linked_by rest fs q) (sym is_left) ∙ h q
+
+-- no entry is left
+pub links_all : (set : BTreeSet FileOf) (rest : List Pair) (left : List Bool) (total : FileOf → Bool)
+    → ((q : FileOf) → (has_file set q || is_linked_by rest left q) ≡ total q) → length rest ≡ 0 → (q : FileOf) → has_file set q ≡ total q
+links_all set rest left total h none q =
+    sym (or_none (has_file set q)) ∙ ap (λ r. has_file set q || is_linked_by r left q) (sym (nil_from_length rest none)) ∙ h q
+
+-- an entry more that may be kept, of those that are left
+pub kept_more : (linked : FileOf → Bool) (items new : List Pair) (rest : List Pair) (left : List Bool) (p : Pair) (more : List Pair) (flag wanted : Bool) (others : List Bool) (total : List Pair)
+    → items ++ kept_of linked rest left ≡ total → rest ≡ p ∷ more → left ≡ flag ∷ others → wanted ≡ (flag || linked (file_of (shown_pair p))) → new ≡ items ++ cond wanted (p ∷ []) []
+    → new ++ kept_of linked more others ≡ total
+kept_more linked items new rest left p more flag wanted others total h is_rest is_left is_wanted is_new =
+    ap (λ is. is ++ kept_of linked more others) (is_new ∙ ap (λ b. items ++ cond b (p ∷ []) []) is_wanted)
+    ∙ append_assoc items (cond (flag || linked (file_of (shown_pair p))) (p ∷ []) []) (kept_of linked more others)
+    ∙ ap (λ r. items ++ kept_of linked r (flag ∷ others)) (sym is_rest) ∙ ap (λ fs. items ++ kept_of linked rest fs) (sym is_left) ∙ h
+
+-- ---- flags of marks
+
+-- a flagged entry is a hard link to the file where a marked one is
+linked_by_marks : (marks : List (List ℕ)) (pairs : List Pair) (q : FileOf)
+    → is_linked_by pairs (flags_in marks (map shown_pair pairs)) q ≡ list_any (λ (d : Entry). is_among marks d.path && links_to q d) (map shown_pair pairs)
+linked_by_marks marks [] q = refl
+linked_by_marks marks (p ∷ ps) q = ap (λ b. is_among marks p.0.now && links_to q (shown_pair p) || b) (linked_by_marks marks ps q)
+
+kept_by_marks : (marks : List (List ℕ)) (linked : FileOf → Bool) (pairs : List Pair)
+    → map shown_pair (kept_of linked pairs (flags_in marks (map shown_pair pairs))) ≡ filter (λ (e : Entry). is_among marks e.path || linked (file_of e)) (map shown_pair pairs)
+kept_by_marks marks linked [] = refl
+kept_by_marks marks linked (p ∷ ps) = go (is_among marks p.0.now || linked (file_of (shown_pair p))) (kept_by_marks marks linked ps)
   where
-    each : (e d : Entry) → (has_path paths d.path && links_to (file_of e) d) ≡ (is_among marks d.path && links_to (file_of e) d)
-    each e d = ap (λ b. b && links_to (file_of e) d) (marked d.path)
+    left : List Pair
+    left = kept_of linked ps (flags_in marks (map shown_pair ps))
 
-    test : (e : Entry) → passes (has_path paths) (has_file files) e ≡ is_selected marks entries e
-    test e = ap (λ b. b || has_file files (file_of e)) (marked e.path)
-        ∙ ap (λ b. is_among marks e.path || b) (linked (file_of e) ∙ ap (λ (p : Entry → Bool). list_any p entries) (λ i d. each e d i))
+    passing : List Entry
+    passing = filter (λ (e : Entry). is_among marks e.path || linked (file_of e)) (map shown_pair ps)
+
+    go : (b : Bool) → map shown_pair left ≡ passing → map shown_pair (cond b (p ∷ []) [] ++ left) ≡ cond b (shown_pair p ∷ passing) passing
+    go true h = ap (λ (es : List Entry). shown_pair p ∷ es) h
+    go false h = h
+
+-- entries that are selected by the flags of marks
+selected_by_marks : (marks : List (List ℕ)) (pairs : List Pair) (flags : List Bool) → flags ≡ flags_in marks (map shown_pair pairs) → map shown_pair (selected_by pairs flags) ≡ selected_of marks (map shown_pair pairs)
+selected_by_marks marks pairs flags is =
+    ap (λ (fs : List Bool). map shown_pair (selected_by pairs fs)) is
+    ∙ kept_by_marks marks (is_linked_by pairs (flags_in marks (map shown_pair pairs))) pairs
+    ∙ ap (λ (linked : FileOf → Bool). filter (λ (e : Entry). is_among marks e.path || linked (file_of e)) (map shown_pair pairs)) (λ i q. linked_by_marks marks pairs q i)
 
 -- ---- entries of a view
 
@@ -185,3 +234,8 @@ selection_is jobs marks history =
               or_behind (is_marked e) (list_any (λ (g : Entry). is_marked g && links_to (file_of e) g) view)
               (some_passes (λ (g : Entry). is_marked g && links_to (file_of e) g) view d.0 kept.0 (and_from (is_marked d.0) (links_to (file_of e) d.0) kept.1 links))
         ]
+
+-- what is selected by the flags of marks on the view of a history is the selection
+pub selected_is : (jobs : List JobRows) (marks : List (List ℕ)) (pairs : List Pair) (flags : List Bool) → is_history jobs ≡ true → map shown_pair pairs ≡ view_of jobs → flags ≡ flags_in marks (map shown_pair pairs)
+    → map shown_pair (selected_by pairs flags) ≡ selection (view_of jobs) marks
+selected_is jobs marks pairs flags history viewed flagged = selected_by_marks marks pairs flags flagged ∙ ap (selected_of marks) viewed ∙ selection_is jobs marks history

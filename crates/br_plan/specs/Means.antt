@@ -1,7 +1,8 @@
 -- What a plan of a history promises.
-use Rattle.std.specs.Prelude.{◌≡◌, ℕ, List, Some, Ok, Contains}
+use Rattle.std.specs.Prelude.{◌≡◌, ℕ, if◌then◌else◌, List, Some, Result, Ok, Err, Contains}
 use Rattle.std.specs.List.{AllByRecursion, AllZip}
 use Rattle.std.specs.List.Sorted.{IsPermutation}
+use Rattle.br_model.specs.Text.{is_empty}
 use Rattle.br_model.specs.Volume.{Volume, Extends}
 use Rattle.br_model.specs.Meaning.{Hits, meaning}
 use Rattle.br_model.specs.Restored.{files}
@@ -15,6 +16,14 @@ use Rattle.br_model.specs.Stored.{Holds}
 -- the plan of selected entries of the chosen jobs
 abbrev pub plan_with : List Entry → List JobRows → Plan
 plan_with selected jobs = record { groups = plan_groups selected jobs; names = plan_names selected }
+
+-- the plan of selected entries, or 51 if there is none
+abbrev pub plan_unless_empty : List Entry → List JobRows → Result Plan ℕ
+plan_unless_empty selected jobs = if is_empty selected then Err 51 else Ok (plan_with selected jobs)
+
+-- where the request chooses jobs of the history, the entries are their view
+abbrev pub IsViewOfChosen : List JobRows → Request → List Entry → Type 0
+IsViewOfChosen history q view = (jobs : List JobRows) → choose history q ≡ Ok jobs → view ≡ view_of jobs
 
 -- Of all jobs with what they saved whose rows are this history's: where those that are chosen stand on volumes, the plan has a
 -- meaning over all volumes that extend these, and its files are, in order of key, the selected entries' copies: one for each

@@ -1,5 +1,5 @@
 -- Entries that are selected, by one test of each, and the keys of their files in the jobs.
-use Rattle.std.specs.Prelude.{◌≡◌, ℕ, Bool, false, ◌&&◌, ◌||◌, ◌==◌, nat_lt, List, filter, ℤ, pos, negsuc}
+use Rattle.std.specs.Prelude.{◌≡◌, ℕ, Bool, false, ◌&&◌, ◌||◌, ◌==◌, nat_lt, if◌then◌else◌, List, [], ◌∷◌, ◌++◌, map, filter, ℤ, pos, negsuc}
 use Rattle.std.specs.Borrow.{Bor}
 use Rattle.std.specs.List.{list_any}
 use Rattle.std.specs.Cmp.Lexicographic.{slice_cmp}
@@ -10,6 +10,7 @@ use Rattle.br_model.specs.Order.{is_among}
 use Rattle.br_model.specs.Name.{FileKey}
 use Rattle.br_model.specs.View.{Entry}
 use Rattle.br_view.specs.declared.entry.Entry as shown
+use Rattle.br_view.specs.Shown.{shown_pair}
 
 -- whether a set of paths, which borrows them, has the path
 abbrev pub has_path : BTreeSet (Bor (List ℕ)) → List ℕ → Bool
@@ -44,17 +45,45 @@ links_to file e = links_by e.job e.link_index file
 abbrev pub has_file : BTreeSet FileOf → FileOf → Bool
 has_file set file = contains file_cmp set file
 
--- the set has the files to which those of the entries are hard links whose paths pass the test
-abbrev pub AreLinked : BTreeSet FileOf → (List ℕ → Bool) → List Entry → Type 0
-AreLinked set marked entries = (q : FileOf) → has_file set q ≡ list_any (λ (e : Entry). marked e.path && links_to q e) entries
-
 -- the second set has a file more, if this is the index of a link
 abbrev pub AddsLink : BTreeSet FileOf → ℕ → ℤ → BTreeSet FileOf → Type 0
 AddsLink old job link new = (q : FileOf) → has_file new q ≡ (has_file old q || links_by job link q)
 
--- whether the entry has a path or a file that passes the test
-abbrev pub passes : (List ℕ → Bool) → (FileOf → Bool) → Entry → Bool
-passes marked linked e = marked e.path || linked (file_of e)
+-- the same, if the entry is flagged
+abbrev pub AddsIf : BTreeSet FileOf → Bool → shown.Entry → BTreeSet FileOf → Type 0
+AddsIf old flag e new = (q : FileOf) → has_file new q ≡ (has_file old q || flag && links_by e.job e.link_index q)
+
+-- ---- flags beside entries
+
+-- a path beside its entry
+abbrev pub Pair : Type 0
+Pair = Bor (List ℕ) × shown.Entry
+
+-- for each entry whether its path is marked
+abbrev pub flags_in : List (List ℕ) → List Entry → List Bool
+flags_in marks entries = map (λ (e : Entry). is_among marks e.path) entries
+
+-- whether a flagged one of the entries is a hard link to the file
+abbrev pub is_linked_by : List Pair → List Bool → FileOf → Bool
+is_linked_by [] flags q = false
+is_linked_by (p ∷ ps) [] q = false
+is_linked_by (p ∷ ps) (flag ∷ flags) q = flag && links_to q (shown_pair p) || is_linked_by ps flags q
+
+-- the set has the files to which the flagged entries are hard links
+abbrev pub AreLinked : BTreeSet FileOf → List Pair → List Bool → Type 0
+AreLinked set pairs flags = (q : FileOf) → has_file set q ≡ is_linked_by pairs flags q
+
+-- the entries that are flagged or whose file passes the test
+abbrev pub kept_of : (FileOf → Bool) → List Pair → List Bool → List Pair
+kept_of linked [] flags = []
+kept_of linked (p ∷ ps) [] = []
+kept_of linked (p ∷ ps) (flag ∷ flags) = (if flag || linked (file_of (shown_pair p)) then p ∷ [] else []) ++ kept_of linked ps flags
+
+-- the entries that are flagged, and those of the files to which flagged ones are hard links
+abbrev pub selected_by : List Pair → List Bool → List Pair
+selected_by pairs flags = kept_of (is_linked_by pairs flags) pairs flags
+
+-- ---- marks
 
 -- whether the entry is marked, or a marked one is a hard link to its file
 abbrev pub is_selected : List (List ℕ) → List Entry → Entry → Bool
@@ -68,6 +97,6 @@ selected_of marks entries = filter (is_selected marks entries) entries
 abbrev pub key_of : shown.Entry → FileKey
 key_of e = record { session = e.session; index = e.index }
 
--- key and path of the file of an entry, which stands beside its path
-abbrev pub named_pair : Bor (List ℕ) × shown.Entry → FileKey × List ℕ
+-- key and path of the file of an entry, which is beside its path
+abbrev pub named_pair : Pair → FileKey × List ℕ
 named_pair p = (key_of p.1, p.0.now)

@@ -1,9 +1,10 @@
-ghost use Rattle.std.specs.Prelude.{◌≡◌, map, IfOk};
+ghost use Rattle.std.specs.Prelude.{◌≡◌, length, map, IfOk};
 ghost use Rattle.br_model.specs.Answer.{Answers};
 ghost use Rattle.br_model.specs.Plan as model;
 ghost use Rattle.br_model.specs.Restored.{planned_in};
 ghost use Rattle.br_plan.specs.Fault.{cause};
-ghost use Rattle.br_plan.specs.Means.{MeansSelection, plan_with};
+ghost use Rattle.br_plan.specs.Means.{MeansSelection, IsViewOfChosen, plan_with, plan_unless_empty};
+ghost use Rattle.br_plan.specs.Selected.{selected_by};
 ghost use Rattle.br_view.specs.Shown.{shown_pair};
 
 use crate::fault::PlanFault;
@@ -11,11 +12,12 @@ use crate::group::groups_of;
 use crate::naming::names_of;
 use crate::part::files_of;
 use crate::request::Request;
-use crate::select::{Shown, selected};
+use crate::select::{Shown, flags_of, selected};
 use br_bsr::Bootstrap;
 use br_choose::choose;
 use br_history::{History, JobRows};
 use br_model::plan_means_selection;
+use br_tree::Tree;
 use br_types::{Names, Path};
 use br_view::View;
 use std::alloc::{AllocError, Global};
@@ -57,8 +59,30 @@ fn plan_for(alloc: Global, entries: &[Shown<'_>], jobs: &[&JobRows]) -> Result<P
     })
 }
 
+/// Makes the plan for the flagged entries of the view of some jobs, and for the entries of the files to which these are hard
+/// links.
+fn plan_from(
+    alloc: Global,
+    entries: &[Shown<'_>],
+    flags: &[bool],
+    jobs: &[&JobRows],
+) -> Result<Plan, PlanFault>
+    requires { length flags.now ≡ length entries.now }
+    ensures { Answers (λ plan. plan) cause result (plan_unless_empty (map shown_pair (selected_by entries.now flags.now)) (map (λ j. j.now) jobs.now)) }
+{
+    let selected = selected(alloc, entries, flags)?;
+    if selected.is_empty() {
+        return Err(PlanFault::NothingMarked);
+    }
+    Ok(plan_for(alloc, &selected, jobs)?)
+}
+
 impl Plan {
-    /// The plan for the marked paths.
+    /// Makes the plan for the marked paths. It builds the view of the chosen jobs; `for_marked` takes a view that is there.
+    ///
+    /// # Errors
+    ///
+    /// `UnknownClient`, `UnknownFileSet` or `NoFull` as `choose` has them, then `NothingMarked` if no marked path is in the view.
     pub fn make(
         alloc: Global,
         history: &History,
@@ -79,11 +103,37 @@ impl Plan {
             request.moment,
         )?;
         let view = View::build(alloc, &jobs)?;
-        let entries = selected(alloc, view.entries(), marks)?;
-        if entries.is_empty() {
-            return Err(PlanFault::NothingMarked);
-        }
-        Ok(plan_for(alloc, &entries, &jobs)?)
+        let flags = flags_of(alloc, view.entries(), marks)?;
+        plan_from(alloc, view.entries(), &flags, &jobs)
+    }
+
+    /// Makes the plan for the marked paths of a tree, as `make` does for its marks, and builds no view: the tree shows that of the
+    /// jobs which the request chooses.
+    ///
+    /// # Errors
+    ///
+    /// As those of `make`.
+    pub fn for_marked(
+        alloc: Global,
+        history: &History,
+        request: &Request,
+        tree: &Tree<'_>,
+    ) -> Result<Plan, PlanFault>
+        requires { IsViewOfChosen history.now request.now tree.now.view }
+        ensures answers { Answers (λ plan. plan) cause result (model.plan_of history.now request.now tree.now.marked) }
+        ensures means { IfOk result (MeansSelection history.now request.now tree.now.marked) }
+    {
+        plan_means_selection();
+        // The jobs are a history by their type.
+        let _ = history.jobs();
+        let jobs = choose(
+            alloc,
+            history,
+            &request.client,
+            &request.fileset,
+            request.moment,
+        )?;
+        plan_from(alloc, tree.entries(), tree.flags(), &jobs)
     }
 
     /// What of which volumes is read.

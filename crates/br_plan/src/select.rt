@@ -1,6 +1,6 @@
-ghost use Rattle.std.specs.Prelude.{◌≡◌, ◌||◌, map, filter, IfOk, OnOk};
+ghost use Rattle.std.specs.Prelude.{◌≡◌, ◌<◌, ◌+◌, ◌++◌, ◌∷◌, [], ◌||◌, if◌then◌else◌, length, drop, map, IfOk, OnOk};
 ghost use Rattle.br_view.specs.Shown.{shown_pair};
-ghost use Rattle.br_plan.specs.Selected.{has_path, ArePaths, has_file, AddsLink, AreLinked, passes, selected_of};
+ghost use Rattle.br_plan.specs.Selected.{has_path, ArePaths, has_file, AddsLink, AddsIf, AreLinked, kept_of, selected_by, flags_in};
 
 use br_types::{JobId, Path};
 use br_view::Entry;
@@ -10,7 +10,10 @@ use std::collections::BTreeSet;
 /// A path with its newest copy.
 pub(crate) type Shown<'h> = (&'h Path, Entry);
 
-/// The marked paths.
+/// A file of a job, by its FileIndex as a hard link has it.
+type Linked = (JobId, u64);
+
+/// Collects the marked paths.
 fn paths_of<'m>(alloc: Global, marks: &'m [Path]) -> Result<BTreeSet<&'m [u8]>, AllocError>
     ensures { IfOk result (λ paths. ArePaths paths marks.now) }
 {
@@ -27,12 +30,51 @@ fn is_marked(paths: &BTreeSet<&[u8]>, path: &Path) -> bool
     paths.contains(path.bytes())
 }
 
+/// Returns for each entry whether the set has its path.
+fn flags_by(
+    alloc: Global,
+    entries: &[Shown<'_>],
+    paths: &BTreeSet<&[u8]>,
+) -> Result<Vec<bool>, AllocError>
+    ensures { IfOk result (λ flags. flags.items ≡ map (λ p. has_path paths.now p.0.now) entries.now) }
+{
+    entries
+        .iter()
+        .map(|shown| is_marked(paths, shown.0))
+        .collect(alloc)
+}
+
+/// Returns for each entry whether its path is marked.
+pub(crate) fn flags_of(
+    alloc: Global,
+    entries: &[Shown<'_>],
+    marks: &[Path],
+) -> Result<Vec<bool>, AllocError>
+    ensures { IfOk result (λ flags. flags.items ≡ flags_in marks.now (map shown_pair entries.now)) }
+{
+    let paths = paths_of(alloc, marks)?;
+    flags_by(alloc, entries, &paths)
+}
+
+/// Returns the entry at a place, with its path.
+fn shown_at<'h>(entries: &[Shown<'h>], place: usize) -> Shown<'h>
+    requires { place < length entries.now }
+    ensures { drop place entries.now ≡ result ∷ drop (place + 1) entries.now }
+{
+    let shown = &entries[place];
+    (shown.0, shown.1)
+}
+
+/// Returns the flag at a place.
+fn flag_at(flags: &[bool], place: usize) -> bool
+    requires { place < length flags.now }
+    ensures { drop place flags.now ≡ result ∷ drop (place + 1) flags.now }
+{
+    flags[place]
+}
+
 /// Notes the file of a job with the index of a link, if this is above 0.
-fn note_link(
-    files: &mut BTreeSet<(JobId, u64)>,
-    job: JobId,
-    link_index: i64,
-) -> Result<(), AllocError>
+fn note_link(files: &mut BTreeSet<Linked>, job: JobId, link_index: i64) -> Result<(), AllocError>
     ensures { OnOk result (AddsLink files.old job link_index files.new) }
 {
     if link_index > 0 {
@@ -41,64 +83,85 @@ fn note_link(
     Ok(())
 }
 
-/// The files to which the marked entries are hard links.
+/// Notes the file to which an entry is a hard link, if the entry is flagged.
+fn note_if(files: &mut BTreeSet<Linked>, entry: Entry, flag: bool) -> Result<(), AllocError>
+    ensures { OnOk result (AddsIf files.old flag entry files.new) }
+{
+    if flag {
+        note_link(files, entry.job, entry.link_index)?;
+    }
+    Ok(())
+}
+
+/// Returns the files to which the flagged entries are hard links.
 fn linked_files(
     alloc: Global,
     entries: &[Shown<'_>],
-    paths: &BTreeSet<&[u8]>,
-) -> Result<BTreeSet<(JobId, u64)>, AllocError>
-    ensures { IfOk result (λ files. AreLinked files (has_path paths.now) (map shown_pair entries.now)) }
+    flags: &[bool],
+) -> Result<BTreeSet<Linked>, AllocError>
+    requires { length flags.now ≡ length entries.now }
+    ensures { IfOk result (λ files. AreLinked files entries.now flags.now) }
 {
     let mut files = BTreeSet::new(alloc);
-    for (path, entry) in entries {
-        if is_marked(paths, path) {
-            note_link(&mut files, entry.job, entry.link_index)?;
-        }
+    for place in 0..entries.len() {
+        let shown = shown_at(entries, place);
+        note_if(&mut files, shown.1, flag_at(flags, place))?;
     }
     Ok(files)
 }
 
-/// Whether an entry is marked, or a marked one is a hard link to its file.
-fn is_wanted(
-    paths: &BTreeSet<&[u8]>,
-    files: &BTreeSet<(JobId, u64)>,
-    path: &Path,
-    entry: &Entry,
-) -> bool
-    ensures { result ≡ (has_path paths.now path.now || has_file files.now (entry.now.job, entry.now.index)) }
+/// Returns whether an entry is flagged, or its file is in the set.
+fn is_wanted(files: &BTreeSet<Linked>, entry: Entry, flag: bool) -> bool
+    ensures { result ≡ (flag || has_file files.now (entry.job, entry.index)) }
 {
-    is_marked(paths, path) || files.contains(&(entry.job, u64::from(entry.index.get())))
+    flag || files.contains(&(entry.job, u64::from(entry.index.get())))
 }
 
-/// The entries with such a path or such a file.
+/// Keeps an entry if it is wanted.
+fn keep_if<'h>(
+    kept: &mut Vec<Shown<'h>>,
+    path: &'h Path,
+    entry: Entry,
+    is_wanted: bool,
+) -> Result<(), AllocError>
+    ensures { OnOk result (kept.new.items ≡ kept.old.items ++ (if is_wanted then (path.entry, entry) ∷ [] else [])) }
+{
+    if is_wanted {
+        if kept.push((path, entry)).is_err() {
+            return Err(AllocError);
+        }
+    }
+    Ok(())
+}
+
+/// Returns the entries that are flagged or whose file is in the set.
 fn kept<'h>(
     alloc: Global,
     entries: &[Shown<'h>],
-    paths: &BTreeSet<&[u8]>,
-    files: &BTreeSet<(JobId, u64)>,
+    flags: &[bool],
+    files: &BTreeSet<Linked>,
 ) -> Result<Vec<Shown<'h>>, AllocError>
-    ensures { IfOk result (λ kept. map shown_pair kept.items ≡ filter (passes (has_path paths.now) (has_file files.now)) (map shown_pair entries.now)) }
+    requires { length flags.now ≡ length entries.now }
+    ensures { IfOk result (λ kept. kept.items ≡ kept_of (has_file files.now) entries.now flags.now) }
 {
     let mut kept = Vec::new(alloc);
-    for (path, entry) in entries {
-        if is_wanted(paths, files, path, entry) {
-            if kept.push((*path, *entry)).is_err() {
-                return Err(AllocError);
-            }
-        }
+    for place in 0..entries.len() {
+        let shown = shown_at(entries, place);
+        let wanted = is_wanted(files, shown.1, flag_at(flags, place));
+        keep_if(&mut kept, shown.0, shown.1, wanted)?;
     }
     Ok(kept)
 }
 
-/// The entries that are marked, and those of the files to which marked ones are hard links.
+/// Returns the entries that are flagged, and those of the files to which flagged ones are hard links.
 pub(crate) fn selected<'h>(
     alloc: Global,
     entries: &[Shown<'h>],
-    marks: &[Path],
+    flags: &[bool],
 ) -> Result<Vec<Shown<'h>>, AllocError>
-    ensures { IfOk result (λ selected. map shown_pair selected.items ≡ selected_of marks.now (map shown_pair entries.now)) }
+    requires { length flags.now ≡ length entries.now }
+    ensures { IfOk result (λ selected. selected.items ≡ selected_by entries.now flags.now) }
 {
-    let paths = paths_of(alloc, marks)?;
-    let files = linked_files(alloc, entries, &paths)?;
-    kept(alloc, entries, &paths, &files)
+    let files = linked_files(alloc, entries, flags)?;
+    kept(alloc, entries, flags, &files)
 }

@@ -1,8 +1,11 @@
 use super::*;
 use br_bsr::write_bootstrap;
+use br_choose::choose;
 use br_history::{FileRow, History, JobRow, JobRows};
 use br_session::Span;
+use br_tree::Tree;
 use br_types::{JobId, Letter, Name, Path, SessionKey, VolName};
+use br_view::View;
 use std::alloc::Global;
 use std::test::Fail;
 
@@ -135,6 +138,15 @@ fn plan(alloc: Global, history: &History, paths: &[&[u8]]) -> Result<Plan, Fail>
     Ok(Plan::make(alloc, history, &request, &marks_of(alloc, paths)?)?)
 }
 
+/// The plan for what is marked by hand in a tree of the view at moment 250: all names in the root that match a pattern.
+fn plan_of_tree(alloc: Global, history: &History, pattern: &[u8]) -> Result<Plan, Fail> {
+    let request = request(alloc, b"mars", b"home", 250)?;
+    let jobs = choose(alloc, history, &request.client, &request.fileset, 250)?;
+    let mut tree = Tree::build(alloc, View::build(alloc, &jobs)?)?;
+    tree.mark(b"/", pattern);
+    Ok(Plan::for_marked(alloc, history, &request, &tree)?)
+}
+
 /// The text of the plan's bootstrap.
 fn text_of(alloc: Global, plan: &Plan) -> Result<Vec<u8>, Fail> {
     Ok(write_bootstrap(alloc, plan.bootstrap())?)
@@ -203,6 +215,19 @@ fn the_file_of_a_hard_link_is_restored_too(rt: HostRuntime) -> Result<(), Fail> 
     let alloc = rt.alloc();
     let history = history_of(alloc, &[(b"/x", 1, SAVED), (b"/y", 2, LINK_1)])?;
     let plan = plan(alloc, &history, &[b"/y"])?;
+    assert_eq!(rt; text_of(alloc, &plan)?.as_slice(), FILES_1_TO_2);
+    assert_eq!(rt;
+        names_of(alloc, &plan)?.as_slice(),
+        b"11/x 12/y ".as_slice()
+    );
+    Ok(())
+}
+
+#[test]
+fn a_tree_is_planned_as_its_marks_are(rt: HostRuntime) -> Result<(), Fail> {
+    let alloc = rt.alloc();
+    let history = history_of(alloc, &[(b"/x", 1, SAVED), (b"/y", 2, LINK_1)])?;
+    let plan = plan_of_tree(alloc, &history, b"y")?;
     assert_eq!(rt; text_of(alloc, &plan)?.as_slice(), FILES_1_TO_2);
     assert_eq!(rt;
         names_of(alloc, &plan)?.as_slice(),

@@ -8,12 +8,13 @@ use Rattle.std.specs.Prelude.{position, nat_lt, IfOk}
 use Rattle.std.specs.List.{AllByRecursion, list_any, prefix_len}
 use Rattle.br_model.specs.Order.{is_among}
 use Rattle.br_model.specs.Name.{is_slash}
-use Rattle.br_model.specs.View.{Entry, view_paths}
+use Rattle.br_model.specs.View.{Entry, view_paths, IsView}
 use Rattle.br_model.specs.Console.{matches, last_component}
 use Rattle.br_view.specs.Shown.{shown_pair}
 use Rattle.br_tree.specs.Seen.{flagged}
 use Rattle.br_tree.specs.Walk.{Pair, seen_paths, IsRising}
 use Rattle.br_tree.specs.Lists.{kept, found_in, last_part}
+use Rattle.br_tree.proofs.FlagLaws.{view_rises}
 use Rattle.br_tree.proofs.SetLaws.{Agrees, flags_agree}
 use Rattle.br_tree.proofs.RunLaws.{to_pairs}
 
@@ -174,3 +175,14 @@ module _ (view : List Entry) (xs : List Pair) (fs : List Bool) (same : map shown
   found_are_paths pattern =
       found_are pattern (is_among (flagged (view_paths view) fs)) xs fs as_long agrees
       ∙ ap (λ ps. map (λ path. (path, is_among (flagged (view_paths view) fs) path)) (filter (λ path. matches pattern (last_component path)) ps)) paths
+
+-- flags are what a test says that agrees with them
+agreed : (q : List ℕ → Bool) (view : List Entry) (fs : List Bool) → length fs ≡ length view → Agrees q (view_paths view) fs → fs ≡ map (λ (e : Entry). q e.path) view
+agreed q [] [] long h = refl
+agreed q [] (f ∷ fs) long h = absurd (omega (arith, long))
+agreed q (e ∷ es) [] long h = absurd (omega (arith, long))
+agreed q (e ∷ es) (f ∷ fs) long h = ap (λ b. b ∷ fs) (sym h.0) ∙ ap (λ bs. q e.path ∷ bs) (agreed q es fs (omega (arith, long)) h.1)
+
+-- the flags of a view say which of its paths are flagged
+pub flags_are : (view : List Entry) (fs : List Bool) → IsView view → length fs ≡ length view → fs ≡ map (λ (e : Entry). is_among (flagged (view_paths view) fs) e.path) view
+flags_are view fs is long = agreed (is_among (flagged (view_paths view) fs)) view fs long (flags_agree (view_paths view) fs (view_rises view is))

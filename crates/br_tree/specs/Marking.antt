@@ -57,3 +57,7 @@ found_paths m pattern = map (λ path. (path, is_among m.marked path)) (filter (�
 -- the entries of the marked paths
 abbrev pub marked_entries : Marking → List Entry
 marked_entries m = filter (λ (e : Entry). is_among m.marked e.path) m.view
+
+-- for each entry in its order whether its path is marked
+abbrev pub flags_of : Marking → List Bool
+flags_of m = map (λ (e : Entry). is_among m.marked e.path) m.view

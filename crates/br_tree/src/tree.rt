@@ -153,6 +153,13 @@ impl<'h> Tree<'h> {
         self.shown.entries()
     }
 
+    /// Returns for each entry, in the same order, whether its path is marked.
+    pub fn flags(&self) -> &[bool]
+        ensures { result.now ≡ marking.flags_of self.now }
+    {
+        self.is_marked.as_slice()
+    }
+
     /// How many paths there are, and how many of them are marked.
     pub fn count(&self) -> (u64, u64)
         ensures paths { result.0 ≡ length self.now.view }

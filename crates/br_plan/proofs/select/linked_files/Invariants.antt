@@ -1,8 +1,7 @@
-use Rattle.std.proofs.Common.{take, map}
-use Rattle.br_view.specs.Shown.{shown_pair}
-use Rattle.br_plan.specs.Selected.{AreLinked, has_path}
+use Rattle.std.proofs.Common.{◌≡◌, ◌||◌, drop}
+use Rattle.br_plan.specs.Selected.{FileOf, has_file, is_linked_by}
 use Rattle.br_plan.proofs.select.linked_files.Given as goal
 
--- the links of the entries so far
-abbrev pub invariant-loop-path : goal.invariant-loop-path
-invariant-loop-path l = AreLinked l.files (has_path l.paths) (map shown_pair (take l.path-index l.entries))
+-- the links so far and those of what is left
+abbrev pub invariant-loop-place : goal.invariant-loop-place
+invariant-loop-place l = (q : FileOf) → (has_file l.files q || is_linked_by (drop l.place l.entries) (drop l.place l.flags) q) ≡ is_linked_by l.entries l.flags q

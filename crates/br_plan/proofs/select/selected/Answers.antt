@@ -1,10 +1,9 @@
-use Rattle.std.proofs.Common.{◌∙◌, map}
+use Rattle.std.proofs.Common.{◌∙◌, List, Bool, ap}
 use Rattle.std.proofs.lemmas.Result.{IfOk-weaker}
-use Rattle.br_view.specs.Shown.{shown_pair}
-use Rattle.br_plan.proofs.SelectLaws.{selected_by_sets}
+use Rattle.br_plan.specs.Selected.{FileOf, kept_of}
 use Rattle.br_plan.proofs.select.selected.Goals as goal
 
 pub returns : goal.returns
 returns c =
     IfOk-weaker c.kept.result _ _
-    (λ k e. e ∙ selected_by_sets c.in_ok-paths.paths c.in_ok-files.files c.args.marks.now (map shown_pair c.args.entries.now) c.in_ok-paths.ensures c.in_ok-files.ensures) c.kept.ensures
+    (λ k e. e ∙ ap (λ (linked : FileOf → Bool). kept_of linked c.args.entries.now c.args.flags.now) (λ i q. c.in_ok-files.ensures q i)) c.kept.ensures
