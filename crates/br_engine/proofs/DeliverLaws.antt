@@ -1,85 +1,39 @@
--- Files that are delivered behind their manifest.
-use Rattle.std.proofs.Common.{◌≡◌, ℕ, Bool, List, [], map, filter_map, take, Option, Some, None, Result, Ok, Err, refl, subst, ◌⊎◌, inl, inr, arith}
+-- Files that are delivered after their manifest.
+use Rattle.std.proofs.Common.{◌≡◌, ℕ, Bool, true, false, cond, List, [], map, filter_map, Option, Some, None, Result, Ok, Err, refl, sym, subst}
 use Rattle.std.specs.Prelude.{IfSome}
-use Rattle.std.specs.Io.KnownBytes.{Appends, Keeps}
-use Rattle.std.proofs.KnownBytes.{Appends-kept, Keeps-refl}
+use Rattle.std.specs.Io.KnownBytes.{Appends}
+use Rattle.std.proofs.KnownBytes.{Keeps-refl}
 use Rattle.br_model.specs.Answer.{◌>>=◌, IsRefusal}
-use Rattle.br_model.specs.Name.{FileKey}
-use Rattle.br_model.specs.File.{Item}
 use Rattle.br_model.specs.Bootstrap.{Group}
 use Rattle.br_model.specs.BootstrapText.{read_bootstrap}
-use Rattle.br_model.specs.Restored.{Restored}
+use Rattle.br_model.specs.Restored.{Planned, Restored}
 use Rattle.br_model.specs.Manifest.{Totals, manifest, totals_of}
 use Rattle.br_model.specs.Delivery.{Stop, delivery, item_of, put_behind}
 use Rattle.br_bsr.specs.Fault as bootstrap
 use Rattle.br_bsr.specs.declared.fault.BsrFault.{BsrFault}
-use Rattle.br_bsr.specs.declared.fault.BsrFault.TheVariants as line
-use Rattle.br_match.specs.Fault as piece
-use Rattle.br_match.specs.declared.fault.PieceCause.TheVariants as why
-use Rattle.br_match.specs.declared.fault.PieceFault.{PieceFault}
-use Rattle.br_match.specs.declared.fault.PieceFault.TheVariants as block
 use Rattle.br_join.specs.Outcome.{restored}
-use Rattle.br_join.specs.declared.item.Outcome.{Outcome}
-use Rattle.br_sink.specs.Delivery.{IsStopIn, items_in, stop_cause}
-use Rattle.br_sink.specs.Sink.{HasMore}
-use Rattle.br_engine.specs.Fault.{IsFree, fault_number}
+use Rattle.br_engine.specs.Fault.{IsFree}
 use Rattle.br_engine.specs.Restoring.{Told, Outcomes}
-use Rattle.br_engine.specs.Extracting.{GivesOver, OverText, OverVolumes, Said, WritesNothing, are_files}
-use Rattle.br_engine.specs.Delivering.{Delivers, DeliversOver, DeliversText}
+use Rattle.br_engine.specs.Outputs.{InSink, are_files, end_of_files}
+use Rattle.br_engine.specs.Extracting.{GivesOver, OverText, OverVolumes, Extracts, Said, WritesNothing}
+use Rattle.br_engine.specs.Delivering.{Delivers, EndsWith, IsDelivered}
+use Rattle.br_engine.specs.declared.outputs.RestoreEnd.{RestoreEnd}
+use Rattle.br_engine.specs.declared.outputs.RestoreEnd.TheVariants.{AllFiles, SomeFaults}
 use Rattle.br_engine.specs.declared.fault.ExtractFault.{ExtractFault}
-use Rattle.br_engine.specs.declared.fault.ExtractFault.TheVariants.{Memory, Bootstrap, Piece, Io, Sink}
+use Rattle.br_engine.specs.declared.fault.ExtractFault.TheVariants.{Memory, Bootstrap, Piece, Io}
 use Rattle.br_engine.proofs.ExtractLaws.{over_no_text, over_text}
 
--- ---- numbers of refusals
+-- ---- the end of a restore
 
-no_line : (fault : BsrFault) → bootstrap.fault_number fault ≡ 80 → ⊥
-no_line line.Memory e = omega (arith, e)
-no_line (line.VolumeFirst n) e = omega (arith, e)
-no_line (line.UnknownKeyword n) e = omega (arith, e)
-no_line (line.UnsupportedKeyword n) e = omega (arith, e)
-no_line (line.BadValue n) e = omega (arith, e)
-no_line (line.TooLong n) e = omega (arith, e)
-
-no_piece : (fault : PieceFault) → piece.fault_number fault ≡ 80 → ⊥
-no_piece block.Memory e = omega (arith, e)
-no_piece (block.Block why.BadId vol addr) e = omega (arith, e)
-no_piece (block.Block why.BadBlockSize vol addr) e = omega (arith, e)
-no_piece (block.Block why.Truncated vol addr) e = omega (arith, e)
-no_piece (block.Block why.DriveFault vol addr) e = omega (arith, e)
-no_piece (block.Block why.UnknownVolume vol addr) e = omega (arith, e)
-
-some_is : (m n : ℕ) → Some m ≡ Some n → m ≡ n
-some_is m n e = cc
-
--- a refusal of a restore is none of a sink
-pub no_sink : (before after : Option (List ℕ)) (fault : ExtractFault) → WritesNothing before after fault → fault_number fault ≡ Some 80 → ⊥
-no_sink before after Memory nothing e = omega (arith, some_is 1 80 e)
-no_sink before after (Bootstrap fault) nothing e = no_line fault (some_is (bootstrap.fault_number fault) 80 e)
-no_sink before after (Piece fault) nothing e = no_piece fault (some_is (piece.fault_number fault) 80 e)
-no_sink before after (Io fault) nothing e = absurd cc
-no_sink before after (Sink stop) nothing e = absurd nothing
-
--- and a stop is none of a drive
-pub no_drive : (items : List Item) (stop : Stop) → IsStopIn items stop → fault_number (Sink stop) ≡ Some 13 → ⊥
-no_drive items stop is e = go stop.number is.number (some_is stop.number 13 e)
+-- the end of a delivery that did not stop
+pub ends_whole : (had has : InSink) (rs : List Restored) (end : RestoreEnd) → end ≡ end_of_files rs → IsDelivered had has rs → EndsWith had has rs end
+ends_whole had has rs end is put = subst (λ (e : RestoreEnd). EndsWith had has rs e) (sym is) (go (are_files rs) refl)
   where
-    go : (n : ℕ) → (n ≡ 1) ⊎ (n ≡ 80) ⊎ (n ≡ 81) → n ≡ 13 → ⊥
-    go n (inl one) e = omega (arith, one, e)
-    go n (inr (inl eighty)) e = omega (arith, eighty, e)
-    go n (inr (inr more)) e = omega (arith, more, e)
+    go : (b : Bool) → are_files rs ≡ b → EndsWith had has rs (cond b AllFiles SomeFaults)
+    go true h = (h, put)
+    go false h = (h, put)
 
--- ---- over what a bootstrap gives
-
--- a restore that was refused
-pub delivers_refused : (earlier later : Told) (before after : Option (List ℕ)) (had : Option (List Item)) (groups : List Group) (fault : ExtractFault)
-    → GivesOver earlier later groups (Err fault) → WritesNothing before after fault → DeliversOver earlier later before after had had groups (Err fault)
-delivers_refused earlier later before after had groups Memory given nothing = (given, nothing, refl)
-delivers_refused earlier later before after had groups (Bootstrap fault) given nothing = (given, nothing, refl)
-delivers_refused earlier later before after had groups (Piece fault) given nothing = (given, nothing, refl)
-delivers_refused earlier later before after had groups (Io fault) given nothing = (given, nothing, refl)
-delivers_refused earlier later before after had groups (Sink stop) given nothing = absurd nothing
-
--- a delivery that does not stop answers the totals
+-- a delivery that does not stop returns the totals
 pub delivered_totals : (rs : List Restored) (t : Totals) → delivery rs ≡ Ok t → delivery rs ≡ Ok (totals_of rs)
 unfolding delivery
 delivered_totals rs t e = go (put_behind [] (filter_map item_of rs)) e
@@ -88,71 +42,86 @@ delivered_totals rs t e = go (put_behind [] (filter_map item_of rs)) e
     go (Ok u) h = refl
     go (Err s) h = absurd cc
 
--- behind the manifest of these outcomes, of which a delivery saw the same ones
-module _ (earlier later : Told) (before middle after : Option (List ℕ)) (groups : List Group) (os : Outcomes) (seen : List (FileKey × Outcome)) (given : GivesOver earlier later groups (Ok os)) (written : Appends before middle (manifest (map restored os.items))) (kept : Keeps middle after) (same : seen ≡ os.items) where
-  pub delivers_all : (had has : Option (List Item)) (t : Totals) (whole : Bool) → delivery (map restored seen) ≡ Ok t → HasMore (items_in seen) had has
-      → whole ≡ are_files (map restored os.items) → DeliversOver earlier later before after had has groups (Ok whole)
-  delivers_all had has t whole answers put are = (
-    map restored os.items,
-    (given, Appends-kept before middle after (manifest (map restored os.items)) written kept),
-    (delivered_totals (map restored os.items) t (subst (λ s. delivery (map restored s) ≡ Ok t) same answers), subst (λ s. HasMore (items_in s) had has) same put),
-    are,
-  )
+-- ---- what came of a restore
 
-  pub delivers_before : (had has : Option (List Item)) (stop : Stop) → IsRefusal (stop_cause stop) (delivery (map restored seen)) → IsStopIn (items_in seen) stop
-      → HasMore (take stop.done (items_in seen)) had has → DeliversOver earlier later before after had has groups (Err (Sink stop))
-  delivers_before had has stop answers stopped put = (
-    map restored os.items,
-    (given, Appends-kept before middle after (manifest (map restored os.items)) written kept),
-    (
-      subst (λ s. IsRefusal (stop_cause stop) (delivery (map restored s))) same answers,
-      subst (λ s. IsStopIn (items_in s) stop) same stopped,
-      subst (λ s. HasMore (take stop.done (items_in s)) had has) same put,
-    ),
-  )
+-- the manifest of these outcomes is written, and the restore ended so
+pub delivers_files : (earlier later : Told) (groups : List Group) (names : Option (List Planned)) (before after : Option (List ℕ)) (had has : InSink) (os : Outcomes) (end : RestoreEnd)
+    → GivesOver earlier later groups names (Ok os) → Appends before after (manifest (map restored os.items)) → EndsWith had has (map restored os.items) end
+    → Delivers (λ holds. OverVolumes earlier later groups names holds) before after had has (Ok end)
+delivers_files earlier later groups names before after had has os end given written ends = (map restored os.items, (given, written), ends)
 
--- a fault of writing behind the outcomes
-over_free : (earlier later : Told) (groups : List Group) → OverVolumes earlier later groups (λ expected. IsRefusal None expected)
-over_free earlier later groups = λ volumes stands. tt
+-- the restore is refused
+pub delivers_refused : (earlier later : Told) (groups : List Group) (names : Option (List Planned)) (before after : Option (List ℕ)) (had : InSink) (fault : ExtractFault)
+    → GivesOver earlier later groups names (Err fault) → WritesNothing before after fault
+    → Delivers (λ holds. OverVolumes earlier later groups names holds) before after had had (Err fault)
+delivers_refused earlier later groups names before after had fault given nothing = (given, nothing, refl)
 
-pub delivers_free : (earlier later : Told) (before after : Option (List ℕ)) (had : Option (List Item)) (groups : List Group) (fault : ExtractFault)
-    → IsFree fault → WritesNothing before after fault → DeliversOver earlier later before after had had groups (Err fault)
-delivers_free earlier later before after had groups Memory is nothing = (over_free earlier later groups, nothing, refl)
-delivers_free earlier later before after had groups (Io fault) is nothing = (over_free earlier later groups, nothing, refl)
-delivers_free earlier later before after had groups (Bootstrap fault) is nothing = absurd is
-delivers_free earlier later before after had groups (Piece fault) is nothing = absurd is
-delivers_free earlier later before after had groups (Sink stop) is nothing = absurd is
+-- memory ran out, or reading or writing failed
+pub gives_free : (earlier later : Told) (groups : List Group) (names : Option (List Planned)) (fault : ExtractFault) → IsFree fault → GivesOver earlier later groups names (Err fault)
+gives_free earlier later groups names Memory free = λ volumes stands. tt
+gives_free earlier later groups names (Io fault) free = λ volumes stands. tt
+gives_free earlier later groups names (Bootstrap fault) free = absurd free
+gives_free earlier later groups names (Piece fault) free = absurd free
+
+-- so the manifest is the expected one over all volumes
+pub extracts_over : (earlier later : Told) (groups : List Group) (names : Option (List Planned)) (before after : Option (List ℕ)) (had has : InSink) (result : Result RestoreEnd ExtractFault)
+    → Delivers (λ holds. OverVolumes earlier later groups names holds) before after had has result
+    → OverVolumes earlier later groups names (Extracts before after result)
+extracts_over earlier later groups names before after had has (Ok end) h = λ volumes stands. (h.0, h.1.0 volumes stands, h.2.0, h.1.1)
+extracts_over earlier later groups names before after had has (Err fault) h = h.0
 
 -- ---- over what the bootstrap of a text gives
 
-implied : (over more : Said → Type 0) (before after : Option (List ℕ)) (had has : Option (List Item)) (result : Result Bool ExtractFault) → ((P : Said) → over P → more P)
+implied : (over more : Said → Type 0) (before after : Option (List ℕ)) (had has : InSink) (result : Result RestoreEnd ExtractFault) → ((P : Said) → over P → more P)
     → Delivers over before after had has result → Delivers more before after had has result
-implied over more before after had has (Ok whole) step h = (h.0, (step _ h.1.0, h.1.1), h.2, h.3)
-implied over more before after had has (Err (Sink stop)) step h = (h.0, (step _ h.1.0, h.1.1), h.2)
-implied over more before after had has (Err Memory) step h = (step _ h.0, h.1, h.2)
-implied over more before after had has (Err (Bootstrap fault)) step h = (step _ h.0, h.1, h.2)
-implied over more before after had has (Err (Piece fault)) step h = (step _ h.0, h.1, h.2)
-implied over more before after had has (Err (Io fault)) step h = (step _ h.0, h.1, h.2)
+implied over more before after had has (Ok end) step h = (h.0, (step _ h.1.0, h.1.1), h.2)
+implied over more before after had has (Err fault) step h = (step _ h.0, h.1, h.2)
 
-pub text_delivers : (known : Option (List ℕ)) (earlier later : Told) (before after : Option (List ℕ)) (had has : Option (List Item)) (text : List ℕ) (groups : List Group)
-    (result : Result Bool ExtractFault) → IfSome known (λ bytes. text ≡ bytes) → read_bootstrap text ≡ Ok groups
-    → DeliversOver earlier later before after had has groups result → DeliversText known earlier later before after had has result
+pub text_delivers : (known : Option (List ℕ)) (earlier later : Told) (before after : Option (List ℕ)) (had has : InSink) (text : List ℕ) (groups : List Group)
+    (result : Result RestoreEnd ExtractFault) → IfSome known (λ bytes. text ≡ bytes) → read_bootstrap text ≡ Ok groups
+    → Delivers (λ holds. OverVolumes earlier later groups None holds) before after had has result
+    → Delivers (λ holds. OverText known earlier later holds) before after had has result
 text_delivers known earlier later before after had has text groups result is read h =
-    implied (λ holds. OverVolumes earlier later groups holds) (λ holds. OverText known earlier later holds) before after had has result
+    implied (λ holds. OverVolumes earlier later groups None holds) (λ holds. OverText known earlier later holds) before after had has result
     (λ P given. over_text known earlier later text groups P is read given) h
 
-pub text_refused : (known : Option (List ℕ)) (earlier later : Told) (before : Option (List ℕ)) (had : Option (List Item)) (text : List ℕ) (fault : BsrFault)
-    → IfSome known (λ bytes. text ≡ bytes) → IsRefusal (bootstrap.cause fault) (read_bootstrap text) → DeliversText known earlier later before before had had (Err (Bootstrap fault))
+-- a line of the text is refused
+pub text_refused : (known : Option (List ℕ)) (earlier later : Told) (before : Option (List ℕ)) (had : InSink) (text : List ℕ) (fault : BsrFault)
+    → IfSome known (λ bytes. text ≡ bytes) → IsRefusal (bootstrap.cause fault) (read_bootstrap text)
+    → Delivers (λ holds. OverText known earlier later holds) before before had had (Err (Bootstrap fault))
 text_refused known earlier later before had text fault is refused = (over_no_text known earlier later text fault is refused, Keeps-refl before, refl)
+
+-- ---- over what a reader had left
+
+-- the reader had this text left, if it tells it
+over_reader : (known : Option (List ℕ)) (earlier later : Told) (text : List ℕ) (P : Said) → IfSome known (λ bytes. text ≡ bytes)
+    → OverText (Some text) earlier later P → OverText known earlier later P
+over_reader None earlier later text P is given = tt
+over_reader (Some bytes) earlier later text P is given = subst (λ (t : List ℕ). OverText (Some t) earlier later P) is given
+
+pub reader_delivers : (known : Option (List ℕ)) (earlier later : Told) (before after : Option (List ℕ)) (had has : InSink) (text : List ℕ) (result : Result RestoreEnd ExtractFault)
+    → IfSome known (λ bytes. text ≡ bytes) → Delivers (λ holds. OverText (Some text) earlier later holds) before after had has result
+    → Delivers (λ holds. OverText known earlier later holds) before after had has result
+reader_delivers known earlier later before after had has text result is h =
+    implied (λ holds. OverText (Some text) earlier later holds) (λ holds. OverText known earlier later holds) before after had has result
+    (λ P given. over_reader known earlier later text P is given) h
 
 free : (known : Option (List ℕ)) (earlier later : Told) → OverText known earlier later (λ expected. IsRefusal None expected)
 free None earlier later = tt
 free (Some bytes) earlier later = λ volumes stands. tt
 
-pub text_free : (known : Option (List ℕ)) (earlier later : Told) (before : Option (List ℕ)) (had : Option (List Item)) (fault : ExtractFault)
-    → IsFree fault → DeliversText known earlier later before before had had (Err fault)
-text_free known earlier later before had Memory is = (free known earlier later, Keeps-refl before, refl)
-text_free known earlier later before had (Io fault) is = (free known earlier later, tt, refl)
-text_free known earlier later before had (Bootstrap fault) is = absurd is
-text_free known earlier later before had (Piece fault) is = absurd is
-text_free known earlier later before had (Sink stop) is = absurd is
+-- memory ran out, or the reader failed
+pub reader_free : (known : Option (List ℕ)) (earlier later : Told) (before : Option (List ℕ)) (had : InSink) (fault : ExtractFault)
+    → IsFree fault → Delivers (λ holds. OverText known earlier later holds) before before had had (Err fault)
+reader_free known earlier later before had Memory is = (free known earlier later, Keeps-refl before, refl)
+reader_free known earlier later before had (Io fault) is = (free known earlier later, tt, refl)
+reader_free known earlier later before had (Bootstrap fault) is = absurd is
+reader_free known earlier later before had (Piece fault) is = absurd is
+
+-- ---- so the manifest is the expected one
+
+pub runs_over : (known : Option (List ℕ)) (earlier later : Told) (before after : Option (List ℕ)) (had has : InSink) (result : Result RestoreEnd ExtractFault)
+    → Delivers (λ holds. OverText known earlier later holds) before after had has result → OverText known earlier later (Extracts before after result)
+runs_over None earlier later before after had has result h = tt
+runs_over (Some text) earlier later before after had has (Ok end) h = λ volumes stands. (h.0, h.1.0 volumes stands, h.2.0, h.1.1)
+runs_over (Some text) earlier later before after had has (Err fault) h = h.0

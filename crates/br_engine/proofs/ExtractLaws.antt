@@ -1,28 +1,26 @@
 -- Files that are extracted, from those that a bootstrap gives.
-use Rattle.std.proofs.Common.{◌≡◌, ℕ, Bool, List, map, Option, Some, None, Ok, Err, refl, ap, sym, ◌∙◌}
+use Rattle.std.proofs.Common.{◌≡◌, ℕ, List, Option, Some, None, Ok, Err, refl, ap, sym, ◌∙◌}
 use Rattle.std.specs.Prelude.{option_map, IfSome}
-use Rattle.std.specs.Io.KnownBytes.{Appends}
 use Rattle.br_model.specs.Answer.{IsRefusal, refused_as}
 use Rattle.br_model.specs.Volume.{Volume}
 use Rattle.br_model.specs.Bootstrap.{Group}
 use Rattle.br_model.specs.BootstrapText.{LineFault, read_bootstrap}
 use Rattle.br_model.specs.Meaning as model
-use Rattle.br_model.specs.Manifest.{manifest}
+use Rattle.br_model.specs.Restored.{Planned}
 use Rattle.br_bsr.specs.Fault as bootstrap
 use Rattle.br_bsr.specs.declared.fault.BsrFault.{BsrFault}
 use Rattle.br_match.specs.Fault as piece
 use Rattle.br_match.specs.declared.fault.PieceFault.{PieceFault}
-use Rattle.br_join.specs.Outcome.{restored}
 use Rattle.br_engine.specs.Fault.{OfLine, OfPiece, cause}
 use Rattle.br_engine.specs.Restoring.{Told, Outcomes, RestoredOver, restored_files}
-use Rattle.br_engine.specs.Extracting.{ExtractsOver, GivesOver, OverText, OverVolumes, Said, are_files, extracted}
+use Rattle.br_engine.specs.Extracting.{GivesOver, OverText, OverVolumes, Said, extracted}
 use Rattle.br_engine.specs.declared.fault.ExtractFault.TheVariants.{Bootstrap, Piece}
 
 -- ---- what is said over all volumes
 
 -- of the bootstrap of a text
 pub over_text : (known : Option (List ℕ)) (earlier later : Told) (text : List ℕ) (groups : List Group) (P : Said)
-    → IfSome known (λ bytes. text ≡ bytes) → read_bootstrap text ≡ Ok groups → OverVolumes earlier later groups P → OverText known earlier later P
+    → IfSome known (λ bytes. text ≡ bytes) → read_bootstrap text ≡ Ok groups → OverVolumes earlier later groups None P → OverText known earlier later P
 unfolding extracted
 over_text None earlier later text groups P is read given = tt
 over_text (Some bytes) earlier later text groups P is read given = λ volumes stands.
@@ -42,18 +40,15 @@ over_no_text (Some bytes) earlier later text fault is refused = λ volumes stand
 
 -- ---- from what was restored
 
-pub gives_files : (earlier later : Told) (groups : List Group) (os : Outcomes) → RestoredOver earlier later groups None (Ok os) → GivesOver earlier later groups (Ok os)
-gives_files earlier later groups os given = λ volumes stands. ap (refused_as OfPiece) (given volumes stands)
+pub gives_files : (earlier later : Told) (groups : List Group) (names : Option (List Planned)) (os : Outcomes) → RestoredOver earlier later groups names (Ok os)
+    → GivesOver earlier later groups names (Ok os)
+gives_files earlier later groups names os given = λ volumes stands. ap (refused_as OfPiece) (given volumes stands)
 
-pub gives_refused : (earlier later : Told) (groups : List Group) (fault : PieceFault) → RestoredOver earlier later groups None (Err fault)
-    → GivesOver earlier later groups (Err (Piece fault))
-gives_refused earlier later groups fault given = λ volumes stands. go volumes (piece.cause fault) (given volumes stands)
+pub gives_refused : (earlier later : Told) (groups : List Group) (names : Option (List Planned)) (fault : PieceFault) → RestoredOver earlier later groups names (Err fault)
+    → GivesOver earlier later groups names (Err (Piece fault))
+gives_refused earlier later groups names fault given = λ volumes stands. go volumes (piece.cause fault) (given volumes stands)
   where
-    go : (volumes : List Volume) (r : Option model.PieceFault) → IsRefusal r (restored_files groups None volumes) → IsRefusal (option_map OfPiece r) (refused_as OfPiece (restored_files groups None volumes))
+    go : (volumes : List Volume) (r : Option model.PieceFault) → IsRefusal r (restored_files groups names volumes)
+        → IsRefusal (option_map OfPiece r) (refused_as OfPiece (restored_files groups names volumes))
     go volumes None h = tt
     go volumes (Some e) h = rw h refl
-
--- with the manifest behind what the writer held
-pub extracts_files : (earlier later : Told) (before after : Option (List ℕ)) (groups : List Group) (os : Outcomes) (whole : Bool) → GivesOver earlier later groups (Ok os)
-    → whole ≡ are_files (map restored os.items) → Appends before after (manifest (map restored os.items)) → ExtractsOver earlier later before after groups (Ok whole)
-extracts_files earlier later before after groups os whole given are written = λ volumes stands. (map restored os.items, given volumes stands, are, written)

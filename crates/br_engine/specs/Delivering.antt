@@ -1,58 +1,109 @@
--- A run that also delivers: behind the manifest of the files, these files put into a sink.
-use Rattle.std.specs.Prelude.{◌≡◌, ℕ, Bool, List, take, filter_map, Option, Result, Ok, Err}
+-- A whole restore: the manifest of the files, and after it these files put into a sink, if there is one.
+use Rattle.std.specs.Prelude.{◌≡◌, ℕ, List, map, take, filter_map, Option, Some, None, option_map, Result, Ok, Err, IfOk, IfErr, ⊤}
 use Rattle.std.specs.Io.KnownBytes.{Appends}
 use Rattle.br_model.specs.Answer.{IsRefusal}
 use Rattle.br_model.specs.Bootstrap.{Group}
 use Rattle.br_model.specs.File.{Item}
-use Rattle.br_model.specs.Restored.{Restored}
+use Rattle.br_model.specs.Volume.{Volume}
+use Rattle.br_model.specs.Restored.{Names, Restored, planned_in}
 use Rattle.br_model.specs.Manifest.{manifest, totals_of}
 use Rattle.br_model.specs.Delivery.{Stop, delivery, item_of}
 use Rattle.br_sink.specs.Delivery.{IsStopIn, stop_cause}
 use Rattle.br_sink.specs.Sink.{HasMore}
 use Rattle.br_engine.specs.Fault.{cause}
-use Rattle.br_engine.specs.Restoring.{Told}
-use Rattle.br_engine.specs.Extracting.{OverText, OverVolumes, Said, WritesNothing, are_files}
+use Rattle.br_engine.specs.Outputs.{EndTells, InSink, SinkCounts, StopsByFailure}
+use Rattle.br_engine.specs.Extracting.{OverText, OverVolumes, Extracts, Said, WritesNothing}
+use Rattle.br_engine.specs.declared.outputs.Outputs.{Outputs}
+use Rattle.br_engine.specs.declared.outputs.RestoreEnd.{RestoreEnd}
+use Rattle.br_engine.specs.declared.outputs.RestoreEnd.TheVariants.{AllFiles, SomeFaults, Stopped}
 use Rattle.br_engine.specs.declared.fault.ExtractFault.{ExtractFault}
-use Rattle.br_engine.specs.declared.fault.ExtractFault.TheVariants.{Memory, Bootstrap, Piece, Io, Sink}
 
 -- the files of a restore without its faults
 abbrev pub items_of : List Restored → List Item
 items_of rs = filter_map item_of rs
 
--- the expected files, with their manifest behind what the writer held
+-- the expected files, with their manifest at the end of what the writer held
 abbrev pub IsWritten : (Said → Type 0) → Option (List ℕ) → Option (List ℕ) → List Restored → Type 0
 IsWritten over before after rs = over (λ expected. expected ≡ Ok rs) × Appends before after (manifest rs)
 
--- all of the files were put behind those that the sink had: no path of them is in the way of another
-abbrev pub IsDelivered : Option (List Item) → Option (List Item) → List Restored → Type 0
-IsDelivered had has rs = (delivery rs ≡ Ok (totals_of rs)) × HasMore (items_of rs) had has
+-- if there is a sink, all of the files were added to those that it had: no path of them conflicts with another
+abbrev pub IsDelivered : InSink → InSink → List Restored → Type 0
+IsDelivered None None rs = ⊤
+IsDelivered (Some had) (Some has) rs = (delivery rs ≡ Ok (totals_of rs)) × HasMore (items_of rs) had has
+IsDelivered None (Some has) rs = ⊥
+IsDelivered (Some had) None rs = ⊥
 
--- the files before the stop were put behind those that the sink had: where the stop is for a path in the way, it is at the first
--- such file, and the paths of the files before a stop are not in each other's way
-abbrev pub IsStopped : Option (List Item) → Option (List Item) → Stop → List Restored → Type 0
-IsStopped had has stop rs = IsRefusal (stop_cause stop) (delivery rs) × IsStopIn (items_of rs) stop × HasMore (take stop.done (items_of rs)) had has
+-- There is a sink, and the files before the stop were added to those that it had. A stop for a path that conflicts is at the first such
+-- file, and the paths of the files before a stop do not conflict.
+abbrev pub IsStopped : InSink → InSink → Stop → List Restored → Type 0
+IsStopped (Some had) (Some has) stop rs =
+    IsRefusal (stop_cause stop) (delivery rs) × IsStopIn (items_of rs) stop × HasMore (take stop.done (items_of rs)) had has
+IsStopped None has stop rs = ⊥
+IsStopped (Some had) None stop rs = ⊥
+
+-- the sink has all of the files, or those before the stop
+abbrev pub IsPut : InSink → InSink → RestoreEnd → List Restored → Type 0
+IsPut had has AllFiles rs = IsDelivered had has rs
+IsPut had has SomeFaults rs = IsDelivered had has rs
+IsPut had has (Stopped stop) rs = IsStopped had has stop rs
+
+-- the end of a restore of these files, and what it leaves in the sink
+abbrev pub EndsWith : InSink → InSink → List Restored → RestoreEnd → Type 0
+EndsWith had has rs end = EndTells end rs × IsPut had has end rs
 
 -- the refusal is the expected one, nothing was written, unless reading or writing failed, and nothing was put
-abbrev pub IsRefused : (Said → Type 0) → Option (List ℕ) → Option (List ℕ) → Option (List Item) → Option (List Item) → ExtractFault → Type 0
+abbrev pub IsRefused : (Said → Type 0) → Option (List ℕ) → Option (List ℕ) → InSink → InSink → ExtractFault → Type 0
 IsRefused over before after had has fault = over (λ expected. IsRefusal (cause fault) expected) × WritesNothing before after fault × (has ≡ had)
 
--- why not all was delivered: a stop behind the manifest, or a refusal of the restore
-abbrev pub Stops : (Said → Type 0) → Option (List ℕ) → Option (List ℕ) → Option (List Item) → Option (List Item) → ExtractFault → Type 0
-Stops over before after had has (Sink stop) = (rs : List Restored) × IsWritten over before after rs × IsStopped had has stop rs
-Stops over before after had has Memory = IsRefused over before after had has Memory
-Stops over before after had has (Bootstrap fault) = IsRefused over before after had has (Bootstrap fault)
-Stops over before after had has (Piece fault) = IsRefused over before after had has (Piece fault)
-Stops over before after had has (Io fault) = IsRefused over before after had has (Io fault)
+-- the manifest of the expected files and what became of these; or why there is none
+abbrev pub Delivers : (Said → Type 0) → Option (List ℕ) → Option (List ℕ) → InSink → InSink → Result RestoreEnd ExtractFault → Type 0
+Delivers over before after had has (Ok end) = (rs : List Restored) × IsWritten over before after rs × EndsWith had has rs end
+Delivers over before after had has (Err fault) = IsRefused over before after had has fault
 
--- the manifest of the expected files, the files, and whether each outcome is one; or why not all was delivered
-abbrev pub Delivers : (Said → Type 0) → Option (List ℕ) → Option (List ℕ) → Option (List Item) → Option (List Item) → Result Bool ExtractFault → Type 0
-Delivers over before after had has (Ok whole) = (rs : List Restored) × IsWritten over before after rs × IsDelivered had has rs × (whole ≡ are_files rs)
-Delivers over before after had has (Err fault) = Stops over before after had has fault
+-- ---- as the contracts of restores state it, over what drives, writer and sink show before and after
 
--- the files are those that a bootstrap gives
-abbrev pub DeliversOver : Told → Told → Option (List ℕ) → Option (List ℕ) → Option (List Item) → Option (List Item) → List Group → Result Bool ExtractFault → Type 0
-DeliversOver earlier later before after had has groups result = Delivers (λ holds. OverVolumes earlier later groups holds) before after had has result
+-- what the sink has, if there is one
+abbrev pub in_sink : {W S : Type 0} → (S → Option (List Item)) → Outputs W S → InSink
+in_sink has outputs = option_map has outputs.sink
 
--- the files are those that the bootstrap of a text gives
-abbrev pub DeliversText : Option (List ℕ) → Told → Told → Option (List ℕ) → Option (List ℕ) → Option (List Item) → Option (List Item) → Result Bool ExtractFault → Type 0
-DeliversText known earlier later before after had has result = Delivers (λ holds. OverText known earlier later holds) before after had has result
+-- the number of failures of the sink, if there is one
+abbrev pub sink_failures : {W S : Type 0} → (S → ℕ) → Outputs W S → Option ℕ
+sink_failures failures outputs = option_map failures outputs.sink
+
+-- a restore of what a bootstrap gives, of the files that are named if there are names
+abbrev pub DeliversOver : {D W S : Type 0} → (D → Option (List Volume)) → (W → Option (List ℕ)) → (S → Option (List Item))
+    → List D → List D → Outputs W S → Outputs W S → List Group → Option Names → Result RestoreEnd ExtractFault → Type 0
+DeliversOver shows contents has earlier later before after groups names result =
+    Delivers (λ holds. OverVolumes (map shows earlier) (map shows later) groups (option_map planned_in names) holds)
+    (contents before.writer) (contents after.writer) (in_sink has before) (in_sink has after) result
+
+-- a restore of what the bootstrap of a text gives, if the text is known
+abbrev pub DeliversText : {D W S : Type 0} → (D → Option (List Volume)) → (W → Option (List ℕ)) → (S → Option (List Item))
+    → List D → List D → Outputs W S → Outputs W S → Option (List ℕ) → Result RestoreEnd ExtractFault → Type 0
+DeliversText shows contents has earlier later before after known result =
+    Delivers (λ holds. OverText known (map shows earlier) (map shows later) holds)
+    (contents before.writer) (contents after.writer) (in_sink has before) (in_sink has after) result
+
+-- over all volumes that the drives may be taken to show, the manifest is that of the files that a bootstrap gives
+abbrev pub ExtractsOver : {D W S : Type 0} → (D → Option (List Volume)) → (W → Option (List ℕ))
+    → List D → List D → Outputs W S → Outputs W S → List Group → Result RestoreEnd ExtractFault → Type 0
+ExtractsOver shows contents earlier later before after groups result =
+    OverVolumes (map shows earlier) (map shows later) groups None (Extracts (contents before.writer) (contents after.writer) result)
+
+-- the same of the files that the bootstrap of a text gives
+abbrev pub RunsOver : {D W S : Type 0} → (D → Option (List Volume)) → (W → Option (List ℕ))
+    → List D → List D → Outputs W S → Outputs W S → Option (List ℕ) → Result RestoreEnd ExtractFault → Type 0
+RunsOver shows contents earlier later before after known result =
+    OverText known (map shows earlier) (map shows later) (Extracts (contents before.writer) (contents after.writer) result)
+
+-- nothing was written if the restore was refused, unless reading or writing failed
+abbrev pub RefusalWritesNothing : {W S A : Type 0} → (W → Option (List ℕ)) → Outputs W S → Outputs W S → Result A ExtractFault → Type 0
+RefusalWritesNothing contents before after result = IfErr result (WritesNothing (contents before.writer) (contents after.writer))
+
+-- the failures of the sink were counted
+abbrev pub CountsFailures : {W S : Type 0} → (S → ℕ) → Outputs W S → Outputs W S → Type 0
+CountsFailures failures before after = SinkCounts (sink_failures failures before) (sink_failures failures after)
+
+-- a stop by 80 was counted as a failure of the sink
+abbrev pub StopIsCounted : {W S : Type 0} → (S → ℕ) → Outputs W S → Outputs W S → Result RestoreEnd ExtractFault → Type 0
+StopIsCounted failures before after result = IfOk result (StopsByFailure (sink_failures failures before) (sink_failures failures after))

@@ -1,4 +1,5 @@
 pub mod Restoring
 pub mod Fault
+pub mod Outputs
 pub mod Extracting
 pub mod Delivering

@@ -1,5 +1,5 @@
 -- What a bootstrap gives over the volumes of some drives, whatever these do meanwhile.
-use Rattle.std.specs.Prelude.{◌≡◌, List, [], ◌∷◌, map, Vec, Option, Some, None, Result, Ok}
+use Rattle.std.specs.Prelude.{◌≡◌, List, [], ◌∷◌, map, Vec, Option, None, option_map, Result, Ok}
 use Rattle.std.specs.Global.{Global}
 use Rattle.std.specs.List.{AllByRecursion, AllZip}
 use Rattle.std.specs.FinMap.{get}
@@ -9,8 +9,8 @@ use Rattle.br_model.specs.Volume.{Volume}
 use Rattle.br_model.specs.Bootstrap.{Group}
 use Rattle.br_model.specs.Meaning as model
 use Rattle.br_model.specs.Meaning.{Piece, Hits, hits_on_each, hits_of, pieces_of, meaning}
-use Rattle.br_model.specs.Restored.{Planned, Restored, files}
-use Rattle.br_match.specs.Fault.{cause}
+use Rattle.br_model.specs.Restored.{Names, Planned, Restored, files, planned_in}
+use Rattle.br_match.specs.Fault.{cause, fault_number}
 use Rattle.br_match.specs.declared.hit.Found.{Found}
 use Rattle.br_match.specs.declared.fault.PieceFault.{PieceFault}
 use Rattle.br_pool.specs.Pool.{StandsTold}
@@ -47,7 +47,7 @@ abbrev pub all_taken : Joining → List Found → Joining
 all_taken j [] = j
 all_taken j (found ∷ founds) = all_taken (taken j found.piece found.hits.items) founds
 
--- the files that a bootstrap gives over volumes, the planned ones where there is a plan; or the first fault of a piece
+-- the files that a bootstrap gives over volumes, the planned ones if there is a plan; or the first fault of a piece
 unfoldable pub restored_files : List Group → Option (List Planned) → List Volume → Result (List Restored) model.PieceFault
 restored_files groups names volumes = do
   set ← meaning groups volumes
@@ -63,3 +63,11 @@ abbrev pub RestoredOver : Told → Told → List Group → Option (List Planned)
 RestoredOver earlier later groups names result =
     (volumes : List Volume) → AllStand earlier later (pieces_of groups) volumes
     → Answers (λ (os : Outcomes). map restored os.items) cause result (restored_files groups names volumes)
+
+-- the same, as the contract of a restore states it
+abbrev pub RestoresOver : {D : Type 0} → (D → Option (List Volume)) → List D → List D → List Group → Option Names → Result Outcomes PieceFault → Type 0
+RestoresOver shows before after groups names result = RestoredOver (map shows before) (map shows after) groups (option_map planned_in names) result
+
+-- a drive failed
+abbrev pub IsDriveFault : PieceFault → Type 0
+IsDriveFault fault = fault_number fault ≡ 13

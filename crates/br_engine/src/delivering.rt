@@ -1,65 +1,168 @@
-ghost use Rattle.std.specs.Prelude.{◌≡◌, ◌<◌, ◌≤◌, length, map, Some, IfErr};
-ghost use Rattle.std.specs.List.{AllZip};
-ghost use Rattle.br_volume.specs.Drive.{OnlyGrows};
-ghost use Rattle.br_pool.specs.Pool.{HasRisen};
-ghost use Rattle.br_engine.specs.Fault.{fault_number};
-ghost use Rattle.br_engine.specs.Delivering.{DeliversOver, DeliversText};
+ghost use Rattle.std.specs.Prelude.{◌≡◌, map, option_map, Some, None, IfErr};
+ghost use Rattle.br_pool.specs.Pool.{AreDrives, FailsByDrive, StayInPlace};
+ghost use Rattle.br_join.specs.Outcome.{restored};
+ghost use Rattle.br_engine.specs.Fault.{IsDriveFault, IsNoLine};
+ghost use Rattle.br_engine.specs.Outputs.{SinkCounts, StopsByFailure, end_of_files};
+ghost use Rattle.br_engine.specs.Delivering.{DeliversOver, DeliversText, EndsWith, ExtractsOver, RunsOver};
+ghost use Rattle.br_engine.specs.Delivering.{CountsFailures, RefusalWritesNothing, StopIsCounted};
 
 use crate::extracting::{all_files, read_text, write_restored};
 use crate::fault::ExtractFault;
+use crate::outputs::{Outputs, RestoreEnd};
 use br_bsr::{Bootstrap, read_bootstrap};
+use br_join::Outcome;
 use br_sink::{Sink, deliver};
+use br_types::{FileKey, Names};
 use br_volume::Drive;
 use std::alloc::Global;
 use std::io::{Read, Write};
 use std::thread::Threads;
 
-/// Restores by a bootstrap, writes the manifest and flushes it, and then puts the files into a sink in the order of the manifest.
-/// The answer is whether each outcome is a file.
+/// Returns the end of a restore with these outcomes whose delivery did not stop.
+fn end_of(outcomes: &[(FileKey, Outcome)]) -> RestoreEnd
+    ensures { result ≡ end_of_files (map restored outcomes.now) }
+{
+    if all_files(outcomes) {
+        RestoreEnd::AllFiles
+    } else {
+        RestoreEnd::SomeFaults
+    }
+}
+
+/// Delivers the files among the outcomes into a sink. Returns the end of the restore.
+fn deliver_to<S: Sink>(
+    rt: &(impl Threads + Sync),
+    alloc: Global,
+    outcomes: &[(FileKey, Outcome)],
+    sink: &mut S,
+) -> RestoreEnd
+    ensures ends { EndsWith (Some (S.has sink.old)) (Some (S.has sink.new)) (map restored outcomes.now) result }
+    ensures counted { SinkCounts (Some (S.failures sink.old)) (Some (S.failures sink.new)) }
+    ensures failed { StopsByFailure (Some (S.failures sink.old)) (Some (S.failures sink.new)) result }
+{
+    match deliver(rt, alloc, outcomes, sink) {
+        Ok(_) => end_of(outcomes),
+        Err(stop) => RestoreEnd::Stopped(stop),
+    }
+}
+
+/// Delivers the files among the outcomes, if there is a sink. Returns the end of the restore.
+fn finish<S: Sink>(
+    rt: &(impl Threads + Sync),
+    alloc: Global,
+    outcomes: &[(FileKey, Outcome)],
+    sink: &mut Option<S>,
+) -> RestoreEnd
+    ensures ends { EndsWith (option_map S.has sink.old) (option_map S.has sink.new) (map restored outcomes.now) result }
+    ensures counted { SinkCounts (option_map S.failures sink.old) (option_map S.failures sink.new) }
+    ensures failed { StopsByFailure (option_map S.failures sink.old) (option_map S.failures sink.new) result }
+{
+    match sink {
+        None => end_of(outcomes),
+        Some(sink) => deliver_to(rt, alloc, outcomes, sink),
+    }
+}
+
+/// Restores as `restore`, writes the manifest and flushes it, and then delivers the files into the sink
+/// in the order of the manifest, if there is a sink.
 ///
-/// Refused as `extract`, and then nothing is put. `Sink` where the delivery stopped: the manifest is written, and the files before
-/// the stop are in the sink, so many as the stop says.
-pub fn extract_into<D: Drive + Send, W: Write, S: Sink>(
+/// If the delivery stopped, the manifest is written, and the sink has the files before the stop.
+///
+/// # Errors
+///
+/// - `Piece` as `restore`; then nothing is written.
+/// - `Memory` if memory ran out for the manifest; then nothing is written.
+/// - `Io` if the writer failed, which may have taken a part of the manifest.
+///
+/// After an error nothing is put into the sink.
+pub fn restore_into<D: Drive + Send, W: Write, S: Sink>(
+    rt: &(impl Threads + Sync),
+    alloc: Global,
+    bootstrap: &Bootstrap,
+    names: Option<Names>,
+    drives: &mut Vec<D>,
+    out: &mut Outputs<W, S>,
+) -> Result<RestoreEnd, ExtractFault>
+    requires drives { AreDrives drives.old.items }
+    ensures delivers { DeliversOver D.shows W.contents S.has drives.old.items drives.new.items out.old out.new bootstrap.now names result }
+    ensures nothing { RefusalWritesNothing W.contents out.old out.new result }
+    ensures driven { IfErr result IsNoLine }
+    ensures places { StayInPlace D.shows D.failures drives.old.items drives.new.items }
+    ensures failed { FailsByDrive D.failures drives.old.items drives.new.items IsDriveFault result }
+    ensures sink_counted { CountsFailures S.failures out.old out.new }
+    ensures sink_failed { StopIsCounted S.failures out.old out.new result }
+{
+    let outcomes = write_restored(rt, alloc, bootstrap, names, drives, &mut out.writer)?;
+    out.writer.flush()?;
+    Ok(finish(rt, alloc, &outcomes, &mut out.sink))
+}
+
+/// Restores all that a bootstrap selects, as `restore_into`.
+pub fn extract<D: Drive + Send, W: Write, S: Sink>(
     rt: &(impl Threads + Sync),
     alloc: Global,
     bootstrap: &Bootstrap,
     drives: &mut Vec<D>,
-    writer: &mut W,
-    sink: &mut S,
-) -> Result<bool, ExtractFault>
-    requires drives { (0 < length drives.old.items) × (length drives.old.items ≤ 16) }
-    ensures delivers { DeliversOver (map D.shows drives.old.items) (map D.shows drives.new.items) (W.contents writer.old) (W.contents writer.new) (S.has sink.old) (S.has sink.new) bootstrap.now result }
-    ensures places { AllZip (λ old new. OnlyGrows (D.shows old) (D.shows new) × (D.failures old ≤ D.failures new)) drives.old.items drives.new.items }
-    ensures failed { IfErr result (λ fault. fault_number fault ≡ Some 13 → HasRisen (map D.failures drives.old.items) (map D.failures drives.new.items)) }
-    ensures sink_counted { S.failures sink.old ≤ S.failures sink.new }
-    ensures sink_failed { IfErr result (λ fault. fault_number fault ≡ Some 80 → S.failures sink.old < S.failures sink.new) }
+    out: &mut Outputs<W, S>,
+) -> Result<RestoreEnd, ExtractFault>
+    requires drives { AreDrives drives.old.items }
+    ensures delivers { DeliversOver D.shows W.contents S.has drives.old.items drives.new.items out.old out.new bootstrap.now None result }
+    ensures extracts { ExtractsOver D.shows W.contents drives.old.items drives.new.items out.old out.new bootstrap.now result }
+    ensures nothing { RefusalWritesNothing W.contents out.old out.new result }
+    ensures places { StayInPlace D.shows D.failures drives.old.items drives.new.items }
+    ensures failed { FailsByDrive D.failures drives.old.items drives.new.items IsDriveFault result }
+    ensures sink_counted { CountsFailures S.failures out.old out.new }
+    ensures sink_failed { StopIsCounted S.failures out.old out.new result }
 {
-    let outcomes = write_restored(rt, alloc, bootstrap, drives, writer)?;
-    writer.flush()?;
-    deliver(rt, alloc, &outcomes, sink)?;
-    Ok(all_files(&outcomes))
+    restore_into(rt, alloc, bootstrap, None, drives, out)
 }
 
-/// Reads the text of a bootstrap to the end of the reader, restores by it, writes the manifest and flushes it, and then puts the
-/// files into a sink in the order of the manifest. The answer is whether each outcome is a file.
+/// Reads the text of a bootstrap and restores by it, as `extract`.
 ///
-/// Refused as `run_extract`, and then nothing is put. `Sink` as `extract_into`.
-pub fn run_extract_into<R: Read + Drop, D: Drive + Send, W: Write + Drop, S: Sink>(
+/// # Errors
+///
+/// `Bootstrap` for a line that is refused, and then as `extract`.
+pub fn extract_text<D: Drive + Send, W: Write, S: Sink>(
+    rt: &(impl Threads + Sync),
+    alloc: Global,
+    text: &[u8],
+    drives: &mut Vec<D>,
+    out: &mut Outputs<W, S>,
+) -> Result<RestoreEnd, ExtractFault>
+    requires drives { AreDrives drives.old.items }
+    ensures delivers { DeliversText D.shows W.contents S.has drives.old.items drives.new.items out.old out.new (Some text.now) result }
+    ensures runs { RunsOver D.shows W.contents drives.old.items drives.new.items out.old out.new (Some text.now) result }
+    ensures nothing { RefusalWritesNothing W.contents out.old out.new result }
+    ensures places { StayInPlace D.shows D.failures drives.old.items drives.new.items }
+    ensures failed { FailsByDrive D.failures drives.old.items drives.new.items IsDriveFault result }
+    ensures sink_counted { CountsFailures S.failures out.old out.new }
+    ensures sink_failed { StopIsCounted S.failures out.old out.new result }
+{
+    let bootstrap = read_bootstrap(alloc, text)?;
+    extract(rt, alloc, &bootstrap, drives, out)
+}
+
+/// Reads the text of a bootstrap to the end of a reader and restores by it, as `extract_text`.
+///
+/// # Errors
+///
+/// `Io` if the reader failed, or has not ended after 2^40 reads, and then as `extract_text`.
+pub fn run_extract<R: Read + Drop, D: Drive + Send, W: Write, S: Sink>(
     rt: &(impl Threads + Sync),
     alloc: Global,
     reader: &mut R,
     drives: &mut Vec<D>,
-    writer: &mut W,
-    sink: &mut S,
-) -> Result<bool, ExtractFault>
-    requires drives { (0 < length drives.old.items) × (length drives.old.items ≤ 16) }
-    ensures delivers { DeliversText (R.remaining reader.old) (map D.shows drives.old.items) (map D.shows drives.new.items) (W.contents writer.old) (W.contents writer.new) (S.has sink.old) (S.has sink.new) result }
-    ensures places { AllZip (λ old new. OnlyGrows (D.shows old) (D.shows new) × (D.failures old ≤ D.failures new)) drives.old.items drives.new.items }
-    ensures failed { IfErr result (λ fault. fault_number fault ≡ Some 13 → HasRisen (map D.failures drives.old.items) (map D.failures drives.new.items)) }
-    ensures sink_counted { S.failures sink.old ≤ S.failures sink.new }
-    ensures sink_failed { IfErr result (λ fault. fault_number fault ≡ Some 80 → S.failures sink.old < S.failures sink.new) }
+    out: &mut Outputs<W, S>,
+) -> Result<RestoreEnd, ExtractFault>
+    requires drives { AreDrives drives.old.items }
+    ensures delivers { DeliversText D.shows W.contents S.has drives.old.items drives.new.items out.old out.new (R.remaining reader.old) result }
+    ensures runs { RunsOver D.shows W.contents drives.old.items drives.new.items out.old out.new (R.remaining reader.old) result }
+    ensures nothing { RefusalWritesNothing W.contents out.old out.new result }
+    ensures places { StayInPlace D.shows D.failures drives.old.items drives.new.items }
+    ensures failed { FailsByDrive D.failures drives.old.items drives.new.items IsDriveFault result }
+    ensures sink_counted { CountsFailures S.failures out.old out.new }
+    ensures sink_failed { StopIsCounted S.failures out.old out.new result }
 {
     let text = read_text(alloc, reader)?;
-    let bootstrap = read_bootstrap(alloc, &text)?;
-    extract_into(rt, alloc, &bootstrap, drives, writer, sink)
+    extract_text(rt, alloc, &text, drives, out)
 }

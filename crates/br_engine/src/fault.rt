@@ -2,18 +2,17 @@ ghost use Rattle.std.specs.Prelude.{◌≡◌, ◌++◌, ◌∷◌, ℕ, List, d
 ghost use Rattle.br_model.specs.Text.{line, refused_line, escaped};
 ghost use Rattle.br_model.specs.Refusal.{line_fault, piece_fault};
 ghost use Rattle.br_bsr.specs.Fault.{cause};
-ghost use Rattle.br_engine.specs.declared.fault.ExtractFault.TheVariants.{Memory, Bootstrap, Piece, Io, Sink};
+ghost use Rattle.br_engine.specs.declared.fault.ExtractFault.TheVariants.{Memory, Bootstrap, Piece, Io};
 ghost use Rattle.br_engine.specs.Fault.{fault_number, fault_text, bootstrap_text, piece_text};
 
 use br_bsr::BsrFault;
 use br_match::PieceFault;
-use br_sink::SinkStop;
 use br_types::{push_escaped, push_number};
 use std::alloc::AllocError;
 use std::io;
 use thiserror::Error;
 
-/// Why a run gave no manifest, or not the whole of it, or did not deliver all files.
+/// Why a restore wrote no manifest, or not all of it.
 #[derive(Debug, Drop, Error)]
 pub enum ExtractFault {
     #[error("out of memory")]
@@ -27,9 +26,6 @@ pub enum ExtractFault {
     /// Reading the bootstrap or writing the manifest failed.
     #[error("{0}")]
     Io(io::Error),
-    /// The delivery of the files stopped behind the manifest.
-    #[error("{0}")]
-    Sink(SinkStop),
 }
 
 impl From<AllocError> for ExtractFault {
@@ -64,14 +60,6 @@ impl From<io::Error> for ExtractFault {
     }
 }
 
-impl From<SinkStop> for ExtractFault {
-    ghost from_gives = { λ fault e. e ≡ Sink fault };
-
-    fn from(fault: SinkStop) -> ExtractFault {
-        ExtractFault::Sink(fault)
-    }
-}
-
 fn push_refused(text: &mut Vec<u8>, number: u32) -> Result<(), AllocError>
     ensures { OnOk result (text.new.items ≡ text.old.items ++ (codes "refused " ++ decimal number)) }
 {
@@ -79,9 +67,9 @@ fn push_refused(text: &mut Vec<u8>, number: u32) -> Result<(), AllocError>
     push_number(text, u64::from(number))
 }
 
-/// Writes the line `refused N`.
+/// Appends the line `refused N`.
 ///
-/// Where memory is short, a part of the line may stand there.
+/// If memory runs out, a part of the line may have been appended.
 pub fn push_refused_line(text: &mut Vec<u8>, number: u32) -> Result<(), AllocError>
     ensures { OnOk result (text.new.items ≡ text.old.items ++ refused_line number) }
 {
@@ -90,7 +78,7 @@ pub fn push_refused_line(text: &mut Vec<u8>, number: u32) -> Result<(), AllocErr
     Ok(())
 }
 
-/// Writes `refused N line K`, or `refused 1` for want of memory.
+/// Appends `refused N line K`, or `refused 1` if memory ran out.
 fn push_bootstrap_line(text: &mut Vec<u8>, fault: BsrFault) -> Result<(), AllocError>
     ensures { OnOk result (text.new.items ≡ text.old.items ++ bootstrap_text (cause fault)) }
 {
@@ -106,7 +94,7 @@ fn push_bootstrap_line(text: &mut Vec<u8>, fault: BsrFault) -> Result<(), AllocE
     }
 }
 
-/// Writes `refused N VOLUME ADDRESS`.
+/// Appends `refused N VOLUME ADDRESS`.
 fn push_block_line(text: &mut Vec<u8>, number: u32, vol: &[u8], addr: u64) -> Result<(), AllocError>
     ensures { OnOk result (text.new.items ≡ text.old.items ++ piece_fault (record { number = number; volume = vol.now; address = addr })) }
 {
@@ -119,10 +107,10 @@ fn push_block_line(text: &mut Vec<u8>, number: u32, vol: &[u8], addr: u64) -> Re
     Ok(())
 }
 
-/// Writes the line of a piece that was refused: `refused N VOLUME ADDRESS` with the volume escaped, or `refused 1` for want of
-/// memory.
+/// Appends the line of a piece that was refused: `refused N VOLUME ADDRESS` with the volume escaped,
+/// or `refused 1` if memory ran out.
 ///
-/// Where memory is short, a part of the line may stand there.
+/// If memory runs out here, a part of the line may have been appended.
 pub fn push_piece_line(text: &mut Vec<u8>, fault: &PieceFault) -> Result<(), AllocError>
     ensures { OnOk result (text.new.items ≡ text.old.items ++ piece_text fault.now) }
 {
@@ -135,8 +123,8 @@ pub fn push_piece_line(text: &mut Vec<u8>, fault: &PieceFault) -> Result<(), All
 }
 
 impl ExtractFault {
-    /// The number of the refusal: 1 want of memory, 10 to 14 a volume, 30 to 34 a line of the bootstrap, 80 and 81 a delivery that
-    /// stopped. A fault of reading or writing is no refusal.
+    /// Returns the number of the refusal: 1 out of memory, 10 to 14 a volume, 30 to 34 a line of the
+    /// bootstrap. A fault of reading or writing is no refusal.
     pub fn number(&self) -> Option<u32>
         ensures { result ≡ fault_number self.now }
     {
@@ -145,15 +133,14 @@ impl ExtractFault {
             ExtractFault::Bootstrap(fault) => Some(fault.number()),
             ExtractFault::Piece(fault) => Some(fault.number()),
             ExtractFault::Io(_) => None,
-            ExtractFault::Sink(stop) => Some(stop.number()),
         }
     }
 
-    /// Writes the line of the refusal: `refused N line K` for a line of the bootstrap, counted from 1; `refused N VOLUME ADDRESS`
-    /// for 10 to 14, with the volume escaped; `refused N` for want of memory and for a delivery that stopped. Nothing for a fault of
-    /// reading or writing.
+    /// Appends the line of the refusal: `refused N line K` for a line of the bootstrap, counted from 1;
+    /// `refused N VOLUME ADDRESS` for 10 to 14, with the volume escaped; `refused 1` if memory ran out.
+    /// Appends nothing for a fault of reading or writing.
     ///
-    /// Where memory is short, a part of the line may stand there.
+    /// If memory runs out here, a part of the line may have been appended.
     pub fn push_line(&self, text: &mut Vec<u8>) -> Result<(), AllocError>
         ensures { OnOk result (text.new.items ≡ text.old.items ++ fault_text self.now) }
     {
@@ -162,7 +149,6 @@ impl ExtractFault {
             ExtractFault::Bootstrap(fault) => push_bootstrap_line(text, *fault),
             ExtractFault::Piece(fault) => push_piece_line(text, fault),
             ExtractFault::Io(_) => Ok(()),
-            ExtractFault::Sink(stop) => push_refused_line(text, stop.number()),
         }
     }
 }

@@ -1,16 +1,18 @@
-//! The engine of a restore: from a bootstrap and the volumes of a drive to the files, to their manifest, and into a sink.
+//! The engine of a restore: from a bootstrap and the volumes of some drives to the files, to their
+//! manifest, and into a sink if there is one.
 #![tactic(auto)]
 
 mod delivering;
 mod extracting;
 mod fault;
+mod outputs;
 mod restoring;
 #[cfg(test)]
 mod session_tests;
 #[cfg(test)]
 mod tests;
 
-pub use delivering::{extract_into, run_extract_into};
-pub use extracting::{all_files, extract, run_extract};
+pub use delivering::{extract, extract_text, restore_into, run_extract};
 pub use fault::{ExtractFault, push_piece_line, push_refused_line};
+pub use outputs::{Outputs, RestoreEnd};
 pub use restoring::restore;

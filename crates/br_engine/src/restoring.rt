@@ -1,14 +1,11 @@
-ghost use Rattle.std.specs.Prelude.{◌≡◌, ◌<◌, ◌≤◌, true, map, length, option_map, IfOk, IfErr, OnOk};
-ghost use Rattle.std.specs.List.{AllZip};
-ghost use Rattle.br_model.specs.Restored.{planned_in};
+ghost use Rattle.std.specs.Prelude.{◌≡◌, true, map, IfOk, IfErr, OnOk};
 ghost use Rattle.br_match.specs.Fault as piece;
 ghost use Rattle.br_match.specs.declared.fault.PieceFault.TheVariants.{Memory};
 ghost use Rattle.br_join.specs.declared.fault.JoinFault.TheVariants.{StrangerPiece};
 ghost use Rattle.br_join.specs.Joining.{is_ready};
-ghost use Rattle.br_volume.specs.Drive.{OnlyGrows};
 ghost use Rattle.br_pool.specs.Fault as pool;
-ghost use Rattle.br_pool.specs.Pool.{AreNumbered, HasRisen};
-ghost use Rattle.br_engine.specs.Restoring.{AreKnown, JoinedOver, RestoredOver, all_taken};
+ghost use Rattle.br_pool.specs.Pool.{AreDrives, AreNumbered, FailsByDrive, StayInPlace};
+ghost use Rattle.br_engine.specs.Restoring.{AreKnown, IsDriveFault, JoinedOver, RestoresOver, all_taken};
 
 use br_bsr::Bootstrap;
 use br_join::{JoinFault, Joiner, Outcome};
@@ -20,8 +17,8 @@ use br_volume::Drive;
 use std::alloc::Global;
 use std::thread::Threads;
 
-/// The refusal of what a joiner did not take, though it has the piece.
-fn want_of_memory(fault: JoinFault) -> PieceFault
+/// Returns the refusal for hits that a joiner did not take, though it knows their piece.
+fn out_of_memory(fault: JoinFault) -> PieceFault
     requires { fault ≡ StrangerPiece → ⊥ }
     ensures { result ≡ Memory }
 {
@@ -31,7 +28,7 @@ fn want_of_memory(fault: JoinFault) -> PieceFault
     }
 }
 
-/// The refusal of a piece, or want of memory.
+/// Returns the refusal of a piece, or that memory ran out.
 fn piece_fault(fault: PoolFault) -> PieceFault
     ensures cause { piece.cause result ≡ pool.cause fault }
     ensures number { piece.fault_number result ≡ pool.fault_number fault }
@@ -42,7 +39,7 @@ fn piece_fault(fault: PoolFault) -> PieceFault
     }
 }
 
-/// Takes what was found, one piece after the other.
+/// Gives a joiner what was found, one piece after the other.
 fn take_all(joiner: &mut Joiner, founds: Vec<Found>) -> Result<(), PieceFault>
     requires { AreKnown joiner.old founds.items }
     ensures ok { OnOk result (joiner.new ≡ all_taken joiner.old founds.items) }
@@ -50,13 +47,17 @@ fn take_all(joiner: &mut Joiner, founds: Vec<Found>) -> Result<(), PieceFault>
 {
     for found in founds {
         if let Err(refused) = joiner.take(found) {
-            return Err(want_of_memory(refused.fault));
+            return Err(out_of_memory(refused.fault));
         }
     }
     Ok(())
 }
 
-/// What the drives find of each piece, joined; or the refusal of the first piece that has one.
+/// Joins what the drives find of each piece.
+///
+/// # Errors
+///
+/// The refusal of the first piece that has one.
 fn joined<D: Drive + Send>(
     rt: &(impl Threads + Sync),
     alloc: Global,
@@ -64,13 +65,13 @@ fn joined<D: Drive + Send>(
     names: Option<Names>,
     drives: &mut Vec<D>,
 ) -> Result<Joiner, PieceFault>
-    requires drives { (0 < length drives.old.items) × (length drives.old.items ≤ 16) }
+    requires drives { AreDrives drives.old.items }
     requires numbered { AreNumbered pieces.now }
     ensures ready { IfOk result (λ joiner. is_ready joiner ≡ true) }
     ensures planned { IfOk result (λ joiner. joiner.names ≡ names) }
     ensures hits { JoinedOver (map D.shows drives.old.items) (map D.shows drives.new.items) pieces.now result }
-    ensures places { AllZip (λ old new. OnlyGrows (D.shows old) (D.shows new) × (D.failures old ≤ D.failures new)) drives.old.items drives.new.items }
-    ensures failed { IfErr result (λ fault. piece.fault_number fault ≡ 13 → HasRisen (map D.failures drives.old.items) (map D.failures drives.new.items)) }
+    ensures places { StayInPlace D.shows D.failures drives.old.items drives.new.items }
+    ensures failed { FailsByDrive D.failures drives.old.items drives.new.items IsDriveFault result }
 {
     let Ok(mut joiner) = Joiner::new(alloc, pieces, names) else {
         return Err(PieceFault::Memory);
@@ -82,15 +83,20 @@ fn joined<D: Drive + Send>(
     Ok(joiner)
 }
 
-/// The files that a bootstrap asks for, each with its outcome, in order of the file keys: those that were planned under names, else
-/// each that was hit. A planned file of which nothing was hit is a fault of its own (63), and so is one of another path (69). There
-/// are 1 to 16 drives, each of which shows all volumes; a volume is read by one of them, and each drive works in a thread of its own.
+/// Returns the files that a bootstrap selects, each with its outcome, in order of their keys.
 ///
-/// The refusal is that of the first volume, in the order in which the bootstrap first names them, that can't be read:
-/// `UnknownVolume`, or `Truncated`, `BadId` or `BadBlockSize` at a block; `DriveFault` where the drive failed. `Memory` where memory
-/// ran out.
+/// With names these are the named files: one that was not hit is a fault (63), and so is one with
+/// another path (69). Without names each file that was hit is returned.
 ///
-/// The files are made in as many threads as there are processors. The answer is that of one drive and one thread.
+/// `drives` are 1 to 16 drives, each of which shows all volumes. A volume is read by one of them, each
+/// drive works in a thread of its own, and the files are made in as many threads as there are
+/// processors. The result is that of one drive and one thread.
+///
+/// # Errors
+///
+/// - `Block` for the first volume, in the order in which the bootstrap first names them, that can't be
+///   read: `UnknownVolume`, or `Truncated`, `BadId` or `BadBlockSize` at a block, or `DriveFault`.
+/// - `Memory` if memory ran out.
 pub fn restore<D: Drive + Send>(
     rt: &(impl Threads + Sync),
     alloc: Global,
@@ -98,10 +104,10 @@ pub fn restore<D: Drive + Send>(
     names: Option<Names>,
     drives: &mut Vec<D>,
 ) -> Result<Vec<(FileKey, Outcome)>, PieceFault>
-    requires drives { (0 < length drives.old.items) × (length drives.old.items ≤ 16) }
-    ensures files { RestoredOver (map D.shows drives.old.items) (map D.shows drives.new.items) bootstrap.now (option_map planned_in names) result }
-    ensures places { AllZip (λ old new. OnlyGrows (D.shows old) (D.shows new) × (D.failures old ≤ D.failures new)) drives.old.items drives.new.items }
-    ensures failed { IfErr result (λ fault. piece.fault_number fault ≡ 13 → HasRisen (map D.failures drives.old.items) (map D.failures drives.new.items)) }
+    requires drives { AreDrives drives.old.items }
+    ensures files { RestoresOver D.shows drives.old.items drives.new.items bootstrap.now names result }
+    ensures places { StayInPlace D.shows D.failures drives.old.items drives.new.items }
+    ensures failed { FailsByDrive D.failures drives.old.items drives.new.items IsDriveFault result }
 {
     let Ok(pieces) = split(alloc, bootstrap) else {
         return Err(PieceFault::Memory);

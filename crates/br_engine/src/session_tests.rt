@@ -1,5 +1,5 @@
 //! Sessions that were written are restored, whatever the order in which their pieces are read.
-use crate::run_extract_into;
+use crate::{Outputs, RestoreEnd, extract_text};
 use br_attr::Stat;
 use br_bsr::read_bootstrap;
 use br_join::Joiner;
@@ -16,7 +16,8 @@ use std::test::Fail;
 use std::thread::Threads;
 use std::{env, fs, process};
 
-/// A session of `message digest` under a path, in blocks of at most 64 bytes: one on the first volume, the others on the second.
+/// Writes a session of `message digest` under a path, in blocks of at most 64 bytes: one on the first
+/// volume, the others on the second.
 fn write(
     alloc: Global,
     store: &mut MemStore,
@@ -54,7 +55,7 @@ fn write(
     Ok(())
 }
 
-/// The volumes A and B of two sessions that both go over them.
+/// Returns a drive with the volumes A and B, over both of which each of two sessions goes.
 fn drive(alloc: Global) -> Result<MemDrive, Fail> {
     let mut store = MemStore::new(alloc);
     let first = SessionKey { id: 1, time: 100 };
@@ -64,7 +65,7 @@ fn drive(alloc: Global) -> Result<MemDrive, Fail> {
     Ok(MemDrive::new(store.into_volumes()))
 }
 
-/// The manifest of the pieces, taken in this order.
+/// Returns the manifest of the pieces, taken in this order.
 fn restored(
     rt: &(impl Threads + Sync),
     alloc: Global,
@@ -107,29 +108,28 @@ fn pieces_are_taken_in_any_order(rt: HostRuntime) -> Result<(), Fail> {
     Ok(())
 }
 
-/// Delivers the files of both sessions into a new folder. The manifest.
+/// Delivers the files of both sessions into a new folder. Returns the manifest.
 fn delivered(
     rt: &(impl Files<File = File> + AllocGlobal + Threads + Sync),
     folder: &str,
 ) -> Result<Vec<u8>, Fail> {
     fs::create_dir(rt, folder)?;
-    let mut sink = FolderSink::new(rt.alloc(), rt, folder)?;
+    let sink = FolderSink::new(rt.alloc(), rt, folder)?;
     let mut drives = Vec::new(rt.alloc());
     drives.push(drive(rt.alloc())?)?;
-    let mut text = TEXT;
-    let mut written = Vec::new(rt.alloc());
-    run_extract_into(
-        rt,
-        rt.alloc(),
-        &mut text,
-        &mut drives,
-        &mut written,
-        &mut sink,
-    )?;
-    Ok(written)
+    let mut out = Outputs {
+        writer: Vec::new(rt.alloc()),
+        sink: Some(sink),
+    };
+    let end = extract_text(rt, rt.alloc(), TEXT, &mut drives, &mut out)?;
+    if !matches!(end, RestoreEnd::AllFiles) {
+        return Err(Fail::new("not all files"));
+    }
+    let Outputs { writer, .. } = out;
+    Ok(writer)
 }
 
-/// Whether a file of a folder has the bytes that were saved.
+/// Returns if a file of a folder has the bytes that were saved.
 fn has_saved(rt: &HostRuntime, folder: &str, name: &str) -> Result<bool, Fail> {
     let path = format!(in rt.alloc(); "{folder}/{name}")?;
     let found = fs::read(rt, path.as_str())?;

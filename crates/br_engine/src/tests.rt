@@ -74,27 +74,51 @@ fn a_restore_stops_at_the_first_piece_that_is_refused(rt: HostRuntime) -> Result
     Ok(())
 }
 
-#[test]
-fn the_manifest_goes_behind_what_was_written(rt: HostRuntime) -> Result<(), Fail> {
-    let mut text = b"Volume=V1\n".as_slice();
-    let mut written = Vec::from_slice(rt.alloc(), b"before\n")?;
-    let all = run_extract(&rt, rt.alloc(), &mut text, &mut drives(&rt)?, &mut written)?;
-    assert!(rt; all);
-    let behind = written.get(7..).ok_or("too short")?;
-    assert_eq!(rt; behind, MANIFEST);
+/// Outputs into memory.
+type Memory = Outputs<Vec<u8>, MemSink>;
 
-    let bootstrap = bootstrap(&rt, b"Volume=V1\nStream=2\n")?;
-    let mut written = Vec::new(rt.alloc());
-    let all = extract(&rt, rt.alloc(), &bootstrap, &mut drives(&rt)?, &mut written)?;
-    assert!(rt; !all);
+/// Outputs that hold nothing yet and have no sink.
+fn manifest_only(alloc: Global) -> Memory {
+    Outputs {
+        writer: Vec::new(alloc),
+        sink: None,
+    }
+}
+
+/// Outputs with this sink.
+fn with_sink(alloc: Global, sink: MemSink) -> Memory {
+    Outputs {
+        writer: Vec::new(alloc),
+        sink: Some(sink),
+    }
+}
+
+#[test]
+fn the_manifest_is_appended(rt: HostRuntime) -> Result<(), Fail> {
+    let mut out = manifest_only(rt.alloc());
+    out.writer.extend_from_slice(b"before\n")?;
+    let mut text = b"Volume=V1\n".as_slice();
+    let end = run_extract(&rt, rt.alloc(), &mut text, &mut drives(&rt)?, &mut out)?;
+    assert!(rt; matches!(end, RestoreEnd::AllFiles));
+    let appended = out.writer.get(7..).ok_or("too short")?;
+    assert_eq!(rt; appended, MANIFEST);
+    Ok(())
+}
+
+#[test]
+fn an_outcome_without_a_file_is_a_fault(rt: HostRuntime) -> Result<(), Fail> {
+    let mut out = manifest_only(rt.alloc());
+    let text = b"Volume=V1\nStream=2\n";
+    let end = extract_text(&rt, rt.alloc(), text, &mut drives(&rt)?, &mut out)?;
+    assert!(rt; matches!(end, RestoreEnd::SomeFaults));
     assert_eq!(rt;
-        written.as_slice(),
+        out.writer.as_slice(),
         b"X 1 100 1 63\ntotal 0 1 0\n".as_slice()
     );
     Ok(())
 }
 
-/// Whether this is the file `/a` with the bytes `hello`, alone.
+/// Returns if this is the file `/a` with the bytes `hello`, alone.
 fn are_hello(alloc: Global, items: &[Item]) -> Result<bool, Fail> {
     match items {
         [item] => {
@@ -106,41 +130,26 @@ fn are_hello(alloc: Global, items: &[Item]) -> Result<bool, Fail> {
 }
 
 #[test]
-fn the_files_are_put_behind_the_manifest(rt: HostRuntime) -> Result<(), Fail> {
+fn the_files_are_delivered_after_the_manifest(rt: HostRuntime) -> Result<(), Fail> {
     let bootstrap = bootstrap(&rt, b"Volume=V1\n")?;
-    let (mut written, mut sink) = (Vec::new(rt.alloc()), MemSink::new(rt.alloc()));
-    let mut drives = drives(&rt)?;
-    let all = extract_into(
-        &rt,
-        rt.alloc(),
-        &bootstrap,
-        &mut drives,
-        &mut written,
-        &mut sink,
-    )?;
-    assert!(rt; all);
-    assert_eq!(rt; written.as_slice(), MANIFEST);
+    let mut out = with_sink(rt.alloc(), MemSink::new(rt.alloc()));
+    let end = extract(&rt, rt.alloc(), &bootstrap, &mut drives(&rt)?, &mut out)?;
+    assert!(rt; matches!(end, RestoreEnd::AllFiles));
+    assert_eq!(rt; out.writer.as_slice(), MANIFEST);
+    let sink = out.sink.as_ref().ok_or("a sink")?;
     assert!(rt; are_hello(rt.alloc(), sink.items())?);
     Ok(())
 }
 
 #[test]
-fn a_delivery_stops_behind_the_manifest(rt: HostRuntime) -> Result<(), Fail> {
+fn a_delivery_stops_after_the_manifest(rt: HostRuntime) -> Result<(), Fail> {
     let mut text = b"Volume=V1\n".as_slice();
-    let (mut written, mut sink) = (Vec::new(rt.alloc()), MemSink::failing_at(rt.alloc(), 1));
-    let mut drives = drives(&rt)?;
-    let run = run_extract_into(
-        &rt,
-        rt.alloc(),
-        &mut text,
-        &mut drives,
-        &mut written,
-        &mut sink,
-    );
+    let mut out = with_sink(rt.alloc(), MemSink::failing_at(rt.alloc(), 1));
+    let end = run_extract(&rt, rt.alloc(), &mut text, &mut drives(&rt)?, &mut out)?;
     let mut line = Vec::new(rt.alloc());
-    run.err().ok_or("a stop")?.push_line(&mut line)?;
+    end.push_line(&mut line)?;
     assert_eq!(rt; line.as_slice(), b"refused 80\n".as_slice());
-    assert_eq!(rt; written.as_slice(), MANIFEST);
+    assert_eq!(rt; out.writer.as_slice(), MANIFEST);
     Ok(())
 }
 
@@ -193,7 +202,7 @@ fn each_fault_has_its_number_and_line(rt: HostRuntime) -> Result<(), Fail> {
     Ok(())
 }
 
-/// What can be neither read nor written.
+/// A stream that can be neither read nor written.
 #[derive(Drop)]
 struct Broken;
 
@@ -214,20 +223,27 @@ impl Write for Broken {
 }
 
 #[test]
-fn reading_or_writing_fails(rt: HostRuntime) -> Result<(), Fail> {
-    let mut written = Vec::new(rt.alloc());
+fn reading_fails(rt: HostRuntime) -> Result<(), Fail> {
+    let mut out = manifest_only(rt.alloc());
     let mut text = b"Volume=V1\n".as_slice().chain(Broken);
-    let run = run_extract(&rt, rt.alloc(), &mut text, &mut drives(&rt)?, &mut written);
+    let run = run_extract(&rt, rt.alloc(), &mut text, &mut drives(&rt)?, &mut out);
     assert!(rt; matches!(&run, Err(ExtractFault::Io(_))));
-    assert!(rt; written.is_empty());
+    assert!(rt; out.writer.is_empty());
+    Ok(())
+}
 
-    let mut text = b"Volume=V1\n".as_slice();
-    let run = run_extract(&rt, rt.alloc(), &mut text, &mut drives(&rt)?, &mut Broken);
+#[test]
+fn writing_fails(rt: HostRuntime) -> Result<(), Fail> {
+    let mut out = Outputs {
+        writer: Broken,
+        sink: Some(MemSink::new(rt.alloc())),
+    };
+    let run = extract_text(&rt, rt.alloc(), b"Volume=V1\n", &mut drives(&rt)?, &mut out);
     assert!(rt; matches!(&run, Err(ExtractFault::Io(_))));
     Ok(())
 }
 
-/// What takes bytes and can't be flushed.
+/// A stream that takes bytes and can't be flushed.
 #[derive(Drop)]
 struct Clogged;
 
@@ -242,19 +258,14 @@ impl Write for Clogged {
 }
 
 #[test]
-fn nothing_is_put_where_the_manifest_is_not_flushed(rt: HostRuntime) -> Result<(), Fail> {
-    let bootstrap = bootstrap(&rt, b"Volume=V1\n")?;
-    let mut sink = MemSink::new(rt.alloc());
-    let mut drives = drives(&rt)?;
-    let run = extract_into(
-        &rt,
-        rt.alloc(),
-        &bootstrap,
-        &mut drives,
-        &mut Clogged,
-        &mut sink,
-    );
+fn nothing_is_delivered_if_the_manifest_is_not_flushed(rt: HostRuntime) -> Result<(), Fail> {
+    let mut out = Outputs {
+        writer: Clogged,
+        sink: Some(MemSink::new(rt.alloc())),
+    };
+    let run = extract_text(&rt, rt.alloc(), b"Volume=V1\n", &mut drives(&rt)?, &mut out);
     assert!(rt; matches!(&run, Err(ExtractFault::Io(_))));
+    let sink = out.sink.as_ref().ok_or("a sink")?;
     assert!(rt; sink.items().is_empty());
     Ok(())
 }

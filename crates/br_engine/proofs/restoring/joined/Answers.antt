@@ -1,4 +1,4 @@
-use Rattle.std.proofs.Common.{◌≡◌, ℕ, Bool, [], map, ap, ◌∙◌}
+use Rattle.std.proofs.Common.{ℕ, Bool, [], map, ap, ◌∙◌}
 use Rattle.std.specs.List.{list_all}
 use Rattle.std.specs.FinMap.{entries}
 use Rattle.br_join.specs.Joining.{Joining}

@@ -1,0 +1,40 @@
+ghost use Rattle.std.specs.Prelude.{◌≡◌, ◌++◌, OnOk};
+ghost use Rattle.br_engine.specs.Outputs.{end_text};
+
+use crate::fault::push_refused_line;
+use br_sink::SinkStop;
+use std::alloc::AllocError;
+
+/// What a restore writes to.
+#[derive(Drop)]
+pub struct Outputs<W, S> {
+    /// Takes the manifest.
+    pub writer: W,
+    /// Takes the restored files, if they are to be delivered.
+    pub sink: Option<S>,
+}
+
+/// How a restore ended that wrote its manifest.
+#[derive(Debug, Drop)]
+pub enum RestoreEnd {
+    /// Each outcome is a file, and all of them were delivered if there is a sink.
+    AllFiles,
+    /// Some outcome is no file; all files were delivered if there is a sink.
+    SomeFaults,
+    /// The delivery stopped.
+    Stopped(SinkStop),
+}
+
+impl RestoreEnd {
+    /// Appends the line `refused N` of a delivery that stopped, and nothing otherwise.
+    ///
+    /// If memory runs out, a part of the line may have been appended.
+    pub fn push_line(&self, text: &mut Vec<u8>) -> Result<(), AllocError>
+        ensures { OnOk result (text.new.items ≡ text.old.items ++ end_text self.now) }
+    {
+        match self {
+            RestoreEnd::AllFiles | RestoreEnd::SomeFaults => Ok(()),
+            RestoreEnd::Stopped(stop) => push_refused_line(text, stop.number()),
+        }
+    }
+}
