@@ -1,0 +1,2 @@
+pub mod FindLaws
+pub mod WrapLaws

@@ -1,0 +1,7 @@
+use Rattle.br_explain.proofs.refusal.explain.Goals as goal
+
+pub returns-clause-known : goal.returns-clause-known
+returns-clause-known c = c.row_in.ensures.known
+
+pub returns-clause-number : goal.returns-clause-number
+returns-clause-number c = c.row_in.ensures.number
