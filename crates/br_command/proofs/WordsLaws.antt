@@ -8,7 +8,7 @@ use Rattle.std.proofs.lemmas.Bool.{le-leb, leb-true, true≢false}
 use Rattle.clap.specs.Kinds.{FailsBy, HasKind}
 use Rattle.clap.specs.Faults.{fault_of, is_simple_and_free}
 use Rattle.clap.specs.Simple.{App, HasMatchesOf, app_of, app_of_fields, is_simple, new_app, on_top, with_rule, with_subcommand, subcommand_rows, subcommand_rows_of}
-use Rattle.clap.specs.Walk.{Rule, Text, rows_of, rule_of}
+use Rattle.clap.specs.Walk.{Rule, Text, one_of, rows_of, rule_of}
 use Rattle.clap.specs.Built.{AddsArg, AddsSubcommand}
 use Rattle.clap.specs.Matches.{ReadsOne, found_of, one_text}
 use Rattle.clap.specs.Values.{IsUnsignedIn, kind_of}
@@ -28,14 +28,14 @@ use Rattle.clap.proofs.FaultLemmas.{first_fails}
 use Rattle.clap.proofs.WalkLemmas.{both, one_text-rows}
 use Rattle.clap.proofs.ValueTestLemmas.{Accepts-accepts, accepts-Accepts}
 use Rattle.clap.proofs.OnLiterals.{clap_on_literals}
-use Rattle.br_command.specs.Words.{Asked, asked_by, console_app, console_jobs_app, console_start_app, drive_count, drives_asked, extract_app, program_app, value_rule, words_asked, words_fault}
+use Rattle.br_command.specs.Words.{Asked, asked_by, console_app, console_jobs_app, console_start_app, explain_app, extract_app, number_in, program_app, restoring_app, value_rule, words_asked, words_fault}
 
 program_is_simple : is_simple program_app ≡ true
-unfolding program_app extract_app console_start_app console_jobs_app console_app clap_on_literals
+unfolding program_app restoring_app explain_app extract_app console_start_app console_jobs_app console_app clap_on_literals
 program_is_simple = refl
 
 program_is_free : is_simple_and_free program_app ≡ true
-unfolding program_app extract_app console_start_app console_jobs_app console_app clap_on_literals
+unfolding program_app restoring_app explain_app extract_app console_start_app console_jobs_app console_app clap_on_literals
 program_is_free = refl
 
 -- what clap finds in words is what they ask for
@@ -81,54 +81,53 @@ module _ {Z : Type 0} where
       let r : rows_of (found_of p.1.now) ≡ rows_of (found_of (out-SubCommand (box_value b)).matches) = cc in
       rw (n, r) refl
 
--- the number, where it is one of drives
-abbrev pub in_bounds : ℕ → Option ℕ
-in_bounds n = if nat_le 1 n && nat_le n 16 then Some n else None
+-- the number, if it is from `low` to `high`
+abbrev pub in_bounds : ℕ → ℕ → ℕ → Option ℕ
+in_bounds low high n = if nat_le low n && nat_le n high then Some n else None
 
-pub bounds_kept : (n : ℕ) → 1 ≤ n → n ≤ 16 → in_bounds n ≡ Some n
-bounds_kept n least most = rw (le-leb _ _ least, le-leb _ _ most) refl
+pub bounds_kept : (low high n : ℕ) → low ≤ n → n ≤ high → in_bounds low high n ≡ Some n
+bounds_kept low high n least most = rw (le-leb _ _ least, le-leb _ _ most) refl
 
-pub bounds_missed : (n : ℕ) → (1 ≤ n → n ≤ 16 → ⊥) → in_bounds n ≡ None
-bounds_missed n out = go (nat_le 1 n && nat_le n 16) refl
+pub bounds_missed : (low high n : ℕ) → (low ≤ n → n ≤ high → ⊥) → in_bounds low high n ≡ None
+bounds_missed low high n out = go (nat_le low n && nat_le n high) refl
   where
-    go : (b : Bool) → (nat_le 1 n && nat_le n 16) ≡ b → in_bounds n ≡ None
+    go : (b : Bool) → (nat_le low n && nat_le n high) ≡ b → in_bounds low high n ≡ None
     go false e = rw e refl
     go true e =
         let p = both _ _ e in
         absurd (out (leb-true _ _ p.0) (leb-true _ _ p.1))
 
--- a number that was read of a text is the number of drives that the text is, where it is one of drives
-module _ {E : Type 0} (G : Text → Result ℕ E → Type 0) (only : (u : Text) (r : Result ℕ E) → G u r → ParsesUnsigned 64 10 u r) where
-  count_read : (text : Text) (r : Option ℕ) → ReadsOne G text r → drive_count text ≡ option_and_then in_bounds r
-  count_read text r h = go (is_unsigned_in 1 16 text) refl r h
+-- a number that was read of a text is the number that the text is, if it is within the bounds
+module _ {E : Type 0} (low high : ℕ) (G : Text → Result ℕ E → Type 0) (only : (u : Text) (r : Result ℕ E) → G u r → ParsesUnsigned 64 10 u r) where
+  number_found : (text : Text) (r : Option ℕ) → ReadsOne G text r → number_in low high text ≡ option_and_then (in_bounds low high) r
+  number_found text r h = go (is_unsigned_in low high text) refl r h
     where
-      go : (b : Bool) → is_unsigned_in 1 16 text ≡ b → (r : Option ℕ) → ReadsOne G text r → drive_count text ≡ option_and_then in_bounds r
+      go : (b : Bool) → is_unsigned_in low high text ≡ b → (r : Option ℕ) → ReadsOne G text r → number_in low high text ≡ option_and_then (in_bounds low high) r
       go true e (Some n) h =
-          let a : IsUnsignedIn 1 16 text = accepts-Accepts false (Unsigned 1 16) text e in
+          let a : IsUnsignedIn low high text = accepts-Accepts false (Unsigned low high) text e in
           let p = only text (Ok n) h in
-          rw (e, p.1) (sym (bounds_kept _ a.2 a.3))
+          rw (e, p.1) (sym (bounds_kept low high _ a.2 a.3))
       go true e None h =
-          let a : IsUnsignedIn 1 16 text = accepts-Accepts false (Unsigned 1 16) text e in
+          let a : IsUnsignedIn low high text = accepts-Accepts false (Unsigned low high) text e in
           absurd (only text (Err h.0) h.1 (a.0, a.1))
       go false e (Some n) h =
           let p = only text (Ok n) h in
-          let never : 1 ≤ n → n ≤ 16 → ⊥ = λ least most.
-          true≢false (sym (Accepts-accepts false (Unsigned 1 16) text (p.0.0, p.0.1, subst (λ m. 1 ≤ m) p.1 least, subst (λ m. m ≤ 16) p.1 most)) ∙ e) in
-          rw e (sym (bounds_missed n never))
+          let never : low ≤ n → n ≤ high → ⊥ = λ least most.
+          true≢false (sym (Accepts-accepts false (Unsigned low high) text (p.0.0, p.0.1, subst (λ m. low ≤ m) p.1 least, subst (λ m. m ≤ high) p.1 most)) ∙ e) in
+          rw e (sym (bounds_missed low high n never))
       go false e None h = rw e refl
 
 -- the same of what `get_one` reads
-pub drives_read : (f : Found) (r : Option ℕ) → (one_text f (codes "drives") ≡ None → r ≡ None)
-    → ((text : Text) → one_text f (codes "drives") ≡ Some text
-    → ReadsOne (λ bs n. ParsesUnsigned 64 10 bs n × ExplainsUnsignedError 10 bs n × HasUnsignedDigitsIfOk bs n) text r)
-    → drives_asked (rows_of f) ≡ option_and_then in_bounds r
-unfolding drives_asked
-drives_read f r none value = ap (option_and_then drive_count) (sym (one_text-rows f (codes "drives"))) ∙ go (one_text f (codes "drives")) refl
+pub number_read : (low high : ℕ) (name : Text) (f : Found) (r : Option ℕ) → (one_text f name ≡ None → r ≡ None)
+    → ((text : Text) → one_text f name ≡ Some text → ReadsOne (λ bs n. ParsesUnsigned 64 10 bs n × ExplainsUnsignedError 10 bs n × HasUnsignedDigitsIfOk bs n) text r)
+    → option_and_then (number_in low high) (one_of name (rows_of f)) ≡ option_and_then (in_bounds low high) r
+number_read low high name f r none value = ap (option_and_then (number_in low high)) (sym (one_text-rows f name)) ∙ go (one_text f name) refl
   where
-    go : (o : Option Text) → one_text f (codes "drives") ≡ o → option_and_then drive_count o ≡ option_and_then in_bounds r
+    go : (o : Option Text) → one_text f name ≡ o → option_and_then (number_in low high) o ≡ option_and_then (in_bounds low high) r
     go None e = rw (none e) refl
     go (Some text) e =
-        count_read (λ bs n. ParsesUnsigned 64 10 bs n × ExplainsUnsignedError 10 bs n × HasUnsignedDigitsIfOk bs n) (λ u n h. h.0) text r (value text e)
+        number_found low high (λ bs n. ParsesUnsigned 64 10 bs n × ExplainsUnsignedError 10 bs n × HasUnsignedDigitsIfOk bs n) (λ u n h. h.0) text r
+        (value text e)
 
 -- two options more
 pub two_added : (start first last : Command) (one two : Arg) (app : App) (r s : Rule) → app_of start ≡ app → AddsArg start one first → AddsArg first two last
@@ -137,7 +136,7 @@ pub two_added : (start first last : Command) (one two : Arg) (app : App) (r s : 
 two_added start first last one two app r s is adds adds_too one_is one_local two_is two_local =
     adds_too.shape two_local ∙ ap₂ with_rule (adds.shape one_local ∙ ap₂ with_rule is one_is) two_is
 
--- the options of `console` that have to be there, behind the first two
+-- the required options of `console`, after the first two
 pub console_jobs_added : (start first second last : Command) (client fileset before : Arg) → app_of start ≡ console_start_app
     → AddsArg start client first → AddsArg first fileset second → AddsArg second before last
     → rule_of client ≡ value_rule (codes "client") true → client.global ≡ false
@@ -156,17 +155,11 @@ with_version = on_top (λ s. record s { has_version = true })
 pub of_version : (f g : Command-F Command) (version : Bor Text) → g ≡ record f { version = Some version } → app_of_fields g ≡ with_version (app_of_fields f)
 of_version f g version is = ap app_of_fields is
 
--- the program by its three commands
-pub program_added : (start first second last extract console serve : Command) → app_of start ≡ with_version (new_app (codes "brestore"))
-    → AddsSubcommand start extract first → AddsSubcommand first console second → AddsSubcommand second serve last
-    → app_of extract ≡ extract_app → (out-Command extract).has_globals ≡ false
-    → app_of console ≡ console_app → (out-Command console).has_globals ≡ false
-    → app_of serve ≡ new_app (codes "serve") → (out-Command serve).has_globals ≡ false
-    → app_of last ≡ program_app
-unfolding program_app
-program_added start first second last extract console serve named one two three extract_is extract_local console_is console_local serve_is serve_local =
-    three.shape serve_local
-    ∙ ap₂ with_subcommand
-    (two.shape console_local
-    ∙ ap₂ with_subcommand (one.shape extract_local ∙ ap₂ with_subcommand named (ap (λ (a : App). a.top) extract_is)) (ap (λ (a : App). a.top) console_is))
-    (ap (λ (a : App). a.top) serve_is)
+-- two commands more
+pub two_commands : (start first last one two : Command) (app one_app two_app : App) → app_of start ≡ app
+    → AddsSubcommand start one first → AddsSubcommand first two last
+    → app_of one ≡ one_app → (out-Command one).has_globals ≡ false → app_of two ≡ two_app → (out-Command two).has_globals ≡ false
+    → app_of last ≡ with_subcommand (with_subcommand app one_app.top) two_app.top
+two_commands start first last one two app one_app two_app is adds adds_too one_is one_local two_is two_local =
+    adds_too.shape two_local
+    ∙ ap₂ with_subcommand (adds.shape one_local ∙ ap₂ with_subcommand is (ap (λ (a : App). a.top) one_is)) (ap (λ (a : App). a.top) two_is)

@@ -1,5 +1,5 @@
 -- What the words of a command line ask for, by the definitions of clap.
-use Rattle.std.specs.Prelude.{if◌then◌else◌, ℕ, ◌≤◌, ⊤, List, [], ◌∷◌, Bool, bytes_eq, codes, is_some, Option, Some, None, option_and_then, option_map, false, true}
+use Rattle.std.specs.Prelude.{◌≡◌, if◌then◌else◌, ℕ, ◌≤◌, ⊤, List, [], ◌∷◌, Bool, bytes_eq, codes, is_some, Option, Some, None, option_and_then, option_map, false, true}
 use Rattle.std.specs.Str.Parse.{digits_value, without_leading_plus}
 use Rattle.clap.specs.Kinds.{Kinds, or_else}
 use Rattle.clap.specs.Simple.{App, new_app, new_rule, on_top, subcommand_of, with_rule, with_subcommand}
@@ -9,30 +9,36 @@ use Rattle.clap.specs.Faults.{fault_of}
 use Rattle.clap.specs.declared.builder.action.ArgAction.TheVariants.{Set}
 use Rattle.clap.specs.declared.builder.value_parser.ValueParser.TheVariants.{NonEmptyString, Unsigned}
 use Rattle.clap.specs.declared.error.kind.ErrorKind.TheVariants.{MissingRequiredArgument}
-use Rattle.br_command.specs.declared.words.Request.{Request}
-use Rattle.br_command.specs.declared.words.Request.TheVariants as requests
+use Rattle.clap.specs.Simple.{subcommand_rows_of}
+use Rattle.clap.specs.declared.parser.matches.ArgMatches.{ArgMatches}
+use Rattle.br_command.specs.declared.words.Invocation.{Invocation}
+use Rattle.br_command.specs.declared.words.Invocation.TheVariants as commands
 
--- a command of the program: a script; a bootstrap's file, the folder of the volumes, the folder to deliver into, if any, and how many
--- drives read at once; or a catalogue's file, the folder of the volumes, client, file set and moment, and the same two
+-- a command of the program: a script; a bootstrap's file, the folder of the volumes, the folder to write into, if any, and the number
+-- of drives; a catalogue's file, the folder of the volumes, client, file set and moment, and the same two; a number; all numbers
 pub data Asked : Type 0 where
   Serve : Asked
   Extract : Text → Text → Option Text → ℕ → Asked
   Console : Text → Text → Text → Text → Text → Option Text → ℕ → Asked
+  Explain : ℕ → Asked
+  ExplainAll : Asked
 
 -- what the program holds of a command line
-abbrev pub asked : Request → Asked
-asked requests.Serve = Serve
-asked (requests.Extract bsr volumes into drives) = Extract bsr.now volumes.now (option_map (λ s. s.now) into) drives
-asked (requests.Console given) =
-    Console given.db.now given.volumes.now given.client.now given.fileset.now given.before.now (option_map (λ s. s.now) given.into) given.drives
+abbrev pub asked : Invocation → Asked
+asked commands.Serve = Serve
+asked (commands.Extract o) = Extract o.bsr.now o.volumes.now (option_map (λ s. s.now) o.into) o.drives
+asked (commands.Console o) =
+    Console o.db.now o.volumes.now o.client.now o.fileset.now o.before.now (option_map (λ s. s.now) o.into) o.drives
+asked (commands.Explain number) = Explain number
+asked commands.ExplainAll = ExplainAll
 
--- from 1 to 16 drives read at once, where a command reads volumes
-abbrev pub HasDrives : Request → Type 0
-HasDrives requests.Serve = ⊤
-HasDrives (requests.Extract bsr volumes into drives) = (1 ≤ drives) × (drives ≤ 16)
-HasDrives (requests.Console given) = (1 ≤ given.drives) × (given.drives ≤ 16)
+-- from 1 to 16 drives read at once, if the command reads volumes
+abbrev pub HasDrives : Invocation → Type 0
+HasDrives (commands.Extract o) = (1 ≤ o.drives) × (o.drives ≤ 16)
+HasDrives (commands.Console o) = (1 ≤ o.drives) × (o.drives ≤ 16)
+HasDrives _ = ⊤
 
--- an option `--name VALUE` with a value that is not empty, and whether it has to be there
+-- an option `--name VALUE` whose value may not be empty, and whether it is required
 abbrev pub value_rule : Text → Bool → Rule
 value_rule name is_required = record (new_rule name) {
   long = Some name;
@@ -42,7 +48,7 @@ value_rule name is_required = record (new_rule name) {
   required = is_required;
 }
 
--- `--drives N`, a number from 1 to 16, which is 1 where the option is left out
+-- `--drives N`, a number from 1 to 16, which is 1 if the option is left out
 abbrev pub drives_rule : Rule
 drives_rule = record (value_rule (codes "drives") false) { parser = Some (Unsigned 1 16); defaults = codes "1" ∷ [] }
 
@@ -69,29 +75,49 @@ console_jobs_app =
 unfoldable pub console_app : App
 console_app = with_run_rules console_jobs_app
 
--- the program has a version, and the commands `extract`, `console` and `serve`
-unfoldable pub program_app : App
-program_app =
+-- a number after the command, which may be left out
+abbrev pub number_rule : Rule
+number_rule = record (new_rule (codes "number")) { action = Some Set; value_names = 1; parser = Some (Unsigned 0 4294967295) }
+
+-- `explain [N]`
+unfoldable pub explain_app : App
+explain_app = with_rule (new_app (codes "explain")) number_rule
+
+-- the program with its version and the commands `extract` and `console`
+unfoldable pub restoring_app : App
+restoring_app =
     with_subcommand
-    (with_subcommand
-    (with_subcommand (on_top (λ s. record s { has_version = true }) (new_app (codes "brestore")))
-    extract_app.top)
-    console_app.top)
-    (new_app (codes "serve")).top
+    (with_subcommand (on_top (λ s. record s { has_version = true }) (new_app (codes "brestore"))) extract_app.top)
+    console_app.top
 
--- the number of drives that a text is, if it is one from 1 to 16
-abbrev pub drive_count : Text → Option ℕ
-drive_count text = if is_unsigned_in 1 16 text then Some (digits_value 10 (without_leading_plus text)) else None
+-- the program also has the commands `explain` and `serve`
+unfoldable pub program_app : App
+program_app = with_subcommand (with_subcommand restoring_app explain_app.top) (new_app (codes "serve")).top
 
--- how many drives read at once, by the values that were found for the options
+-- the number that a text is, if it is one from `low` to `high`
+abbrev pub number_in : ℕ → ℕ → Text → Option ℕ
+number_in low high text = if is_unsigned_in low high text then Some (digits_value 10 (without_leading_plus text)) else None
+
+-- the number of drives, by the values that were found for the options
 unfoldable pub drives_asked : List Row → Option ℕ
-drives_asked rows = option_and_then drive_count (one_of (codes "drives") rows)
+drives_asked rows = option_and_then (number_in 1 16) (one_of (codes "drives") rows)
+
+-- the number to explain
+unfoldable pub number_asked : List Row → Option ℕ
+number_asked rows = option_and_then (number_in 0 4294967295) (one_of (codes "number") rows)
+
+-- the command `explain` by the value that was found, if any
+unfoldable pub explain_asked : List Row → Option Asked
+explain_asked rows =
+    if is_some (first_of (codes "number") rows) then option_map Explain (number_asked rows)
+    else Some ExplainAll
 
 -- the command `extract` by the values that were found for its options
 unfoldable pub extract_asked : List Row → Option Asked
 extract_asked rows =
     option_and_then (λ bsr.
-    option_and_then (λ volumes. option_map (Extract bsr volumes (first_of (codes "into") rows)) (drives_asked rows)) (first_of (codes "volumes") rows))
+    option_and_then (λ volumes. option_map (Extract bsr volumes (first_of (codes "into") rows)) (drives_asked rows))
+    (first_of (codes "volumes") rows))
     (first_of (codes "bsr") rows)
 
 -- the command `console` by the values that were found for its options
@@ -114,6 +140,7 @@ asked_by None = Some Serve
 asked_by (Some (name, rows)) =
     if bytes_eq name (codes "extract") then extract_asked rows
     else if bytes_eq name (codes "console") then console_asked rows
+    else if bytes_eq name (codes "explain") then explain_asked rows
     else if bytes_eq name (codes "serve") then Some Serve
     else None
 
@@ -121,7 +148,11 @@ asked_by (Some (name, rows)) =
 unfoldable pub words_asked : List Text → Option Asked
 words_asked words = asked_by (subcommand_of program_app words)
 
--- the kinds of fault that words have, none where they are taken
+-- the words ask for the command that was found in them
+abbrev pub AsksFor : List Text → ArgMatches → Type 0
+AsksFor words found = words_asked words ≡ asked_by (subcommand_rows_of found)
+
+-- the kinds of fault that words have, none if they are taken
 unfoldable pub words_fault : List Text → Kinds
 words_fault words =
     or_else (fault_of program_app words)

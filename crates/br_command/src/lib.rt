@@ -1,8 +1,8 @@
-//! The command line of the program: its commands and options, by clap, and what the words of one ask for.
+//! The command line of the program, read by clap: its commands and options, and what the words of a command line ask for.
 #![tactic(auto)]
 
 #[cfg(test)]
 mod tests;
 mod words;
 
-pub use words::{Given, Request, read_words};
+pub use words::{ConsoleOptions, ExtractOptions, Invocation, read_words};

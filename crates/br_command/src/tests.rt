@@ -1,9 +1,9 @@
-use crate::words::{Given, Request, read_words};
+use crate::words::{ConsoleOptions, ExtractOptions, Invocation, read_words};
 use clap::error::ErrorKind;
 use std::alloc::Global;
 use std::test::Fail;
 
-/// The words of a command line, of which the first is the program's name.
+/// Returns the words of a command line, of which the first is the program's name.
 fn words_of(alloc: Global, line: &str) -> Result<Vec<String>, Fail> {
     let mut words = Vec::new(alloc);
     for word in line.split(' ') {
@@ -12,17 +12,17 @@ fn words_of(alloc: Global, line: &str) -> Result<Vec<String>, Fail> {
     Ok(words)
 }
 
-/// How many drives a command line asks for, if it asks for any.
+/// Returns the number of drives that a command line asks for, if it reads volumes.
 fn drives_of(alloc: Global, line: &str) -> Result<Option<usize>, Fail> {
     let words = words_of(alloc, line)?;
     match read_words(alloc, &words) {
-        Ok(Request::Extract { drives, .. }) => Ok(Some(drives)),
-        Ok(Request::Console(given)) => Ok(Some(given.drives)),
+        Ok(Invocation::Extract(options)) => Ok(Some(options.drives)),
+        Ok(Invocation::Console(options)) => Ok(Some(options.drives)),
         _ => Ok(None),
     }
 }
 
-/// What a command line is not taken for, if it is not taken.
+/// Returns the kind of fault of a command line and its exit status, if it is refused.
 fn fault_of(alloc: Global, line: &str) -> Result<Option<(ErrorKind, i32)>, Fail> {
     let words = words_of(alloc, line)?;
     match read_words(alloc, &words) {
@@ -31,7 +31,22 @@ fn fault_of(alloc: Global, line: &str) -> Result<Option<(ErrorKind, i32)>, Fail>
     }
 }
 
-/// The first of the command lines that asks for another number of drives, or for none.
+/// Returns the first of the command lines that is not read as this.
+fn first_other<'l>(
+    alloc: Global,
+    lines: &[&'l str],
+    invocation: &Invocation<'_>,
+) -> Result<Option<&'l str>, Fail> {
+    for line in lines {
+        let words = words_of(alloc, *line)?;
+        if read_words(alloc, &words).ok() != Some(*invocation) {
+            return Ok(Some(*line));
+        }
+    }
+    Ok(None)
+}
+
+/// Returns the first of the command lines that asks for another number of drives, or for none.
 fn first_with_others<'l>(
     alloc: Global,
     lines: &[&'l str],
@@ -45,7 +60,7 @@ fn first_with_others<'l>(
     Ok(None)
 }
 
-/// The first of the command lines that is taken, or refused with an error of another kind.
+/// Returns the first of the command lines that is taken, or refused with an error of another kind.
 fn first_with_another_fault<'l>(
     alloc: Global,
     lines: &[&'l str],
@@ -59,95 +74,107 @@ fn first_with_another_fault<'l>(
     Ok(None)
 }
 
-#[test]
-fn a_script_is_asked_for(rt: HostRuntime) -> Result<(), Fail> {
-    for line in ["brestore", "brestore serve"] {
-        let words = words_of(rt.alloc(), line)?;
-        let request = read_words(rt.alloc(), &words).ok();
-        assert_eq!(rt; request, Some(Request::Serve), "{line}");
+/// Returns the first of the command lines whose exit status is not 2.
+fn first_taken<'l>(alloc: Global, lines: &[&'l str]) -> Result<Option<&'l str>, Fail> {
+    for line in lines {
+        match fault_of(alloc, *line)? {
+            Some((_, 2)) => {}
+            _ => return Ok(Some(*line)),
+        }
     }
+    Ok(None)
+}
+
+const EXTRACT: ExtractOptions<'static> = ExtractOptions {
+    bsr: "x.bsr",
+    volumes: "sets/V",
+    into: None,
+    drives: 1,
+};
+
+const EXTRACT_INTO: ExtractOptions<'static> = ExtractOptions {
+    into: Some("e"),
+    ..EXTRACT
+};
+
+const CONSOLE: ConsoleOptions<'static> = ConsoleOptions {
+    db: "j.db",
+    volumes: "d",
+    client: "mars",
+    fileset: "home",
+    before: "2026-11-22",
+    into: None,
+    drives: 1,
+};
+
+const CONSOLE_INTO: ConsoleOptions<'static> = ConsoleOptions {
+    into: Some("e"),
+    ..CONSOLE
+};
+
+const EXTRACT_LINES: [&str; 2] = [
+    "brestore extract --bsr x.bsr --volumes sets/V",
+    "brestore extract --volumes=sets/V --bsr=x.bsr",
+];
+
+const EXTRACT_INTO_LINES: [&str; 2] = [
+    "brestore extract --bsr x.bsr --volumes sets/V --into e",
+    "brestore extract --into=e --volumes sets/V --bsr x.bsr",
+];
+
+const CONSOLE_LINES: [&str; 2] = [
+    "brestore console --db j.db --volumes d --client mars --fileset home --before 2026-11-22",
+    "brestore console --before=2026-11-22 --fileset=home --client=mars --volumes=d --db=j.db",
+];
+
+const CONSOLE_INTO_LINES: [&str; 2] = [
+    "brestore console --db j.db --volumes d --client mars --fileset home --before 2026-11-22 --into e",
+    "brestore console --into=e --before=2026-11-22 --fileset=home --client=mars --volumes=d --db=j.db",
+];
+
+#[test]
+fn scripts_and_explanations_are_asked_for(rt: HostRuntime) -> Result<(), Fail> {
+    let serve = first_other(
+        rt.alloc(),
+        &["brestore", "brestore serve"],
+        &Invocation::Serve,
+    )?;
+    let one = first_other(
+        rt.alloc(),
+        &["brestore explain 13"],
+        &Invocation::Explain(13),
+    )?;
+    let greatest = first_other(
+        rt.alloc(),
+        &["brestore explain 4294967295"],
+        &Invocation::Explain(4_294_967_295),
+    )?;
+    let all = first_other(rt.alloc(), &["brestore explain"], &Invocation::ExplainAll)?;
+    assert_eq!(rt; serve, None);
+    assert_eq!(rt; one, None);
+    assert_eq!(rt; greatest, None);
+    assert_eq!(rt; all, None);
     Ok(())
 }
 
 #[test]
-fn a_bootstrap_is_asked_for(rt: HostRuntime) -> Result<(), Fail> {
-    let extract = Request::Extract {
-        bsr: "x.bsr",
-        volumes: "sets/V",
-        into: None,
-        drives: 1,
-    };
-    for line in [
-        "brestore extract --bsr x.bsr --volumes sets/V",
-        "brestore extract --volumes=sets/V --bsr=x.bsr",
-    ] {
-        let words = words_of(rt.alloc(), line)?;
-        let request = read_words(rt.alloc(), &words).ok();
-        assert_eq!(rt; request, Some(extract), "{line}");
-    }
-    Ok(())
-}
-
-#[test]
-fn a_folder_to_deliver_into_is_asked_for(rt: HostRuntime) -> Result<(), Fail> {
-    let extract = Request::Extract {
-        bsr: "x",
-        volumes: "d",
-        into: Some("e"),
-        drives: 1,
-    };
-    for line in [
-        "brestore extract --bsr x --volumes d --into e",
-        "brestore extract --into=e --volumes d --bsr x",
-    ] {
-        let words = words_of(rt.alloc(), line)?;
-        let request = read_words(rt.alloc(), &words).ok();
-        assert_eq!(rt; request, Some(extract), "{line}");
-    }
-    Ok(())
-}
-
-#[test]
-fn a_console_is_asked_for(rt: HostRuntime) -> Result<(), Fail> {
-    let console = Request::Console(Given {
-        db: "j.db",
-        volumes: "d",
-        client: "mars",
-        fileset: "home",
-        before: "2026-11-22",
-        into: None,
-        drives: 1,
-    });
-    for line in [
-        "brestore console --db j.db --volumes d --client mars --fileset home --before 2026-11-22",
-        "brestore console --before=2026-11-22 --fileset=home --client=mars --volumes=d --db=j.db",
-    ] {
-        let words = words_of(rt.alloc(), line)?;
-        let request = read_words(rt.alloc(), &words).ok();
-        assert_eq!(rt; request, Some(console), "{line}");
-    }
-    Ok(())
-}
-
-#[test]
-fn a_console_that_delivers_is_asked_for(rt: HostRuntime) -> Result<(), Fail> {
-    let console = Request::Console(Given {
-        db: "j.db",
-        volumes: "d",
-        client: "mars",
-        fileset: "home",
-        before: "2026-11-22",
-        into: Some("e"),
-        drives: 1,
-    });
-    for line in [
-        "brestore console --db j.db --volumes d --client mars --fileset home --before 2026-11-22 --into e",
-        "brestore console --into=e --before=2026-11-22 --fileset=home --client=mars --volumes=d --db=j.db",
-    ] {
-        let words = words_of(rt.alloc(), line)?;
-        let request = read_words(rt.alloc(), &words).ok();
-        assert_eq!(rt; request, Some(console), "{line}");
-    }
+fn restores_are_asked_for(rt: HostRuntime) -> Result<(), Fail> {
+    let extract = first_other(rt.alloc(), &EXTRACT_LINES, &Invocation::Extract(EXTRACT))?;
+    let extract_into = first_other(
+        rt.alloc(),
+        &EXTRACT_INTO_LINES,
+        &Invocation::Extract(EXTRACT_INTO),
+    )?;
+    let console = first_other(rt.alloc(), &CONSOLE_LINES, &Invocation::Console(CONSOLE))?;
+    let console_into = first_other(
+        rt.alloc(),
+        &CONSOLE_INTO_LINES,
+        &Invocation::Console(CONSOLE_INTO),
+    )?;
+    assert_eq!(rt; extract, None);
+    assert_eq!(rt; extract_into, None);
+    assert_eq!(rt; console, None);
+    assert_eq!(rt; console_into, None);
     Ok(())
 }
 
@@ -184,7 +211,7 @@ fn several_drives_are_asked_for(rt: HostRuntime) -> Result<(), Fail> {
 }
 
 #[test]
-fn other_numbers_of_drives_are_refused(rt: HostRuntime) -> Result<(), Fail> {
+fn other_numbers_are_refused(rt: HostRuntime) -> Result<(), Fail> {
     let lines = [
         "brestore extract --bsr x --volumes d --drives 0",
         "brestore extract --bsr x --volumes d --drives 17",
@@ -195,6 +222,8 @@ fn other_numbers_of_drives_are_refused(rt: HostRuntime) -> Result<(), Fail> {
         "brestore console --db j --volumes d --client c --fileset f --before b --drives 17",
         "brestore console --db j --volumes d --client c --fileset f --before b --drives x",
         "brestore console --db j --volumes d --client c --fileset f --before b --drives=",
+        "brestore explain x",
+        "brestore explain 4294967296",
     ];
     let other = first_with_another_fault(rt.alloc(), &lines, ErrorKind::ValueValidation)?;
     assert_eq!(rt; other, None);
@@ -202,7 +231,7 @@ fn other_numbers_of_drives_are_refused(rt: HostRuntime) -> Result<(), Fail> {
 }
 
 #[test]
-fn drives_are_named_once_and_where_volumes_are_read(rt: HostRuntime) -> Result<(), Fail> {
+fn drives_are_named_once_and_if_volumes_are_read(rt: HostRuntime) -> Result<(), Fail> {
     let twice = [
         "brestore extract --bsr x --volumes d --drives 2 --drives 3",
         "brestore console --drives=2 --db j --volumes d --client c --fileset f --before b --drives=2",
@@ -217,35 +246,37 @@ fn drives_are_named_once_and_where_volumes_are_read(rt: HostRuntime) -> Result<(
     Ok(())
 }
 
+const REFUSED: [&str; 24] = [
+    "brestore x",
+    "brestore --bsr x",
+    "brestore serve x",
+    "brestore extract",
+    "brestore extract --bsr x",
+    "brestore extract --bsr x --volumes",
+    "brestore extract --bsr= --volumes d",
+    "brestore extract --bsr x --volumes=",
+    "brestore extract --bsr x --volumes d e",
+    "brestore extract --bsr x --volumes d --bsr y",
+    "brestore extract --bsr x --volumes d --into=",
+    "brestore extract --bsr x --volumes d --into e --into f",
+    "brestore console",
+    "brestore console --db j.db --volumes d --client mars --fileset home",
+    "brestore console --db j.db --volumes d --client mars --before 2026-11-22",
+    "brestore console --db j.db --volumes d --fileset home --before 2026-11-22",
+    "brestore console --db j.db --client mars --fileset home --before 2026-11-22",
+    "brestore console --volumes d --client mars --fileset home --before 2026-11-22",
+    "brestore console --db j.db --volumes d --client= --fileset home --before 2026-11-22",
+    "brestore console --db j.db --volumes d --client mars --fileset home --before 2026-11-22 --bsr x",
+    "brestore console --db j.db --volumes d --client mars --fileset home --before 2026-11-22 --into=",
+    "brestore console --db j.db --volumes d --client mars --fileset home --into e",
+    "brestore explain 13 14",
+    "brestore explain --bsr x",
+];
+
 #[test]
 fn other_words_are_refused(rt: HostRuntime) -> Result<(), Fail> {
-    for line in [
-        "brestore x",
-        "brestore --bsr x",
-        "brestore serve x",
-        "brestore extract",
-        "brestore extract --bsr x",
-        "brestore extract --bsr x --volumes",
-        "brestore extract --bsr= --volumes d",
-        "brestore extract --bsr x --volumes=",
-        "brestore extract --bsr x --volumes d e",
-        "brestore extract --bsr x --volumes d --bsr y",
-        "brestore extract --bsr x --volumes d --into=",
-        "brestore extract --bsr x --volumes d --into e --into f",
-        "brestore console",
-        "brestore console --db j.db --volumes d --client mars --fileset home",
-        "brestore console --db j.db --volumes d --client mars --before 2026-11-22",
-        "brestore console --db j.db --volumes d --fileset home --before 2026-11-22",
-        "brestore console --db j.db --client mars --fileset home --before 2026-11-22",
-        "brestore console --volumes d --client mars --fileset home --before 2026-11-22",
-        "brestore console --db j.db --volumes d --client= --fileset home --before 2026-11-22",
-        "brestore console --db j.db --volumes d --client mars --fileset home --before 2026-11-22 --bsr x",
-        "brestore console --db j.db --volumes d --client mars --fileset home --before 2026-11-22 --into=",
-        "brestore console --db j.db --volumes d --client mars --fileset home --into e",
-    ] {
-        let fault = fault_of(rt.alloc(), line)?.ok_or("a fault")?;
-        assert_eq!(rt; fault.1, 2, "{line}");
-    }
+    let taken = first_taken(rt.alloc(), &REFUSED)?;
+    assert_eq!(rt; taken, None);
     Ok(())
 }
 
@@ -256,6 +287,7 @@ fn help_is_given(rt: HostRuntime) -> Result<(), Fail> {
         ("brestore help", ErrorKind::DisplayHelp),
         ("brestore extract --help", ErrorKind::DisplayHelp),
         ("brestore console --help", ErrorKind::DisplayHelp),
+        ("brestore explain --help", ErrorKind::DisplayHelp),
         ("brestore --version", ErrorKind::DisplayVersion),
     ] {
         let answer = fault_of(rt.alloc(), line)?;

@@ -3,44 +3,62 @@ ghost use Rattle.std.specs.Prelude.{◌≡◌, ◌≤◌, codes, Some, true, fal
 ghost use Rattle.clap.specs.Walk.{first_of};
 ghost use Rattle.clap.specs.Words.{FailsBy, app_of, fault_of, found_of, rows_of, rule_of, subcommand_rows_of};
 ghost use Rattle.clap.specs.declared.builder.command.Command.TheViews.{out-Command as fields_of};
-ghost use Rattle.br_command.specs.Words.{HasDrives, asked, asked_by, console_app, console_asked, console_jobs_app, console_start_app, drives_asked, drives_rule, extract_app, extract_asked, program_app, value_rule, with_run_rules, words_asked, words_fault};
+ghost use Rattle.br_command.specs.Words.{AsksFor, HasDrives, asked, asked_by, console_app, console_asked, console_jobs_app, console_start_app, drives_asked, drives_rule, explain_app, explain_asked, extract_app, extract_asked, number_asked, number_rule, program_app, restoring_app, value_rule, with_run_rules, words_asked, words_fault};
 
 use clap::builder::ValueParser;
 use clap::error::ErrorKind;
 use clap::{Arg, ArgAction, ArgMatches, Command, Error};
 use std::alloc::{AllocError, Global};
 
-/// What the command line gives to the console: the file of the catalogue, the folder of the volumes, client, file set and moment as
-/// text, the folder to deliver into, if any, and how many drives read the volumes at once, from 1 to 16.
+/// The options of `extract`.
 #[derive(Clone, Copy, Debug, PartialEq, Eq)]
-pub struct Given<'a> {
-    pub db: &'a str,
+pub struct ExtractOptions<'a> {
+    /// The file of the bootstrap.
+    pub bsr: &'a str,
+    /// The folder of the volumes.
     pub volumes: &'a str,
-    pub client: &'a str,
-    pub fileset: &'a str,
-    pub before: &'a str,
+    /// The folder to write the restored files into.
     pub into: Option<&'a str>,
+    /// The number of drives that read the volumes at once, from 1 to 16.
     pub drives: usize,
 }
 
-/// A command of the program.
+/// The options of `console`.
 #[derive(Clone, Copy, Debug, PartialEq, Eq)]
-pub enum Request<'a> {
-    /// Works off a script from standard input.
-    Serve,
-    /// Runs the bootstrap in the file `bsr` over the volumes in the folder `volumes`, and delivers into the folder `into`, if any.
-    /// `drives` says how many drives read the volumes at once, from 1 to 16.
-    Extract {
-        bsr: &'a str,
-        volumes: &'a str,
-        into: Option<&'a str>,
-        drives: usize,
-    },
-    /// Talks about the jobs of a catalogue, restores what was marked, and delivers it, if asked to.
-    Console(Given<'a>),
+pub struct ConsoleOptions<'a> {
+    /// The file of the catalogue.
+    pub db: &'a str,
+    /// The folder of the volumes.
+    pub volumes: &'a str,
+    pub client: &'a str,
+    pub fileset: &'a str,
+    /// The moment, as text.
+    pub before: &'a str,
+    /// The folder to write the restored files into.
+    pub into: Option<&'a str>,
+    /// The number of drives that read the volumes at once, from 1 to 16.
+    pub drives: usize,
 }
 
-/// An option `--name VALUE` with a value that is not empty, and whether it has to be there.
+/// A command of the program with its options.
+#[derive(Clone, Copy, Debug, PartialEq, Eq)]
+pub enum Invocation<'a> {
+    /// Runs a script from standard input.
+    Serve,
+    /// Runs a bootstrap over the volumes of a folder.
+    Extract(ExtractOptions<'a>),
+    /// Runs a console session over the jobs of a catalogue, and restores what was marked.
+    Console(ConsoleOptions<'a>),
+    /// Explains the number of a refusal or of an outcome.
+    Explain(u32),
+    /// Explains all numbers.
+    ExplainAll,
+}
+
+/// The greatest number that `explain` takes.
+const GREATEST_NUMBER: u64 = 4_294_967_295;
+
+/// Returns an option `--name VALUE`, whose value may not be empty.
 fn value_option<'a>(
     alloc: Global,
     name: &'a str,
@@ -60,7 +78,7 @@ fn value_option<'a>(
         .help(help)
 }
 
-/// The option for the folder to deliver into, which may be left out.
+/// Returns the option for the folder to write into, which may be left out.
 fn into_option<'a>(alloc: Global) -> Arg<'a>
     ensures rule { rule_of result ≡ value_rule (codes "into") false }
     ensures local { result.global ≡ false }
@@ -70,11 +88,11 @@ fn into_option<'a>(alloc: Global) -> Arg<'a>
         "into",
         "DIR",
         false,
-        "An empty folder into which the restored files are put",
+        "The empty folder to write the restored files into",
     )
 }
 
-/// The option for how many drives read the volumes at once, which is 1 where it is left out.
+/// Returns the option for the number of drives, which is 1 if it is left out.
 fn drives_option<'a>(alloc: Global) -> Arg<'a>
     ensures rule { rule_of result ≡ drives_rule }
     ensures local { result.global ≡ false }
@@ -85,10 +103,10 @@ fn drives_option<'a>(alloc: Global) -> Arg<'a>
         .value_parser(ValueParser::Unsigned(1, 16))
         .action(ArgAction::Set)
         .default_value("1")
-        .help("How many drives read the volumes at once, 1 to 16")
+        .help("The number of drives that read the volumes at once, 1 to 16")
 }
 
-/// The command with the options of a run, which may be left out: the folder to deliver into, and how many drives read at once.
+/// Returns the command with the two options of a restore that may be left out, `--into` and `--drives`.
 fn with_run_options<'a>(alloc: Global, command: Command<'a>) -> Result<Command<'a>, AllocError>
     requires { (fields_of command).has_globals ≡ false }
     ensures app { IfOk result (λ r. app_of r ≡ with_run_rules (app_of command.entry)) }
@@ -99,7 +117,7 @@ fn with_run_options<'a>(alloc: Global, command: Command<'a>) -> Result<Command<'
     command.arg(into)?.arg(drives)
 }
 
-/// `extract` and its options.
+/// Returns `extract` with its options.
 fn extract_command<'a>(alloc: Global) -> Result<Command<'a>, AllocError>
     ensures app { IfOk result (λ command. app_of command ≡ extract_app) }
     ensures local { IfOk result (λ command. (fields_of command).has_globals ≡ false) }
@@ -107,13 +125,13 @@ fn extract_command<'a>(alloc: Global) -> Result<Command<'a>, AllocError>
     let bsr = value_option(alloc, "bsr", "FILE", true, "The file of the bootstrap");
     let volumes = value_option(alloc, "volumes", "DIR", true, "The folder of the volumes");
     let command = Command::new(alloc, "extract")
-        .about("Runs a bootstrap over the volumes of a folder and prints the manifest")
+        .about("Restores the files of a bootstrap from a folder of volumes")
         .arg(bsr)?
         .arg(volumes)?;
     with_run_options(alloc, command)
 }
 
-/// An option of the console, which has to be there.
+/// Returns an option of the console that is required.
 fn console_option<'a>(alloc: Global, name: &'a str, value: &'a str, help: &'a str) -> Arg<'a>
     ensures rule { rule_of result ≡ value_rule name.entry.now true }
     ensures local { result.global ≡ false }
@@ -121,7 +139,7 @@ fn console_option<'a>(alloc: Global, name: &'a str, value: &'a str, help: &'a st
     value_option(alloc, name, value, true, help)
 }
 
-/// `console` with its options for what is read.
+/// Returns `console` with the options for what is read.
 fn console_start<'a>(alloc: Global) -> Result<Command<'a>, AllocError>
     ensures app { IfOk result (λ command. app_of command ≡ console_start_app) }
     ensures local { IfOk result (λ command. (fields_of command).has_globals ≡ false) }
@@ -129,28 +147,28 @@ fn console_start<'a>(alloc: Global) -> Result<Command<'a>, AllocError>
     let db = console_option(alloc, "db", "FILE", "The file of the catalogue");
     let volumes = console_option(alloc, "volumes", "DIR", "The folder of the volumes");
     Command::new(alloc, "console")
-        .about("Lets you mark files as they were at a moment, and restores them")
+        .about("Marks files as they were at a moment, and restores them")
         .arg(db)?
         .arg(volumes)
 }
 
-/// `console` with its options that have to be there.
+/// Returns `console` with its required options.
 fn console_jobs<'a>(alloc: Global) -> Result<Command<'a>, AllocError>
     ensures app { IfOk result (λ command. app_of command ≡ console_jobs_app) }
     ensures local { IfOk result (λ command. (fields_of command).has_globals ≡ false) }
 {
-    let client = console_option(alloc, "client", "NAME", "The client that was saved");
-    let fileset = console_option(alloc, "fileset", "NAME", "The file set that was saved");
+    let client = console_option(alloc, "client", "NAME", "The name of the client");
+    let fileset = console_option(alloc, "fileset", "NAME", "The name of the file set");
     let before = console_option(
         alloc,
         "before",
         "MOMENT",
-        "Only jobs that began before YYYY-MM-DD HH:MM:SS, in UTC",
+        "Uses only jobs that began before YYYY-MM-DD HH:MM:SS, in UTC",
     );
     console_start(alloc)?.arg(client)?.arg(fileset)?.arg(before)
 }
 
-/// `console` and its options.
+/// Returns `console` with its options.
 #[tactic(auto, unfolding(crate::specs::Words::console_app))]
 fn console_command<'a>(alloc: Global) -> Result<Command<'a>, AllocError>
     ensures app { IfOk result (λ command. app_of command ≡ console_app) }
@@ -159,31 +177,69 @@ fn console_command<'a>(alloc: Global) -> Result<Command<'a>, AllocError>
     with_run_options(alloc, console_jobs(alloc)?)
 }
 
-/// The program's commands.
-fn program<'a>(alloc: Global) -> Result<Command<'a>, AllocError>
-    ensures { IfOk result (λ command. app_of command ≡ program_app) }
+/// Returns the argument for the number to explain, which may be left out.
+fn number_argument<'a>(alloc: Global) -> Arg<'a>
+    ensures rule { rule_of result ≡ number_rule }
+    ensures local { result.global ≡ false }
+{
+    Arg::new(alloc, "number")
+        .value_name("N")
+        .value_parser(ValueParser::Unsigned(0, GREATEST_NUMBER))
+        .action(ArgAction::Set)
+        .help("The number to explain; all numbers if it is left out")
+}
+
+/// Returns `explain` with its argument.
+fn explain_command<'a>(alloc: Global) -> Result<Command<'a>, AllocError>
+    ensures app { IfOk result (λ command. app_of command ≡ explain_app) }
+    ensures local { IfOk result (λ command. (fields_of command).has_globals ≡ false) }
+{
+    let number = number_argument(alloc);
+    Command::new(alloc, "explain")
+        .about("Says what a refusal number means and what to do next")
+        .arg(number)
+}
+
+/// Returns the program with its commands that restore.
+fn restoring<'a>(alloc: Global) -> Result<Command<'a>, AllocError>
+    ensures app { IfOk result (λ command. app_of command ≡ restoring_app) }
+    ensures local { IfOk result (λ command. (fields_of command).has_globals ≡ false) }
 {
     let extract = extract_command(alloc)?;
     let console = console_command(alloc)?;
-    let serve = Command::new(alloc, "serve").about(
-        "Works off a script from standard input, as with no command",
-    );
     Command::new(alloc, "brestore")
         .about("Restores files from Bacula volumes")
         .version("0.1.0")
         .subcommand(extract)?
-        .subcommand(console)?
-        .subcommand(serve)
+        .subcommand(console)
 }
 
-/// What was found for an option, if anything.
+/// Returns the program with its commands.
+fn program<'a>(alloc: Global) -> Result<Command<'a>, AllocError>
+    ensures { IfOk result (λ command. app_of command ≡ program_app) }
+{
+    let explain = explain_command(alloc)?;
+    let serve = Command::new(alloc, "serve").about(
+        "Runs a script from standard input, as with no command",
+    );
+    restoring(alloc)?.subcommand(explain)?.subcommand(serve)
+}
+
+/// Returns what was found for an option.
 fn value_of<'a>(found: &ArgMatches<'a>, name: &str) -> Option<&'a str>
     ensures { option_map (λ s. s.now) result ≡ first_of name.now (rows_of (found_of found.now)) }
 {
     found.get_str(name)
 }
 
-/// How many drives were asked for, if that is a number from 1 to 16.
+/// Returns the folder to write into that was found, if any.
+fn into_of<'a>(found: &ArgMatches<'a>) -> Option<&'a str>
+    ensures { option_map (λ s. s.now) result ≡ first_of (codes "into") (rows_of (found_of found.now)) }
+{
+    value_of(found, "into")
+}
+
+/// Returns the number of drives that was found, if it is from 1 to 16.
 fn drives_of(found: &ArgMatches<'_>) -> Option<usize>
     ensures asked { result ≡ drives_asked (rows_of (found_of found.now)) }
     ensures drives { IfSome result (λ drives. (1 ≤ drives) × (drives ≤ 16)) }
@@ -196,87 +252,110 @@ fn drives_of(found: &ArgMatches<'_>) -> Option<usize>
     }
 }
 
-/// The command `extract` by what was found for its options, if all that have to be there were.
+/// Returns the number to explain that was found.
+fn number_of(found: &ArgMatches<'_>) -> Option<u32>
+    ensures { result ≡ number_asked (rows_of (found_of found.now)) }
+{
+    let number = found.get_one::<usize>("number")?;
+    match u32::try_from(number) {
+        Ok(number) => Some(number),
+        Err(_) => None,
+    }
+}
+
+/// Returns `extract` with the options that were found, if all that are required were.
 #[tactic(auto, unfolding(crate::specs::Words::extract_asked))]
-fn extract_request<'a>(found: &ArgMatches<'a>) -> Option<Request<'a>>
+fn extract_found<'a>(found: &ArgMatches<'a>) -> Option<Invocation<'a>>
     ensures asked { option_map asked result ≡ extract_asked (rows_of (found_of found.now)) }
     ensures drives { IfSome result HasDrives }
 {
-    let bsr = value_of(found, "bsr")?;
-    let volumes = value_of(found, "volumes")?;
-    let into = value_of(found, "into");
-    let drives = drives_of(found)?;
-    Some(Request::Extract {
-        bsr,
-        volumes,
-        into,
-        drives,
-    })
+    Some(Invocation::Extract(ExtractOptions {
+        bsr: value_of(found, "bsr")?,
+        volumes: value_of(found, "volumes")?,
+        into: into_of(found),
+        drives: drives_of(found)?,
+    }))
 }
 
-/// The command `console` by what was found for its options, if all that have to be there were.
+/// Returns `console` with the options that were found, if all that are required were.
 #[tactic(auto, unfolding(crate::specs::Words::console_asked))]
-fn console_request<'a>(found: &ArgMatches<'a>) -> Option<Request<'a>>
+fn console_found<'a>(found: &ArgMatches<'a>) -> Option<Invocation<'a>>
     ensures asked { option_map asked result ≡ console_asked (rows_of (found_of found.now)) }
     ensures drives { IfSome result HasDrives }
 {
-    Some(Request::Console(Given {
+    Some(Invocation::Console(ConsoleOptions {
         db: value_of(found, "db")?,
         volumes: value_of(found, "volumes")?,
         client: value_of(found, "client")?,
         fileset: value_of(found, "fileset")?,
         before: value_of(found, "before")?,
-        into: value_of(found, "into"),
+        into: into_of(found),
         drives: drives_of(found)?,
     }))
 }
 
-/// The name of the subcommand that was found, and what was found for its options.
+/// Returns `explain` with the number that was found, if any.
+#[tactic(auto, unfolding(crate::specs::Words::explain_asked))]
+fn explain_found<'a>(found: &ArgMatches<'a>) -> Option<Invocation<'a>>
+    ensures asked { option_map asked result ≡ explain_asked (rows_of (found_of found.now)) }
+    ensures drives { IfSome result HasDrives }
+{
+    match value_of(found, "number") {
+        None => Some(Invocation::ExplainAll),
+        Some(_) => Some(Invocation::Explain(number_of(found)?)),
+    }
+}
+
+/// Returns the name of the subcommand that was found, and what was found for its options.
 fn found_command<'m, 'a>(matches: &'m ArgMatches<'a>) -> Option<(&'a str, &'m ArgMatches<'a>)>
     ensures { subcommand_rows_of matches.now ≡ option_map (λ p. (p.0.now, rows_of (found_of p.1.now))) result }
 {
     matches.subcommand()
 }
 
-/// The command that was found, if each of its options was.
+/// Returns the command that was found, if all its required options were.
 #[tactic(auto, unfolding(crate::specs::Words::asked_by))]
-fn request_of<'a>(matches: &ArgMatches<'a>) -> Option<Request<'a>>
+fn invocation_of<'a>(matches: &ArgMatches<'a>) -> Option<Invocation<'a>>
     ensures asked { option_map asked result ≡ asked_by (subcommand_rows_of matches.now) }
     ensures drives { IfSome result HasDrives }
 {
     match found_command(matches) {
-        None => Some(Request::Serve),
-        Some((name, found)) if name == "extract" => extract_request(found),
-        Some((name, found)) if name == "console" => console_request(found),
-        Some((name, _)) if name == "serve" => Some(Request::Serve),
+        None => Some(Invocation::Serve),
+        Some((name, found)) if name == "extract" => extract_found(found),
+        Some((name, found)) if name == "console" => console_found(found),
+        Some((name, found)) if name == "explain" => explain_found(found),
+        Some((name, _)) if name == "serve" => Some(Invocation::Serve),
         Some(_) => None,
     }
 }
 
-/// What clap finds in the words of a command line.
+/// Returns what clap finds in the words of a command line.
 fn parsed<'a>(command: &mut Command<'a>, words: &'a [String]) -> Result<ArgMatches<'a>, Error>
     requires { app_of command.old ≡ program_app }
-    ensures asks { IfOk result (λ found. words_asked (map string_bytes words.entry.now) ≡ asked_by (subcommand_rows_of found)) }
+    ensures asks { IfOk result (AsksFor (map string_bytes words.entry.now)) }
     ensures fails { FailsBy (fault_of program_app (map string_bytes words.entry.now)) result }
 {
     command.try_get_matches_from_mut(words)
 }
 
-/// What the words of a command line ask for, of which the first is the program's name: `extract --bsr FILE --volumes DIR` or
-/// `console --db FILE --volumes DIR --client NAME --fileset NAME --before MOMENT`, which `--into DIR` and `--drives N` may go with, or
-/// `serve`, or nothing, which is the same as `serve`.
+/// Reads the words of a command line, of which the first is the program's name.
 ///
-/// An error is a fault of the command line, with its text for the operator, or a call for help or the version; its kind is
-/// `OutOfMemory` for want of memory.
-pub fn read_words<'a>(alloc: Global, words: &'a [String]) -> Result<Request<'a>, Error>
-    ensures asks { IfOk result (λ request. words_asked (map string_bytes words.entry.now) ≡ Some (asked request)) }
+/// The commands are `extract --bsr FILE --volumes DIR`, `console --db FILE --volumes DIR --client NAME --fileset NAME
+/// --before MOMENT`, `explain [N]` and `serve`. The first two also take `--into DIR` and `--drives N`. No command is the same as
+/// `serve`.
+///
+/// # Errors
+///
+/// A fault of the command line, with its text for the operator; a call for help or for the version; `OutOfMemory`.
+pub fn read_words<'a>(alloc: Global, words: &'a [String]) -> Result<Invocation<'a>, Error>
+    ensures asks { IfOk result (λ invocation. words_asked (map string_bytes words.entry.now) ≡ Some (asked invocation)) }
     ensures fails { FailsBy (words_fault (map string_bytes words.entry.now)) result }
     ensures drives { IfOk result HasDrives }
 {
     let mut command = program(alloc)?;
     let matches = parsed(&mut command, words)?;
-    match request_of(&matches) {
-        Some(request) => Ok(request),
+    match invocation_of(&matches) {
+        Some(invocation) => Ok(invocation),
         None => Err(command.error(ErrorKind::MissingRequiredArgument, "a value is missing")?),
     }
 }

@@ -10,7 +10,7 @@ returns-in_err-matches-clause-fails c =
     rw (p.1, p.2) (of_parse _ c.in_err-matches.field-0.0 c.in_err-matches.ensures.fails)
 
 pub returns-in-Some-clause-fails : goal.returns-in-Some-clause-fails
-returns-in-Some-clause-fails c = no_fault _ (asked c.in-Some.request) c.in_ok-matches.ensures.fails (search rules)
+returns-in-Some-clause-fails c = no_fault _ (asked c.in-Some.invocation) c.in_ok-matches.ensures.fails (search rules)
 
 pub returns-clause-fails : goal.returns-clause-fails
 returns-clause-fails c = value_missing _ c.in_ok-error-in-None.field-0 c.in_ok-matches.ensures.fails (search rules) (search rules)
