@@ -66,7 +66,7 @@ at_front : {X : Type 0} (xs ys : List X) → (take (length xs) (xs ++ ys) ≡ xs
 at_front [] ys = (refl, refl)
 at_front (x ∷ xs) ys = let more = at_front xs ys in (ap (λ (zs : List _). x ∷ zs) more.0, more.1)
 
--- the blocks that the first place takes, and those behind them
+-- the blocks that the first place takes, and those after them
 pub visits_cut : (p : Place) (more : List Place) (taken behind : List (List ℕ)) → length taken ≡ share p more (length (taken ++ behind))
     → visits (p ∷ more) (taken ++ behind) ≡ onto_visits (record { volume = p.volume; blocks = taken }) (visits more behind)
 visits_cut p more taken behind is =
@@ -76,7 +76,7 @@ visits_cut p more taken behind is =
     ∙ ap (λ (bs : List (List ℕ)). onto_visits (record { volume = p.volume; blocks = bs }) (visits more (drop (length taken) (taken ++ behind)))) cut.0
     ∙ ap (λ (bs : List (List ℕ)). onto_visits (record { volume = p.volume; blocks = taken }) (visits more bs)) cut.1
 
--- what is made of the elements is cut where these are
+-- the results of a map are cut at the places at which its elements are
 pub images_cut : {X : Type 0} (f : X → List ℕ) (n : ℕ) (xs : List X) → map f xs ≡ map f (take n xs) ++ map f (drop n xs)
 images_cut f n xs = ap (map f) (sym (take-append-drop n xs)) ∙ map-append f (take n xs) (drop n xs)
 

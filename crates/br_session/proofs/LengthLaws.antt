@@ -4,7 +4,7 @@ use Rattle.std.specs.Prelude.{unwrap_or, find, bytes_eq, Option}
 use Rattle.std.specs.Option.{option_map_or}
 use Rattle.br_model.specs.Session.{length_of}
 
--- a length that is put in front of a list
+-- a length before a list
 pub length_put : (before after : Option ℕ) (volume name : List ℕ) (length : ℕ) (list : List (List ℕ × ℕ)) → unwrap_or before 0 ≡ length_of list name
     → after ≡ cond (bytes_eq volume name) (Some length) before → unwrap_or after 0 ≡ length_of ((volume, length) ∷ list) name
 length_put before after volume name length list was is =

@@ -32,7 +32,7 @@ none_above n bound k (f ∷ fs) le = and_none (eqb k n) (ltb n bound) (has_bytes
     and_none true b c d p q = rw (p, q) refl
     and_none false b c d p q = rw q refl
 
--- below the bound it is looked up among the files in front
+-- below the bound it is looked up among the earlier files
 found_at : (n m k bound : ℕ) (front back : List ToSave) → n ≡ k + m → bound ≡ k + length front
     → list_any (is_at n bound) (enumerate_from k (front ++ back)) ≡ option_map_or with_bytes (slice_get front m) false
 found_at n m k bound [] back is end = none_above n bound k back (omega (arith, is, end))
@@ -54,7 +54,7 @@ earlier_is front back (pos zero) = none_below 0 (length front + 1) 1 (front ++ b
 earlier_is front back (pos (suc n)) = found_at (suc n) n 1 (length front + 1) front back (omega arith) (omega arith)
 earlier_is front back (negsuc n) = refl
 
--- the files behind others
+-- the files after others
 linked_from : (front back : List ToSave) → list_all (links_back (enumerate_from 1 (front ++ back))) (enumerate_from (length front + 1) back) ≡ are_linked_back front back
 linked_from front [] = refl
 linked_from front (f ∷ fs) =

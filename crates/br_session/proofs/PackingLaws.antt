@@ -1,4 +1,4 @@
--- Fragments that are put into blocks one by one are a packing of their records.
+-- Fragments that are added to blocks one by one are a packing of their records.
 use Rattle.std.proofs.Common.{◌≡◌, ℕ, ◌+◌, ◌%◌, ◌^◌, ◌<◌, ◌≤◌, true, List, [], ◌∷◌, ◌++◌, length, map, Result, Ok, Err, refl, sym, ap, subst, ◌∙◌, inl, inr, arith, append_assoc, zero, suc, w32, to_z, of_z}
 use Rattle.std.proofs.lemmas.Bool.{cases_lt, eqb-true, eq-eqb, and_parts, and_from}
 use Rattle.std.proofs.Math.IntN.{+ℤ_idl}
@@ -53,7 +53,7 @@ written_more [] f whole within some = (within, some)
 written_more (g ∷ []) f whole within some = (whole.0, written_more [] f tt within some)
 written_more (g ∷ h ∷ more) f whole within some = (whole.0, written_more (h ∷ more) f whole.1 within some)
 
--- one more fragment behind whole ones makes a part, if it fits
+-- one more fragment after whole ones makes a part, if it fits
 pub part_more : (limit : ℕ) (fs : List Fragment) (f : Fragment) → are_whole fs ≡ true → block_size fs + 12 + length f.bytes ≤ limit → length f.bytes ≤ f.size
     → (0 < f.size → 0 < length f.bytes) → IsPart limit (fs ++ f ∷ [])
 part_more limit fs f whole fits within some =
@@ -68,7 +68,7 @@ longer_last limit [] g f gs are part = part
 longer_last limit (b ∷ []) g f gs are part = (are.0, are.1, part)
 longer_last limit (b ∷ d ∷ more) g f gs are part = (are.0, are.1, longer_last limit (d ∷ more) g f gs are.2 part)
 
--- the next block behind the last
+-- the next block after the last
 next_behind : (limit : ℕ) (closed : List (List Fragment)) (last next : List Fragment) → AreClosed limit (closed ++ last ∷ []) → Closes limit last next → IsPart limit next
     → AreClosed limit ((closed ++ last ∷ []) ++ next ∷ [])
 next_behind limit [] last next are closes part = (are, closes, part)
@@ -152,7 +152,7 @@ added_or_not (Err e) before after f limit ok err whole full within =
 
 -- ---- one more record
 
--- behind a cut the first fragment of a record, and then fragments that go on with it
+-- after a cut the first fragment of a record, and then fragments that continue it
 pub begins : (records : List Record) (r : Record) (fs more : List Fragment) (f : Fragment) (after : List ℕ) → IsCut records fs → f.index ≡ pos r.index → f.stream ≡ pos r.stream
     → f.size ≡ length r.bytes → r.bytes ≡ f.bytes ++ after → 1 ≤ r.stream → GoOn r.index r.stream after more → IsCut (records ++ r ∷ []) ((fs ++ f ∷ []) ++ more)
 begins records r fs more f after cut index stream size joined some go =

@@ -61,7 +61,7 @@ unfolding data_records
 no_data index zero bytes none = refl
 no_data index (suc n) bytes none = rw none refl
 
--- a record of data in front
+-- a record of data first
 some_data : (index n : ℕ) (bytes : List ℕ) → 0 < length bytes
     → data_records index (suc n) bytes ≡ record { index = index; stream = 2; bytes = take 65536 bytes } ∷ data_records index n (drop 65536 bytes)
 unfolding data_records

@@ -139,7 +139,7 @@ pub so_far_start : (starts : List (List ℕ × ℕ)) (places : List Place) (bloc
     → SoFar starts places places blocks blocks lengths []
 so_far_start starts places blocks lengths are readable = record { list = starts; are = are; joined = refl; in_time = refl; few = omega arith; readable = readable }
 
--- what stands behind a front can be read where all can
+-- the rest after a front can be read if all can
 readable_parts : (taken behind : List (List ℕ)) → AreReadable (taken ++ behind) → AreReadable taken × AreReadable behind
 readable_parts [] behind h = (tt, h)
 readable_parts (b ∷ bs) behind h = let more = readable_parts bs behind h.1 in ((h.0, more.0), more.1)
@@ -272,7 +272,7 @@ pub so_far_reads : (starts : List (List ℕ × ℕ)) (places left more : List Pl
     → SoFar starts places left blocks rest lengths spans → Takes left more p rest taken behind → AreReadable taken
 so_far_reads starts places left more p blocks rest taken behind lengths spans so_far t = (readable_parts taken behind (subst AreReadable t.cut so_far.readable)).0
 
--- a span that passed ends where one byte more has an address
+-- a span that passed ends so early that one more byte has an address
 pub end_fits : (s u : Span) → checked_span s ≡ Ok u → u.end + 1 < 2 ^ 64
 end_fits s u e =
     let ok = passed s u e in

@@ -1,4 +1,4 @@
--- What a refused file or session says.
+-- The numbers of refused files and sessions.
 use Rattle.std.specs.Prelude.{ℕ, Option, Some, None}
 use Rattle.br_session.specs.declared.fault.SessionFault.{SessionFault}
 use Rattle.br_session.specs.declared.fault.SessionFault.TheVariants.{Memory, TooLarge, BadFileOrder, BadSavedFile, BadRow}
@@ -11,7 +11,7 @@ fault_number BadFileOrder = 16
 fault_number BadSavedFile = 17
 fault_number BadRow = 42
 
--- the refusal that the model has, nothing for want of memory
+-- the refusal that the model decides: none if memory ran out
 abbrev pub cause : SessionFault → Option ℕ
 cause Memory = None
 cause TooLarge = Some 15

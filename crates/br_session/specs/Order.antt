@@ -4,7 +4,7 @@ use Rattle.std.specs.Option.{option_map_or}
 use Rattle.br_model.specs.File.{has_bytes}
 use Rattle.br_model.specs.Session.{ToSave}
 
--- the number is that of a file with bytes among the earlier ones, numbered from 1
+-- the number is that of an earlier file with bytes, numbered from 1
 abbrev pub names_bytes : List ToSave → ℤ → Bool
 names_bytes earlier (pos zero) = false
 names_bytes earlier (pos (suc n)) = option_map_or (λ (f : ToSave). has_bytes f.file.kind) (slice_get earlier n) false
@@ -14,7 +14,7 @@ names_bytes earlier (negsuc n) = false
 abbrev pub link_back : List ToSave → ToSave → Bool
 link_back earlier f = not (f.file.kind == 1) || names_bytes earlier f.file.stat.link_index
 
--- each hard link behind the earlier files names one with bytes before it
+-- each hard link after the earlier files names one with bytes before it
 abbrev pub are_linked_back : List ToSave → List ToSave → Bool
 are_linked_back earlier [] = true
 are_linked_back earlier (f ∷ fs) = link_back earlier f && are_linked_back (earlier ++ f ∷ []) fs

@@ -1,22 +1,32 @@
--- Records that a packer takes one after another.
-use Rattle.std.specs.Prelude.{◌≡◌, ℕ, List, [], ◌∷◌, ◌++◌, if◌then◌else◌}
+-- Records that a packer packs one after another.
+use Rattle.std.specs.Prelude.{◌≡◌, ℕ, List, [], ◌∷◌, ◌++◌, if◌then◌else◌, Ok}
 use Rattle.md5.specs.Md5.{md5}
+use Rattle.br_model.specs.Attribute.{write_attributes}
+use Rattle.br_model.specs.Job.{SavedFile}
 use Rattle.br_model.specs.Record.{Record}
-use Rattle.br_model.specs.Session.{ToSave, has_digest}
+use Rattle.br_model.specs.Session.{ToSave, attributes_of_saved, checked_file, has_digest}
 use Rattle.br_session.specs.declared.packing.Packer.{Packer}
 use Rattle.br_session.specs.Packing.{Packs}
 
--- the packer has packed these records more
+-- the packer has packed these records, too
 pub record Adds (before after : Packer) (more : List Record) : Type 0 where
   pub packs : (records : List Record) → Packs before records → Packs after (records ++ more)
   pub session : after.session ≡ before.session
   pub limit : after.limit ≡ before.limit
 
--- the packer has packed what these records have in front of those that are left
+-- the packer has packed all of these records but those that are left
 pub record AddsUpTo (before after : Packer) (all left : List Record) : Type 0 where
   pub more : List Record
   pub adds : Adds before after more
   pub joined : more ++ left ≡ all
+
+-- the file can be saved
+abbrev pub IsSaved : SavedFile → Type 0
+IsSaved f = checked_file f ≡ Ok f
+
+-- the record of a file's attributes
+abbrev pub attributes_record : ℕ → ToSave → Record
+attributes_record index f = record { index = index; stream = 1; bytes = write_attributes (attributes_of_saved index f.file) }
 
 -- the record of a file's digest, if one is written
 abbrev pub digest_part : ℕ → ToSave → List Record

@@ -1,7 +1,8 @@
--- Blocks that are dealt out to volumes, and the spans of this.
+-- Blocks that are dealt out to volumes, and their spans.
 use Rattle.std.specs.Prelude.{◌≡◌, ℕ, ◌+◌, ◌-◌, ◌^◌, ◌||◌, nat_lt, nat_le, if◌then◌else◌, List, [], ◌∷◌, map, flat_map, min, max, nat_abs, Option, Some, None, unwrap_or, Result, Ok, Err}
 use Rattle.std.specs.List.{AllByRecursion}
 use Rattle.std.specs.Ordering.{nat_cmp}
+use Rattle.std.specs.Global.{Vec}
 use Rattle.std.specs.Cmp.Lexicographic.{slice_cmp}
 use Rattle.std.specs.BTreeMap.{BTreeMap, get_by}
 use Rattle.br_model.specs.Block.{Fragment, read_block}
@@ -9,9 +10,13 @@ use Rattle.br_model.specs.Job.{Span}
 use Rattle.br_model.specs.Session.{Place, Visit, visit_indexes, visit_length, length_of, least_of, greatest_of}
 use denote.Ref.{Bor}
 
+-- the bytes of blocks
+abbrev pub bytes_of : List (Vec ℕ) → List (List ℕ)
+bytes_of blocks = map (λ (b : Vec ℕ). b.items) blocks
+
 -- ---- the lengths of volumes
 
--- the length that a map has at a name, 0 where it has none
+-- the length that a map has at a name; 0 if it has none
 abbrev pub length_at : BTreeMap (Bor (List ℕ)) ℕ → List ℕ → ℕ
 length_at lengths name = unwrap_or (get_by (λ k. slice_cmp nat_cmp name k.now) lengths) 0
 
@@ -36,7 +41,7 @@ with_index (Some range) n = Some (min range.0 n, max range.1 n)
 
 -- ---- places
 
--- how many of the blocks that are left a place takes, before these places
+-- the number of the blocks left that a place takes, if these places follow it
 abbrev pub share : Place → List Place → ℕ → ℕ
 share p [] left = left
 share p (q ∷ more) left = min left p.blocks
@@ -47,7 +52,7 @@ with_volumes vs = flat_map (λ (v : Visit). map (λ block. (v.volume, block)) v.
 
 -- ---- spans
 
--- a number, if it has at most 64 bits
+-- a number, if it fits 64 bits
 abbrev pub within64 : ℕ → Option ℕ
 within64 n = if nat_lt n (2 ^ 64) then Some n else None
 
@@ -62,6 +67,6 @@ span_at number start v = record {
   vol_index = number;
 }
 
--- the span, or 42 where it ends too late or its number is too great
+-- the span, or 42 if it ends too late or its number is too great
 unfoldable pub checked_span : Span → Result Span ℕ
 checked_span s = if nat_lt (2 ^ 63 - 2) s.end || nat_le (2 ^ 32) s.vol_index then Err 42 else Ok s

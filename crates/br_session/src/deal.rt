@@ -8,7 +8,7 @@ use br_types::VolName;
 use std::alloc::{AllocError, Global};
 use std::vec::IntoIter;
 
-/// How many of the blocks that are left a place takes: the number that it has, the last place all.
+/// Returns the number of the blocks left that a place takes: its own number, or all for the last place.
 pub(crate) fn share(place: &Place, more: &[Place], left: usize) -> usize
     ensures same { result ≡ spans.share place.now more.now left }
     ensures within { result ≤ left }
@@ -20,7 +20,7 @@ pub(crate) fn share(place: &Place, more: &[Place], left: usize) -> usize
     }
 }
 
-/// Moves so many blocks to a volume.
+/// Moves `count` blocks to a volume.
 fn deal_to(
     alloc: Global,
     vol: &VolName,
@@ -40,13 +40,14 @@ fn deal_to(
     Ok(())
 }
 
-/// Each block with the volume to which it goes, dealt out over the places.
+/// Returns each block with its volume: the blocks are dealt out over the places.
 pub(crate) fn deal(
     alloc: Global,
     blocks: Vec<Vec<u8>>,
     places: &[Place],
 ) -> Result<Vec<(VolName, Vec<u8>)>, AllocError>
-    ensures { IfOk result (λ placed. map (λ b. (b.0, b.1.items)) placed.items ≡ spans.with_volumes (visits places.now (map (λ b. b.items) blocks.items))) }
+    ensures { IfOk result (λ placed. map (λ b. (b.0, b.1.items)) placed.items
+        ≡ spans.with_volumes (visits places.now (spans.bytes_of blocks.items))) }
 {
     let mut placed = Vec::new(alloc);
     let mut blocks = blocks.into_iter();

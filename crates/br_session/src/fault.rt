@@ -12,17 +12,17 @@ pub enum SessionFault {
     Memory,
     #[error("the file is too large: a saved file has at most 2^30 bytes")]
     TooLarge,
-    #[error("the files are in no order: a hard link names an earlier file of type 2 or 3, and there are fewer than 2^31 files")]
+    #[error("the files are out of order: a hard link must name an earlier file of type 2 or 3, and there must be fewer than 2^31 files")]
     BadFileOrder,
-    #[error("the file cannot be saved: types are 1 to 5, only directories end in /, only type 3 has bytes, and only links have a link text, of at most 4096 bytes without NUL")]
+    #[error("the file cannot be saved: types are 1 to 5, the paths of directories and no others end in /, only type 3 has bytes, and only links have a link text, of at most 4096 bytes without NUL")]
     BadSavedFile,
-    #[error("no row of a catalogue: a span ends before the address 2^63 - 1, and there are fewer than 2^32 spans")]
+    #[error("a span does not fit a catalogue: it must end before the address 2^63 - 1, and there must be fewer than 2^32 spans")]
     BadRow,
 }
 
 impl SessionFault {
-    /// The number of the refusal: 1 want of memory, 15 a file that is too large, 16 files in no order, 17 a file that cannot be
-    /// saved, 42 a span that no catalogue has.
+    /// Returns the number of the refusal: 1 for memory, 15 for a file that is too large, 16 for files
+    /// out of order, 17 for a file that cannot be saved, 42 for a span that does not fit a catalogue.
     pub fn number(self) -> u32
         ensures { result ≡ fault_number self }
     {

@@ -17,14 +17,14 @@ pub(crate) fn set_length<'a>(
     Ok(())
 }
 
-/// The length of a volume, 0 where it has none.
+/// Returns the length of a volume; 0 if it is not in the map.
 pub(crate) fn length_of<'a>(lengths: &BTreeMap<&'a [u8], u64>, vol: &'a VolName) -> u64
     ensures { result ≡ length_at lengths.now vol.now }
 {
     lengths.get(&vol.bytes()).copied().unwrap_or(0)
 }
 
-/// The lengths by name, of which the first for each name counts.
+/// Returns the lengths by name, of which the first for each name counts.
 pub(crate) fn lengths_of(
     alloc: Global,
     starts: &[(VolName, u64)],

@@ -7,10 +7,10 @@ ghost use Rattle.br_session.specs.Order.{names_bytes, link_back, are_linked_back
 use crate::fault::SessionFault;
 use crate::saved::SavedFile;
 
-/// The most files of a session: 2^31 - 1.
+/// The greatest number of files of a session: 2^31 - 1.
 const MAX_FILES: usize = 2_147_483_647;
 
-/// Whether the number is that of a file with bytes among the earlier ones, which are numbered from 1.
+/// Returns whether the number is that of an earlier file with bytes. The files are numbered from 1.
 fn is_file_with_bytes(earlier: &[SavedFile], number: i64) -> bool
     ensures { result ≡ names_bytes earlier.now number }
 {
@@ -20,14 +20,14 @@ fn is_file_with_bytes(earlier: &[SavedFile], number: i64) -> bool
     }
 }
 
-/// Whether the file is no hard link, or one to an earlier file with bytes.
+/// Returns whether the file is not a hard link, or is one to an earlier file with bytes.
 fn is_linked_back(earlier: &[SavedFile], file: &SavedFile) -> bool
     ensures { result ≡ link_back earlier.now file.now }
 {
     file.kind() != 1 || is_file_with_bytes(earlier, file.stat().link_index())
 }
 
-/// Whether each hard link names an earlier file with bytes.
+/// Returns whether each hard link names an earlier file with bytes.
 fn are_all_linked_back(files: &[SavedFile]) -> bool
     ensures { result ≡ are_linked_back [] files.now }
 {
@@ -39,7 +39,12 @@ fn are_all_linked_back(files: &[SavedFile]) -> bool
     true
 }
 
-/// `BadFileOrder` where a hard link names no earlier file with bytes, or there are 2^31 files or more.
+/// Tests the order of files.
+///
+/// # Errors
+///
+/// `BadFileOrder` if a hard link does not name an earlier file with bytes, or there are 2^31 files or
+/// more.
 #[tactic(auto, unfolding(br_model::specs::Session::checked_order))]
 pub(crate) fn check_order(files: &[SavedFile]) -> Result<(), SessionFault>
     ensures same { AnswersAlways (λ _. files.now) fault_number result (checked_order files.now) }

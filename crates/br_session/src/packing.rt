@@ -1,6 +1,8 @@
 ghost use Rattle.std.specs.Prelude.{◌≡◌, ◌≤◌, ◌<◌, ◌^◌, true, map, length, IfOk};
 ghost use Rattle.std.specs.List.{AllByRecursion};
 ghost use Rattle.br_model.specs.Session.{block_size, ArePacked};
+ghost use Rattle.br_block.specs.Building.{IsBlockLimit};
+ghost use Rattle.br_session.specs.Spans.{bytes_of};
 ghost use Rattle.br_session.specs.Whole.{are_whole};
 
 use br_block::{BlockBuilder, Fragment};
@@ -9,18 +11,18 @@ use std::alloc::{AllocError, Global};
 use std::marker::Model;
 use std::mem;
 
-/// The bytes of a block's header.
+/// The number of bytes of a block's header.
 const BLOCK_HEADER_LEN: u32 = 24;
 
-/// The bytes of a record's header, which is never cut.
+/// The number of bytes of a record's header, which is never cut.
 const RECORD_HEADER_LEN: u32 = 12;
 
-/// A record of a file, as a session writes it.
+/// A record of a file, as a session contains it.
 #[derive(Debug, Drop)]
 pub struct Record {
     /// The number of the file in its session.
     pub index: FileIndex,
-    /// What the data is: 1 the file's attributes, 2 its bytes, 3 their MD5 digest.
+    /// The kind of the data: 1 for the file's attributes, 2 for its bytes, 3 for their MD5 digest.
     pub stream: u32,
     /// The data.
     pub bytes: Vec<u8>,
@@ -36,22 +38,22 @@ impl Model for Record {
 
 /// Packs the records of a session in order into blocks, each of at most `limit` bytes.
 ///
-/// A record begins in a block only where its header fits, and with it a byte of its data if it has any: else the block is
-/// closed before. A record that is longer than what is left fills its block up to the limit and goes on in the next one, under
-/// a header with the negated stream and the number of bytes that are still to come. Blocks are not padded.
+/// A record begins in a block only if its header fits, with a byte of its data if it has any. Else the
+/// block is closed first. A record that is longer than the room left fills its block up to the limit
+/// and continues in the next one, after a header with the negated stream and the number of bytes that
+/// are left. Blocks are not padded.
 #[derive(Drop)]
 pub(crate) struct Packer {
     alloc: Global,
     session: SessionKey,
     limit: u32,
-    /// The blocks that are closed.
+    /// The closed blocks.
     blocks: Vec<Vec<u8>>,
-    /// The number of the block that is being written: blocks are counted from 0, modulo 2^32.
+    /// The number of the current block: blocks are numbered from 0, modulo 2^32.
     number: u32,
-    /// The block that is being written; it has no fragment only before the first record.
+    /// The current block. It is without fragments only before the first record.
     current: BlockBuilder,
-    ghost least: { 64 ≤ limit },
-    ghost most: { limit ≤ 64512 },
+    ghost bounds: { IsBlockLimit limit },
     ghost same_session: { current.session ≡ session },
     ghost same_limit: { current.limit ≡ limit },
     ghost whole: { block_size current.fragments < limit → are_whole current.fragments ≡ true },
@@ -63,12 +65,13 @@ impl Packer {
     ghost use Rattle.br_model.specs.Block as model;
     ghost use Rattle.br_model.specs.Record as records;
     ghost use Rattle.br_model.specs.Session.{block_size, ArePacked};
-    ghost use Rattle.br_session.specs.Packing.{HasPut, HasRoom, Packs};
+    ghost use Rattle.br_block.specs.Building.{IsBlockLimit};
+    ghost use Rattle.br_session.specs.Packing.{HasPut, HasRoom, Packs, first_part};
+    ghost use Rattle.br_session.specs.Spans.{bytes_of};
 
-    /// A packer that was given no record. The limit is from 64 to 64,512.
+    /// Makes a packer without records.
     pub(crate) fn new(alloc: Global, session: SessionKey, limit: u32) -> Result<Packer, AllocError>
-        requires least { 64 ≤ limit }
-        requires most { limit ≤ 64512 }
+        requires bounds { IsBlockLimit limit }
         ensures packs { IfOk result (λ packer. Packs packer []) }
         ensures session { IfOk result (λ packer. packer.session ≡ session) }
         ensures limit { IfOk result (λ packer. packer.limit ≡ limit) }
@@ -84,10 +87,11 @@ impl Packer {
         })
     }
 
-    /// Closes the current block where a fragment that says this size may not begin in it.
+    /// Closes the current block if a fragment with this size in its header may not begin in it.
     fn make_room(&mut self, size: u32) -> Result<(), AllocError>
         ensures room { OnOk result (block_size self.new.current.fragments + 12 + min 1 size ≤ self.new.limit) }
-        ensures follows { OnOk result ((fragments : List model.Fragment) → HasPut self.old fragments → HasRoom self.new self.old.current.fragments fragments size) }
+        ensures follows { OnOk result ((fragments : List model.Fragment) → HasPut self.old fragments
+            → HasRoom self.new self.old.current.fragments fragments size) }
         ensures session { self.new.session ≡ self.old.session }
         ensures limit { self.new.limit ≡ self.old.limit }
     {
@@ -102,15 +106,16 @@ impl Packer {
         Ok(())
     }
 
-    /// Puts a fragment with this header and as much of the data as fits, and says how much that is. A fragment that goes on with
-    /// a record begins a block, so the one before is full.
+    /// Adds a fragment with this header and as much of the data as fits. Returns the number of bytes
+    /// added. A fragment that continues a record begins a block, so the block before it is full.
     fn put(&mut self, index: FileIndex, stream: i32, left: &[u8]) -> Result<usize, AllocError>
         requires size { length left.now < 2 ^ 32 }
         requires filled { is_negative stream ≡ true → block_size self.old.current.fragments ≡ self.old.limit }
         ensures within { IfOk result (λ taken. taken ≤ length left.now) }
         ensures some { IfOk result (λ taken. 0 < length left.now → 0 < taken) }
         ensures full { IfOk result (λ taken. taken < length left.now → block_size self.new.current.fragments ≡ self.new.limit) }
-        ensures follows { IfOk result (λ taken. (fragments : List model.Fragment) → HasPut self.old fragments → HasPut self.new (fragments ++ record { session = self.old.session; index = pos index; stream = stream; size = length left.now; bytes = take taken left.now } ∷ [])) }
+        ensures follows { IfOk result (λ taken. (fragments : List model.Fragment) → HasPut self.old fragments
+            → HasPut self.new (fragments ++ first_part self.old.session index stream left.now taken ∷ [])) }
         ensures session { self.new.session ≡ self.old.session }
         ensures limit { self.new.limit ≡ self.old.limit }
     {
@@ -127,8 +132,7 @@ impl Packer {
         Ok(taken)
     }
 
-    /// Packs one more record. Its stream is from 1 to 2^31 - 1, and its data has fewer than 2^32 bytes. After an error, which is
-    /// want of memory, nothing is known of the blocks any more.
+    /// Packs one more record. If memory runs out, nothing is known of the blocks any more.
     pub(crate) fn add(
         &mut self,
         index: FileIndex,
@@ -138,7 +142,8 @@ impl Packer {
         requires stream_from { 1 ≤ stream }
         requires stream_to { stream < 2 ^ 31 }
         requires size { length bytes.now < 2 ^ 32 }
-        ensures packs { OnOk result ((records : List records.Record) → Packs self.old records → Packs self.new (records ++ record { index = index; stream = stream; bytes = bytes.now } ∷ [])) }
+        ensures packs { OnOk result ((records : List records.Record) → Packs self.old records
+            → Packs self.new (records ++ record { index = index; stream = stream; bytes = bytes.now } ∷ [])) }
         ensures session { self.new.session ≡ self.old.session }
         ensures limit { self.new.limit ≡ self.old.limit }
     {
@@ -153,9 +158,10 @@ impl Packer {
         Ok(())
     }
 
-    /// The blocks of the records that were given, none where there was none.
+    /// Returns the blocks of the records. Without records there are none.
     pub(crate) fn finish(self) -> Result<Vec<Vec<u8>>, AllocError>
-        ensures { IfOk result (λ blocks. (records : List records.Record) → Packs self records → ArePacked self.limit self.session records (map (λ b. b.items) blocks.items)) }
+        ensures { IfOk result (λ blocks. (records : List records.Record) → Packs self records
+            → ArePacked self.limit self.session records (bytes_of blocks.items)) }
     {
         let Packer {
             limit,
@@ -171,20 +177,18 @@ impl Packer {
     }
 }
 
-/// The blocks of a session's records, packed in order: of at most `limit` bytes each, which is from 64 to 64,512, and numbered
-/// from 0, modulo 2^32. Each record has a stream from 1 to 2^31 - 1 and fewer than 2^32 bytes of data. The format is the one of
-/// Bacula's Developer's Guide, "Storage Media Output Format". An error is want of memory.
+/// Packs the records of a session in order into blocks of at most `limit` bytes each, numbered from 0,
+/// modulo 2^32. The format is that of Bacula's Developer's Guide, "Storage Media Output Format".
 pub fn pack(
     alloc: Global,
     records: &[Record],
     session: SessionKey,
     limit: u32,
 ) -> Result<Vec<Vec<u8>>, AllocError>
-    requires least { 64 ≤ limit }
-    requires most { limit ≤ 64512 }
+    requires bounds { IsBlockLimit limit }
     requires streams { AllByRecursion (λ r. (1 ≤ r.stream) × (r.stream < 2 ^ 31)) records.now }
     requires sizes { AllByRecursion (λ r. length r.bytes < 2 ^ 32) records.now }
-    ensures { IfOk result (λ blocks. ArePacked limit session records.now (map (λ b. b.items) blocks.items)) }
+    ensures { IfOk result (λ blocks. ArePacked limit session records.now (bytes_of blocks.items)) }
 {
     let mut packer = Packer::new(alloc, session, limit)?;
     for record in records {

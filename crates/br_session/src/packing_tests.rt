@@ -1,4 +1,5 @@
 ghost use Rattle.std.specs.Prelude.{◌≡◌, ◌≤◌, ◌<◌, ◌^◌, length, IfOk};
+ghost use Rattle.br_block.specs.Building.{IsBlockLimit};
 
 use crate::{Record, pack};
 use br_block::Block;
@@ -8,7 +9,7 @@ use std::test::Fail;
 
 const SESSION: SessionKey = SessionKey { id: 1, time: 100 };
 
-/// A record of file 1.
+/// Makes a record of file 1.
 fn record(alloc: Global, stream: u32, bytes: &[u8]) -> Result<Record, Fail>
     ensures stream { IfOk result (λ made. made.stream ≡ stream) }
     ensures bytes { IfOk result (λ made. made.bytes ≡ bytes.now) }
@@ -22,7 +23,7 @@ fn record(alloc: Global, stream: u32, bytes: &[u8]) -> Result<Record, Fail>
     })
 }
 
-/// The blocks of one record of stream 2.
+/// Packs one record of stream 2.
 fn packed(alloc: Global, bytes: &[u8]) -> Result<Vec<Vec<u8>>, Fail>
     requires size { length bytes.now < 2 ^ 32 }
 {
@@ -30,7 +31,7 @@ fn packed(alloc: Global, bytes: &[u8]) -> Result<Vec<Vec<u8>>, Fail>
     Ok(pack(alloc, &[record], SESSION, 64)?)
 }
 
-/// The blocks of two records: of this stream and of the next.
+/// Packs two records: of this stream and of the next.
 fn packed_two(
     alloc: Global,
     stream: u32,
@@ -42,8 +43,7 @@ fn packed_two(
     requires stream_to { stream < 1000 }
     requires first { length first.now < 2 ^ 32 }
     requires second { length second.now < 2 ^ 32 }
-    requires least { 64 ≤ limit }
-    requires most { limit ≤ 64512 }
+    requires bounds { IsBlockLimit limit }
 {
     let records = [
         record(alloc, stream, first)?,
@@ -52,7 +52,7 @@ fn packed_two(
     Ok(pack(alloc, &records, SESSION, limit)?)
 }
 
-/// Whether a block of the session has this number and size and just one fragment.
+/// Returns whether a block of the session has this number, this size and exactly one fragment.
 fn has_head(block: &Block<'_>, number: u32, len: u32) -> bool {
     let head = block.head();
     head.session == SESSION
@@ -61,7 +61,7 @@ fn has_head(block: &Block<'_>, number: u32, len: u32) -> bool {
         && block.fragments().count() == 1
 }
 
-/// Whether a block's fragments are all of file 1, of this stream, size and number of bytes.
+/// Returns whether a block's fragments are all of file 1, of this stream, size and number of bytes.
 fn has_fragment(block: &Block<'_>, stream: i32, size: u32, count: usize) -> bool {
     block.fragments().all(|fragment| {
         fragment.index == 1
@@ -71,8 +71,8 @@ fn has_fragment(block: &Block<'_>, stream: i32, size: u32, count: usize) -> bool
     })
 }
 
-/// Whether a block of the session has this number, this size and just one fragment of file 1, of this stream, size and number of
-/// bytes.
+/// Returns whether the bytes are a block of the session with this number and this size, and exactly one
+/// fragment: of file 1, and of this stream, size and number of bytes.
 fn has_one(bytes: &[u8], number: u32, len: u32, stream: i32, size: u32, count: usize) -> bool {
     match Block::read(bytes) {
         Ok(block) => {
@@ -84,7 +84,7 @@ fn has_one(bytes: &[u8], number: u32, len: u32, stream: i32, size: u32, count: u
     }
 }
 
-/// Whether the blocks are those of a record of 100 bytes.
+/// Returns whether the blocks are those of a record of 100 bytes.
 fn are_four(blocks: &[Vec<u8>]) -> bool {
     match blocks {
         [a, b, c, d] => {
@@ -98,13 +98,13 @@ fn are_four(blocks: &[Vec<u8>]) -> bool {
 }
 
 #[test]
-fn a_long_record_goes_on_from_block_to_block(rt: HostRuntime) -> Result<(), Fail> {
+fn a_long_record_continues_from_block_to_block(rt: HostRuntime) -> Result<(), Fail> {
     let blocks = packed(rt.alloc(), &[b'x'; 100])?;
     assert!(rt; are_four(&blocks));
     Ok(())
 }
 
-/// Whether the blocks are one of a record of 16 bytes and one of a record of a byte.
+/// Returns whether the blocks are one of a record of 16 bytes and one of a record of a byte.
 fn are_two(blocks: &[Vec<u8>]) -> bool {
     match blocks {
         [a, b] => has_one(a, 0, 52, 2, 16, 16) && has_one(b, 1, 37, 3, 1, 1),
@@ -113,14 +113,14 @@ fn are_two(blocks: &[Vec<u8>]) -> bool {
 }
 
 #[test]
-fn a_record_begins_where_a_byte_of_it_fits(rt: HostRuntime) -> Result<(), Fail> {
+fn a_record_begins_if_a_byte_of_it_fits(rt: HostRuntime) -> Result<(), Fail> {
     // The first record leaves 12 bytes.
     let blocks = packed_two(rt.alloc(), 2, b"0123456789abcdef", b"x", 64)?;
     assert!(rt; are_two(&blocks));
     Ok(())
 }
 
-/// Whether these bytes are the only block.
+/// Returns whether these bytes are the only block.
 fn is_only(blocks: &[Vec<u8>], wanted: &[u8]) -> bool {
     match blocks {
         [block] => block.as_slice() == wanted,
@@ -141,7 +141,7 @@ fn a_record_without_data_needs_its_header(rt: HostRuntime) -> Result<(), Fail> {
 }
 
 #[test]
-fn two_records_stand_in_one_block(rt: HostRuntime) -> Result<(), Fail> {
+fn two_records_fit_one_block(rt: HostRuntime) -> Result<(), Fail> {
     let blocks = packed_two(rt.alloc(), 1, b"ab", b"hello", 64_512)?;
     assert!(rt;
         is_only(
@@ -156,7 +156,7 @@ fn two_records_stand_in_one_block(rt: HostRuntime) -> Result<(), Fail> {
 const FULL: &[u8] =
     b"\0\0\0\0\0\0\0\x40\0\0\0\0BB02\0\0\0\x01\0\0\0\x64\0\0\0\x01\0\0\0\x02\0\0\0\x0f0123456789abcde\0\0\0\x01\0\0\0\x03\0\0\0\x02x";
 
-/// Whether the blocks are that one and one with the byte that is left.
+/// Returns whether the blocks are `FULL` and one with the byte that is left.
 fn are_full_and_left(blocks: &[Vec<u8>]) -> bool {
     match blocks {
         [a, b] => a.as_slice() == FULL && has_one(b, 1, 37, -3, 1, 1),

@@ -1,12 +1,13 @@
 use br_types::VolName;
 use std::marker::Model;
 
-/// Where blocks of a session go: some of them to one volume.
+/// A share of the blocks of a session, which goes to one volume.
 #[derive(Debug, Drop)]
 pub struct Place {
     /// The volume.
     pub vol: VolName,
-    /// How many blocks it takes, at least 1. The last place takes all that are left, and has 0.
+    /// The number of blocks that it takes, at least 1. The last place takes all that are left, and may
+    /// have 0.
     pub blocks: u32,
 }
 

@@ -1,9 +1,10 @@
-ghost use Rattle.std.specs.Prelude.{◌≡◌, ◌+◌, ◌/◌, ◌^◌, ◌<◌, ◌≤◌, ◌∷◌, [], length, map, IfOk, OnOk};
+ghost use Rattle.std.specs.Prelude.{◌≡◌, ◌+◌, ◌/◌, ◌^◌, ◌<◌, ◌≤◌, ◌∷◌, [], length, IfOk, OnOk};
 ghost use Rattle.std.specs.List.{AllByRecursion};
-ghost use Rattle.br_model.specs.Attribute as attributes;
-ghost use Rattle.br_model.specs.Session.{attributes_of_saved, data_records, file_records, session_records, ArePacked};
+ghost use Rattle.br_model.specs.Session.{data_records, file_records, session_records, ArePacked};
 ghost use Rattle.br_model.specs.SessionHolds.{IsToSave};
-ghost use Rattle.br_session.specs.Records.{Adds, digest_part};
+ghost use Rattle.br_block.specs.Building.{IsBlockLimit};
+ghost use Rattle.br_session.specs.Records.{Adds, attributes_record, digest_part};
+ghost use Rattle.br_session.specs.Spans.{bytes_of};
 
 use crate::packing::Packer;
 use crate::saved::SavedFile;
@@ -21,7 +22,7 @@ const DATA: u32 = 2;
 /// The stream of an MD5 digest.
 const DIGEST: u32 = 3;
 
-/// The bytes of a data record.
+/// The number of bytes of a data record.
 const DATA_LEN: usize = 65_536;
 
 /// Adds one record.
@@ -41,7 +42,7 @@ fn add_attributes(
     index: FileIndex,
     file: &SavedFile,
 ) -> Result<(), AllocError>
-    ensures records { OnOk result (Adds packer.old packer.new (record { index = index; stream = 1; bytes = attributes.write_attributes (attributes_of_saved index file.now.file) } ∷ [])) }
+    ensures records { OnOk result (Adds packer.old packer.new (attributes_record index file.now ∷ [])) }
     ensures valid { IsToSave file.now }
 {
     let _ = index.get();
@@ -60,7 +61,7 @@ fn add_data(packer: &mut Packer, index: FileIndex, bytes: &[u8]) -> Result<(), A
     Ok(())
 }
 
-/// Adds the record of a file's digest, if one is written.
+/// Adds the record of a file's digest, if it has one.
 fn add_digest(packer: &mut Packer, index: FileIndex, file: &SavedFile) -> Result<(), AllocError>
     ensures { OnOk result (Adds packer.old packer.new (digest_part index file.now)) }
 {
@@ -86,7 +87,7 @@ fn add_file(
     add_digest(packer, index, file)
 }
 
-/// The index with this number.
+/// Makes the index with this number.
 fn index_of(number: u32) -> FileIndex
     requires from_one { 1 ≤ number }
     requires to_greatest { number < 2 ^ 31 }
@@ -95,7 +96,7 @@ fn index_of(number: u32) -> FileIndex
     FileIndex::new(number).unwrap()
 }
 
-/// The blocks of a session of these files.
+/// Packs the records of files into the blocks of a session.
 pub(crate) fn pack(
     alloc: Global,
     files: &[SavedFile],
@@ -103,9 +104,8 @@ pub(crate) fn pack(
     limit: u32,
 ) -> Result<Vec<Vec<u8>>, AllocError>
     requires few { length files.now < 2 ^ 31 }
-    requires least { 64 ≤ limit }
-    requires most { limit ≤ 64512 }
-    ensures packed { IfOk result (λ blocks. ArePacked limit session (session_records files.now) (map (λ b. b.items) blocks.items)) }
+    requires bounds { IsBlockLimit limit }
+    ensures packed { IfOk result (λ blocks. ArePacked limit session (session_records files.now) (bytes_of blocks.items)) }
     ensures valid { OnOk result (AllByRecursion IsToSave files.now) }
 {
     let mut packer = Packer::new(alloc, session, limit)?;

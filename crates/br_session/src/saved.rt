@@ -1,64 +1,48 @@
-ghost use Rattle.std.specs.Prelude.{◌≡◌, ◌==◌, not, IfOk};
-ghost use Rattle.std.specs.List.{list_all};
+ghost use Rattle.std.specs.Prelude.{◌≡◌, IfOk};
 ghost use Rattle.br_model.specs.Answer.{AnswersAlways};
 ghost use Rattle.br_model.specs.Attribute as model;
 ghost use Rattle.br_model.specs.File.{has_bytes};
-ghost use Rattle.br_model.specs.Name.{is_directory};
 ghost use Rattle.br_model.specs.Session.{has_link, can_be_saved, checked_file, has_digest};
 ghost use Rattle.br_model.specs.SessionHolds.{IsToSave};
 ghost use Rattle.br_session.specs.Fault.{fault_number};
 
 use crate::fault::SessionFault;
 use br_attr::Stat;
-use br_types::Path;
+use br_types::{Path, has_no_nul, is_directory_path};
 use std::marker::Model;
 
-/// The most bytes of a file that is saved: 2^30.
+/// The greatest number of bytes of a saved file: 2^30.
 const MAX_BYTES: usize = 1_073_741_824;
 
-/// The most bytes of a link text.
+/// The greatest number of bytes of a link text.
 const MAX_LINK: usize = 4096;
 
-fn is_directory_of(path: &[u8]) -> bool
-    ensures { result ≡ is_directory path.now }
-{
-    match path.split_last() {
-        None => false,
-        Some((last, _)) => *last == b'/',
-    }
-}
-
-fn has_no_nul(text: &[u8]) -> bool
-    ensures { result ≡ list_all (λ c. not (c == 0)) text.now }
-{
-    text.iter().all(|byte| *byte != 0)
-}
-
-/// Whether files of the type have a link text.
+/// Returns whether files of the type have a link text.
 fn has_link_of(kind: u32) -> bool
     ensures { result ≡ has_link kind }
 {
     kind == 1 || kind == 4
 }
 
-/// Whether a file with these parts can be saved.
+/// Returns whether a file with these parts can be saved.
 #[tactic(auto, unfolding(br_model::specs::Session::can_be_saved))]
 fn can_be_saved_of(kind: u32, path: &Path, link: &[u8], bytes: &[u8]) -> bool
-    ensures { (stat : model.Stat) → result ≡ can_be_saved (record { path = path.now; kind = kind; stat = stat; link = link.now; bytes = bytes.now }) }
+    ensures { (stat : model.Stat) → result
+        ≡ can_be_saved (record { path = path.now; kind = kind; stat = stat; link = link.now; bytes = bytes.now }) }
 {
     1 <= kind
         && kind <= 5
-        && (kind == 5) == is_directory_of(path.bytes())
+        && (kind == 5) == is_directory_path(path.bytes())
         && (kind == 3 || bytes.is_empty())
         && (has_link_of(kind) || link.is_empty())
         && link.len() <= MAX_LINK
         && has_no_nul(link)
 }
 
-/// A file to be saved: its type, path, numbers, link text and bytes, and whether a digest of the bytes is to be written.
+/// A file to save: its type, path, numbers, link text and bytes, and whether its digest is wanted.
 ///
-/// Types are Bacula's: 1 a hard link to a file saved earlier in the session, 2 an empty file, 3 a file, 4 a symbolic link, 5 a
-/// directory.
+/// Types are Bacula's: 1 a hard link to a file saved earlier in the session, 2 an empty file, 3 a
+/// file, 4 a symbolic link, 5 a directory.
 #[derive(Debug, Drop)]
 pub struct SavedFile {
     path: Path,
@@ -70,20 +54,29 @@ pub struct SavedFile {
 }
 
 impl Model for SavedFile {
-    ghost use Rattle.std.specs.Prelude.{◌≡◌, Ok};
     ghost use Rattle.br_model.specs.Session as model;
+    ghost use Rattle.br_session.specs.Records.{IsSaved};
 
     ghost Value = { model.ToSave };
 
-    ghost view = { λ f. record { file = record { path = f.path; kind = f.kind; stat = f.stat; link = f.link.items; bytes = f.bytes.items }; digest = f.digest } };
+    ghost view = { λ f. record {
+      file = record { path = f.path; kind = f.kind; stat = f.stat; link = f.link.items; bytes = f.bytes.items };
+      digest = f.digest;
+    } };
 
-    ghost invariant = { λ f. model.checked_file (record { path = f.path; kind = f.kind; stat = f.stat; link = f.link.items; bytes = f.bytes.items }) ≡ Ok (record { path = f.path; kind = f.kind; stat = f.stat; link = f.link.items; bytes = f.bytes.items }) };
+    ghost invariant = { λ f.
+        IsSaved (record { path = f.path; kind = f.kind; stat = f.stat; link = f.link.items; bytes = f.bytes.items }) };
 }
 
 impl SavedFile {
-    /// The file with these parts, if it can be saved. `TooLarge` for more than 2^30 bytes. Then `BadSavedFile` for a type outside 1
-    /// to 5, a path that ends in `/` at another type than 5 or does not at type 5, bytes at another type than 3, a link text at
-    /// another type than 1 and 4, and a link text with a NUL or of more than 4,096 bytes.
+    /// Makes the file with these parts.
+    ///
+    /// # Errors
+    ///
+    /// - `TooLarge` for more than 2^30 bytes.
+    /// - `BadSavedFile` for a type outside 1 to 5; for a path that ends in `/` unless the type is 5,
+    ///   or does not if it is 5; for bytes unless the type is 3; for a link text unless the type is 1
+    ///   or 4; for a link text with a NUL or of more than 4,096 bytes.
     #[tactic(auto, unfolding(br_model::specs::Session::checked_file))]
     pub fn new(
         path: Path,
@@ -93,7 +86,8 @@ impl SavedFile {
         bytes: Vec<u8>,
         digest: bool,
     ) -> Result<SavedFile, SessionFault>
-        ensures file { AnswersAlways (λ f. f.file) fault_number result (checked_file (record { path = path; kind = kind; stat = stat; link = link.items; bytes = bytes.items })) }
+        ensures file { AnswersAlways (λ f. f.file) fault_number result
+            (checked_file (record { path = path; kind = kind; stat = stat; link = link.items; bytes = bytes.items })) }
         ensures digest { IfOk result (λ f. f.digest ≡ digest) }
     {
         if bytes.len() > MAX_BYTES {
@@ -112,7 +106,7 @@ impl SavedFile {
         })
     }
 
-    /// The path under which it is saved.
+    /// Returns the path under which it is saved.
     pub fn path(&self) -> &Path
         ensures same { result.now ≡ self.now.file.path }
         ensures valid { IsToSave self.now }
@@ -123,49 +117,49 @@ impl SavedFile {
         &self.path
     }
 
-    /// The type, from 1 to 5.
+    /// Returns the type: 1 to 5.
     pub fn kind(&self) -> u32
         ensures { result ≡ self.now.file.kind }
     {
         self.kind
     }
 
-    /// The numbers of the file.
+    /// Returns the numbers of the file.
     pub fn stat(&self) -> Stat
         ensures { result ≡ self.now.file.stat }
     {
         self.stat
     }
 
-    /// Of a hard link or a symbolic link what it names, else empty.
+    /// Returns the target of a hard link or a symbolic link; of other files nothing.
     pub fn link(&self) -> &[u8]
         ensures { result.now ≡ self.now.file.link }
     {
         &self.link
     }
 
-    /// The bytes of the file.
+    /// Returns the bytes of the file.
     pub fn bytes(&self) -> &[u8]
         ensures { result.now ≡ self.now.file.bytes }
     {
         &self.bytes
     }
 
-    /// Whether a digest of the bytes was asked for.
+    /// Returns whether a digest of the bytes is wanted.
     pub fn digest(&self) -> bool
         ensures { result ≡ self.now.digest }
     {
         self.digest
     }
 
-    /// Whether files of its type have bytes: types 2 and 3.
+    /// Returns whether files of its type have bytes: types 2 and 3.
     pub(crate) fn has_bytes(&self) -> bool
         ensures { result ≡ has_bytes self.now.file.kind }
     {
         matches!(self.kind, 2 | 3)
     }
 
-    /// Whether a digest is written.
+    /// Returns whether a digest is written.
     pub(crate) fn has_digest(&self) -> bool
         ensures { result ≡ has_digest self.now }
     {

@@ -1,20 +1,20 @@
 use br_types::VolName;
 use std::marker::Model;
 
-/// A visit of a job to a volume: the bytes that it wrote there, and the files that have a part in them.
+/// A visit of a job to a volume: the bytes that it wrote there, and the files of which they have parts.
 #[derive(Debug, Drop)]
 pub struct Span {
     /// The volume.
     pub vol: VolName,
-    /// The least index of a file that has a part in it.
+    /// The least index of a file with a part in the span.
     pub first: u32,
-    /// The greatest index of a file that has a part in it.
+    /// The greatest index of a file with a part in the span.
     pub last: u32,
-    /// The address of its first byte on the volume.
+    /// The address of the span's first byte on the volume.
     pub start: u64,
-    /// The address of its last byte on the volume.
+    /// The address of the span's last byte on the volume.
     pub end: u64,
-    /// How many visits of the job end before this one does, and one: 1, 2, 3 and on.
+    /// The number of the visit in the job, from 1.
     pub vol_index: u32,
 }
 

@@ -1,4 +1,5 @@
-ghost use Rattle.std.specs.Prelude.{◌≡◌, ◌≤◌, [], IfOk};
+ghost use Rattle.std.specs.Prelude.{◌≡◌, [], IfOk};
+ghost use Rattle.br_block.specs.Building.{IsBlockLimit};
 ghost use Rattle.br_session.specs.Outcome.{ArePlaces};
 
 use super::*;
@@ -10,9 +11,9 @@ use std::test::Fail;
 /// Numbers of a file of 14 bytes.
 const NUMBERS: &[u8] = b"A A IGk B A A A O A A A A A A";
 
-/// A file to be saved, by its bytes.
+/// The parts of a file to save.
 #[derive(Clone, Copy)]
-struct Given<'a> {
+struct FileParts<'a> {
     path: &'a [u8],
     kind: u32,
     numbers: &'a [u8],
@@ -22,7 +23,7 @@ struct Given<'a> {
 }
 
 /// A file of type 3 with some bytes.
-const FILE: Given<'static> = Given {
+const FILE: FileParts<'static> = FileParts {
     path: b"/a",
     kind: 3,
     numbers: NUMBERS,
@@ -31,8 +32,8 @@ const FILE: Given<'static> = Given {
     digest: false,
 };
 
-/// A symbolic link to a.
-const SYMBOLIC: Given<'static> = Given {
+/// A symbolic link to `a`.
+const SYMBOLIC: FileParts<'static> = FileParts {
     path: b"/l",
     kind: 4,
     numbers: NUMBERS,
@@ -41,44 +42,44 @@ const SYMBOLIC: Given<'static> = Given {
     digest: true,
 };
 
-/// The link text and the bytes.
-fn contents(alloc: Global, given: &Given<'_>) -> Result<(Vec<u8>, Vec<u8>), AllocError> {
+/// Makes the link text and the bytes.
+fn contents(alloc: Global, given: &FileParts<'_>) -> Result<(Vec<u8>, Vec<u8>), AllocError> {
     let link = Vec::from_slice(alloc, given.link)?;
     let bytes = Vec::from_slice(alloc, given.bytes)?;
     Ok((link, bytes))
 }
 
-fn made(alloc: Global, given: &Given<'_>) -> Result<Result<SavedFile, SessionFault>, Fail> {
+/// Makes the file of these parts, if it can be saved.
+fn made(alloc: Global, given: &FileParts<'_>) -> Result<Result<SavedFile, SessionFault>, Fail> {
     let stat = Stat::read(given.numbers)?;
     let path = Path::new(alloc, given.path)?;
     let (link, bytes) = contents(alloc, given)?;
     Ok(SavedFile::new(path, given.kind, stat, link, bytes, given.digest))
 }
 
-fn saved(alloc: Global, given: &Given<'_>) -> Result<SavedFile, Fail> {
+/// Makes the file of these parts.
+fn saved(alloc: Global, given: &FileParts<'_>) -> Result<SavedFile, Fail> {
     Ok(made(alloc, given)??)
 }
 
-/// The number of the refusal, 0 where the file can be saved.
-fn refusal(alloc: Global, given: &Given<'_>) -> Result<u32, Fail> {
+/// Returns the number of the refusal; 0 if the file can be saved.
+fn refusal(alloc: Global, given: &FileParts<'_>) -> Result<u32, Fail> {
     Ok(made(alloc, given)?.err().map_or(0, |fault| fault.number()))
 }
 
-/// The same byte so many times.
+/// Makes a text of `count` times the same byte.
 fn many(alloc: Global, byte: u8, count: usize) -> Result<Vec<u8>, AllocError> {
     let mut bytes = Vec::new(alloc);
-    for _ in 0..count {
-        bytes.push(byte)?;
-    }
+    bytes.resize(count, byte)?;
     Ok(bytes)
 }
 
-/// Whether the file has this path, this type and this size.
+/// Returns whether the file has this path, this type and this size.
 fn is_of(file: &SavedFile, path: &[u8], kind: u32, size: i64) -> bool {
     file.path().bytes() == path && file.kind() == kind && file.stat().size() == size
 }
 
-/// Whether the file has this link text and these bytes.
+/// Returns whether the file has this link text and these bytes.
 fn has(file: &SavedFile, link: &[u8], bytes: &[u8]) -> bool {
     file.link() == link && file.bytes() == bytes
 }
@@ -100,18 +101,11 @@ fn links_have_their_text(rt: HostRuntime) -> Result<(), Fail> {
     Ok(())
 }
 
-/// So many bytes 0.
-fn zeros(alloc: Global, count: usize) -> Result<Vec<u8>, AllocError> {
-    let mut bytes = Vec::new(alloc);
-    bytes.resize(count, 0)?;
-    Ok(bytes)
-}
-
-/// The number of the refusal of a file of this type with 2^30 + 1 bytes, 0 where it can be saved.
+/// Returns the number of the refusal of a file of this type with 2^30 + 1 bytes; 0 if it can be saved.
 fn refusal_of_large(alloc: Global, kind: u32) -> Result<u32, Fail> {
     let stat = Stat::read(NUMBERS)?;
     let path = Path::new(alloc, b"/a")?;
-    let bytes = zeros(alloc, 1_073_741_825)?;
+    let bytes = many(alloc, 0, 1_073_741_825)?;
     let file = SavedFile::new(path, kind, stat, Vec::new(alloc), bytes, false);
     Ok(file.err().map_or(0, |fault| fault.number()))
 }
@@ -124,10 +118,10 @@ fn large_files_are_refused_before_their_type_is_tested(rt: HostRuntime) -> Resul
     Ok(())
 }
 
-/// The bytes of the file.
+/// The bytes of `FILE`.
 const MESSAGE: &[u8] = b"message digest";
 
-/// The refusal of a file with this path, this type, this link text and these bytes.
+/// Returns the number of the refusal of a file with these parts; 0 if it can be saved.
 fn refusal_of(
     alloc: Global,
     path: &[u8],
@@ -135,7 +129,7 @@ fn refusal_of(
     link: &[u8],
     bytes: &[u8],
 ) -> Result<u32, Fail> {
-    let given = Given {
+    let given = FileParts {
         path,
         kind,
         numbers: NUMBERS,
@@ -176,7 +170,8 @@ fn links_alone_have_a_text(rt: HostRuntime) -> Result<(), Fail> {
     Ok(())
 }
 
-/// The refusal of a symbolic link with a text of so many bytes.
+/// Returns the number of the refusal of a symbolic link with a text of `count` bytes; 0 if it can be
+/// saved.
 fn refusal_of_long(alloc: Global, count: usize) -> Result<u32, Fail> {
     let text = many(alloc, b'a', count)?;
     refusal_of(alloc, b"/a", 4, &text, b"")
@@ -189,10 +184,12 @@ fn a_link_text_has_at_most_4096_bytes(rt: HostRuntime) -> Result<(), Fail> {
     Ok(())
 }
 
+/// Makes a key of a session.
 fn session(id: u32, time: u32) -> SessionKey {
     SessionKey { id, time }
 }
 
+/// Makes a place.
 fn place(alloc: Global, vol: &[u8], blocks: u32) -> Result<Place, Fail>
     ensures { IfOk result (λ place. place.blocks ≡ blocks) }
 {
@@ -200,7 +197,7 @@ fn place(alloc: Global, vol: &[u8], blocks: u32) -> Result<Place, Fail>
     Ok(Place { vol, blocks })
 }
 
-/// Lengths of volumes.
+/// Makes the lengths of volumes.
 fn starts_of(alloc: Global, given: &[(&[u8], u64)]) -> Result<Vec<(VolName, u64)>, Fail> {
     let mut starts = Vec::new(alloc);
     for (vol, length) in given {
@@ -209,7 +206,7 @@ fn starts_of(alloc: Global, given: &[(&[u8], u64)]) -> Result<Vec<(VolName, u64)
     Ok(starts)
 }
 
-/// What is written of a session to this place.
+/// Writes a session to this place.
 fn to_place(
     alloc: Global,
     files: &[SavedFile],
@@ -217,34 +214,32 @@ fn to_place(
     place: Place,
     start: u64,
 ) -> Result<Result<Written, SessionFault>, Fail>
-    requires least { 64 ≤ limit }
-    requires most { limit ≤ 64512 }
+    requires bounds { IsBlockLimit limit }
 {
     let starts = starts_of(alloc, &[(b"V", start)])?;
     Ok(write_session(alloc, files, session(1, 100), limit, &[place], &starts))
 }
 
-/// What is written of a session to a volume V of this length.
+/// Writes a session to a volume V of this length.
 fn on_one_volume(
     alloc: Global,
     files: &[SavedFile],
     limit: u32,
     start: u64,
 ) -> Result<Result<Written, SessionFault>, Fail>
-    requires least { 64 ≤ limit }
-    requires most { limit ≤ 64512 }
+    requires bounds { IsBlockLimit limit }
 {
     let place = place(alloc, b"V", 0)?;
     to_place(alloc, files, limit, place, start)
 }
 
-/// The number of the refusal, 0 where the session is written.
+/// Returns the number of the refusal; 0 if the session is written.
 fn order_refusal(alloc: Global, files: &[SavedFile], start: u64) -> Result<u32, Fail> {
     let written = on_one_volume(alloc, files, 64512, start)?;
     Ok(written.err().map_or(0, |fault| fault.number()))
 }
 
-/// Whether the span is this one: volume, first and last index, first and last byte, number.
+/// Returns whether the span has this volume, first and last index, first and last byte, and number.
 fn is_span(span: &Span, vol: &[u8], files: (u32, u32), bytes: (u64, u64), vol_index: u32) -> bool {
     span.vol.bytes() == vol
         && (span.first, span.last) == files
@@ -252,12 +247,12 @@ fn is_span(span: &Span, vol: &[u8], files: (u32, u32), bytes: (u64, u64), vol_in
         && span.vol_index == vol_index
 }
 
-/// Whether the block is of this length and goes to this volume.
+/// Returns whether the block has this length and goes to this volume.
 fn is_block(block: &(VolName, Vec<u8>), vol: &[u8], length: usize) -> bool {
     block.0.bytes() == vol && block.1.len() == length
 }
 
-/// What is written of a file of 14 bytes with this path: a block to the first place, and what is left to the second.
+/// Writes a file of 14 bytes with this path to places.
 fn dealt_out(
     alloc: Global,
     path: &[u8],
@@ -272,13 +267,13 @@ fn dealt_out(
     Ok(write_session(alloc, &[file], session, 64, places, starts)?)
 }
 
-/// The first session: to A and B, which are empty.
+/// Writes the first session to A and B, which are empty.
 fn first_session(alloc: Global) -> Result<Written, Fail> {
     let places = [place(alloc, b"A", 1)?, place(alloc, b"B", 0)?];
     dealt_out(alloc, b"/a", session(1, 100), &places, &[])
 }
 
-/// Whether the blocks are one of A and two of B.
+/// Returns whether the blocks are one of A and two of B.
 fn are_blocks_of_first(blocks: &[(VolName, Vec<u8>)]) -> bool {
     match blocks {
         [a, b, c] => is_block(a, b"A", 64) && is_block(b, b"B", 64) && is_block(c, b"B", 44),
@@ -286,7 +281,7 @@ fn are_blocks_of_first(blocks: &[(VolName, Vec<u8>)]) -> bool {
     }
 }
 
-/// Whether the spans are one of A and one of B.
+/// Returns whether the spans are one of A and one of B.
 fn are_spans_of_first(spans: &[Span]) -> bool {
     match spans {
         [a, b] => { is_span(a, b"A", (1, 1), (0, 63), 1) && is_span(b, b"B", (1, 1), (0, 107), 2) }
@@ -302,18 +297,19 @@ fn blocks_are_dealt_out(rt: HostRuntime) -> Result<(), Fail> {
     Ok(())
 }
 
-/// The second session: to B and A, of the lengths that the first made. Another length of A counts for nothing.
+/// Writes the second session to B and A after the first. A second length of A does not count.
 fn second_session(alloc: Global) -> Result<Written, Fail> {
     let starts = starts_of(alloc, &[(b"A", 64), (b"B", 108), (b"A", 7)])?;
     second_to(alloc, &starts)
 }
 
+/// Writes the second session to B and A of these lengths.
 fn second_to(alloc: Global, starts: &[(VolName, u64)]) -> Result<Written, Fail> {
     let places = [place(alloc, b"B", 1)?, place(alloc, b"A", 0)?];
     dealt_out(alloc, b"/b", session(2, 200), &places, starts)
 }
 
-/// Whether the spans go on behind those of the first session.
+/// Returns whether the spans follow those of the first session.
 fn are_spans_of_second(spans: &[Span]) -> bool {
     match spans {
         [b, a] => {
@@ -324,7 +320,7 @@ fn are_spans_of_second(spans: &[Span]) -> bool {
 }
 
 #[test]
-fn blocks_are_dealt_out_behind_others(rt: HostRuntime) -> Result<(), Fail> {
+fn blocks_are_dealt_out_after_others(rt: HostRuntime) -> Result<(), Fail> {
     let second = second_session(rt.alloc())?;
     assert_eq!(rt; second.blocks.len(), 3);
     assert!(rt; are_spans_of_second(&second.spans));
@@ -335,7 +331,7 @@ fn blocks_are_dealt_out_behind_others(rt: HostRuntime) -> Result<(), Fail> {
 const TWO_FILES: &[u8] =
     b"\0\0\0\0\0\0\0\x8d\0\0\0\0BB02\0\0\0\x01\0\0\0\x64\0\0\0\x01\0\0\0\x01\0\0\0\x261 3 /x\0A A IGk B A A A D A A A A A A\0\0\0\0\0\x01\0\0\0\x02\0\0\0\x03abc\0\0\0\x02\0\0\0\x01\0\0\0\x282 1 /y\0A A IGk B A A A D A A A A A B\0/x\0";
 
-const ABC: Given<'static> = Given {
+const ABC: FileParts<'static> = FileParts {
     path: b"/x",
     kind: 3,
     numbers: b"A A IGk B A A A D A A A A A A",
@@ -344,7 +340,7 @@ const ABC: Given<'static> = Given {
     digest: false,
 };
 
-const LINK: Given<'static> = Given {
+const LINK: FileParts<'static> = FileParts {
     path: b"/y",
     kind: 1,
     numbers: b"A A IGk B A A A D A A A A A B",
@@ -355,7 +351,7 @@ const LINK: Given<'static> = Given {
 
 /// A file of type 3 with this path, these bytes and 14 as its size.
 fn saved_file(alloc: Global, path: &[u8], bytes: &[u8], digest: bool) -> Result<SavedFile, Fail> {
-    let given = Given {
+    let given = FileParts {
         path,
         kind: 3,
         numbers: NUMBERS,
@@ -366,24 +362,32 @@ fn saved_file(alloc: Global, path: &[u8], bytes: &[u8], digest: bool) -> Result<
     saved(alloc, &given)
 }
 
-/// What is written of a file with these bytes to V, which is empty.
+/// Writes a file with these bytes to V, which is empty.
 fn file_written(alloc: Global, bytes: &[u8], digest: bool) -> Result<Written, Fail> {
     let file = saved_file(alloc, b"/a", bytes, digest)?;
     Ok(on_one_volume(alloc, &[file], 64512, 0)??)
 }
 
-/// Two files.
-fn two_saved(alloc: Global, first: &Given<'_>, second: &Given<'_>) -> Result<[SavedFile; 2], Fail> {
+/// Makes two files.
+fn two_saved(
+    alloc: Global,
+    first: &FileParts<'_>,
+    second: &FileParts<'_>,
+) -> Result<[SavedFile; 2], Fail> {
     Ok([saved(alloc, first)?, saved(alloc, second)?])
 }
 
-/// What is written of two files to V, which is empty.
-fn two_written(alloc: Global, first: &Given<'_>, second: &Given<'_>) -> Result<Written, Fail> {
+/// Writes two files to V, which is empty.
+fn two_written(
+    alloc: Global,
+    first: &FileParts<'_>,
+    second: &FileParts<'_>,
+) -> Result<Written, Fail> {
     let files = two_saved(alloc, first, second)?;
     Ok(on_one_volume(alloc, &files, 64512, 0)??)
 }
 
-/// Whether the blocks are the one of the two files, on V.
+/// Returns whether the blocks are the one of the two files, on V.
 fn is_two_files(blocks: &[(VolName, Vec<u8>)]) -> bool {
     match blocks {
         [(vol, bytes)] => vol.bytes() == b"V".as_slice() && bytes.as_slice() == TWO_FILES,
@@ -391,7 +395,7 @@ fn is_two_files(blocks: &[(VolName, Vec<u8>)]) -> bool {
     }
 }
 
-/// Whether the spans are one of V: first and last index, first and last byte.
+/// Returns whether the spans are one of V, with this first and last index, first and last byte.
 fn is_one_span(spans: &[Span], files: (u32, u32), bytes: (u64, u64)) -> bool {
     match spans {
         [span] => is_span(span, b"V", files, bytes, 1),
@@ -407,11 +411,11 @@ fn a_file_and_a_link_are_one_block(rt: HostRuntime) -> Result<(), Fail> {
     Ok(())
 }
 
-/// The header of a record of stream 3 with 16 bytes, and the digest of `message digest` that RFC 1321 has.
+/// The header of a record of stream 3 with 16 bytes, and the digest of `message digest` in RFC 1321.
 const DIGEST: &[u8] =
     b"\0\0\0\x01\0\0\0\x03\0\0\0\x10\xf9\x6b\x69\x7d\x7c\xb7\x93\x8d\x52\x5a\x2f\x31\xaa\xf1\x61\xd0";
 
-/// Whether the blocks are one of 128 bytes with the digest at its end.
+/// Returns whether the blocks are one of 128 bytes with the digest at its end.
 fn ends_with_digest(blocks: &[(VolName, Vec<u8>)]) -> bool {
     match blocks {
         [(_, bytes)] => bytes.len() == 128 && bytes.ends_with(DIGEST),
@@ -426,13 +430,13 @@ fn digests_are_written(rt: HostRuntime) -> Result<(), Fail> {
     Ok(())
 }
 
-/// What is written of a file of 65,537 bytes `a`.
+/// Writes a file of 65,537 bytes `a`.
 fn large_written(alloc: Global) -> Result<Written, Fail> {
     let bytes = many(alloc, b'a', 65_537)?;
     file_written(alloc, &bytes, false)
 }
 
-/// Whether a full block has the first of the data behind the attributes.
+/// Returns whether a full block has the first of the data after the attributes.
 fn is_full_block(bytes: &[u8]) -> bool {
     match bytes.get(74..) {
         Some(data) => {
@@ -442,12 +446,12 @@ fn is_full_block(bytes: &[u8]) -> bool {
     }
 }
 
-/// Whether a last block has the rest of the data and a record of its last byte.
+/// Returns whether a last block has the rest of the data and a record of its last byte.
 fn is_last_block(bytes: &[u8]) -> bool {
     bytes.len() == 1159 && bytes.ends_with(b"a\0\0\0\x01\0\0\0\x02\0\0\0\x01a")
 }
 
-/// Whether the blocks are a full one and a last one.
+/// Returns whether the blocks are a full one and a last one.
 fn are_large(blocks: &[(VolName, Vec<u8>)]) -> bool {
     match blocks {
         [(_, full), (_, last)] => is_full_block(full) && is_last_block(last),
@@ -466,24 +470,24 @@ fn large_files_have_several_records(rt: HostRuntime) -> Result<(), Fail> {
 #[test]
 fn no_files_need_no_place(rt: HostRuntime) -> Result<(), Fail> {
     let written = write_session(rt.alloc(), &[], session(1, 100), 64, &[], &[])?;
-    assert!(rt; written.blocks.is_empty());
-    assert!(rt; written.spans.is_empty());
+    assert_eq!(rt; written.blocks.len(), 0);
+    assert_eq!(rt; written.spans.len(), 0);
     Ok(())
 }
 
 #[test]
 fn no_files_take_no_place(rt: HostRuntime) -> Result<(), Fail> {
     let written = on_one_volume(rt.alloc(), &[], 64, 0)??;
-    assert!(rt; written.blocks.is_empty());
-    assert!(rt; written.spans.is_empty());
+    assert_eq!(rt; written.blocks.len(), 0);
+    assert_eq!(rt; written.spans.len(), 0);
     Ok(())
 }
 
-/// The refusal of two files where V has this length, 0 where they are written.
+/// Returns the number of the refusal of two files, to V of this length; 0 if they are written.
 fn refusal_of_two(
     alloc: Global,
-    first: &Given<'_>,
-    second: &Given<'_>,
+    first: &FileParts<'_>,
+    second: &FileParts<'_>,
     start: u64,
 ) -> Result<u32, Fail> {
     let files = two_saved(alloc, first, second)?;
@@ -491,7 +495,7 @@ fn refusal_of_two(
 }
 
 /// A file without bytes, and a directory.
-const EMPTY: Given<'static> = Given {
+const EMPTY: FileParts<'static> = FileParts {
     path: b"/x",
     kind: 2,
     numbers: b"A A IGk B A A A D A A A A A A",
@@ -500,7 +504,7 @@ const EMPTY: Given<'static> = Given {
     digest: false,
 };
 
-const DIRECTORY: Given<'static> = Given {
+const DIRECTORY: FileParts<'static> = FileParts {
     path: b"/x/",
     kind: 5,
     numbers: b"A A IGk B A A A D A A A A A A",
@@ -525,9 +529,9 @@ fn links_name_no_later_file_and_no_directory(rt: HostRuntime) -> Result<(), Fail
     Ok(())
 }
 
-/// The refusal of a file and a link with these numbers.
+/// Returns the number of the refusal of a file and a link with these numbers; 0 if they are written.
 fn refusal_of_numbers(alloc: Global, numbers: &[u8]) -> Result<u32, Fail> {
-    let link = Given {
+    let link = FileParts {
         path: b"/y",
         kind: 1,
         numbers,

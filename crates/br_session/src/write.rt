@@ -1,5 +1,6 @@
-ghost use Rattle.std.specs.Prelude.{◌≡◌, ◌≤◌, [], IfOk};
+ghost use Rattle.std.specs.Prelude.{◌≡◌, [], IfOk};
 ghost use Rattle.std.specs.List.{AllByRecursion};
+ghost use Rattle.br_block.specs.Building.{IsBlockLimit};
 ghost use Rattle.br_session.specs.Outcome.{IsOutcome, ArePlaces, SessionHolds};
 
 use crate::deal::deal;
@@ -15,12 +16,12 @@ use br_types::{SessionKey, VolName};
 use std::alloc::Global;
 use std::marker::Model;
 
-/// What writing a session gives.
+/// The result of writing a session.
 #[derive(Debug, Drop)]
 pub struct Written {
-    /// The blocks in order, each with the volume to whose end it is to be appended.
+    /// The blocks in order, each with the volume to which it is appended.
     pub blocks: Vec<(VolName, Vec<u8>)>,
-    /// The visits that took blocks, in order.
+    /// The spans of the places that took blocks, in order.
     pub spans: Vec<Span>,
 }
 
@@ -33,16 +34,20 @@ impl Model for Written {
     ghost view = { λ w. record { blocks = map (λ b. (b.0, b.1.items)) w.blocks.items; spans = w.spans.items } };
 }
 
-/// Writes the files of a session, numbered from 1, as blocks of at most `limit` bytes, and deals these out over the places, to
-/// volumes of the lengths in `starts`. A volume that is not named there is empty; where one is named twice, the first length
-/// counts. A place may name a volume again.
+/// Writes the files of a session, numbered from 1, as blocks of at most `limit` bytes. It deals the
+/// blocks out over the places, to volumes of the lengths in `starts`. A volume that is not named there
+/// is empty. If one is named twice, the first length counts. Several places may name one volume.
 ///
-/// Each file makes a record of stream 1 with its attributes, records of stream 2 with 65,536 bytes each and the rest, and where a
-/// digest was asked for and its type is 2 or 3 a record of stream 3 with the MD5 digest of its bytes. Each place takes its number of
-/// blocks, the last all that are left; a visit that took a block is a span.
+/// Each file has a record of stream 1 with its attributes, and records of stream 2 with 65,536 of its
+/// bytes each, the last with the rest. If its type is 2 or 3 and its digest is wanted, a record of
+/// stream 3 has the MD5 digest of its bytes. Each place takes its number of blocks, and the last all
+/// that are left. A place that takes a block has a span.
 ///
-/// `BadFileOrder` where a hard link names no earlier file of type 2 or 3, or there are 2^31 files or more; this comes first.
-/// `BadRow` where a span would end behind the address 2^63 - 2, or there would be 2^32 spans or more.
+/// # Errors
+///
+/// - `BadFileOrder` if a hard link does not name an earlier file of type 2 or 3, or there are 2^31
+///   files or more.
+/// - `BadRow` if a span ends after the address 2^63 - 2, or there are 2^32 spans or more.
 pub fn write_session(
     alloc: Global,
     files: &[SavedFile],
@@ -51,8 +56,7 @@ pub fn write_session(
     places: &[Place],
     starts: &[(VolName, u64)],
 ) -> Result<Written, SessionFault>
-    requires least { 64 ≤ limit }
-    requires most { limit ≤ 64512 }
+    requires bounds { IsBlockLimit limit }
     requires places { ArePlaces places.now }
     requires some_place { places.now ≡ [] → files.now ≡ [] }
     ensures outcome { IsOutcome files.now session limit places.now starts.now result }

@@ -1,6 +1,6 @@
 use Rattle.std.proofs.Common.{◌≤◌, ◌^◌, ◌+◌, List, ℕ, length, ap, ◌∙◌, arith}
 use Rattle.br_session.proofs.RangeLaws.{front_within, too_great}
-use Rattle.br_session.proofs.spans.behind.Goals as goal
+use Rattle.br_session.proofs.spans.end_of.Goals as goal
 
 pub returns-in_err-end : goal.returns-in_err-end
 returns-in_err-end c =

@@ -13,7 +13,7 @@ returns-in_err-check_order-clause-outcome c =
 pub spans_of-requires : goal.spans_of-requires
 spans_of-requires c =
     let key : IsKey c.args.session = record { id_to = omega arith; time_to = omega arith } in
-    rw c.deref.ensures.value (packed_are_readable _ _ _ _ key c.requires.most c.in_ok-blocks.ensures.packed)
+    rw c.deref.ensures.value (packed_are_readable _ _ _ _ key c.requires.bounds.1 c.in_ok-blocks.ensures.packed)
 
 pub returns-in_err-spans-clause-outcome : goal.returns-in_err-spans-clause-outcome
 returns-in_err-spans-clause-outcome c =
@@ -23,5 +23,5 @@ returns-in_err-spans-clause-outcome c =
 pub returns-clause-holds : goal.returns-clause-holds
 returns-clause-holds c =
     let key : IsKey c.args.session = record { id_to = omega arith; time_to = omega arith } in
-    session_holds _ _ c.args.limit _ _ _ c.written_sessions_hold.ensures c.in_ok-blocks.ensures.valid c.in_ok-check_order.ensures.same c.requires.some_place key c.requires.most
+    session_holds _ _ c.args.limit _ _ _ c.written_sessions_hold.ensures c.in_ok-blocks.ensures.valid c.in_ok-check_order.ensures.same c.requires.some_place key c.requires.bounds.1
     (record { blocks = _; packed = c.in_ok-blocks.ensures.packed; placed = c.in_ok-blocks-2.ensures; spans_are = rw c.deref.ensures.value at c.in_ok-spans.ensures })

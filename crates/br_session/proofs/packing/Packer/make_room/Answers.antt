@@ -23,8 +23,7 @@ invariant_of-self c =
     let p = c.args.self.now in
     let made = c.replace-full.ensures.after ∙ c.in_ok-next.ensures in
     record {
-      least = p.least;
-      most = p.most;
+      bounds = p.bounds;
       same_session = ap (λ (b : Building). b.session) made;
       same_limit = ap (λ (b : Building). b.limit) made;
       whole = λ _. ap (λ (b : Building). are_whole b.fragments) made ∙ none_are_whole;
@@ -59,5 +58,5 @@ returns-clause-follows c =
       next = λ f size full part.
           let part_of : IsPart p.limit (f ∷ []) = subst (λ (x : List Fragment). IsPart p.limit (x ++ f ∷ [])) none part in
           subst (λ (x : List Fragment). AreClosed p.limit ((put.closed ++ last ∷ []) ++ (x ++ f ∷ []) ∷ [])) (sym none)
-          (goes_behind p.limit put.closed last f (size_of_some last (omega (arith, closes, p.least))) put.are_closed (rw size closes) full part_of);
+          (goes_behind p.limit put.closed last f (size_of_some last (omega (arith, closes, p.bounds))) put.are_closed (rw size closes) full part_of);
     }

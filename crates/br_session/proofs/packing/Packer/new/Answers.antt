@@ -8,8 +8,7 @@ pub invariant_of-result : goal.invariant_of-result
 invariant_of-result c =
     let made = c.in_ok-current.ensures in
     record {
-      least = c.requires.least;
-      most = c.requires.most;
+      bounds = c.requires.bounds;
       same_session = ap (λ (b : Building). b.session) made;
       same_limit = ap (λ (b : Building). b.limit) made;
       whole = λ _. ap (λ (b : Building). are_whole b.fragments) made ∙ none_are_whole;

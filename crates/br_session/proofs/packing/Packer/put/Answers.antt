@@ -25,8 +25,7 @@ invariant_of-self c =
     λ less. omega (arith, p.same_limit) in
     let kept = added_or_not c.add.result p.current c.add.new.self _ p.limit c.add.ensures.ok c.add.ensures.err (p.whole (omega (arith, room))) full (omega (arith, take_is)) in
     record {
-      least = p.least;
-      most = p.most;
+      bounds = p.bounds;
       same_session = kept.0 ∙ p.same_session;
       same_limit = kept.1 ∙ p.same_limit;
       whole = kept.2;
