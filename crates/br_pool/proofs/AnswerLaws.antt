@@ -18,7 +18,7 @@ answers_at over risen [] x p a low e is = absurd (omega (arith, low))
 answers_at over risen (q ∷ pieces) zero p a low e is = subst (λ r. IsAnswer over risen r a) e is
 answers_at over risen (q ∷ pieces) (suc x) p a low e is = answers_at over risen pieces x p a (omega (arith, low)) e is
 
--- over fewer volumes, and where more has risen
+-- over fewer volumes, and if more has risen
 pub answer_weaker : (over fewer : List Volume → Type 0) (risen more : Type 0) → ((volumes : List Volume) → fewer volumes → over volumes) → (risen → more)
     → (p : Piece) (a : Answer) → IsAnswer over risen p a → IsAnswer fewer more p a
 answer_weaker over fewer risen more so then p a is = record {

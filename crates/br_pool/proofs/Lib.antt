@@ -2,7 +2,7 @@ pub mod ListLaws
 pub mod SlotLaws
 pub mod AnswerLaws
 pub mod FilledLaws
-pub mod CrewLaws
+pub mod WorkersLaws
 pub mod NumberLaws
 pub mod PoolLaws
 pub mod BackLaws

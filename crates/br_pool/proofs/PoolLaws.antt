@@ -1,4 +1,4 @@
--- What the slots come to, as what the call answers.
+-- The slots, as the result of the call.
 use Rattle.std.proofs.Common.{◌≡◌, ℕ, List, map, length, Vec, Option, None, Result, Ok, Err, sym, subst, eq-eqb, arith}
 use Rattle.std.specs.Prelude.{IfOk, IfErr}
 use Rattle.std.specs.Global.{Global}

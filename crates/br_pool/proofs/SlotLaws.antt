@@ -1,4 +1,4 @@
--- Answers put to their places.
+-- Answers in the slots of their pieces.
 use Rattle.std.proofs.Common.{◌≡◌, ℕ, zero, suc, List, [], ◌∷◌, ◌++◌, length, slice_set, Option, Some, None, Ok, Err, refl, ap, sym, subst, ◌∙◌, append_assoc}
 use Rattle.br_match.specs.declared.hit.Found.{Found}
 use Rattle.br_match.specs.declared.fault.PieceFault.{PieceFault}

@@ -1,4 +1,4 @@
--- What the workers come to, behind their run, the drives in their places again.
+-- The workers after their run, with the drives in their places again.
 use Rattle.std.proofs.Common.{◌≡◌, ℕ, ◌<◌, ◌≤◌, List, [], ◌∷◌, map, reverse, flat_map, length, Option, refl, ap, sym, subst, ◌∙◌, arith}
 use Rattle.std.proofs.lemmas.List.{length-map, length-reverse}
 use Rattle.std.specs.List.{AllByRecursion, AllZip}
@@ -13,7 +13,7 @@ use Rattle.br_pool.specs.Slots.{AllBelow}
 use Rattle.br_pool.specs.Workers.{Answer, HaveWorked}
 use Rattle.br_pool.proofs.ListLaws.{zip_reverse, zip_length, zip_so, zip_itself}
 use Rattle.br_pool.proofs.AnswerLaws.{all_below}
-use Rattle.br_pool.proofs.CrewLaws.{Ran, map_reverse, zip_map, have_worked}
+use Rattle.br_pool.proofs.WorkersLaws.{Ran, map_reverse, zip_map, have_worked}
 
 map_map : {A B C : Type 0} (f : B → C) (g : A → B) (xs : List A) → map f (map g xs) ≡ map (λ x. f (g x)) xs
 map_map f g [] = refl

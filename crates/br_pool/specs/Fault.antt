@@ -1,4 +1,4 @@
--- What a refused run of the pool says.
+-- What a refusal of the pool means.
 use Rattle.std.specs.Prelude.{ℕ, List, Option, None}
 use Rattle.br_model.specs.Meaning as model
 use Rattle.br_match.specs.Fault as piece
@@ -20,7 +20,7 @@ abbrev pub fault_address : PoolFault → Option ℕ
 fault_address Memory = None
 fault_address (Piece why) = piece.fault_address why
 
--- the refusal that the volumes decide, nothing for want of memory and for a drive that failed
+-- the refusal that the volumes decide; none if memory ran out or a drive failed
 abbrev pub cause : PoolFault → Option model.PieceFault
 cause Memory = None
 cause (Piece why) = piece.cause why

@@ -2,3 +2,4 @@ pub mod Fault
 pub mod Pool
 pub mod Workers
 pub mod Slots
+pub mod Reading

@@ -20,7 +20,8 @@ IsDriveCount n = (0 < n) × (n ≤ 16)
 abbrev pub AreDrives : {D : Type 0} → List D → Type 0
 AreDrives drives = IsDriveCount (length drives)
 
--- Each drive is in its place again. Its volumes only grew, and the number of its failures did not fall.
+-- Each drive is in its place again. Its volumes only grew, and the number of its failures did not
+-- fall.
 abbrev pub StayInPlace : {D : Type 0} → (D → Option (List Volume)) → (D → ℕ) → List D → List D → Type 0
 StayInPlace shows failures before after = AllZip (λ old new. OnlyGrows (shows old) (shows new) × (failures old ≤ failures new)) before after
 
@@ -28,7 +29,7 @@ StayInPlace shows failures before after = AllZip (λ old new. OnlyGrows (shows o
 abbrev pub AreNumbered : List Piece → Type 0
 AreNumbered pieces = map (λ (p : Piece). p.number) pieces ≡ range_with_len 0 (length pieces)
 
--- A drive that tells its volumes may be taken to show these; one that tells nothing may not.
+-- A drive that tells its volumes may be taken to show these. A drive that tells none may not.
 abbrev pub StandsTold : List Piece → List Volume → Option (List Volume) → Option (List Volume) → Type 0
 StandsTold pieces volumes (Some earlier) (Some later) = StandsForEach earlier later pieces volumes
 StandsTold pieces volumes None later = ⊥
@@ -46,13 +47,14 @@ hits_lists volumes (piece ∷ pieces) = do
 abbrev pub found_hits : Vec Found Global → List (List Hit)
 found_hits founds = map (λ (f : Found). f.hits.items) founds.items
 
--- Over all volumes that each of the drives may be taken to show, the answer is the hits of each piece, or the fault of the first
--- piece that has one; a drive may fail, and memory run out, at any time.
+-- Over all volumes that each of the drives may be taken to show, the result is the hits of each
+-- piece, or the fault of the first piece that has one. A drive may fail, and memory may run out, at
+-- any time.
 abbrev pub PoolOver : List (Option (List Volume)) → List (Option (List Volume)) → List Piece → Result (Vec Found Global) PoolFault → Type 0
 PoolOver before after pieces result =
     (volumes : List Volume) → AllZip (StandsTold pieces volumes) before after → Answers found_hits cause result (hits_lists volumes pieces)
 
--- one of the counts, at its place, has risen
+-- the count at one of the places has risen
 abbrev pub HasRisen : List ℕ → List ℕ → Type 0
 HasRisen [] later = ⊥
 HasRisen (n ∷ ns) [] = ⊥

@@ -1,4 +1,4 @@
--- Answers put to the places of their pieces.
+-- Answers in the slots of their pieces.
 use Rattle.std.specs.Prelude.{◌≡◌, ℕ, ◌<◌, List, [], ◌∷◌, ◌++◌, map, slice_set, Vec, Option, Some, None, Result, Ok, Err, ⊤}
 use Rattle.std.specs.Global.{Global}
 use Rattle.std.specs.List.{AllByRecursion}
@@ -8,7 +8,7 @@ use Rattle.br_pool.specs.Workers.{Answer}
 use Rattle.br_pool.specs.declared.fault.PoolFault.{PoolFault}
 use Rattle.br_pool.specs.declared.fault.PoolFault.TheVariants.{Memory, Piece}
 
--- the slots with each answer at the place of its number
+-- the slots, with each answer in the slot of its number
 abbrev pub with_each : List (Option Answer) → List (ℕ × Answer) → List (Option Answer)
 with_each slots [] = slots
 with_each slots (a ∷ answers) = with_each (slice_set slots a.0 (Some a.1)) answers
@@ -17,7 +17,7 @@ with_each slots (a ∷ answers) = with_each (slice_set slots a.0 (Some a.1)) ans
 abbrev pub AllBelow : ℕ → List (ℕ × Answer) → Type 0
 AllBelow n answers = AllByRecursion (λ (a : ℕ × Answer). a.0 < n) answers
 
--- no slot is empty in front of the first refusal
+-- no slot before the first refusal is empty
 abbrev pub HasNoGap : List (Option Answer) → Type 0
 HasNoGap [] = ⊤
 HasNoGap (None ∷ slots) = ⊥
@@ -28,13 +28,14 @@ HasNoGap (Some (Err why) ∷ slots) = ⊤
 abbrev pub full_of : List Found → List (Option Answer)
 full_of founds = map (λ (f : Found). Some (Ok f)) founds
 
--- a slot has this refusal, and those in front of it have what was found
+-- a slot has this refusal, and those before it have what was found
 pub record IsFirstFault (slots : List (Option Answer)) (why : PieceFault) : Type 0 where
   pub front : List Found
   pub rest : List (Option Answer)
   pub parted : slots ≡ full_of front ++ Some (Err why) ∷ rest
 
--- all slots have what was found, in their order, or the first refusal is told; memory may run out at any time
+-- the result is what all slots have, in their order, or the first refusal; memory may run out at
+-- any time
 abbrev pub IsListed : List (Option Answer) → Result (Vec Found Global) PoolFault → Type 0
 IsListed slots (Ok founds) = slots ≡ full_of founds.items
 IsListed slots (Err Memory) = ⊤

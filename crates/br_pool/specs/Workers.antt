@@ -1,5 +1,5 @@
 -- What a worker has before and after its run.
-use Rattle.std.specs.Prelude.{◌≡◌, ℕ, zero, suc, ◌≤◌, ◌<◌, ◌==◌, ◌⊎◌, Bool, true, false, List, [], ◌∷◌, map, Vec, vec_capacity, Option, Result, Ok, Err, IfOk}
+use Rattle.std.specs.Prelude.{◌≡◌, ℕ, zero, suc, ◌≤◌, ◌<◌, ◌==◌, ◌⊎◌, Bool, true, false, List, [], ◌∷◌, map, length, slice_index_or, Vec, vec_capacity, Option, Result, Ok, Err, IfOk}
 use Rattle.std.specs.Global.{Global}
 use Rattle.std.specs.List.{AllByRecursion, AllZip, list_any}
 use Rattle.atomic_table.specs.Seated.{TableId}
@@ -13,8 +13,9 @@ use Rattle.br_match.specs.Matching.{AnswersPiece}
 use Rattle.br_match.specs.declared.hit.Found.{Found}
 use Rattle.br_match.specs.declared.fault.PieceFault.{PieceFault}
 use Rattle.br_pool.specs.Pool.{HasRisen, StandsTold}
+use Rattle.br_pool.specs.declared.worker.Worker.{Worker}
 
--- what a drive answers for a piece
+-- what a drive finds of a piece, or the reason why it gave the piece up
 abbrev pub Answer : Type 0
 Answer = Result Found PieceFault
 
@@ -23,8 +24,8 @@ abbrev pub is_failure : Answer → Bool
 is_failure (Ok found) = false
 is_failure (Err why) = piece.fault_number why == 13
 
--- what was found is of this piece, over all volumes of which `over` holds it is what these say, and it is a drive's failure only
--- where a count has risen
+-- What was found is of this piece. Over all volumes of which `over` holds it is what these say. It
+-- is a drive's failure only if the number of failures has risen.
 pub record IsAnswer (over : List Volume → Type 0) (risen : Type 0) (p : Piece) (a : Answer) : Type 0 where
   pub number : IfOk a (λ f. f.piece ≡ p.number)
   pub hits : (volumes : List Volume) → over volumes → AnswersPiece volumes p a
@@ -52,7 +53,8 @@ pub record IsReady (claims : TableId) (n : ℕ) (seat : Seated) (answers : Vec (
   pub answered_none : answers.items ≡ []
   pub room : n ≤ vec_capacity answers
 
--- It answered each number that it drew over what its drive showed meanwhile, and drew until none was left or its drive failed.
+-- A worker answered each number that it drew over what its drive showed meanwhile. It drew until
+-- none was left or its drive failed.
 pub record HasWorked (claims : TableId) (pieces : List Piece) (before after : Option (List Volume)) (failed_before failed_after : ℕ) (seat : Seated) (answers : List (ℕ × Answer)) : Type 0 where
   pub claims_are : seat.claims ≡ claims
   pub grows : OnlyGrows before after
@@ -61,9 +63,26 @@ pub record HasWorked (claims : TableId) (pieces : List Piece) (before after : Op
   pub each : AllAnswer (λ volumes. StandsTold pieces volumes before after) (failed_before < failed_after) pieces answers
   pub ended : (seat.ended ≡ true) ⊎ (any_failure answers ≡ true)
 
--- Many workers, each with a drive of its own, answered these numbers: each answer is that over all volumes that all drives may be
--- taken to show, and a failure only where a count has risen. What they answered is what they drew, and one of them drew until none was left,
--- or a drive failed.
+-- a worker before its run
+abbrev pub IsSetUp : {D : Type 0} → TableId → ℕ → Worker D → Type 0
+IsSetUp claims n worker = IsReady claims n worker.seat worker.answers
+
+-- a worker before its run and after it
+abbrev pub HasRun : {D : Type 0} → (D → Option (List Volume)) → (D → ℕ) → TableId → List Piece → Worker D → Worker D → Type 0
+HasRun shows failures claims pieces before after =
+    HasWorked claims pieces (shows before.drive) (shows after.drive) (failures before.drive) (failures after.drive) after.seat after.answers.items
+
+-- this holds of the element at each place
+abbrev pub EachAt : {A : Type 0} → (A → Type 0) → List A → Type 0
+EachAt {A} P xs = (i : ℕ) (d : A) → i < length xs → P (slice_index_or xs i d)
+
+-- this holds of the two elements at each place
+abbrev pub EachPairAt : {A : Type 0} → (A → A → Type 0) → List A → List A → Type 0
+EachPairAt {A} R xs ys = (i : ℕ) (d : A) → i < length xs → R (slice_index_or xs i d) (slice_index_or ys i d)
+
+-- Many workers, each with a drive of its own, answered these numbers. Each answer is that over all
+-- volumes that all drives may be taken to show, and a failure only if a number of failures has
+-- risen. They answered what they drew, and one of them drew until none was left, or a drive failed.
 pub record HaveWorked (claims : TableId) (pieces : List Piece) (before after : List (Option (List Volume))) (failed_before failed_after : List ℕ) (seats : List Seated) (answers : List (ℕ × Answer)) : Type 0 where
   pub claims_are : AllOf claims seats
   pub each : AllAnswer (λ volumes. AllZip (StandsTold pieces volumes) before after) (HasRisen failed_before failed_after) pieces answers

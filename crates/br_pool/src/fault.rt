@@ -8,18 +8,18 @@ use br_types::VolName;
 use std::alloc::AllocError;
 use thiserror::Error;
 
-/// Why the work on some pieces was given up.
+/// The reason why the work on some pieces was given up.
 #[derive(Debug, Drop, Error)]
 pub enum PoolFault {
     #[error("out of memory")]
     Memory,
-    /// What the first refused piece was refused for.
+    /// The fault of the first piece that has one.
     #[error("{0}")]
     Piece(PieceFault),
 }
 
 impl PoolFault {
-    /// The number of the refusal: 1 or 10 to 14.
+    /// Returns the number of the refusal: 1 or 10 to 14.
     pub fn number(&self) -> u32
         ensures { result ≡ fault_number self.now }
     {
@@ -29,7 +29,7 @@ impl PoolFault {
         }
     }
 
-    /// The volume of the block; none for want of memory.
+    /// Returns the volume of the block; none if memory ran out.
     pub fn vol(&self) -> Option<&VolName>
         ensures { option_copied result ≡ fault_volume self.now }
     {
@@ -39,7 +39,8 @@ impl PoolFault {
         }
     }
 
-    /// The address of the block, in bytes from the start of the volume; none for want of memory.
+    /// Returns the address of the block, in bytes from the start of the volume; none if memory ran
+    /// out.
     pub fn addr(&self) -> Option<u64>
         ensures { result ≡ fault_address self.now }
     {

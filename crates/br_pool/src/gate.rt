@@ -1,13 +1,13 @@
-/// What is told of the pieces that are read. Each thread calls it for itself.
+/// An observer of the pieces that are read. Each thread calls it for itself.
 pub trait Gate {
-    /// The piece of this number is read now.
+    /// Is called before the piece with this number is read.
     fn enter(&self, number: u32);
 
-    /// The piece of this number was read, or refused.
+    /// Is called after the piece with this number was read or refused.
     fn leave(&self, number: u32);
 }
 
-/// Lets everything through.
+/// A gate that lets everything through.
 #[derive(Clone, Copy, Debug)]
 pub struct OpenGate;
 

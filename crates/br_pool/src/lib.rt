@@ -1,10 +1,10 @@
-//! Many drives with one answer: pieces read in threads, each thread with a drive of its own.
+//! Many drives with one result: workers read pieces in threads, each worker with a drive of its
+//! own.
 //!
-//! `run_pool` gives what one drive would find of each piece, whichever thread reads it. The volumes of the drives may grow
-//! meanwhile.
+//! `run_pool` returns what one drive would find of each piece, whichever worker reads it. The
+//! volumes of the drives may grow meanwhile.
 #![tactic(auto)]
 
-mod crew;
 mod fault;
 mod gate;
 mod pool;
@@ -12,6 +12,7 @@ mod slots;
 #[cfg(test)]
 mod tests;
 mod worker;
+mod workers;
 
 pub use fault::PoolFault;
 pub use gate::{Gate, OpenGate};

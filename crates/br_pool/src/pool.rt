@@ -2,10 +2,10 @@ ghost use Rattle.std.specs.Prelude.{◌≡◌, map, IfOk};
 ghost use Rattle.br_pool.specs.Fault.{fault_number};
 ghost use Rattle.br_pool.specs.Pool.{AreDrives, AreNumbered, FailsByDrive, PoolOver, StayInPlace};
 
-use crate::crew::{desks_for, worked};
 use crate::fault::PoolFault;
 use crate::gate::Gate;
-use crate::slots::{empty_slots, listed};
+use crate::slots::{empty_slots, found_in_order};
+use crate::workers::{Work, read_all, shares_for};
 use br_claim::Claims;
 use br_match::Found;
 use br_piece::Piece;
@@ -13,14 +13,16 @@ use br_volume::Drive;
 use std::alloc::Global;
 use std::thread::Threads;
 
-/// What the drives find of the pieces, in the order of the pieces: each piece is read by one of the drives, in a thread of its
-/// own, and the answer is that of one drive. A piece is as `match_piece` reads it.
+/// Returns what the drives find of the pieces, in the order of the pieces. One of the drives reads
+/// each piece, as `match_piece` does. Each drive works in a thread of its own.
 ///
-/// There are 1 to 16 drives, and the pieces are numbered from 0, as `split` numbers them. The gate is told of each piece.
-/// A drive that failed reads no further piece.
+/// There are 1 to 16 drives, and the pieces are numbered from 0, as `split` numbers them. The gate
+/// is called before and after each piece. A drive that failed reads no further piece. In each case
+/// the drives are in their places again.
 ///
-/// `Memory` where memory is short; else `Piece` with the fault of the first piece that has one. The drives are in their places
-/// again in each case.
+/// # Errors
+///
+/// `Memory` if memory runs out, `Piece` with the fault of the first piece that has one.
 pub fn run_pool<D: Drive + Send, G: Gate + Sync, R: Threads + Sync>(
     rt: &R,
     alloc: Global,
@@ -39,11 +41,16 @@ pub fn run_pool<D: Drive + Send, G: Gate + Sync, R: Threads + Sync>(
         return Err(PoolFault::Memory);
     };
     let mut claims = Claims::new(alloc, count)?;
-    let desks = desks_for(alloc, &mut claims, drives.len(), pieces.len())?;
+    let shares = shares_for(alloc, &mut claims, drives.len(), pieces.len())?;
     let mut slots = empty_slots(alloc, pieces.len())?;
-    let seats = worked(rt, alloc, pieces, &claims, gate, drives, desks, &mut slots)?;
+    let work = Work {
+        pieces,
+        claims: &claims,
+        gate,
+    };
+    let seats = read_all(rt, alloc, &work, drives, shares, &mut slots)?;
     let Ok(_lists) = claims.gather(seats) else {
         return Err(PoolFault::Memory);
     };
-    listed(alloc, slots)
+    found_in_order(alloc, slots)
 }

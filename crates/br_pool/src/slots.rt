@@ -7,7 +7,7 @@ use crate::worker::Answer;
 use br_match::{Found, PieceFault};
 use std::alloc::{AllocError, Global};
 
-/// So many slots without an answer.
+/// Returns `count` slots without an answer.
 pub(crate) fn empty_slots(alloc: Global, count: usize) -> Result<Vec<Option<Answer>>, AllocError>
     ensures many { IfOk result (λ slots. length slots.items ≡ count) }
     ensures none { IfOk result (λ slots. AllByRecursion (λ s. s ≡ None) slots.items) }
@@ -19,8 +19,8 @@ pub(crate) fn empty_slots(alloc: Global, count: usize) -> Result<Vec<Option<Answ
     Ok(slots)
 }
 
-/// Puts each answer to the place of its number.
-pub(crate) fn place(slots: &mut [Option<Answer>], answers: Vec<(u32, Answer)>)
+/// Fills the slot of each number with its answer.
+pub(crate) fn fill(slots: &mut [Option<Answer>], answers: Vec<(u32, Answer)>)
     requires { AllBelow (length slots.old) answers.items }
     ensures { slots.new ≡ with_each slots.old answers.items }
 {
@@ -29,16 +29,19 @@ pub(crate) fn place(slots: &mut [Option<Answer>], answers: Vec<(u32, Answer)>)
     }
 }
 
-/// Whether memory ran out.
+/// Returns whether memory ran out.
 fn is_memory(slot: &Option<Answer>) -> bool {
     match slot {
-        Some(Err(fault)) => fault.number() == 1,
+        Some(Err(PieceFault::Memory)) => true,
         _ => false,
     }
 }
 
-/// What was found, in order, or the first refusal. Want of memory comes before all else.
-pub(crate) fn listed(alloc: Global, slots: Vec<Option<Answer>>) -> Result<Vec<Found>, PoolFault>
+/// Returns what was found, in order, or the first refusal. Out of memory comes before all others.
+pub(crate) fn found_in_order(
+    alloc: Global,
+    slots: Vec<Option<Answer>>,
+) -> Result<Vec<Found>, PoolFault>
     requires { HasNoGap slots.items }
     ensures { IsListed slots.items result }
 {

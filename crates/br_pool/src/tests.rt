@@ -14,7 +14,8 @@ use std::thread;
 use std::thread::Threads;
 use std::time::{Clock, Duration};
 
-/// A block of two whole records of file 1 of session 1, 100: attributes of 38 bytes and data of 5 bytes.
+/// A block of two whole records of file 1 of session 1, 100: attributes of 38 bytes and data of 5
+/// bytes.
 const BLOCK: &[u8; 91] =
     b"\0\0\0\0\0\0\0\x5b\0\0\0\0BB02\0\0\0\x01\0\0\0\x64\0\0\0\x01\0\0\0\x01\0\0\0\x261 3 /a\0A A IGk B A A A F A A A A A A\0\0\0\0\0\x01\0\0\0\x02\0\0\0\x05hello";
 
@@ -22,6 +23,7 @@ const THREE: &[u8] = b"Volume=A\nFileIndex=1\nVolume=B\nFileIndex=1\nVolume=C\nF
 
 const MISSING: &[u8] = b"Volume=A\nFileIndex=1\nVolume=Q\nFileIndex=1\nVolume=B\nFileIndex=1\n";
 
+/// Returns the pieces of a bootstrap's text.
 fn pieces_of_text(alloc: Global, text: &[u8]) -> Result<Vec<Piece>, BsrFault>
     ensures { IfOk result (λ pieces. AreNumbered pieces.items) }
 {
@@ -30,7 +32,7 @@ fn pieces_of_text(alloc: Global, text: &[u8]) -> Result<Vec<Piece>, BsrFault>
     Ok(pieces)
 }
 
-/// A volume of so many of the blocks.
+/// Returns a volume of `blocks` of the blocks.
 fn volume(alloc: Global, name: &[u8], blocks: usize) -> Result<(VolName, Vec<u8>), Fail> {
     let mut bytes = Vec::new(alloc);
     for _block in 0..blocks {
@@ -39,7 +41,7 @@ fn volume(alloc: Global, name: &[u8], blocks: usize) -> Result<(VolName, Vec<u8>
     Ok((VolName::new(alloc, name)?, bytes))
 }
 
-/// Volumes A of one block, B of two, and C of three.
+/// Returns the volumes A of one block, B of two, and C of three.
 fn volumes(alloc: Global) -> Result<Vec<(VolName, Vec<u8>)>, Fail> {
     let mut volumes = Vec::new(alloc);
     volumes.push(volume(alloc, b"A", 1)?)?;
@@ -48,7 +50,7 @@ fn volumes(alloc: Global) -> Result<Vec<(VolName, Vec<u8>)>, Fail> {
     Ok(volumes)
 }
 
-/// So many drives over these volumes.
+/// Returns `count` drives over these volumes.
 fn drives(alloc: Global, count: usize) -> Result<Vec<MemDrive>, Fail>
     ensures { IfOk result (λ drives. length drives.items ≡ count) }
 {
@@ -59,7 +61,7 @@ fn drives(alloc: Global, count: usize) -> Result<Vec<MemDrive>, Fail>
     Ok(drives)
 }
 
-/// What so many drives find of the pieces of a bootstrap.
+/// Runs the pool over a bootstrap with `count` drives.
 fn found_by<R: Threads + Sync, G: Gate + Sync>(
     rt: &R,
     alloc: Global,
@@ -74,40 +76,43 @@ fn found_by<R: Threads + Sync, G: Gate + Sync>(
     Ok(run_pool(rt, alloc, &pieces, &mut drives, gate))
 }
 
-/// Whether it is the piece of this number, with so many hits.
-fn is_found(found: &Found, number: usize, hits: usize) -> bool {
-    found.piece as usize == number && found.hits.len() == hits
+/// The numbers of the three pieces, and their numbers of hits.
+const ALL: [(u32, usize); 3] = [(0, 2), (1, 4), (2, 6)];
+
+/// Returns the number of each of three pieces, and its number of hits.
+fn counts_of(founds: &[Found]) -> Option<[(u32, usize); 3]> {
+    match founds {
+        [a, b, c] => Some([
+            (a.piece, a.hits.len()),
+            (b.piece, b.hits.len()),
+            (c.piece, c.hits.len()),
+        ]),
+        _ => None,
+    }
 }
 
-/// Whether the pieces are found in order, with so many hits each.
-fn has_hits(founds: &[Found], hits: &[usize]) -> bool {
-    let mut pairs = founds.iter().zip(hits).enumerate();
-    founds.len() == hits.len()
-        && pairs.all(|(number, (found, hits))| is_found(found, number, *hits))
-}
-
-/// Whether so many drives find the three volumes' hits.
-fn finds_all<R: Threads + Sync, G: Gate + Sync>(
+/// Returns what `count` drives find on the three volumes, as `counts_of` does.
+fn counts_by<R: Threads + Sync, G: Gate + Sync>(
     rt: &R,
     alloc: Global,
     count: usize,
     gate: &G,
-) -> Result<bool, Fail>
+) -> Result<Option<[(u32, usize); 3]>, Fail>
     requires { IsDriveCount count }
 {
     let founds = found_by(rt, alloc, THREE, count, gate)??;
-    Ok(has_hits(&founds, &[2, 4, 6]))
+    Ok(counts_of(&founds))
 }
 
 #[test]
 fn any_number_of_drives_finds_the_same(rt: HostRuntime) -> Result<(), Fail> {
-    assert!(rt; finds_all(&rt, rt.alloc(), 1, &OpenGate)?);
-    assert!(rt; finds_all(&rt, rt.alloc(), 2, &OpenGate)?);
-    assert!(rt; finds_all(&rt, rt.alloc(), 16, &OpenGate)?);
+    assert_eq!(rt; counts_by(&rt, rt.alloc(), 1, &OpenGate)?, Some(ALL));
+    assert_eq!(rt; counts_by(&rt, rt.alloc(), 2, &OpenGate)?, Some(ALL));
+    assert_eq!(rt; counts_by(&rt, rt.alloc(), 16, &OpenGate)?, Some(ALL));
     Ok(())
 }
 
-/// The number and the volume's first byte of a refusal.
+/// Returns the number of a refusal and the first byte of its volume.
 fn refused(answer: &Result<Vec<Found>, PoolFault>) -> Option<(u32, u8)> {
     let Err(fault) = answer else {
         return None;
@@ -125,7 +130,7 @@ fn a_missing_volume_beside_sound_ones(rt: HostRuntime) -> Result<(), Fail> {
     Ok(())
 }
 
-/// Holds one piece until two others were read, and tells whether they were.
+/// A gate that holds one piece until two others were read, and records whether they were.
 #[derive(Drop)]
 struct HoldsOne<'r, C: Clock> {
     clock: &'r C,
@@ -153,7 +158,7 @@ impl<C: Clock> Gate for HoldsOne<'_, C> {
     }
 }
 
-/// Whether two drives find all where this piece is held until the two others were read, and these are read meanwhile.
+/// Returns whether two drives find all if this piece is held, and read the two others meanwhile.
 fn goes_round<R: Clock + Threads + Sync>(rt: &R, alloc: Global, piece: u32) -> Result<bool, Fail> {
     let gate = HoldsOne {
         clock: rt,
@@ -161,8 +166,8 @@ fn goes_round<R: Clock + Threads + Sync>(rt: &R, alloc: Global, piece: u32) -> R
         left: AtomicU64::new(0),
         met: AtomicU64::new(0),
     };
-    let all = finds_all(rt, alloc, 2, &gate)?;
-    Ok(all && gate.met.load(Ordering::SeqCst) == 1)
+    let counts = counts_by(rt, alloc, 2, &gate)?;
+    Ok(counts == Some(ALL) && gate.met.load(Ordering::SeqCst) == 1)
 }
 
 #[test]

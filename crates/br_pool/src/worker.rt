@@ -1,8 +1,7 @@
-ghost use Rattle.std.specs.Prelude.{◌≡◌, ℕ, ◌<◌, ◌≤◌, true, length, slice_index_or, IfOk, IfErr};
-ghost use Rattle.br_match.specs.Fault.{fault_number};
+ghost use Rattle.std.specs.Prelude.{◌≡◌, ◌<◌, ◌≤◌, true, length, IfOk};
 ghost use Rattle.br_match.specs.Matching.{FoundOver};
 ghost use Rattle.br_volume.specs.Drive.{OnlyGrows};
-ghost use Rattle.br_pool.specs.Workers.{IsReady, HasWorked, is_failure};
+ghost use Rattle.br_pool.specs.Workers.{EachAt, EachPairAt, HasRun, IsSetUp, is_failure};
 
 use crate::gate::Gate;
 use br_claim::{ClaimSeat, Claims};
@@ -13,27 +12,27 @@ use std::alloc::Global;
 use std::thread;
 use std::thread::Threads;
 
-/// What a drive answers for a piece.
+/// What a drive finds of a piece, or the reason why it gave the piece up.
 pub(crate) type Answer = Result<Found, PieceFault>;
 
-/// A drive, what it draws numbers with, and what it answered for each number that was drawn.
+/// A drive, the seat by which it draws the numbers of pieces, and its answer for each number.
 pub(crate) struct Worker<D: Drive> {
     pub(crate) drive: D,
     pub(crate) seat: ClaimSeat,
     pub(crate) answers: Vec<(u32, Answer)>,
 }
 
-/// Whether a drive failed.
+/// Returns whether the drive failed.
 fn is_failure(answer: &Answer) -> bool
     ensures { result ≡ is_failure answer.now }
 {
     match answer {
         Ok(_) => false,
-        Err(fault) => fault.number() == 13,
+        Err(fault) => fault.is_drive_failure(),
     }
 }
 
-/// What a drive finds of a piece, which the gate is told of.
+/// Reads a piece with a drive, and reports both ends of the reading to the gate.
 fn read_one<D: Drive, G: Gate>(
     alloc: Global,
     piece: &Piece,
@@ -53,7 +52,7 @@ fn read_one<D: Drive, G: Gate>(
     answer
 }
 
-/// Draws numbers and reads the pieces that have them, until none is left or the drive fails.
+/// Draws numbers and reads the pieces with these numbers, until none is left or the drive fails.
 fn work<D: Drive, G: Gate>(
     alloc: Global,
     pieces: &[Piece],
@@ -62,8 +61,8 @@ fn work<D: Drive, G: Gate>(
     worker: &mut Worker<D>,
 )
     requires few { claims.now.limit ≡ length pieces.now }
-    requires ready { IsReady claims.now.claims claims.now.limit worker.old.seat worker.old.answers }
-    ensures { HasWorked claims.now.claims pieces.now (D.shows worker.old.drive) (D.shows worker.new.drive) (D.failures worker.old.drive) (D.failures worker.new.drive) worker.new.seat worker.new.answers.items }
+    requires ready { IsSetUp claims.now.claims claims.now.limit worker.old }
+    ensures { HasRun D.shows D.failures claims.now.claims pieces.now worker.old worker.new }
 {
     let Worker {
         drive,
@@ -80,7 +79,7 @@ fn work<D: Drive, G: Gate>(
     }
 }
 
-/// Each worker in a thread of its own.
+/// Runs each worker in a thread of its own.
 pub(crate) fn run_workers<D: Drive + Send, G: Gate + Sync, R: Threads + Sync>(
     rt: &R,
     alloc: Global,
@@ -90,8 +89,8 @@ pub(crate) fn run_workers<D: Drive + Send, G: Gate + Sync, R: Threads + Sync>(
     workers: &mut [Worker<D>],
 )
     requires few { claims.now.limit ≡ length pieces.now }
-    requires ready { (i : ℕ) (d : Worker D) → i < length workers.old → IsReady claims.now.claims claims.now.limit (slice_index_or workers.old i d).seat (slice_index_or workers.old i d).answers }
-    ensures { (i : ℕ) (d : Worker D) → i < length workers.old → HasWorked claims.now.claims pieces.now (D.shows (slice_index_or workers.old i d).drive) (D.shows (slice_index_or workers.new i d).drive) (D.failures (slice_index_or workers.old i d).drive) (D.failures (slice_index_or workers.new i d).drive) (slice_index_or workers.new i d).seat (slice_index_or workers.new i d).answers.items }
+    requires ready { EachAt (IsSetUp claims.now.claims claims.now.limit) workers.old }
+    ensures { EachPairAt (HasRun D.shows D.failures claims.now.claims pieces.now) workers.old workers.new }
 {
     let count = workers.len();
     if count == 0 {

@@ -1,11 +1,12 @@
-ghost use Rattle.std.specs.Prelude.{◌≡◌, ℕ, ◌<◌, ◌≤◌, ◌+◌, [], ◌++◌, List, map, reverse, flat_map, length, vec_len, vec_capacity, IfOk};
+ghost use Rattle.std.specs.Prelude.{◌≡◌, ◌<◌, ◌≤◌, ◌+◌, [], map, reverse, flat_map, length, vec_capacity, IfOk};
 ghost use Rattle.std.specs.List.{AllByRecursion, AllZip};
 ghost use Rattle.br_pool.specs.Pool.{StayInPlace};
+ghost use Rattle.br_pool.specs.Reading.{Reads};
 ghost use Rattle.br_pool.specs.Slots.{AllBelow, with_each};
-ghost use Rattle.br_pool.specs.Workers.{Answer, IsReady, HasWorked, HaveWorked};
+ghost use Rattle.br_pool.specs.Workers.{HasRun, IsReady, IsSetUp};
 
 use crate::gate::Gate;
-use crate::slots::place;
+use crate::slots::fill;
 use crate::worker::{Answer, Worker, run_workers};
 use br_claim::{ClaimSeat, Claims};
 use br_piece::Piece;
@@ -13,15 +14,24 @@ use br_volume::Drive;
 use std::alloc::{AllocError, Global};
 use std::thread::Threads;
 
+/// The work that all workers share.
+#[derive(Drop)]
+pub(crate) struct Work<'w, G: Gate> {
+    pub(crate) pieces: &'w [Piece],
+    /// The numbers of the pieces, which workers draw.
+    pub(crate) claims: &'w Claims,
+    pub(crate) gate: &'w G,
+}
+
 /// What a worker has beside its drive.
 #[derive(Drop)]
-pub(crate) struct Desk {
+pub(crate) struct Share {
     pub(crate) seat: ClaimSeat,
     pub(crate) answers: Vec<(u32, Answer)>,
 }
 
-/// A desk with room for so many answers.
-fn one_desk(alloc: Global, claims: &mut Claims, room: usize) -> Result<Desk, AllocError>
+/// Returns a share with room for `room` answers.
+fn one_share(alloc: Global, claims: &mut Claims, room: usize) -> Result<Share, AllocError>
     requires few { claims.old.seats < 65536 }
     requires room { claims.old.limit ≡ room }
     ensures ready { IfOk result (λ d. IsReady claims.old.claims room d.seat d.answers) }
@@ -29,41 +39,41 @@ fn one_desk(alloc: Global, claims: &mut Claims, room: usize) -> Result<Desk, All
 {
     let answers = Vec::with_capacity(alloc, room)?;
     let seat = claims.seat()?;
-    Ok(Desk { seat, answers })
+    Ok(Share { seat, answers })
 }
 
-/// So many desks.
-pub(crate) fn desks_for(
+/// Returns `count` shares with room for `room` answers each.
+pub(crate) fn shares_for(
     alloc: Global,
     claims: &mut Claims,
     count: usize,
     room: usize,
-) -> Result<Vec<Desk>, AllocError>
+) -> Result<Vec<Share>, AllocError>
     requires few { claims.old.seats + count ≤ 65536 }
     requires room { claims.old.limit ≡ room }
-    ensures many { IfOk result (λ desks. length desks.items ≡ count) }
-    ensures ready { IfOk result (λ desks. AllByRecursion (λ d. IsReady claims.old.claims room d.seat d.answers) desks.items) }
+    ensures many { IfOk result (λ shares. length shares.items ≡ count) }
+    ensures ready { IfOk result (λ shares. AllByRecursion (λ d. IsReady claims.old.claims room d.seat d.answers) shares.items) }
     ensures claims { IfOk result (λ _. claims.new ≡ record claims.old { seats = claims.old.seats + count }) }
 {
-    let mut desks = Vec::with_capacity(alloc, count)?;
+    let mut shares = Vec::with_capacity(alloc, count)?;
     for _place in 0..count {
-        desks.push_reserved(one_desk(alloc, claims, room)?);
+        shares.push_reserved(one_share(alloc, claims, room)?);
     }
-    Ok(desks)
+    Ok(shares)
 }
 
-/// Gives each drive a desk, the last drive first.
-fn hire<D: Drive>(drives: &mut Vec<D>, desks: Vec<Desk>, workers: &mut Vec<Worker<D>>)
-    requires many { length drives.old.items ≡ length desks.items }
+/// Makes a worker of each drive and a share, the last drive first.
+fn into_workers<D: Drive>(drives: &mut Vec<D>, shares: Vec<Share>, workers: &mut Vec<Worker<D>>)
+    requires many { length drives.old.items ≡ length shares.items }
     requires none { workers.old.items ≡ [] }
-    requires room { length desks.items ≤ vec_capacity workers.old }
+    requires room { length shares.items ≤ vec_capacity workers.old }
     ensures none { drives.new.items ≡ [] }
     ensures room { vec_capacity drives.new ≡ vec_capacity drives.old }
     ensures drives { reverse (map (λ (w : Worker D). w.drive) workers.new.items) ≡ drives.old.items }
-    ensures desks { AllZip (λ d (w : Worker D). (w.seat ≡ d.seat) × (w.answers ≡ d.answers)) desks.items workers.new.items }
+    ensures shares { AllZip (λ d (w : Worker D). (w.seat ≡ d.seat) × (w.answers ≡ d.answers)) shares.items workers.new.items }
 {
-    for desk in desks {
-        let Desk { seat, answers } = desk;
+    for share in shares {
+        let Share { seat, answers } = share;
         workers.push_reserved(Worker {
             drive: drives.take_last(),
             seat,
@@ -72,8 +82,8 @@ fn hire<D: Drive>(drives: &mut Vec<D>, desks: Vec<Desk>, workers: &mut Vec<Worke
     }
 }
 
-/// The workers behind their run.
-fn ran<D: Drive + Send, G: Gate + Sync, R: Threads + Sync>(
+/// Runs the workers, and returns them after their run.
+fn run_all<D: Drive + Send, G: Gate + Sync, R: Threads + Sync>(
     rt: &R,
     alloc: Global,
     pieces: &[Piece],
@@ -82,15 +92,16 @@ fn ran<D: Drive + Send, G: Gate + Sync, R: Threads + Sync>(
     mut workers: Vec<Worker<D>>,
 ) -> Vec<Worker<D>>
     requires few { claims.now.limit ≡ length pieces.now }
-    requires ready { AllByRecursion (λ (w : Worker D). IsReady claims.now.claims claims.now.limit w.seat w.answers) workers.items }
-    ensures { AllZip (λ (w v : Worker D). HasWorked claims.now.claims pieces.now (D.shows w.drive) (D.shows v.drive) (D.failures w.drive) (D.failures v.drive) v.seat v.answers.items) workers.items result.items }
+    requires ready { AllByRecursion (IsSetUp claims.now.claims claims.now.limit) workers.items }
+    ensures { AllZip (HasRun D.shows D.failures claims.now.claims pieces.now) workers.items result.items }
 {
     run_workers(rt, alloc, pieces, claims, gate, workers.as_mut_slice());
     workers
 }
 
-/// Takes the workers apart, the last one first: the drives go back, and the answers to their places.
-fn dismiss<D: Drive>(
+/// Takes the workers apart, the last one first. Their drives go back, and their answers into the
+/// slots.
+fn out_of_workers<D: Drive>(
     mut workers: Vec<Worker<D>>,
     drives: &mut Vec<D>,
     seats: &mut Vec<ClaimSeat>,
@@ -112,35 +123,34 @@ fn dismiss<D: Drive>(
         } = workers.take_last();
         drives.push_reserved(drive);
         seats.push_reserved(seat);
-        place(slots, answers);
+        fill(slots, answers);
     }
     workers.destroy_empty();
 }
 
-/// Lets the drives read the pieces, and puts the answers to their places. Behind it the drives are in their places again; the
-/// answer is the seats of those who drew. `AllocError` where memory is short: the drives are then unchanged.
-pub(crate) fn worked<D: Drive + Send, G: Gate + Sync, R: Threads + Sync>(
+/// Reads the pieces with the drives, and fills the slots `into` with the answers. Returns the seats
+/// of the workers. The drives are then in their places again.
+pub(crate) fn read_all<D: Drive + Send, G: Gate + Sync, R: Threads + Sync>(
     rt: &R,
     alloc: Global,
-    pieces: &[Piece],
-    claims: &Claims,
-    gate: &G,
+    work: &Work<'_, G>,
     drives: &mut Vec<D>,
-    desks: Vec<Desk>,
-    slots: &mut [Option<Answer>],
+    shares: Vec<Share>,
+    into: &mut [Option<Answer>],
 ) -> Result<Vec<ClaimSeat>, AllocError>
-    requires few { (claims.now.limit ≡ length pieces.now) × (length slots.old ≡ length pieces.now) }
-    requires many { length drives.old.items ≡ length desks.items }
-    requires ready { AllByRecursion (λ d. IsReady claims.now.claims claims.now.limit d.seat d.answers) desks.items }
-    requires some { 0 < length desks.items }
+    requires few { work.now.claims.now.limit ≡ length work.now.pieces.now }
+    requires slots { length into.old ≡ length work.now.pieces.now }
+    requires many { length drives.old.items ≡ length shares.items }
+    requires ready { AllByRecursion (λ d. IsReady work.now.claims.now.claims work.now.claims.now.limit d.seat d.answers) shares.items }
+    requires some { 0 < length shares.items }
     ensures many { IfOk result (λ seats. length seats.items ≡ length drives.old.items) }
     ensures places { StayInPlace D.shows D.failures drives.old.items drives.new.items }
-    ensures worked { IfOk result (λ seats. (answers : List (ℕ × Answer)) × (slots.new ≡ with_each slots.old answers) × HaveWorked claims.now.claims pieces.now (map D.shows drives.old.items) (map D.shows drives.new.items) (map D.failures drives.old.items) (map D.failures drives.new.items) seats.items answers) }
+    ensures read { Reads D.shows D.failures work.now.claims.now work.now.pieces.now drives.old.items drives.new.items into.old into.new result }
 {
-    let mut seats = Vec::with_capacity(alloc, desks.len())?;
-    let mut workers = Vec::with_capacity(alloc, desks.len())?;
-    hire(drives, desks, &mut workers);
-    let workers = ran(rt, alloc, pieces, claims, gate, workers);
-    dismiss(workers, drives, &mut seats, slots);
+    let mut seats = Vec::with_capacity(alloc, shares.len())?;
+    let mut workers = Vec::with_capacity(alloc, shares.len())?;
+    into_workers(drives, shares, &mut workers);
+    let workers = run_all(rt, alloc, work.pieces, work.claims, work.gate, workers);
+    out_of_workers(workers, drives, &mut seats, into);
     Ok(seats)
 }

@@ -5,16 +5,16 @@ use Rattle.atomic_table.specs.Seated.{TableId}
 use Rattle.br_claim.specs.Claims.{Claimed}
 use Rattle.br_pool.specs.Slots.{HasNoGap, IsListed}
 use Rattle.br_pool.specs.Workers.{Answer, IsReady}
-use Rattle.br_pool.specs.declared.crew.Desk.{Desk}
+use Rattle.br_pool.specs.declared.workers.Share.{Share}
 use Rattle.br_pool.proofs.ListLaws.{written}
 use Rattle.br_pool.proofs.SlotLaws.{length_with_each}
 use Rattle.br_pool.proofs.WorkedLaws.{all_kept}
 use Rattle.br_pool.proofs.DealtLaws.{no_gap_left, what_is_listed}
 use Rattle.br_pool.proofs.pool.run_pool.Goals as goal
 
-ready_at : (a b : TableId) (m n : ℕ) (desks : List Desk) → b ≡ a → n ≡ m → AllByRecursion (λ (d : Desk). IsReady a m d.seat d.answers) desks
-    → AllByRecursion (λ (d : Desk). IsReady b n d.seat d.answers) desks
-ready_at a b m n desks p q h = rw (p, q) h
+ready_at : (a b : TableId) (m n : ℕ) (shares : List Share) → b ≡ a → n ≡ m → AllByRecursion (λ (d : Share). IsReady a m d.seat d.answers) shares
+    → AllByRecursion (λ (d : Share). IsReady b n d.seat d.answers) shares
+ready_at a b m n shares p q h = rw (p, q) h
 
 pub returns-in_default-clause-places : goal.returns-in_default-clause-places
 returns-in_default-clause-places g c = all_kept g.D.Drive.shows g.D.Drive.failures c.args.drives.now.items
@@ -22,42 +22,42 @@ returns-in_default-clause-places g c = all_kept g.D.Drive.shows g.D.Drive.failur
 pub returns-in_err-claims-clause-places : goal.returns-in_err-claims-clause-places
 returns-in_err-claims-clause-places g c = all_kept g.D.Drive.shows g.D.Drive.failures c.args.drives.now.items
 
-pub returns-in_err-desks-clause-places : goal.returns-in_err-desks-clause-places
-returns-in_err-desks-clause-places g c = all_kept g.D.Drive.shows g.D.Drive.failures c.args.drives.now.items
+pub returns-in_err-shares-clause-places : goal.returns-in_err-shares-clause-places
+returns-in_err-shares-clause-places g c = all_kept g.D.Drive.shows g.D.Drive.failures c.args.drives.now.items
 
 pub returns-in_err-slots-clause-places : goal.returns-in_err-slots-clause-places
 returns-in_err-slots-clause-places g c = all_kept g.D.Drive.shows g.D.Drive.failures c.args.drives.now.items
 
-pub worked-requires-clause-ready : goal.worked-requires-clause-ready
-worked-requires-clause-ready g c κs within = let made = c.in_ok-desks.ensures.claims in
-    ready_at c.in_ok-claims.claims.claims c.desks_for.new.claims.claims (length c.args.pieces.now) c.desks_for.new.claims.limit c.in_ok-desks.desks.items (ap (λ (k : Claimed). k.claims) made)
-    (ap (λ (k : Claimed). k.limit) made ∙ c.in_ok-claims.ensures.0 ∙ c.in-Ok.ensures.1) c.in_ok-desks.ensures.ready
+pub read_all-requires-clause-ready : goal.read_all-requires-clause-ready
+read_all-requires-clause-ready g c κs within = let made = c.in_ok-shares.ensures.claims in
+    ready_at c.in_ok-claims.claims.claims c.shares_for.new.claims.claims (length c.args.pieces.now) c.shares_for.new.claims.limit c.in_ok-shares.shares.items (ap (λ (k : Claimed). k.claims) made)
+    (ap (λ (k : Claimed). k.limit) made ∙ c.in_ok-claims.ensures.0 ∙ c.in-Ok.ensures.1) c.in_ok-shares.ensures.ready
 
-pub listed-requires : goal.listed-requires
-listed-requires g c =
-    let w = c.in_ok-seats.ensures.worked in
-    let few : c.desks_for.new.claims.limit ≡ length c.args.pieces.now =
-    ap (λ (k : Claimed). k.limit) c.in_ok-desks.ensures.claims ∙ c.in_ok-claims.ensures.0 ∙ c.in-Ok.ensures.1 in
+pub found_in_order-requires : goal.found_in_order-requires
+found_in_order-requires g c =
+    let w = c.in_ok-seats.ensures.read in
+    let few : c.shares_for.new.claims.limit ≡ length c.args.pieces.now =
+    ap (λ (k : Claimed). k.limit) c.in_ok-shares.ensures.claims ∙ c.in_ok-claims.ensures.0 ∙ c.in-Ok.ensures.1 in
     let many : length c.deref_mut.result.now ≡ length c.args.pieces.now = ap length c.deref_mut.ensures.value ∙ c.in_ok-slots.ensures.many in
-    let same : length c.worked.new.slots ≡ c.in_ok-slots.slots.len = ap length w.1 ∙ length_with_each c.deref_mut.result.now w.0 ∙ c.deref_mut.ensures.len in
-    subst HasNoGap (sym (written c.in_ok-slots.slots.len c.worked.new.slots c.in_ok-slots.slots.items same))
-    (no_gap_left c.desks_for.new.claims.claims c.args.pieces.now (map g.D.Drive.shows c.args.drives.now.items) (map g.D.Drive.shows c.worked.new.drives.items)
-    (map g.D.Drive.failures c.args.drives.now.items) (map g.D.Drive.failures c.worked.new.drives.items) c.in_ok-seats.seats.items c.deref_mut.result.now c.worked.new.slots w.0
-    w.1 w.2 c.desks_for.new.claims.limit (map (λ (v : Vec ℕ Global). v.items) c.in-Ok-gather._lists.items) (many ∙ sym few) few c.in-Ok-gather.ensures.dealt c.in-Ok-gather.ensures.lists)
+    let same : length c.read_all.new.into ≡ c.in_ok-slots.slots.len = ap length w.1 ∙ length_with_each c.deref_mut.result.now w.0 ∙ c.deref_mut.ensures.len in
+    subst HasNoGap (sym (written c.in_ok-slots.slots.len c.read_all.new.into c.in_ok-slots.slots.items same))
+    (no_gap_left c.shares_for.new.claims.claims c.args.pieces.now (map g.D.Drive.shows c.args.drives.now.items) (map g.D.Drive.shows c.read_all.new.drives.items)
+    (map g.D.Drive.failures c.args.drives.now.items) (map g.D.Drive.failures c.read_all.new.drives.items) c.in_ok-seats.seats.items c.deref_mut.result.now c.read_all.new.into w.0
+    w.1 w.2 c.shares_for.new.claims.limit (map (λ (v : Vec ℕ Global). v.items) c.in-Ok-gather._lists.items) (many ∙ sym few) few c.in-Ok-gather.ensures.dealt c.in-Ok-gather.ensures.lists)
 
 pub returns : goal.returns
 returns g c =
-    let w = c.in_ok-seats.ensures.worked in
+    let w = c.in_ok-seats.ensures.read in
     let many : length c.deref_mut.result.now ≡ length c.args.pieces.now = ap length c.deref_mut.ensures.value ∙ c.in_ok-slots.ensures.many in
     let none : AllByRecursion (λ (s : Option Answer). s ≡ None) c.deref_mut.result.now =
     subst (λ (l : List (Option Answer)). AllByRecursion (λ (s : Option Answer). s ≡ None) l) (sym c.deref_mut.ensures.value) c.in_ok-slots.ensures.none in
-    let same : length c.worked.new.slots ≡ c.in_ok-slots.slots.len = ap length w.1 ∙ length_with_each c.deref_mut.result.now w.0 ∙ c.deref_mut.ensures.len in
-    let listed : IsListed c.worked.new.slots c.listed.result =
-    subst (λ (l : List (Option Answer)). IsListed l c.listed.result) (written c.in_ok-slots.slots.len c.worked.new.slots c.in_ok-slots.slots.items same) c.listed.ensures in
+    let same : length c.read_all.new.into ≡ c.in_ok-slots.slots.len = ap length w.1 ∙ length_with_each c.deref_mut.result.now w.0 ∙ c.deref_mut.ensures.len in
+    let listed : IsListed c.read_all.new.into c.found_in_order.result =
+    subst (λ (l : List (Option Answer)). IsListed l c.found_in_order.result) (written c.in_ok-slots.slots.len c.read_all.new.into c.in_ok-slots.slots.items same) c.found_in_order.ensures in
     let all =
-    what_is_listed c.desks_for.new.claims.claims c.args.pieces.now (map g.D.Drive.shows c.args.drives.now.items) (map g.D.Drive.shows c.worked.new.drives.items)
-    (map g.D.Drive.failures c.args.drives.now.items) (map g.D.Drive.failures c.worked.new.drives.items) c.in_ok-seats.seats.items c.deref_mut.result.now c.worked.new.slots w.0
-    w.1 w.2 many none c.listed.result listed in record {
+    what_is_listed c.shares_for.new.claims.claims c.args.pieces.now (map g.D.Drive.shows c.args.drives.now.items) (map g.D.Drive.shows c.read_all.new.drives.items)
+    (map g.D.Drive.failures c.args.drives.now.items) (map g.D.Drive.failures c.read_all.new.drives.items) c.in_ok-seats.seats.items c.deref_mut.result.now c.read_all.new.into w.0
+    w.1 w.2 many none c.found_in_order.result listed in record {
       numbers = all.0;
       hits = all.1;
       places = c.in_ok-seats.ensures.places;

@@ -1,6 +1,6 @@
 use Rattle.std.proofs.Common.{◌≡◌, ◌+◌, ◌≤◌, ◌++◌, vec_len, vec_capacity}
 use Rattle.br_pool.specs.Slots.{HasNoGap, full_of}
-use Rattle.br_pool.proofs.slots.listed.Given as goal
+use Rattle.br_pool.proofs.slots.found_in_order.Given as goal
 
 abbrev pub invariant-loop-slot : goal.invariant-loop-slot
 invariant-loop-slot l = record {

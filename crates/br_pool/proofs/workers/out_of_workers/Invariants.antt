@@ -1,7 +1,7 @@
 use Rattle.std.proofs.Common.{◌≡◌, ◌≤◌, ◌+◌, ◌++◌, map, reverse, flat_map, length, vec_len, vec_capacity}
 use Rattle.std.specs.List.{AllByRecursion}
 use Rattle.br_pool.specs.Slots.{AllBelow, with_each}
-use Rattle.br_pool.proofs.crew.dismiss.Given as goal
+use Rattle.br_pool.proofs.workers.out_of_workers.Given as goal
 
 -- what is taken apart and what is left are all
 abbrev pub invariant-loop-workers : goal.invariant-loop-workers

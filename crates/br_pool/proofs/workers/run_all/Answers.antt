@@ -3,7 +3,7 @@ use Rattle.std.specs.List.{AllByRecursion, AllZip}
 use Rattle.br_pool.specs.Workers.{IsReady, HasWorked}
 use Rattle.br_pool.specs.declared.worker.Worker.{Worker}
 use Rattle.br_pool.proofs.ListLaws.{all_at, zip_at, written}
-use Rattle.br_pool.proofs.crew.ran.Goals as goal
+use Rattle.br_pool.proofs.workers.run_all.Goals as goal
 
 pub run_workers-requires-clause-ready : goal.run_workers-requires-clause-ready
 run_workers-requires-clause-ready g c = λ κs lasts i d low.
