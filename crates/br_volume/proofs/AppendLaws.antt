@@ -94,7 +94,7 @@ extends_further first second third one two name own e =
     let q = two name (own ++ p.0) p.1 in
     (p.0 ++ q.0, q.1 ∙ ap (λ (bs : List ℕ). Some bs) (append_assoc own p.0 q.0))
 
--- where they are told, the volumes only grow
+-- if they are told, the volumes only grow
 pub append_grows : (volume bytes : List ℕ) (earlier later : Option (List Volume)) → AppendsTo volume bytes earlier later → OnlyGrows earlier later
 append_grows volume bytes None None h = tt
 append_grows volume bytes (Some earlier) (Some later) h = appended_extends volume bytes earlier later h

@@ -62,12 +62,6 @@ impl OpenDrive {
         let got = self.read(at.0, at.1)?;
         Ok(got == Got::Block(len) && is_run(&self.buf, len as usize, ends))
     }
-
-    /// Returns whether the volume ends here.
-    fn ends(&mut self, addr: u64) -> Result<bool, DriveFault> {
-        let got = self.read(addr, 24)?;
-        Ok(got == Got::End && self.buf.is_empty())
-    }
 }
 
 /// Returns whether there are `len` bytes, of which these are the first and the last.
@@ -96,27 +90,31 @@ fn failing(alloc: Global, k: u64) -> Result<OpenDrive, Fail> {
     reader_of(alloc, drive, b"V")
 }
 
-/// Returns whether a drive reads blocks at the front and at the end of V, whole and cut off.
-fn gives_whole_and_cut(reader: &mut OpenDrive) -> Result<bool, DriveFault> {
-    let front = reader.gives((0, 24), 24, (0, 23))?;
-    let back = reader.gives((148, 24), 24, (148, 171))?;
-    let cut = reader.gives((160, 24), 12, (160, 171))?;
-    Ok(front && back && cut)
-}
+/// Reads of V: the address and the size asked for, the length read, and its first and last byte. Blocks
+/// at the front and at the end, whole and cut off, the last byte, one byte inside, all but the first.
+const READS: [(u64, u32, u32, (u8, u8)); 6] = [
+    (0, 24, 24, (0, 23)),
+    (148, 24, 24, (148, 171)),
+    (160, 24, 12, (160, 171)),
+    (171, 24, 1, (171, 171)),
+    (100, 1, 1, (100, 100)),
+    (1, 4_194_304, 171, (1, 171)),
+];
 
-/// Returns whether a drive reads V's last byte, one byte inside, and all but the first.
-fn gives_one_and_all(reader: &mut OpenDrive) -> Result<bool, DriveFault> {
-    let last = reader.gives((171, 24), 1, (171, 171))?;
-    let inside = reader.gives((100, 1), 1, (100, 100))?;
-    let all = reader.gives((1, 4_194_304), 171, (1, 171))?;
-    Ok(last && inside && all)
+/// Returns the address of the first of these reads that is not as wanted.
+fn wrong_read(reader: &mut OpenDrive) -> Result<Option<u64>, DriveFault> {
+    for (addr, size, len, ends) in READS {
+        if !reader.gives((addr, size), len, ends)? {
+            return Ok(Some(addr));
+        }
+    }
+    Ok(None)
 }
 
 #[test]
 fn a_block_has_the_size_asked_for_or_all_that_is_left(rt: HostRuntime) -> Result<(), Fail> {
     let mut reader = reader(rt.alloc(), b"V")?;
-    assert!(rt; gives_whole_and_cut(&mut reader)?);
-    assert!(rt; gives_one_and_all(&mut reader)?);
+    assert_eq!(rt; wrong_read(&mut reader)?, None);
     Ok(())
 }
 
@@ -132,23 +130,28 @@ fn no_bytes_are_asked_for(rt: HostRuntime) -> Result<(), Fail> {
 #[test]
 fn the_end_is_at_the_volumes_length(rt: HostRuntime) -> Result<(), Fail> {
     let mut reader = reader(rt.alloc(), b"V")?;
-    assert!(rt; reader.ends(172)?);
-    assert!(rt; reader.ends(173)?);
+    assert_eq!(rt; reader.read(172, 24)?, Got::End);
+    assert!(rt; reader.buf.is_empty());
+    assert_eq!(rt; reader.read(173, 24)?, Got::End);
+    assert!(rt; reader.buf.is_empty());
     Ok(())
 }
 
 #[test]
 fn far_past_the_end_is_the_end(rt: HostRuntime) -> Result<(), Fail> {
     let mut reader = reader(rt.alloc(), b"V")?;
-    assert!(rt; reader.ends(9_223_372_036_854_775_807)?);
-    assert!(rt; reader.ends(u64::MAX)?);
+    assert_eq!(rt; reader.read(9_223_372_036_854_775_807, 24)?, Got::End);
+    assert!(rt; reader.buf.is_empty());
+    assert_eq!(rt; reader.read(u64::MAX, 24)?, Got::End);
+    assert!(rt; reader.buf.is_empty());
     Ok(())
 }
 
 #[test]
 fn a_volume_without_bytes_ends_at_once(rt: HostRuntime) -> Result<(), Fail> {
     let mut reader = reader(rt.alloc(), b"E")?;
-    assert!(rt; reader.ends(0)?);
+    assert_eq!(rt; reader.read(0, 24)?, Got::End);
+    assert!(rt; reader.buf.is_empty());
     Ok(())
 }
 
@@ -337,11 +340,11 @@ fn holds_file(rt: &HostRuntime, folder: &str, name: &str, wanted: &[u8]) -> Resu
 }
 
 /// Returns whether the files of V, E and W are what `fill` appended, with an `f` after the first.
-fn holds_files(rt: &HostRuntime, folder: &str) -> Result<bool, Fail> {
+fn holds_files(rt: &HostRuntime, folder: &str) -> Result<[bool; 3], Fail> {
     let v = holds_file(rt, folder, "V", b"abcdef")?;
     let e = holds_file(rt, folder, "E", b"")?;
     let w = holds_file(rt, folder, "W", b"x")?;
-    Ok(v && e && w)
+    Ok([v, e, w])
 }
 
 /// Returns the length of V after a new store appended an `f`.
@@ -355,7 +358,7 @@ fn length_after_f(rt: &HostRuntime, folder: &str) -> Result<u64, Fail> {
 fn a_store_over_a_folder_appends(rt: HostRuntime) -> Result<(), Fail> {
     let folder = filled_folder(&rt, "store")?;
     assert_eq!(rt; length_after_f(&rt, folder.as_str())?, 6);
-    assert!(rt; holds_files(&rt, folder.as_str())?);
+    assert_eq!(rt; holds_files(&rt, folder.as_str())?, [true; 3]);
     fs::remove_dir_all(&rt, folder.as_str())?;
     Ok(())
 }
@@ -396,57 +399,53 @@ fn is_block(got: Got, wanted: usize) -> bool {
     }
 }
 
-/// Returns whether a drive reads these bytes of V.
-fn gives_block(
-    alloc: Global,
-    drive: &mut impl Drive,
-    addr: u64,
-    size: u32,
-    wanted: &[u8],
-) -> Result<bool, Fail> {
+/// Reads of V, which is `abcde`: the address and the size asked for, and the bytes read.
+const BLOCKS: [(u64, u32, &[u8]); 4] = [
+    (0, 3, b"abc"),
+    (3, 3, b"de"),
+    (1, u32::MAX, b"bcde"),
+    (4, 0, b""),
+];
+
+/// The end of V and addresses past it.
+const PAST_V: [u64; 4] = [5, 6, 9_223_372_036_854_775_807, u64::MAX];
+
+/// Returns the address of the first block of V that is not read as wanted.
+fn wrong_block(alloc: Global, drive: &mut impl Drive) -> Result<Option<u64>, Fail> {
     let mut buf = counting(alloc, 50)?;
-    let got = read_of(alloc, drive, b"V", (addr, size), &mut buf)?;
-    Ok(is_block(got, wanted.len()) && buf.as_slice() == wanted)
+    for (addr, size, wanted) in BLOCKS {
+        let got = read_of(alloc, drive, b"V", (addr, size), &mut buf)?;
+        if !is_block(got, wanted.len()) || buf.as_slice() != wanted {
+            return Ok(Some(addr));
+        }
+    }
+    Ok(None)
 }
 
-/// Returns whether V ends here.
-fn gives_end(alloc: Global, drive: &mut impl Drive, addr: u64) -> Result<bool, Fail> {
+/// Returns the first address past V at which the drive does not report the end.
+fn wrong_end(alloc: Global, drive: &mut impl Drive) -> Result<Option<u64>, Fail> {
     let mut buf = counting(alloc, 50)?;
-    let got = read_of(alloc, drive, b"V", (addr, 24), &mut buf)?;
-    Ok(got == Got::End && buf.is_empty())
+    for addr in PAST_V {
+        let got = read_of(alloc, drive, b"V", (addr, 24), &mut buf)?;
+        if got != Got::End || !buf.is_empty() {
+            return Ok(Some(addr));
+        }
+    }
+    Ok(None)
 }
 
-/// Returns whether a drive reads V, which is `abcde`, at its front and at its end, and no bytes or
-/// very many of it.
-fn gives_abcde(alloc: Global, drive: &mut impl Drive) -> Result<bool, Fail> {
-    let front = gives_block(alloc, drive, 0, 3, b"abc")?;
-    let end = gives_block(alloc, drive, 3, 3, b"de")?;
-    let many = gives_block(alloc, drive, 1, u32::MAX, b"bcde")?;
-    let none = gives_block(alloc, drive, 4, 0, b"")?;
-    Ok(front && end && many && none)
-}
-
-/// Returns whether a drive reads no bytes of V, which has five, at its end and past it.
-fn gives_five(alloc: Global, drive: &mut impl Drive) -> Result<bool, Fail> {
-    let end = gives_end(alloc, drive, 5)?;
-    let past = gives_end(alloc, drive, 6)?;
-    let far = gives_end(alloc, drive, 9_223_372_036_854_775_807)?;
-    let farthest = gives_end(alloc, drive, u64::MAX)?;
-    Ok(end && past && far && farthest)
-}
-
-/// Returns whether one drive over a folder reads V and its end.
-fn reads_folder(rt: &HostRuntime, folder: &str) -> Result<bool, Fail> {
+/// Returns the first wrong block and the first wrong end of V, by one drive over a folder.
+fn wrong_in_folder(rt: &HostRuntime, folder: &str) -> Result<[Option<u64>; 2], Fail> {
     let mut drive = FolderDrive::new(rt.alloc(), rt, folder)?;
-    let read = gives_abcde(rt.alloc(), &mut drive)?;
-    let ended = gives_five(rt.alloc(), &mut drive)?;
-    Ok(read && ended)
+    let block = wrong_block(rt.alloc(), &mut drive)?;
+    let end = wrong_end(rt.alloc(), &mut drive)?;
+    Ok([block, end])
 }
 
 #[test]
 fn a_drive_over_a_folder_reads(rt: HostRuntime) -> Result<(), Fail> {
     let folder = filled_folder(&rt, "drive")?;
-    assert!(rt; reads_folder(&rt, folder.as_str())?);
+    assert_eq!(rt; wrong_in_folder(&rt, folder.as_str())?, [None, None]);
     fs::remove_dir_all(&rt, folder.as_str())?;
     Ok(())
 }
