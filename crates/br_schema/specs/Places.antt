@@ -1,5 +1,5 @@
--- The trees that hold the tables, and the places of the columns in their rows: the row's number comes first, then the
--- columns in the order of the table.
+-- The trees that hold the tables, and the places of the columns in their rows: the row's number
+-- comes first, then the columns in the order of the table.
 use Rattle.std.specs.Prelude.{ℕ}
 
 -- ---- trees of tables and of their indexes

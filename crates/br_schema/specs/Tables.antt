@@ -1,11 +1,12 @@
 -- The tables of the catalogue.
-use Rattle.std.specs.Prelude.{true, false, [], ◌∷◌, Some, None, codes, List, ℕ}
+use Rattle.std.specs.Prelude.{true, false, [], ◌∷◌, Some, None, codes, List, ℕ, map}
 use Rattle.sqlite.specs.Collation.TheVariants.{Binary}
 use Rattle.sqlite.specs.declared.types.Value.TheVariants.{Null}
 use Rattle.sqlite.specs.Table.{Table}
 use Rattle.sqlite.specs.Schema.{Schema}
 use Rattle.sqlite.specs.Kind.{Kind}
 use Rattle.sqlite.specs.Kind.TheVariants.{Integer, Text, Any}
+use Rattle.sqlite_value.specs.declared.keys.Order.{Order}
 use Rattle.sqlite_schema.specs.declared.schema.Column.{Column}
 use Rattle.sqlite_schema.specs.declared.schema.Reference.{Reference}
 use Rattle.sqlite_schema.specs.declared.schema.Index.{Index}
@@ -56,6 +57,27 @@ abbrev pub refers : ℕ → List ℕ → List ℕ → Reference
 refers at parent name =
     record { columns = at ∷ []; parent = parent; parent_columns = name ∷ []; on_delete = NoAction; on_update = NoAction; is_deferred = false }
 
+abbrev pub plain_order : Order
+plain_order = record { digits = 0 }
+
+-- a table whose key is its first column, whose rows differ in the columns of each list of
+-- `uniques`, and which has no check, no computed default and no count
+abbrev pub keyed_table : List ℕ → ℕ → List Column → List (List ℕ) → List Reference → Table
+keyed_table name tree columns uniques references = record {
+  name = name;
+  tree = tree;
+  columns = columns;
+  key = Some 0;
+  primary = row_number ∷ [];
+  uniques = uniques;
+  orders = map (λ (places : List ℕ). plain_order) uniques;
+  checks = [];
+  references = references;
+  computed = [];
+  stamps = record { places = []; terms = []; formats = [] };
+  is_counted = false;
+}
+
 abbrev pub version_columns : List Column
 version_columns = column (codes "VersionId") Integer ∷ []
 
@@ -79,39 +101,13 @@ abbrev pub client_columns : List Column
 client_columns = key_column (codes "ClientId") ∷ column (codes "Name") Text ∷ []
 
 abbrev pub client : Table
-client = record {
-  name = codes "Client";
-  tree = client_tree;
-  columns = client_columns;
-  key = Some 0;
-  primary = row_number ∷ [];
-  uniques = (name_column ∷ []) ∷ [];
-  orders = record { digits = 0 } ∷ [];
-  checks = [];
-  references = [];
-  computed = [];
-  stamps = record { places = []; terms = []; formats = [] };
-  is_counted = false;
-}
+client = keyed_table (codes "Client") client_tree client_columns ((name_column ∷ []) ∷ []) []
 
 abbrev pub fileset_columns : List Column
 fileset_columns = key_column (codes "FileSetId") ∷ column (codes "FileSet") Text ∷ []
 
 abbrev pub fileset : Table
-fileset = record {
-  name = codes "FileSet";
-  tree = fileset_tree;
-  columns = fileset_columns;
-  key = Some 0;
-  primary = row_number ∷ [];
-  uniques = (name_column ∷ []) ∷ [];
-  orders = record { digits = 0 } ∷ [];
-  checks = [];
-  references = [];
-  computed = [];
-  stamps = record { places = []; terms = []; formats = [] };
-  is_counted = false;
-}
+fileset = keyed_table (codes "FileSet") fileset_tree fileset_columns ((name_column ∷ []) ∷ []) []
 
 abbrev pub media_columns : List Column
 media_columns =
@@ -119,58 +115,19 @@ media_columns =
     ∷ column (codes "MediaType") Text ∷ []
 
 abbrev pub media : Table
-media = record {
-  name = codes "Media";
-  tree = media_tree;
-  columns = media_columns;
-  key = Some 0;
-  primary = row_number ∷ [];
-  uniques = (name_column ∷ []) ∷ [];
-  orders = record { digits = 0 } ∷ [];
-  checks = [];
-  references = [];
-  computed = [];
-  stamps = record { places = []; terms = []; formats = [] };
-  is_counted = false;
-}
+media = keyed_table (codes "Media") media_tree media_columns ((name_column ∷ []) ∷ []) []
 
 abbrev pub path_columns : List Column
 path_columns = key_column (codes "PathId") ∷ column (codes "Path") Any ∷ []
 
 abbrev pub path : Table
-path = record {
-  name = codes "Path";
-  tree = path_tree;
-  columns = path_columns;
-  key = Some 0;
-  primary = row_number ∷ [];
-  uniques = (name_column ∷ []) ∷ [];
-  orders = record { digits = 0 } ∷ [];
-  checks = [];
-  references = [];
-  computed = [];
-  stamps = record { places = []; terms = []; formats = [] };
-  is_counted = false;
-}
+path = keyed_table (codes "Path") path_tree path_columns ((name_column ∷ []) ∷ []) []
 
 abbrev pub filename_columns : List Column
 filename_columns = key_column (codes "FilenameId") ∷ column (codes "Name") Any ∷ []
 
 abbrev pub filename : Table
-filename = record {
-  name = codes "Filename";
-  tree = filename_tree;
-  columns = filename_columns;
-  key = Some 0;
-  primary = row_number ∷ [];
-  uniques = (name_column ∷ []) ∷ [];
-  orders = record { digits = 0 } ∷ [];
-  checks = [];
-  references = [];
-  computed = [];
-  stamps = record { places = []; terms = []; formats = [] };
-  is_counted = false;
-}
+filename = keyed_table (codes "Filename") filename_tree filename_columns ((name_column ∷ []) ∷ []) []
 
 abbrev pub job_columns : List Column
 job_columns =
@@ -183,20 +140,7 @@ abbrev pub job_references : List Reference
 job_references = refers job_client (codes "Client") (codes "ClientId") ∷ refers job_fileset (codes "FileSet") (codes "FileSetId") ∷ []
 
 abbrev pub job : Table
-job = record {
-  name = codes "Job";
-  tree = job_tree;
-  columns = job_columns;
-  key = Some 0;
-  primary = row_number ∷ [];
-  uniques = (job_session_id ∷ job_session_time ∷ []) ∷ [];
-  orders = record { digits = 0 } ∷ [];
-  checks = [];
-  references = job_references;
-  computed = [];
-  stamps = record { places = []; terms = []; formats = [] };
-  is_counted = false;
-}
+job = keyed_table (codes "Job") job_tree job_columns ((job_session_id ∷ job_session_time ∷ []) ∷ []) job_references
 
 abbrev pub job_media_columns : List Column
 job_media_columns =
@@ -210,20 +154,7 @@ abbrev pub job_media_references : List Reference
 job_media_references = refers span_job (codes "Job") (codes "JobId") ∷ refers span_media (codes "Media") (codes "MediaId") ∷ []
 
 abbrev pub job_media : Table
-job_media = record {
-  name = codes "JobMedia";
-  tree = job_media_tree;
-  columns = job_media_columns;
-  key = Some 0;
-  primary = row_number ∷ [];
-  uniques = (span_job ∷ span_vol_index ∷ []) ∷ [];
-  orders = record { digits = 0 } ∷ [];
-  checks = [];
-  references = job_media_references;
-  computed = [];
-  stamps = record { places = []; terms = []; formats = [] };
-  is_counted = false;
-}
+job_media = keyed_table (codes "JobMedia") job_media_tree job_media_columns ((span_job ∷ span_vol_index ∷ []) ∷ []) job_media_references
 
 abbrev pub file_columns : List Column
 file_columns =
@@ -238,20 +169,7 @@ file_references =
     ∷ refers file_filename (codes "Filename") (codes "FilenameId") ∷ []
 
 abbrev pub file : Table
-file = record {
-  name = codes "File";
-  tree = file_tree;
-  columns = file_columns;
-  key = Some 0;
-  primary = row_number ∷ [];
-  uniques = [];
-  orders = [];
-  checks = [];
-  references = file_references;
-  computed = [];
-  stamps = record { places = []; terms = []; formats = [] };
-  is_counted = false;
-}
+file = keyed_table (codes "File") file_tree file_columns [] file_references
 
 -- the index of a table that lets no two of its rows have the same values in these columns
 abbrev pub unique_index : List ℕ → ℕ → ℕ → List ℕ → Index

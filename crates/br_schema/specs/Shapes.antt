@@ -1,0 +1,81 @@
+-- The columns, references, tables and indexes that shapes describe (`src/shape.rt`).
+use Rattle.std.specs.Prelude.{◌≡◌, Bool, true, false, [], ◌∷◌, List, ℕ, Option, Some, None, map}
+use Rattle.std.specs.Borrow.{Bor}
+use Rattle.sqlite.specs.Collation.TheVariants.{Binary}
+use Rattle.sqlite.specs.declared.types.Value.TheVariants.{Null}
+use Rattle.sqlite.specs.Table.{Table}
+use Rattle.sqlite_value.specs.declared.keys.Order.{Order}
+use Rattle.sqlite_schema.specs.declared.schema.Action.TheVariants.{NoAction}
+use Rattle.sqlite_schema.specs.declared.schema.Column.{Column}
+use Rattle.sqlite_schema.specs.declared.schema.Index.{Index}
+use Rattle.sqlite_schema.specs.declared.schema.Reference.{Reference}
+use Rattle.br_schema.specs.Tables.{refers, unique_index}
+use Rattle.br_schema.specs.declared.shape.ColumnShape.{ColumnShape}
+use Rattle.br_schema.specs.declared.shape.IndexShape.{IndexShape}
+use Rattle.br_schema.specs.declared.shape.ReferenceShape.{ReferenceShape}
+use Rattle.br_schema.specs.declared.shape.TableShape.{TableShape}
+
+-- the column of a shape: it is not STRICT, has no default and compares bytes
+abbrev pub column_of : ColumnShape → Column
+column_of s = record { name = s.name.now; kind = s.kind; is_strict = false; not_null = s.not_null; default = Null; collation = Binary }
+
+-- the reference of a shape, with no action
+abbrev pub reference_of : ReferenceShape → Reference
+reference_of s = refers s.place s.parent.now s.name.now
+
+-- a change of the row that is referred to does nothing, and the test of the reference does not wait
+-- for the commit
+abbrev pub HasNoAction : Reference → Type 0
+HasNoAction reference = (reference.on_delete ≡ NoAction) × (reference.on_update ≡ NoAction) × (reference.is_deferred ≡ false)
+
+-- the index of a shape
+abbrev pub index_of : IndexShape → Index
+index_of s = unique_index s.name.now s.tree s.table s.columns.now
+
+-- the key is the first column, if there is one
+abbrev pub key_of : Bool → Option ℕ
+key_of true = Some 0
+key_of false = None
+
+-- the place of the key in a row, if there is one
+abbrev pub primary_of : Bool → List ℕ
+primary_of true = 0 ∷ []
+primary_of false = []
+
+-- the rows differ in the columns at these places, if there are some
+abbrev pub uniques_of : Option (Bor (List ℕ)) → List (List ℕ)
+uniques_of None = []
+uniques_of (Some places) = places.now ∷ []
+
+-- the order of the index over these places, if there is one
+abbrev pub orders_of : Option (Bor (List ℕ)) → List Order
+orders_of None = []
+orders_of (Some places) = record { digits = 0 } ∷ []
+
+-- a table with this name and tree, and with no check, no computed default and no count
+abbrev pub bare : List ℕ → ℕ → Table → Table
+bare name tree table = record table {
+  name = name;
+  tree = tree;
+  checks = [];
+  computed = [];
+  stamps = record { places = []; terms = []; formats = [] };
+  is_counted = false;
+}
+
+-- the table of a shape, with no check, no computed default and no count
+abbrev pub table_of : TableShape → Table
+table_of s = record {
+  name = s.name.now;
+  tree = s.tree;
+  columns = map column_of s.columns.now;
+  key = key_of s.is_keyed;
+  primary = primary_of s.is_keyed;
+  uniques = uniques_of s.unique;
+  orders = orders_of s.unique;
+  checks = [];
+  references = map reference_of s.references.now;
+  computed = [];
+  stamps = record { places = []; terms = []; formats = [] };
+  is_counted = false;
+}
