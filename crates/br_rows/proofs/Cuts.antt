@@ -27,7 +27,7 @@ any_last (x ∷ p) c = go (is_slash x) (any_last p c)
     go true e = refl
     go false e = e
 
--- behind a slash the front is all
+-- after a slash the front is all
 pub front_slash : (p : List ℕ) (c : ℕ) → is_slash c ≡ true → front (p ++ c ∷ []) ≡ p ++ c ∷ []
 unfolding front
 front_slash [] c is = rw is refl
@@ -42,7 +42,7 @@ unfolding front
 none_front [] h = refl
 none_front (x ∷ p) h = rw h refl
 
--- behind any other byte it is as before
+-- after any other byte it is as before
 pub front_other : (p : List ℕ) (c : ℕ) → is_slash c ≡ false → front (p ++ c ∷ []) ≡ front p
 unfolding front
 front_other [] c is = rw is refl

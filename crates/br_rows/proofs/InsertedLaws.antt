@@ -68,7 +68,7 @@ apart_ways m n a b e =
     let same : m ≡ n = omega (arith, ltb-false m n a, ltb-false n m b) in
     absurd (let x = sym e ∙ (Decides-eqb m n).1 same in cc)
 
--- a job's row is put where the job is
+-- the row of a job is added at the place of the job
 put_is : (j : JobRows) (jobs : List JobRows) → has_id j.row.id jobs ≡ false → put_row (row_of j) (map row_of jobs) ≡ map row_of (put_job j jobs)
 unfolding put_job
 put_is j [] none = refl

@@ -63,7 +63,7 @@ read_fails {A} {X} read (r ∷ rows) (suc i) xs a lt at before is =
     first (Ok y) (Err e) same stops h = absurd cc
     first (Ok y) (Ok ys) same stops h = ap (λ (p : Result (List X) ℕ). p >>= λ zs. Ok (y ∷ zs)) (stops ys same)
 
--- a row behind those that are read can't be
+-- a row after those that are read cannot be read
 pub read_stops : {A X : Type 0} (read : A → Result X ℕ) (front rest : List A) (xs : List X) (a : A) → read_all read front ≡ Ok xs → read a ≡ Err 47 → read_all read (front ++ a ∷ rest) ≡ Err 47
 unfolding read_all
 read_stops read [] rest xs a before is = rw is refl
@@ -79,7 +79,7 @@ read_stops {A} {X} read (r ∷ front) rest xs a before is = first (read r) (read
 now_at : (rows : List (Bor Row)) (i : ℕ) (b : Bor Row) → i < length rows → b ≡ get_or rows i b → b.now ≡ get_or (map (λ (b : Bor Row). b.now) rows) i b.now
 now_at rows i b lt at = ap (λ (b : Bor Row). b.now) at ∙ sym (get_or-map (λ (b : Bor Row). b.now) rows i b b.now lt)
 
--- the same of rows that stand elsewhere
+-- the same of borrowed rows
 pub lent_more : {X : Type 0} (read : Row → Result X ℕ) (rows : List (Bor Row)) (i : ℕ) (xs : List X) (b : Bor Row) (x : X) → i < length rows → b ≡ get_or rows i b
     → read_all read (take i (map (λ (b : Bor Row). b.now) rows)) ≡ Ok xs → read b.now ≡ Ok x → read_all read (take (i + 1) (map (λ (b : Bor Row). b.now) rows)) ≡ Ok (xs ++ x ∷ [])
 lent_more read rows i xs b x lt at before is =
@@ -92,7 +92,7 @@ lent_fails read rows i xs b lt at before is =
 
 -- ---- refusals
 
--- where one refuses the other does
+-- if one refuses, so does the other
 pub same_refusal : {X Y : Type 0} (e : StoreFault) (q : Result X ℕ) (p : Result Y ℕ) → (q ≡ Err 47 → p ≡ Err 47) → IsRefusal (cause e) q → IsRefusal (cause e) p
 same_refusal Memory q p f h = tt
 same_refusal (Store why) q p f h = tt
@@ -102,7 +102,7 @@ pub refused_lacks : (b : Bool) → refuse_if {E = ℕ} (not b) 47 ≡ Err 47 →
 refused_lacks true e = absurd cc
 refused_lacks false e = refl
 
--- ---- jobs put behind one another
+-- ---- jobs appended one after another
 
 every : (b : Bool) → (b || true) ≡ true
 every true = refl

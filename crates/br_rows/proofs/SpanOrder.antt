@@ -163,7 +163,7 @@ sorted_by_number xs ys sorted stable =
     unique ys (by_number xs) (up_of_places ys (IsNonDecreasingBy-from_sort (λ (s : Span). s.vol_index) ys sorted)) (number_up xs)
     (λ x. sym (tied_are x ys) ∙ stable x ∙ tied_are x xs ∙ sym (number_filter x xs))
 
--- the clauses of `sort_by_key`, where each call gives the number of the span
+-- the clauses of `sort_by_key`, if each call gives the number of the span
 pub from_sort : {F : Type 0} {g : Mut F (Bor Span × Unit {0}) ℕ} {f : F} (xs ys : List Span) → ((key : Span → ℕ) → ComputesKey g key f → IsSortedByKey key nat_cmp ys)
     → ((key : Span → ℕ) → ComputesKey g key f → IsStableByKey key nat_cmp xs ys) → ((a : Bor Span × Unit {0}) (r : ℕ) (f' : F) → Called g f a r f' → (r ≡ a.0.now.vol_index) × (f' ≡ f))
     → ys ≡ by_number xs

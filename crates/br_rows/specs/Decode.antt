@@ -69,7 +69,7 @@ unfoldable pub front : List ℕ → List ℕ
 front [] = []
 front (c ∷ cs) = if list_any is_slash (c ∷ cs) then c ∷ front cs else []
 
--- what stands behind the last slash of a path: nothing, if the path is a directory
+-- the rest of a path after its last slash: nothing, if the path is a directory
 unfoldable pub rest : List ℕ → List ℕ
 rest [] = []
 rest (c ∷ cs) = if list_any is_slash (c ∷ cs) then rest cs else c ∷ cs
@@ -83,7 +83,7 @@ path_in v w = do
 
 -- ---- digests
 
--- a digest as a text: its lower case hexadecimal digits, nothing where there is none
+-- a digest as a text: its lower case hexadecimal digits, or nothing if there is no digest
 unfoldable pub digest_text : Option (List ℕ) → List ℕ
 digest_text None = []
 digest_text (Some bytes) = encode_lower bytes

@@ -59,8 +59,8 @@ pub record Adds (j : JobRows) (before after : Rows) : Type 0 where
   pub fresh : IsNewIn j.row before
   pub rows : after ≡ with_rows j before
 
--- The rows of a fresh catalogue after each of these jobs was tried, the last of the list first. A job that was taken was added;
--- one that was refused changed nothing.
+-- The rows of a fresh catalogue after each of these jobs was tried, the last of the list first. A
+-- job that was taken was added; one that was refused changed nothing.
 unfoldable pub Tried : List (JobRows × Bool) → Rows → Type 0
 Tried [] rows = rows ≡ no_rows
 Tried (t ∷ tries) rows = (before : Rows) × Tried tries before × MatchBool t.1 (Adds t.0 before rows) (rows ≡ before)

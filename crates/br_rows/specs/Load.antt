@@ -78,8 +78,9 @@ read_loaded job_rows span_rows file_rows = do
   whole ← read_all (read_rows spans files) jobs
   if_apart whole
 
--- The history of the rows of a catalogue: the jobs in the order of their rows, each with its spans in order of their numbers and
--- its files in the order of their rows. 47 if the version is not the one row 1, or the rows form no history.
+-- The history of the rows of a catalogue: the jobs in the order of their rows, each with its spans
+-- in order of their numbers and its files in the order of their rows. 47 if the version is not the
+-- one row 1, or the rows form no history.
 unfoldable pub read_history : Rows → Result (List JobRows) ℕ
 read_history rows = do
   _ ← check_version rows.versions

@@ -6,8 +6,8 @@ use Rattle.sqlite.specs.Tree.{put_row}
 use Rattle.br_model.specs.Job.{JobRow, FileRow, Span, JobRows}
 use Rattle.br_rows.specs.Decode.{job_row, span_row, file_row}
 
--- The catalogue's rows: its versions, the jobs in order of JobId, the spans in order of JobMediaId and the files in order of
--- FileId, with names where the tables have numbers.
+-- The catalogue's rows: its versions, the jobs in order of JobId, the spans in order of JobMediaId
+-- and the files in order of FileId, with names where the tables have numbers.
 pub record Rows : Type 0 where
   pub versions : List Row
   pub jobs : List Row

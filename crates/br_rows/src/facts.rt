@@ -1,4 +1,5 @@
-//! Facts about jobs and the rows of a catalogue. The calls do nothing: a caller makes one to have its clauses.
+//! Facts about jobs and the rows of a catalogue. The calls do nothing: a caller makes one to have
+//! its clauses.
 
 ghost use Rattle.std.specs.Prelude.{◌≡◌, ◌<◌, ◌≤◌, ◌^◌, Bool, List, Ok, true, length};
 ghost use Rattle.hex.specs.Hex.{IsBytes};
@@ -20,8 +21,9 @@ pub fn rows_read_back()
     ensures file { FilesReadBack }
 {}
 
-/// Shows which history is loaded after jobs were tried one after another on a fresh catalogue. The jobs that were taken have
-/// different numbers and sessions. They are loaded in order of their numbers, and refused jobs change nothing.
+/// Shows which history is loaded after jobs were tried one after another on a fresh catalogue. The
+/// jobs that were taken have different numbers and sessions. They are loaded in order of their
+/// numbers, and refused jobs change nothing.
 pub fn inserted_jobs_load()
     ensures loads { (tries : List (Whole × Bool)) (rows : Rows) → Tried tries rows → read_history rows ≡ Ok (by_id (taken tries)) }
     ensures apart { (tries : List (Whole × Bool)) (rows : Rows) → Tried tries rows → no_pair clash (taken tries) ≡ true }

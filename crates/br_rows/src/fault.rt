@@ -22,8 +22,8 @@ pub enum StoreFault {
 }
 
 impl StoreFault {
-    /// Returns the number of the refusal: 1 if memory ran out while rows were read, 45 if the store failed or refused, 47 if the
-    /// catalogue is of another version or its rows form no history.
+    /// Returns the number of the refusal: 1 if memory ran out while rows were read, 45 if the store
+    /// failed or refused, 47 if the catalogue is of another version or its rows form no history.
     pub fn number(self) -> u32
         ensures { result ≡ fault_number self }
     {

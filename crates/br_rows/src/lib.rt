@@ -1,4 +1,5 @@
-//! The rows of the catalogue as values: a job as rows, and the history that the rows of a catalogue form.
+//! The rows of the catalogue as values: a job as rows, and the history that the rows of a catalogue
+//! form.
 //!
 //! Contracts see the rows of a catalogue, `CatalogueRows`, as the record `Rows` of the specs.
 #![tactic(auto)]

@@ -108,7 +108,8 @@ fn put<'r>(
     Ok(())
 }
 
-/// Returns the rows of each job in their order. `BadCatalogue` if a row belongs to none of these jobs.
+/// Returns the rows of each job in their order. `BadCatalogue` if a row belongs to none of these
+/// jobs.
 fn by_job<'r>(
     alloc: Global,
     jobs: &[JobRow],
@@ -208,8 +209,8 @@ fn joined(alloc: Global, jobs: Vec<JobRows>) -> Result<History, StoreFault>
     Ok(history)
 }
 
-/// All rows of a catalogue, with names in place of numbers: the versions, the jobs in order of JobId, the spans in order of
-/// JobMediaId and the files in order of FileId.
+/// All rows of a catalogue, with names in place of numbers: the versions, the jobs in order of
+/// JobId, the spans in order of JobMediaId and the files in order of FileId.
 #[derive(Drop)]
 pub struct CatalogueRows {
     pub versions: Vec<Row>,
@@ -235,8 +236,8 @@ fn loaded(alloc: Global, jobs: &[Row], spans: &[Row], files: &[Row]) -> Result<H
     joined(alloc, whole_jobs(alloc, jobs, &spans, &files)?)
 }
 
-/// Makes the history of a catalogue's rows. It keeps the order of the rows: jobs in the order of `rows.jobs`, the files of each
-/// in the order of `rows.files`, and its spans by their numbers.
+/// Makes the history of a catalogue's rows. It keeps the order of the rows: jobs in the order of
+/// `rows.jobs`, the files of each in the order of `rows.files`, and its spans by their numbers.
 ///
 /// # Errors
 ///

@@ -42,7 +42,7 @@ put_is_there new (r ∷ rows) free = let parts = or_parts _ _ free in go (value_
     go Equal other more = absurd cc
     go Greater other more = inl refl
 
--- a number is not that of a row that stands apart
+-- a new number is not the number of a row that is there
 other_number : (rows : List Row) (x new : Row) → Has rows x → is_taken rows new ≡ false → is_eq (value_cmp (rowid x) (rowid new)) ≡ false
 other_number rows x new has free = go (is_eq (value_cmp (rowid x) (rowid new))) refl
   where

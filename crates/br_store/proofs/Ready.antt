@@ -23,7 +23,7 @@ stays_both a b c one two up =
     let first = one later.0 in
     (first.0, later.1 ∙ first.1, later.2 ∙ first.2)
 
--- what is so is so where a call was refused
+-- what holds, holds if a call was refused
 pub err_with : {T E P : Type 0} (r : Result T E) → P → OnErr r P
 err_with (Ok x) p = tt
 err_with (Err e) p = p

@@ -229,14 +229,14 @@ wrote_then rows more a b c one two = record {
   has = two.has;
 }
 
--- the rows may be told in other words
+-- the rows may be stated in another way
 pub wrote_as : (rows more : Rows) (old new : State) → rows ≡ more → Wrote rows old new → Wrote more old new
 wrote_as rows more old new same one = subst (λ r. Wrote r old new) same one
 
 pub kept_then : (rows : Rows) (a b c : State) → Wrote rows a b → KeepsCommit b c → KeepsCommit a c
 kept_then rows a b c so kept = record { was_open = λ up. so.was_open (kept.was_open up); committed = λ up. kept.committed up ∙ so.committed }
 
--- what is written behind no new row is written behind what was before
+-- what is written after a step that adds no row is written after the rows before that step
 pub wrote_after : (f : Rows → Rows) (a b c : State) → Wrote (rows_in a.now.trees) a b → Wrote (f (rows_in b.now.trees)) b c → Wrote (f (rows_in a.now.trees)) a c
 wrote_after f a b c one two = wrote_as (f (rows_in b.now.trees)) (f (rows_in a.now.trees)) a c (ap f one.has) (wrote_then (rows_in a.now.trees) (f (rows_in b.now.trees)) a b c one two)
 
@@ -265,7 +265,7 @@ pub rows_are_all : (j : JobRows) (id : ℕ) (row : JobRow) (spans : List Span) (
     → with_files id files (with_spans id spans (with_job row rows)) ≡ with_rows j rows
 rows_are_all j id row spans files rows e1 e2 e3 e4 = rw (e1, e2, e3, e4) refl
 
--- a job's row whose values are told in other words
+-- a job's row whose values are stated in another way
 pub wrote_job_as : (j : JobRow) (id client fileset start session time : ℕ) (kind level status : List ℕ) (old new : State)
     → id ≡ j.id → start ≡ j.start → session ≡ j.session.id → time ≡ j.session.time → kind ≡ j.kind ∷ [] → level ≡ j.level ∷ [] → status ≡ j.status ∷ []
     → HasTables old.now → GoesOn old new → IsName old.now.trees Client j.client client → IsName old.now.trees FileSet j.fileset fileset

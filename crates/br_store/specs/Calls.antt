@@ -17,7 +17,8 @@ use Rattle.br_store.specs.Made.{HasEmptied}
 abbrev pub WhileClean : {S : Type 0} → Ghosts S → Held S → (State → Type 0) → Type 0
 WhileClean g held claim = HasCleanDisk (state g held) → claim (state g held)
 
--- the claim holds of the database before and after the call if the disk has returned what was written to it
+-- the claim holds of the database before and after the call if the disk has returned what was
+-- written to it
 abbrev pub OnCleanDisk : {S : Type 0} → Ghosts S → Held S → Held S → (State → State → Type 0) → Type 0
 OnCleanDisk g old new claim = HasCleanDisk (state g new) → claim (state g old) (state g new)
 
@@ -29,11 +30,13 @@ OnTables g old new claim = OnCleanDisk g old new (λ before after. HasTables bef
 abbrev pub InTransaction : {S : Type 0} → Ghosts S → Held S → Held S → (State → State → Type 0) → Type 0
 InTransaction g old new claim = OnCleanDisk g old new (λ before after. IsTrue old.in_transaction → claim before after)
 
--- the claim holds on a clean disk if a transaction was open on a database with the catalogue's tables
+-- the claim holds on a clean disk if a transaction was open on a database with the catalogue's
+-- tables
 abbrev pub InCatalogue : {S : Type 0} → Ghosts S → Held S → Held S → (State → State → Type 0) → Type 0
 InCatalogue g old new claim = InTransaction g old new (λ before after. HasTables before.now → claim before after)
 
--- the claim holds on a clean disk if a transaction was open on a database with just these tables, which had no row
+-- the claim holds on a clean disk if a transaction was open on a database with just these tables,
+-- which had no row
 abbrev pub InEmptied : {S : Type 0} → Schema → Ghosts S → Held S → Held S → (State → State → Type 0) → Type 0
 InEmptied schema g old new claim = InTransaction g old new (λ before after. HasEmptied schema before.now → claim before after)
 
@@ -47,7 +50,8 @@ BorrowsSame old new = new.ghost_name ≡ old.ghost_name
 abbrev pub CommitsNothing : {S : Type 0} → Ghosts S → Held S → Held S → Type 0
 CommitsNothing g old new = Survives (state g old) (state g new) (λ _. ⊥)
 
--- no fault is forgotten, and a crash leaves what it could leave before the call, or rows to which the job was added
+-- no fault is forgotten, and a crash leaves what it could leave before the call, or rows to which
+-- the job was added
 abbrev pub MayCommit : {S : Type 0} → Ghosts S → Held S → Held S → JobRows → Type 0
 MayCommit g old new job = Survives (state g old) (state g new) (λ trees. Adds job (rows_in (state g old).now.trees) (rows_in trees))
 

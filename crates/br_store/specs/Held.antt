@@ -63,7 +63,8 @@ file_shown paths filenames file =
     column file file_job ∷ column file file_index ∷ name_at paths (column file file_path) ∷ name_at filenames (column file file_filename)
     ∷ column file file_lstat ∷ column file file_md5 ∷ []
 
--- the row that shows a file of a job: its index, the two parts of its path, its numbers and its digest
+-- the row that shows a file of a job: its index, the two parts of its path, its numbers and its
+-- digest
 abbrev pub file_cells : ℕ → ℕ → List ℕ → List ℕ → List ℕ → List ℕ → Row
 file_cells job index front rest lstat digest =
     Int (pos job) ∷ Int (pos index) ∷ Blob front ∷ Blob rest ∷ Text lstat ∷ Text digest ∷ []
@@ -93,7 +94,8 @@ pub record HasTables (db : Database) : Type 0 where
   pub sound : IsDatabase db
   pub shaped : AllByRecursion (λ (t : Table). IsShaped Shaped (db.trees t.tree)) store_schema.tables
 
--- what a store keeps true of its connection: no transaction is open, and while the connection is open the database has the tables
+-- what a store keeps true of its connection: no transaction is open, and while the connection is
+-- open the database has the tables
 pub record IsCatalogue {S : Type 0} (g : Ghosts S) (h : Held S) : Type 0 where
   pub idle : h.in_transaction ≡ false
   pub tables : HasCleanDisk (state g h) → IsTrue (state g h).is_open → HasTables (state g h).now

@@ -33,6 +33,7 @@ pub record HasMade (old new : State) : Type 0 where
   pub committed : new.committed ≡ old.committed
   pub made : IsMade new.now
 
--- an open keeps the database that it finds, or makes a catalogue with no job in a database with no table
+-- an open keeps the database that it finds, or makes a catalogue with no job in a database with no
+-- table
 abbrev pub Finds : Database → Database → Type 0
 Finds before after = (after.trees ≡ before.trees) ⊎ (IsDatabase (record before { schema = no_schema }) × IsMade after)

@@ -1,8 +1,9 @@
-//! The catalogue in an SQLite file: jobs with the rows of their files and spans. Each job is written in one transaction, and all
-//! jobs are loaded as a `History`.
+//! The catalogue in an SQLite file: jobs with the rows of their files and spans. Each job is
+//! written in one transaction, and all jobs are loaded as a `History`.
 //!
-//! Contracts see a `Store` as its connection; `state` is the database of a connection. What they say of rows holds if the disk
-//! returns what was written to it, or the store is in memory (`HasCleanDisk`).
+//! Contracts see a `Store` as its connection; `state` is the database of a connection. What they
+//! say of rows holds if the disk returns what was written to it, or the store is in memory
+//! (`HasCleanDisk`).
 #![tactic(auto)]
 
 mod facts;

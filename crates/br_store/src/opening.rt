@@ -14,8 +14,9 @@ use br_schema::{is_empty, is_ours};
 use sqlite::{Alter, Connection, Error, ErrorCode};
 use std::alloc::Global;
 
-/// Makes the tables and the row of the version in a database with no table, in one transaction. If it fails and the database is
-/// still open, the database is as before. A crash leaves what it could leave before, or a catalogue with no job.
+/// Makes the tables and the row of the version in a database with no table, in one transaction. If
+/// it fails and the database is still open, the database is as before. A crash leaves what it could
+/// leave before, or a catalogue with no job.
 pub fn create<S: Alter>(conn: &mut Connection<S>) -> Result<(), Error>
     requires idle { conn.old.in_transaction ≡ false }
     requires empty { conn.old.schema ≡ no_schema }
@@ -31,7 +32,8 @@ pub fn create<S: Alter>(conn: &mut Connection<S>) -> Result<(), Error>
     tx.commit()
 }
 
-/// Opens the store of this connection again: the same database, with the rows of each table in ascending order.
+/// Opens the store of this connection again: the same database, with the rows of each table in
+/// ascending order.
 fn opened<S: Alter + Drop>(alloc: Global, conn: Connection<S>) -> Result<Connection<S>, Error>
     ensures tables { IfOk result (λ c. WhileClean S.Store c (λ is. is.now.schema ≡ store_schema → HasTables is.now)) }
     ensures opens { IfOk result (λ c. WhileClean S.Store c Opens) }
@@ -52,7 +54,8 @@ fn opened<S: Alter + Drop>(alloc: Global, conn: Connection<S>) -> Result<Connect
     }
 }
 
-/// Opens a catalogue: makes the tables in a database with no table, and refuses another database unless it has just these tables.
+/// Opens a catalogue: makes the tables in a database with no table, and refuses another database
+/// unless it has just these tables.
 pub(crate) fn opened_or_made<S: Alter + Drop>(
     alloc: Global,
     conn: Connection<S>,

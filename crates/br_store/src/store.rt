@@ -42,8 +42,9 @@ impl<S: Alter> Model for Store<S> {
 }
 
 impl<S: Alter + Drop> Store<S> {
-    /// Opens the catalogue in a database: what was committed there. In a database with no table it makes a catalogue with no job,
-    /// in one transaction (`create`). A crash afterwards leaves just that.
+    /// Opens the catalogue in a database: what was committed there. In a database with no table it
+    /// makes a catalogue with no job, in one transaction (`create`). A crash afterwards leaves just
+    /// that.
     ///
     /// # Errors
     ///
@@ -63,13 +64,13 @@ impl<S: Alter + Drop> Store<S> {
 }
 
 impl<S: Alter> Store<S> {
-    /// Adds a job with all its rows, in one transaction. A crash meanwhile leaves the rows as before, or with the job; a crash after
-    /// `Ok` leaves them with the job.
+    /// Adds a job with all its rows, in one transaction. A crash meanwhile leaves the rows as
+    /// before, or with the job; a crash after `Ok` leaves them with the job.
     ///
     /// # Errors
     ///
-    /// `Store`, with its cause, if the catalogue has the number or the session of the job, or the database fails. If the store is
-    /// still open then, the rows are as before (`refused`).
+    /// `Store`, with its cause, if the catalogue has the number or the session of the job, or the
+    /// database fails. If the store is still open then, the rows are as before (`refused`).
     pub fn insert_job(&mut self, job: &JobRows) -> Result<(), StoreFault>
         ensures added { OnCleanDisk S.Store self.old self.new (λ old new. OnOk result (AddsJob job.now old new)) }
         ensures settled { OnCleanDisk S.Store self.old self.new (λ old new. OnOk result (IsCommitted new)) }
@@ -81,11 +82,13 @@ impl<S: Alter> Store<S> {
         Ok(insert(&mut self.conn, job)?)
     }
 
-    /// Loads the history that the rows form. If the store is still open then, the rows are as before (`same`).
+    /// Loads the history that the rows form. If the store is still open then, the rows are as
+    /// before (`same`).
     ///
     /// # Errors
     ///
-    /// `Store`, with its cause, if the database fails; `BadCatalogue` if the version is not 1 or the rows form no history.
+    /// `Store`, with its cause, if the database fails; `BadCatalogue` if the version is not 1 or
+    /// the rows form no history.
     pub fn load_history(&mut self) -> Result<History, StoreFault>
         ensures answers { OnCleanDisk S.Store self.old self.new (λ old new.
             Answers (λ h. h) cause result (read_history (rows_in old.now.trees))) }

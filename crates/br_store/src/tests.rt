@@ -245,7 +245,8 @@ fn refusal(alloc: Global, conn: Connection<MemStore>) -> u32 {
     }
 }
 
-/// Returns the number with which a catalogue with one job is refused after this change, or 0 if it is loaded.
+/// Returns the number with which a catalogue with one job is refused after this change, or 0 if it
+/// is loaded.
 fn changed(alloc: Global, change: &str) -> Result<u32, Fail> {
     let mut store = empty(alloc)?;
     let _ = insert(alloc, &mut store, 2, 1, b"/a/two")?;
@@ -323,7 +324,8 @@ fn after_crash<S: Alter + Reopen + Drop>(alloc: Global, store: Store<S>) -> Resu
     }
 }
 
-/// Inserts a job and crashes. Returns the number of jobs afterwards, or none if there was no catalogue.
+/// Inserts a job and crashes. Returns the number of jobs afterwards, or none if there was no
+/// catalogue.
 fn insert_and_crash<S: Alter + Reopen + Drop>(
     alloc: Global,
     conn: Connection<S>,
@@ -335,7 +337,8 @@ fn insert_and_crash<S: Alter + Reopen + Drop>(
     Ok(Some(after_crash(alloc, store)?))
 }
 
-/// Opens a database on a disk whose log fails from this call on, or returns none if it does not open.
+/// Opens a database on a disk whose log fails from this call on, or returns none if it does not
+/// open.
 fn failing(alloc: Global, calls: u64) -> Option<Connection<FileStore<Fuse<Memory>>>> {
     let files = Files {
         log: Fuse::new(Memory::new(alloc), calls),
@@ -344,8 +347,8 @@ fn failing(alloc: Global, calls: u64) -> Option<Connection<FileStore<Fuse<Memory
     Connection::open_files(alloc, files, Options::new(1)).ok()
 }
 
-/// Inserts a job and crashes on a disk whose log fails from this call on. Returns the number of jobs afterwards, or none if
-/// there was no catalogue.
+/// Inserts a job and crashes on a disk whose log fails from this call on. Returns the number of
+/// jobs afterwards, or none if there was no catalogue.
 fn left(alloc: Global, calls: u64) -> Result<Option<usize>, Fail> {
     match failing(alloc, calls) {
         Some(conn) => insert_and_crash(alloc, conn),

@@ -32,7 +32,8 @@ struct PathNumbers {
     filename: u32,
 }
 
-/// Adds the row of a job with these letters and this session, whose client and file set have these numbers.
+/// Adds the row of a job with these letters and this session, whose client and file set have these
+/// numbers.
 fn put_job_row<'a, S: Alter>(
     tx: &mut Transaction<'_, S>,
     job: &JobRow,
@@ -104,7 +105,8 @@ fn put_span_row<S: Alter>(
     Ok(())
 }
 
-/// Adds the row of a file, given the numbers of the two parts of its path, and its numbers and its digest as texts.
+/// Adds the row of a file, given the numbers of the two parts of its path, and its numbers and its
+/// digest as texts.
 fn put_file_row<'a, S: Alter>(
     tx: &mut Transaction<'_, S>,
     job: u32,
