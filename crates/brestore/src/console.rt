@@ -4,13 +4,13 @@ ghost use Rattle.br_console.specs.Running.{RunsOver};
 ghost use Rattle.br_console.specs.Delivering.{run_of};
 ghost use Rattle.brestore.specs.ConsoleEnding.{clean_status, delivery_status, run_refusal, run_status, stop_text};
 
-use crate::asking::read_request;
 use crate::extract::{BAD_STREAM, CLEAN, Ending, REFUSED, drives_over};
-use br_command::Given;
+use br_command::ConsoleOptions;
 use br_console::{ConsoleDelivery, ConsoleFault, ConsoleRun, run_console, run_console_into};
 use br_engine::push_refused_line;
 use br_history::History;
 use br_plan::Request;
+use br_request::read_request;
 use br_rows::StoreFault;
 use br_sink::{FolderSink, Sink};
 use br_store::Store;
@@ -117,7 +117,7 @@ fn refuse<R: Eprint>(rt: &R, number: u32) -> io::Result<u8> {
 }
 
 /// The request that the command line means, or the number of the refusal.
-fn asked(alloc: Global, given: &Given<'_>) -> Result<Request, u32> {
+fn asked(alloc: Global, given: &ConsoleOptions<'_>) -> Result<Request, u32> {
     match read_request(alloc, given.client, given.fileset, given.before) {
         Ok(request) => Ok(request),
         Err(fault) => Err(fault.number()),
@@ -167,7 +167,10 @@ pub(crate) struct Ready<'r> {
 
 /// All that stands before a line is read, or the number of the refusal: client and file set (2), moment (52), the folder to deliver
 /// into (81), and the catalogue (45, 47) are tested in this order.
-pub(crate) fn prepare<'r>(rt: &'r HostRuntime, given: &Given<'_>) -> Result<Ready<'r>, u32> {
+pub(crate) fn prepare<'r>(
+    rt: &'r HostRuntime,
+    given: &ConsoleOptions<'_>,
+) -> Result<Ready<'r>, u32> {
     let request = asked(rt.alloc(), given)?;
     let sink = sink_over(rt, given.into)?;
     let history = jobs_in(rt, given.db)?;
@@ -232,7 +235,7 @@ fn talk<S: Sink>(
 pub(crate) fn restore_marked(
     rt: &HostRuntime,
     threads: &(impl Threads + Sync),
-    given: &Given<'_>,
+    given: &ConsoleOptions<'_>,
 ) -> io::Result<u8>
     requires few { (0 < given.now.drives) × (given.now.drives ≤ 16) }
 {

@@ -1,20 +1,21 @@
 //! The restoring half of a Bacula Director, with the volume reading that a restore needs.
 //!
 //! `extract` runs a bootstrap over the volumes of a folder. `console` lets the operator mark files as they were at a moment, and
-//! restores them. Both put the restored files into another folder, if one is given. Without a command the program reads a script
-//! from standard input and works it off over volumes in memory.
+//! restores them. Both write the restored files into another folder, if one is given. `explain` says what a refusal number means.
+//! Without a command the program runs a script from standard input over volumes in memory.
 #![tactic(auto)]
 
-mod asking;
 mod console;
+mod explaining;
 mod extract;
 #[cfg(test)]
 mod tests;
 
 use crate::console::restore_marked;
+use crate::explaining::{explain_all, explain_number};
 use crate::extract::{BAD_STREAM, CLEAN, REFUSED, extract_files};
-use br_command::{Request, read_words};
-use br_script::run_script;
+use br_command::{Invocation, read_words};
+use br_script::{ScriptEnd, run_script};
 use std::io::{self, BufReader, BufWriter, ErrorKind, Write};
 use std::process::ExitCode;
 use std::rt::Env;
@@ -23,7 +24,7 @@ use std::thread::Threads;
 /// The exit status for a fault of the command line.
 const BAD_COMMAND: u8 = 2;
 
-/// The words of the command line, with the program's name first; none where one of them is no UTF-8 text.
+/// Returns the words of the command line, with the program's name first; `None` if one of them is not UTF-8.
 fn words_of<R: Env + AllocGlobal>(rt: &R) -> io::Result<Option<Vec<String>>> {
     match std::env::args(rt) {
         Ok(words) => Ok(Some(words.collect(rt.alloc())?)),
@@ -32,24 +33,27 @@ fn words_of<R: Env + AllocGlobal>(rt: &R) -> io::Result<Option<Vec<String>>> {
     }
 }
 
-/// Works off the script of standard input, and writes the answers to standard output. The exit status.
-fn work_off<R: Input + Print + AllocGlobal>(
+/// Runs the script of standard input, and writes its answers to standard output. Returns the exit status.
+fn run_input<R: Input + Print + AllocGlobal>(
     rt: &R,
     threads: &(impl Threads + Sync),
 ) -> io::Result<u8> {
     let mut reader = BufReader::new(rt.alloc(), rt.reader())?;
     let mut writer = BufWriter::new(rt.alloc(), io::writer(rt))?;
-    let clean = run_script(threads, rt.alloc(), &mut reader, &mut writer);
+    let end = run_script(threads, rt.alloc(), &mut reader, &mut writer);
     writer.flush()?;
-    Ok(if clean? { CLEAN } else { REFUSED })
+    match end? {
+        ScriptEnd::Clean => Ok(CLEAN),
+        ScriptEnd::Refused => Ok(REFUSED),
+    }
 }
 
-/// The same, where want of memory is a refusal of the script.
+/// Runs the script of standard input; an error for memory is a refusal of the script. Returns the exit status.
 fn serve<R: Input + Print + AllocGlobal>(
     rt: &R,
     threads: &(impl Threads + Sync),
 ) -> io::Result<u8> {
-    match work_off(rt, threads) {
+    match run_input(rt, threads) {
         Err(e) if e.kind() == ErrorKind::OutOfMemory => {
             println!(rt; "refused 1")?;
             Ok(REFUSED)
@@ -58,23 +62,25 @@ fn serve<R: Input + Print + AllocGlobal>(
     }
 }
 
-/// Carries out what the command line asks for, in as many threads as `threads` starts. The exit status.
+/// Does what the command line asks for, in as many threads as `threads` starts. Returns the exit status.
 fn run(rt: &HostRuntime, threads: &(impl Threads + Sync)) -> io::Result<u8> {
     let Some(words) = words_of(rt)? else {
         eprintln!(rt; "brestore: an argument is not UTF-8")?;
         return Ok(BAD_COMMAND);
     };
     match read_words(rt.alloc(), &words) {
-        Ok(Request::Serve) => serve(rt, threads),
-        Ok(
-            Request::Extract {
-                bsr,
-                volumes,
-                into,
-                drives,
-            },
-        ) => extract_files(rt, threads, bsr, volumes, into, drives),
-        Ok(Request::Console(given)) => restore_marked(rt, threads, &given),
+        Ok(Invocation::Serve) => serve(rt, threads),
+        Ok(Invocation::Extract(options)) => extract_files(
+            rt,
+            threads,
+            options.bsr,
+            options.volumes,
+            options.into,
+            options.drives,
+        ),
+        Ok(Invocation::Console(options)) => restore_marked(rt, threads, &options),
+        Ok(Invocation::Explain(number)) => explain_number(rt, number),
+        Ok(Invocation::ExplainAll) => explain_all(rt),
         Err(fault) if fault.kind() == clap::error::ErrorKind::OutOfMemory => {
             Err(ErrorKind::OutOfMemory.into())
         }
@@ -89,8 +95,8 @@ fn run(rt: &HostRuntime, threads: &(impl Threads + Sync)) -> io::Result<u8> {
     }
 }
 
-/// The exit status is 0 where nothing was refused and every outcome is a file, else 1; 2 for a fault of the command line, and 3
-/// where the program's own files or streams failed.
+/// Runs the program. The exit status is 0 if nothing was refused and every outcome is a file, else 1; 2 for a fault of the command
+/// line, 3 if the program's own files or streams failed.
 fn main(rt: HostRuntime) -> ExitCode {
     match run(&rt, &rt) {
         Ok(status) => ExitCode::from(status),

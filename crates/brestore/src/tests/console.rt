@@ -1,15 +1,13 @@
 //! The command `console`: what it refuses before a line is read, and a catalogue in a file.
-use crate::asking::{RequestFault, read_request};
 use crate::console::{prepare, restore_marked};
 use crate::tests::into::new_place;
-use br_command::Given;
-use std::alloc::Global;
+use br_command::ConsoleOptions;
 use std::test::Fail;
 use std::thread::Threads;
 use std::{env, fs, process};
 
 /// A request that is fine, for a catalogue and volumes that are not there.
-const GIVEN: Given<'static> = Given {
+const GIVEN: ConsoleOptions<'static> = ConsoleOptions {
     db: "/no/such/catalogue.db",
     volumes: "/no/such/folder",
     client: "mars",
@@ -19,49 +17,10 @@ const GIVEN: Given<'static> = Given {
     drives: 1,
 };
 
-/// Why a request is refused, if it is.
-fn fault_of(alloc: Global, given: &Given<'_>) -> Option<u32> {
-    match read_request(alloc, given.client, given.fileset, given.before) {
-        Ok(_) => None,
-        Err(fault) => Some(fault.number()),
-    }
-}
-
-const BAD_CLIENT: Given<'static> = Given {
-    client: "",
-    before: "today",
-    ..GIVEN
-};
-
-const BAD_FILESET: Given<'static> = Given {
-    fileset: "a/b",
-    before: "today",
-    ..GIVEN
-};
-
-const BAD_MOMENT: Given<'static> = Given {
+const BAD_MOMENT: ConsoleOptions<'static> = ConsoleOptions {
     before: "2026-11-22",
     ..GIVEN
 };
-
-/// The request for a file set of mars before the 22nd of November 2026.
-fn is_read(alloc: Global) -> Result<bool, RequestFault> {
-    let request = read_request(alloc, GIVEN.client, GIVEN.fileset, GIVEN.before)?;
-    Ok(
-        request.moment == 1_795_305_600
-            && request.client.bytes() == b"mars".as_slice()
-            && request.fileset.bytes() == b"home".as_slice(),
-    )
-}
-
-#[test]
-fn names_and_moment_are_tested(rt: HostRuntime) -> Result<(), Fail> {
-    assert!(rt; is_read(rt.alloc()) == Ok(true));
-    assert_eq!(rt; fault_of(rt.alloc(), &BAD_CLIENT), Some(2));
-    assert_eq!(rt; fault_of(rt.alloc(), &BAD_FILESET), Some(2));
-    assert_eq!(rt; fault_of(rt.alloc(), &BAD_MOMENT), Some(52));
-    Ok(())
-}
 
 /// The path of a file for one test.
 fn path_of(rt: &HostRuntime, name: &str) -> Result<String, Fail> {
@@ -75,7 +34,7 @@ fn status_over(rt: &HostRuntime, threads: &(impl Threads + Sync), db: &str) -> R
     Ok(restore_marked(
         rt,
         threads,
-        &Given {
+        &ConsoleOptions {
             db,
             drives: 1,
             ..GIVEN
@@ -109,7 +68,7 @@ fn a_file_that_is_no_catalogue_is_refused(rt: HostRuntime) -> Result<(), Fail> {
 }
 
 /// Why a talk does not begin, 0 where it does.
-fn refusal_of(rt: &HostRuntime, given: &Given<'_>) -> u32 {
+fn refusal_of(rt: &HostRuntime, given: &ConsoleOptions<'_>) -> u32 {
     match prepare(rt, given) {
         Ok(_) => 0,
         Err(number) => number,
@@ -122,12 +81,12 @@ fn refusals_into(
     threads: &(impl Threads + Sync),
     folder: &str,
 ) -> Result<(u32, u32, u8), Fail> {
-    let given = Given {
+    let given = ConsoleOptions {
         into: Some(folder),
         drives: 1,
         ..GIVEN
     };
-    let moment = Given {
+    let moment = ConsoleOptions {
         into: Some(folder),
         ..BAD_MOMENT
     };

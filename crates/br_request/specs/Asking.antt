@@ -1,11 +1,11 @@
--- What the words of a command line ask the console for.
+-- The request that three texts ask for.
 use Rattle.std.specs.Prelude.{ℕ, List, Option, Some, None, Result, Ok, Err}
 use Rattle.br_model.specs.Answer.{◌>>=◌}
 use Rattle.br_model.specs.Choice.{Request}
 use Rattle.br_model.specs.Moment.{read_moment}
 use Rattle.br_model.specs.Name.{checked_name}
-use Rattle.brestore.specs.declared.asking.RequestFault.{RequestFault}
-use Rattle.brestore.specs.declared.asking.RequestFault.TheVariants.{Memory, BadName, BadMoment}
+use Rattle.br_request.specs.declared.request.RequestFault.{RequestFault}
+use Rattle.br_request.specs.declared.request.RequestFault.TheVariants.{Memory, BadName, BadMoment}
 
 -- the number of a refusal
 abbrev pub fault_number : RequestFault → ℕ
@@ -13,7 +13,7 @@ fault_number Memory = 1
 fault_number BadName = 2
 fault_number BadMoment = 52
 
--- the refusal that the model has, nothing for want of memory
+-- the refusal that the model has, none if memory ran out
 abbrev pub cause : RequestFault → Option ℕ
 cause Memory = None
 cause BadName = Some 2

@@ -1,18 +1,17 @@
-//! What the words of a command line ask the console for.
 ghost use Rattle.std.specs.Prelude.{◌≡◌, string_bytes};
 ghost use Rattle.br_model.specs.Answer.{Answers};
 ghost use Rattle.br_model.specs.Name.{checked_name};
-ghost use Rattle.brestore.specs.Asking.{cause, checked_request, fault_number};
-ghost use Rattle.brestore.specs.declared.asking.RequestFault.TheVariants.{BadMoment};
+ghost use Rattle.br_request.specs.Asking.{cause, checked_request, fault_number};
+ghost use Rattle.br_request.specs.declared.request.RequestFault.TheVariants.{BadMoment};
 
 use br_plan::{BadMoment, Request, read_moment};
 use br_types::{Name, NameFault};
 use std::alloc::Global;
 use thiserror::Error;
 
-/// Why a console was not asked for a state of a file set.
+/// Why a request was refused.
 #[derive(Clone, Copy, Debug, PartialEq, Eq, Error)]
-pub(crate) enum RequestFault {
+pub enum RequestFault {
     #[error("out of memory")]
     Memory,
     #[error("not the name of a client or of a file set")]
@@ -22,8 +21,8 @@ pub(crate) enum RequestFault {
 }
 
 impl RequestFault {
-    /// The number of the refusal: 1 want of memory, 2 a name, 52 a moment.
-    pub(crate) fn number(self) -> u32
+    /// Returns the number of the refusal: 1 for memory, 2 for a name, 52 for a moment.
+    pub fn number(self) -> u32
         ensures { result ≡ fault_number self }
     {
         match self {
@@ -42,7 +41,7 @@ impl From<BadMoment> for RequestFault {
     }
 }
 
-/// The name that a text is.
+/// Reads the name of a client or of a file set.
 #[tactic(auto, unfolding(br_model::specs::Name::checked_name))]
 fn name_of(alloc: Global, text: &str) -> Result<Name, RequestFault>
     ensures { Answers (λ name. name) cause result (checked_name text.now) }
@@ -54,10 +53,13 @@ fn name_of(alloc: Global, text: &str) -> Result<Name, RequestFault>
     }
 }
 
-/// The request for the state of a client's file set before a moment, given as text: client, file set and moment are tested in this
-/// order.
+/// Reads the request for the state of a client's file set before a moment.
+///
+/// # Errors
+///
+/// `BadName` for the client, then for the file set; then `BadMoment`. `Memory` if memory ran out.
 #[tactic(auto, unfolding(crate::specs::Asking::checked_request))]
-pub(crate) fn read_request(
+pub fn read_request(
     alloc: Global,
     client: &str,
     fileset: &str,
