@@ -1,4 +1,3 @@
 pub mod TalkLaws
 pub mod RunLaws
 pub mod SelectingLaws
-pub mod DeliverLaws

@@ -25,18 +25,26 @@ use Rattle.br_match.specs.Fault as piece
 use Rattle.br_match.specs.declared.fault.PieceFault.{PieceFault}
 use Rattle.br_tree.specs.Marking.{Marking, console_at, unmarked}
 use Rattle.br_mark.specs.Seen.{Situation}
-use Rattle.br_join.specs.Outcome.{restored}
-use Rattle.br_engine.specs.Restoring.{Told, Outcomes, RestoredOver, restored_files}
-use Rattle.br_engine.specs.Extracting.{are_files}
+use Rattle.br_engine.specs.Restoring.{Told, restored_files}
+use Rattle.br_engine.specs.Fault as engine
+use Rattle.br_engine.specs.Outputs.{EndTells, InSink, are_files}
+use Rattle.br_engine.specs.Extracting.{OverVolumes}
+use Rattle.br_engine.specs.Delivering.{Delivers, EndsWith}
+use Rattle.br_engine.specs.declared.outputs.RestoreEnd.{RestoreEnd}
+use Rattle.br_engine.specs.declared.outputs.RestoreEnd.TheVariants as restore
+use Rattle.br_engine.specs.declared.fault.ExtractFault.{ExtractFault}
+use Rattle.br_engine.specs.declared.fault.ExtractFault.TheVariants as extract
 use Rattle.br_console.specs.Fault.{Refusal, OfPlan, OfPiece, IsFree, IsNoPiece, cause, fault_number}
-use Rattle.br_console.specs.Talking.{TalksOver, LeavesOver}
-use Rattle.br_console.specs.Running.{opening, begun, with_files, run_from, console_run, RefusesRun, RunsOver, MarksOver, WritesPlan, Begins, BeginsOver, Said, OverPlan, Gives, WritesManifest, StopsAt, TellsOver, files_in, run_to, RestoresOver}
+use Rattle.br_console.specs.Ending.{EndIs, are_accepted, is_done}
+use Rattle.br_console.specs.Talking.{SessionOver, LeavesOver}
+use Rattle.br_console.specs.Running.{opening, begun, with_files, run_from, console_run, Answer, BecomesFault, Begins, BeginsOver, MarksOver, OverPlan, RefusesRun, RestoresOver, RestoresPlan, RunsOver, StopsAt, TellsOver, WritesPlan}
 use Rattle.br_console.specs.declared.console_fault.ConsoleFault.{ConsoleFault}
 use Rattle.br_console.specs.declared.console_fault.ConsoleFault.TheVariants as fault
-use Rattle.br_console.specs.declared.talking.Talk.{Talk}
-use Rattle.br_console.specs.declared.running.ConsoleRun.{ConsoleRun}
+use Rattle.br_console.specs.declared.ending.Lines.{Lines}
+use Rattle.br_console.specs.declared.ending.Session.{Session}
+use Rattle.br_console.specs.declared.ending.End.TheVariants.{Done, Quit}
 
--- ---- the choice and the talk
+-- ---- the choice and the session
 
 -- the choice is refused
 pub opening_refused : (history : List JobRows) (q : Request) (why : ChooseFault) → IsRefusal (choice.cause why) (choose history q) → IsRefusal (plan.cause (plan.from_choice why)) (opening history q)
@@ -55,7 +63,7 @@ opening_is history jobs q view m s chosen viewed bare is =
     (ap (λ (v : List Entry). Ok (record { view = v; state = at_start })) (sym viewed)
     ∙ ap (λ (t : Marking). Ok (record { view = t.view; state = console_at root t })) (sym bare) ∙ ap Ok (sym is))
 
--- where there is a console, the choice is not refused
+-- if there is a console, the choice is not refused
 pub was_chosen : (history : List JobRows) (q : Request) (s : Situation) → opening history q ≡ Ok s → (n : ℕ) → choose history q ≡ Err n → ⊥
 unfolding opening
 was_chosen history q s opened n refused = clash (sym opened ∙ rw refused refl)
@@ -63,21 +71,21 @@ was_chosen history q s opened n refused = clash (sym opened ∙ rw refused refl)
     clash : ◌≡◌ {A = Result Situation ℕ} (Ok s) (Err n) → ⊥
     clash h = cc
 
--- a talk that ended by `done`, and the marks of its console
-pub marked_done : (known left before after : Option (List ℕ)) (s t : Situation) (talk : Talk) (paths : Vec (List ℕ) Global) → TalksOver known left before after s (Ok talk)
-    → LeavesOver known s t (Ok talk) → talk.is_done ≡ true → paths.items ≡ t.state.marked → MarksOver known before after s (Ok (talk.is_clean, Some paths))
-marked_done None left before after s t talk paths talked leaves done are = tt
-marked_done (Some text) left before after s t talk paths talked leaves done are = record {
+-- a session that ended by `done`, and the marks of its console
+pub marked_done : (known left before after : Option (List ℕ)) (s t : Situation) (session : Session) (paths : Vec (List ℕ) Global) → SessionOver known left before after s (Ok session)
+    → LeavesOver known s t (Ok session) → is_done session.end ≡ true → paths.items ≡ t.state.marked → MarksOver known before after s (Ok (session.lines, Some paths))
+marked_done None left before after s t session paths talked leaves done are = tt
+marked_done (Some text) left before after s t session paths talked leaves done are = record {
   written = talked.written;
   clean_is = talked.clean;
   marks_are = ap Some are ∙ ap (λ b. cond b (Some t.state.marked) None) (sym done) ∙ leaves.marks;
 }
 
--- a talk that ended otherwise
-pub marked_undone : (known left before after : Option (List ℕ)) (s t : Situation) (talk : Talk) → TalksOver known left before after s (Ok talk)
-    → LeavesOver known s t (Ok talk) → talk.is_done ≡ false → MarksOver known before after s (Ok (talk.is_clean, None))
-marked_undone None left before after s t talk talked leaves undone = tt
-marked_undone (Some text) left before after s t talk talked leaves undone = record {
+-- a session that ended otherwise
+pub marked_undone : (known left before after : Option (List ℕ)) (s t : Situation) (session : Session) → SessionOver known left before after s (Ok session)
+    → LeavesOver known s t (Ok session) → is_done session.end ≡ false → MarksOver known before after s (Ok (session.lines, None))
+marked_undone None left before after s t session talked leaves undone = tt
+marked_undone (Some text) left before after s t session talked leaves undone = record {
   written = talked.written;
   clean_is = talked.clean;
   marks_are = ap (λ b. cond b (Some t.state.marked) None) (sym undone) ∙ leaves.marks;
@@ -96,7 +104,7 @@ begins_unchosen (Some text) before history q why refused = go (plan.cause why) r
     go None h = tt
     go (Some n) h = rw h (refl, Appends-nil before)
 
--- want of memory, or a fault of reading or writing
+-- memory ran out, or reading or writing failed
 pub begins_free : (known before after : Option (List ℕ)) (history : List JobRows) (q : Request) (why : ConsoleFault) → IsFree why → BeginsOver known before after history q (Err why)
 begins_free None before after history q why free = tt
 begins_free (Some text) before after history q fault.Memory free = tt
@@ -105,65 +113,85 @@ begins_free (Some text) before after history q (fault.Piece why) free = absurd f
 begins_free (Some text) before after history q (fault.Io why) free = tt
 
 -- the dialogue did not end by `done`
-pub begins_undone : (known before after : Option (List ℕ)) (history : List JobRows) (q : Request) (s : Situation) (clean : Bool) → opening history q ≡ Ok s
-    → MarksOver known before after s (Ok (clean, None)) → BeginsOver known before after history q (Ok (clean, None))
+pub begins_undone : (known before after : Option (List ℕ)) (history : List JobRows) (q : Request) (s : Situation) (lines : Lines) → opening history q ≡ Ok s
+    → MarksOver known before after s (Ok (lines, None)) → BeginsOver known before after history q (Ok (lines, None))
 unfolding begun
-begins_undone None before after history q s clean opened talked = tt
-begins_undone (Some text) before after history q s clean opened talked = rw (opened, ← talked.marks_are) (sym talked.clean_is, refl, talked.written)
+begins_undone None before after history q s lines opened talked = tt
+begins_undone (Some text) before after history q s lines opened talked = rw (opened, ← talked.marks_are) (sym talked.clean_is, refl, talked.written)
 
 -- it did, and the plan was not made
-pub begins_unplanned : (known before now after : Option (List ℕ)) (history : List JobRows) (q : Request) (s : Situation) (clean : Bool) (marks : Vec (List ℕ) Global) (why : ConsoleFault)
-    → opening history q ≡ Ok s → MarksOver known before now s (Ok (clean, Some marks)) → WritesPlan now after (plan_of history q marks.items) (Err why)
+pub begins_unplanned : (known before now after : Option (List ℕ)) (history : List JobRows) (q : Request) (s : Situation) (lines : Lines) (marks : Vec (List ℕ) Global) (why : ConsoleFault)
+    → opening history q ≡ Ok s → MarksOver known before now s (Ok (lines, Some marks)) → WritesPlan now after (plan_of history q marks.items) (Err why)
     → BeginsOver known before after history q (Err why)
 unfolding begun
-begins_unplanned None before now after history q s clean marks why opened talked refused = tt
-begins_unplanned (Some text) before now after history q s clean marks fault.Memory opened talked refused = tt
-begins_unplanned (Some text) before now after history q s clean marks (fault.Piece why) opened talked refused = absurd refused
-begins_unplanned (Some text) before now after history q s clean marks (fault.Io why) opened talked refused = tt
-begins_unplanned (Some text) before now after history q s clean marks (fault.Plan why) opened talked refused = go (plan.cause why) refused.0
+begins_unplanned None before now after history q s lines marks why opened talked refused = tt
+begins_unplanned (Some text) before now after history q s lines marks fault.Memory opened talked refused = tt
+begins_unplanned (Some text) before now after history q s lines marks (fault.Piece why) opened talked refused = absurd refused
+begins_unplanned (Some text) before now after history q s lines marks (fault.Io why) opened talked refused = tt
+begins_unplanned (Some text) before now after history q s lines marks (fault.Plan why) opened talked refused = go (plan.cause why) refused.0
   where
     go : (r : Option ℕ) → IsRefusal r (plan_of history q marks.items) → IfSome r (λ n. ((begun history q text).plan ≡ Err n) × Appends before after (begun history q text).text)
     go None h = tt
     go (Some n) h = rw (opened, ← talked.marks_are, h) (refl, Appends-kept before now after (dialogue s.view s.state (console_lines text)) talked.written refused.1)
 
 -- it was made, and its bootstrap written
-pub begins_planned : (known before now after : Option (List ℕ)) (history : List JobRows) (q : Request) (s : Situation) (clean : Bool) (marks : Vec (List ℕ) Global) (plan : Plan)
-    → opening history q ≡ Ok s → MarksOver known before now s (Ok (clean, Some marks)) → WritesPlan now after (plan_of history q marks.items) (Ok plan)
-    → BeginsOver known before after history q (Ok (clean, Some plan))
+pub begins_planned : (known before now after : Option (List ℕ)) (history : List JobRows) (q : Request) (s : Situation) (lines : Lines) (marks : Vec (List ℕ) Global) (plan : Plan)
+    → opening history q ≡ Ok s → MarksOver known before now s (Ok (lines, Some marks)) → WritesPlan now after (plan_of history q marks.items) (Ok plan)
+    → BeginsOver known before after history q (Ok (lines, Some plan))
 unfolding begun
-begins_planned None before now after history q s clean marks plan opened talked made = tt
-begins_planned (Some text) before now after history q s clean marks plan opened talked made =
+begins_planned None before now after history q s lines marks plan opened talked made = tt
+begins_planned (Some text) before now after history q s lines marks plan opened talked made =
     rw (opened, ← talked.marks_are, made.0)
     (sym talked.clean_is, refl, Appends-trans before now after (dialogue s.view s.state (console_lines text)) (canonical plan.groups) talked.written made.1)
 
--- ---- over the volumes of the drives
+-- ---- the restore by a plan
 
--- the outcomes of a restore by a plan
-pub gives_files : (earlier later : Told) (plan : Plan) (os : Outcomes) → RestoredOver earlier later plan.groups (Some plan.names) (Ok os) → OverPlan earlier later plan (Gives (Ok os))
-gives_files earlier later plan os given = λ volumes stands. given volumes stands
-
-pub gives_refused : (earlier later : Told) (plan : Plan) (why : PieceFault) → RestoredOver earlier later plan.groups (Some plan.names) (Err why)
-    → OverPlan earlier later plan (Gives (Err (fault.Piece why)))
-gives_refused earlier later plan why given = λ volumes stands. go volumes (piece.cause why) (given volumes stands)
+-- files of a restore are files of its plan
+files_are : (r : Result (List Restored) model.PieceFault) (rs : List Restored) → refused_as engine.OfPiece r ≡ Ok rs → r ≡ Ok rs
+files_are (Ok xs) rs h = go h
   where
-    go : (volumes : List Volume) (r : Option model.PieceFault) → IsRefusal r (restored_files plan.groups (Some plan.names) volumes)
-        → IsRefusal (option_map OfPiece r) (refused_as OfPiece (restored_files plan.groups (Some plan.names) volumes))
-    go volumes None h = tt
-    go volumes (Some e) h = rw h refl
+    go : ◌≡◌ {A = Result (List Restored) engine.Refusal} (Ok xs) (Ok rs) → ◌≡◌ {A = Result (List Restored) model.PieceFault} (Ok xs) (Ok rs)
+    go p = cc
+files_are (Err e) rs h = absurd cc
 
-pub gives_free : (earlier later : Told) (plan : Plan) (why : ConsoleFault) → IsFree why → OverPlan earlier later plan (Gives (Err why))
-gives_free earlier later plan fault.Memory free = λ volumes stands. tt
-gives_free earlier later plan (fault.Plan why) free = absurd free
-gives_free earlier later plan (fault.Piece why) free = absurd free
-gives_free earlier later plan (fault.Io why) free = λ volumes stands. tt
+-- and so is the fault of a piece
+piece_is : (c : Option model.PieceFault) (r : Result (List Restored) model.PieceFault) → IsRefusal (option_map engine.OfPiece c) (refused_as engine.OfPiece r)
+    → IsRefusal (option_map OfPiece c) (refused_as OfPiece r)
+piece_is None r h = tt
+piece_is (Some e) (Ok xs) h = absurd cc
+piece_is (Some e) (Err why) h = go h
+  where
+    go : ◌≡◌ {A = Result (List Restored) engine.Refusal} (Err (engine.OfPiece why)) (Err (engine.OfPiece e)) → ◌≡◌ {A = Result (List Restored) Refusal} (Err (OfPiece why)) (Err (OfPiece e))
+    go p = cc
 
-pub stops_free : (before after : Option (List ℕ)) (why : ConsoleFault) → IsFree why → StopsAt before after why
-stops_free before after fault.Memory free = tt
-stops_free before after (fault.Plan why) free = absurd free
-stops_free before after (fault.Piece why) free = absurd free
-stops_free before after (fault.Io why) free = tt
+module _ (earlier later : Told) (before after : Option (List ℕ)) (had has : InSink) (plan : Plan) where
+  pub plan_restored : (end : RestoreEnd) → Delivers (λ holds. OverVolumes earlier later plan.groups (Some plan.names) holds) before after had has (Ok end)
+      → RestoresPlan earlier later before after had has plan (Ok end)
+  plan_restored end h = (h.0, (λ volumes stands. files_are (restored_files plan.groups (Some plan.names) volumes) h.0 (h.1.0 volumes stands)), h.1.1, h.2)
 
--- want of memory, and a fault of reading or writing, is not the fault of a piece
+  pub plan_refused : (e : ExtractFault) (why : ConsoleFault) → BecomesFault e why
+      → Delivers (λ holds. OverVolumes earlier later plan.groups (Some plan.names) holds) before after had has (Err e)
+      → RestoresPlan earlier later before after had has plan (Err why)
+  plan_refused extract.Memory why is h = rw is ((λ volumes stands. tt), tt, h.2)
+  plan_refused (extract.Bootstrap e) why is h = absurd is
+  plan_refused (extract.Piece e) why is h =
+      rw is ((λ volumes stands. piece_is (piece.cause e) (restored_files plan.groups (Some plan.names) volumes) (h.0 volumes stands)), h.1, h.2)
+  plan_refused (extract.Io e) fault.Memory is h = ((λ volumes stands. tt), tt, h.2)
+  plan_refused (extract.Io e) (fault.Plan why) is h = absurd is
+  plan_refused (extract.Io e) (fault.Piece why) is h = absurd is
+  plan_refused (extract.Io e) (fault.Io why) is h = ((λ volumes stands. tt), tt, h.2)
+
+-- a drive that failed stays one
+pub drive_fault_stays : (e : ExtractFault) (why : ConsoleFault) → BecomesFault e why → fault_number why ≡ Some 13 → engine.fault_number e ≡ Some 13
+drive_fault_stays extract.Memory why is h = ap fault_number (sym is) ∙ h
+drive_fault_stays (extract.Bootstrap e) why is h = absurd is
+drive_fault_stays (extract.Piece e) why is h = ap fault_number (sym is) ∙ h
+drive_fault_stays (extract.Io e) fault.Memory is h = absurd cc
+drive_fault_stays (extract.Io e) (fault.Plan why) is h = absurd is
+drive_fault_stays (extract.Io e) (fault.Piece why) is h = absurd is
+drive_fault_stays (extract.Io e) (fault.Io why) is h = absurd cc
+
+-- memory that ran out, and a fault of reading or writing, is not the fault of a piece
 pub free_is_no_piece : (why : ConsoleFault) → IsFree why → IsNoPiece why
 free_is_no_piece fault.Memory free = tt
 free_is_no_piece (fault.Plan why) free = tt
@@ -209,43 +237,52 @@ runs_refused (Some text) earlier later before after history q why begins = λ vo
     by_fault volumes (fault.Io w) h = tt
 
 -- without a plan nothing more
-pub runs_undone : (known : Option (List ℕ)) (earlier later : Told) (before after : Option (List ℕ)) (history : List JobRows) (q : Request) (clean : Bool)
-    → BeginsOver known before after history q (Ok (clean, None)) → RunsOver known earlier later before after history q (Ok (record { is_clean = clean; restored = None }))
+pub runs_undone : (known : Option (List ℕ)) (earlier later : Told) (before after : Option (List ℕ)) (history : List JobRows) (q : Request) (lines : Lines)
+    → BeginsOver known before after history q (Ok (lines, None)) → RunsOver known earlier later before after history q (Ok (record { lines = lines; end = Quit }))
 unfolding console_run
-runs_undone None earlier later before after history q clean begins = tt
-runs_undone (Some text) earlier later before after history q clean begins = λ volumes stands.
-    rw begins.1 (ap (λ (c : Bool). Ok (record { is_clean = c; restored = None })) begins.0, begins.2)
+runs_undone None earlier later before after history q lines begins = tt
+runs_undone (Some text) earlier later before after history q lines begins = λ volumes stands.
+    rw begins.1
+    (record { is_clean = are_accepted lines; restored = None }, ap (λ (c : Bool). Ok (record { is_clean = c; restored = None })) begins.0, (refl, tt), begins.2)
 
--- the manifest behind the bootstrap
-pub runs_restored : (known : Option (List ℕ)) (earlier later : Told) (before now after : Option (List ℕ)) (history : List JobRows) (q : Request) (clean : Bool) (plan : Plan) (os : Outcomes)
-    → BeginsOver known before now history q (Ok (clean, Some plan)) → OverPlan earlier later plan (Gives (Ok os)) → WritesManifest now after os
-    → RunsOver known earlier later before after history q (run_to (Ok (clean, Some os)))
+-- the end says if each outcome is a file
+end_is : (end : RestoreEnd) (rs : List Restored) → EndTells end rs → EndIs (Done end) (Some (are_files rs))
+end_is restore.AllFiles rs h = h
+end_is restore.SomeFaults rs h = h
+end_is (restore.Stopped stop) rs h = tt
+
+-- the manifest after the bootstrap
+pub runs_restored : (known : Option (List ℕ)) (earlier later : Told) (before now after : Option (List ℕ)) (had has : InSink) (history : List JobRows) (q : Request) (lines : Lines) (plan : Plan)
+    (end : RestoreEnd) → BeginsOver known before now history q (Ok (lines, Some plan)) → RestoresPlan earlier later now after had has plan (Ok end)
+    → RunsOver known earlier later before after history q (Ok (record { lines = lines; end = Done end }))
 unfolding console_run
-runs_restored None earlier later before now after history q clean plan os begins given written = tt
-runs_restored (Some text) earlier later before now after history q clean plan os begins given written = λ volumes stands.
-    let rs : List Restored = map restored os.items in
-    let files : restored_files plan.groups (Some plan.names) volumes ≡ Ok rs = given volumes (stands plan begins.1) in
+runs_restored None earlier later before now after had has history q lines plan end begins made = tt
+runs_restored (Some text) earlier later before now after had has history q lines plan end begins made = λ volumes stands.
+    let rs : List Restored = made.0 in
+    let files : restored_files plan.groups (Some plan.names) volumes ≡ Ok rs = made.1 volumes (stands plan begins.1) in
     rw (begins.1, files) (
+      record { is_clean = are_accepted lines; restored = Some (are_files rs) },
       ap (λ (c : Bool). Ok (record { is_clean = c; restored = Some (are_files rs) })) begins.0,
-      Appends-trans before now after (begun history q text).text (manifest rs) begins.2 written,
+      (refl, end_is end rs made.3.0),
+      Appends-trans before now after (begun history q text).text (manifest rs) begins.2 made.2,
     )
 
--- the fault of a piece, and nothing behind the bootstrap
+-- the fault of a piece, and nothing after the bootstrap
 stopped : (text : List ℕ) (clean : Bool) (files : Result (List Restored) model.PieceFault) (why : Refusal) → refused_as OfPiece files ≡ Err why
     → ((with_files text clean files).answer ≡ Err why) × ((with_files text clean files).text ≡ text)
 stopped text clean (Ok rs) why h = absurd cc
 stopped text clean (Err e) why h = (go h, refl)
   where
-    go : ◌≡◌ {A = Result (List Restored) Refusal} (Err (OfPiece e)) (Err why) → ◌≡◌ {A = Result ConsoleRun Refusal} (Err (OfPiece e)) (Err why)
+    go : ◌≡◌ {A = Result (List Restored) Refusal} (Err (OfPiece e)) (Err why) → ◌≡◌ {A = Result Answer Refusal} (Err (OfPiece e)) (Err why)
     go p = cc
 
-pub runs_stopped : (known : Option (List ℕ)) (earlier later : Told) (before now after : Option (List ℕ)) (history : List JobRows) (q : Request) (clean : Bool) (plan : Plan) (why : ConsoleFault)
-    → BeginsOver known before now history q (Ok (clean, Some plan)) → OverPlan earlier later plan (Gives (Err why)) → StopsAt now after why
+pub runs_stopped : (known : Option (List ℕ)) (earlier later : Told) (before now after : Option (List ℕ)) (had has : InSink) (history : List JobRows) (q : Request) (lines : Lines) (plan : Plan)
+    (why : ConsoleFault) → BeginsOver known before now history q (Ok (lines, Some plan)) → RestoresPlan earlier later now after had has plan (Err why)
     → RunsOver known earlier later before after history q (Err why)
 unfolding console_run
-runs_stopped None earlier later before now after history q clean plan why begins given stops = tt
-runs_stopped (Some text) earlier later before now after history q clean plan why begins given stops = λ volumes stands.
-    by_fault volumes why (given volumes (stands plan begins.1)) stops
+runs_stopped None earlier later before now after had has history q lines plan why begins made = tt
+runs_stopped (Some text) earlier later before now after had has history q lines plan why begins made = λ volumes stands.
+    by_fault volumes why (made.0 volumes (stands plan begins.1)) made.1
   where
     go : (volumes : List Volume) (r : Option model.PieceFault) → IsRefusal (option_map OfPiece r) (refused_as OfPiece (restored_files plan.groups (Some plan.names) volumes)) → Keeps now after
         → RefusesRun before after (run_from (begun history q text) volumes) (option_map OfPiece r)
@@ -254,7 +291,7 @@ runs_stopped (Some text) earlier later before now after history q clean plan why
         let both = stopped (begun history q text).text (begun history q text).is_clean (restored_files plan.groups (Some plan.names) volumes) (OfPiece e) h in
         rw (begins.1, both.1) (both.0, Appends-kept before now after (begun history q text).text begins.2 kept)
 
-    by_fault : (volumes : List Volume) (w : ConsoleFault) → Gives (Err w) (restored_files plan.groups (Some plan.names) volumes) → StopsAt now after w
+    by_fault : (volumes : List Volume) (w : ConsoleFault) → IsRefusal (cause w) (refused_as OfPiece (restored_files plan.groups (Some plan.names) volumes)) → StopsAt now after w
         → RefusesRun before after (run_from (begun history q text) volumes) (cause w)
     by_fault volumes fault.Memory h s = tt
     by_fault volumes (fault.Plan w) h s = absurd s
@@ -271,53 +308,37 @@ tells_refused (Some text) before after history q (fault.Plan why) begins = begin
 tells_refused (Some text) before after history q (fault.Piece why) begins = absurd begins
 tells_refused (Some text) before after history q (fault.Io why) begins = tt
 
-pub tells_undone : (known before after : Option (List ℕ)) (history : List JobRows) (q : Request) (clean : Bool) → BeginsOver known before after history q (Ok (clean, None))
-    → TellsOver known before after history q (Ok (record { is_clean = clean; restored = None }))
-tells_undone None before after history q clean begins = tt
-tells_undone (Some text) before after history q clean begins = (begins.0, (begins.1, begins.2))
+pub tells_undone : (known before after : Option (List ℕ)) (history : List JobRows) (q : Request) (lines : Lines) → BeginsOver known before after history q (Ok (lines, None))
+    → TellsOver known before after history q (Ok (record { lines = lines; end = Quit }))
+tells_undone None before after history q lines begins = tt
+tells_undone (Some text) before after history q lines begins = (begins.0, (begins.1, begins.2))
 
-pub tells_restored : (known before now after : Option (List ℕ)) (history : List JobRows) (q : Request) (clean : Bool) (plan : Plan) (os : Outcomes) → BeginsOver known before now history q (Ok (clean, Some plan))
-    → WritesManifest now after os → TellsOver known before after history q (run_to (Ok (clean, Some os)))
-tells_restored None before now after history q clean plan os begins written = tt
-tells_restored (Some text) before now after history q clean plan os begins written =
-    (begins.0, (plan, map restored os.items, begins.1, refl, Appends-trans before now after (begun history q text).text (manifest (map restored os.items)) begins.2 written))
+pub tells_restored : (known : Option (List ℕ)) (earlier later : Told) (before now after : Option (List ℕ)) (had has : InSink) (history : List JobRows) (q : Request) (lines : Lines) (plan : Plan)
+    (end : RestoreEnd) → BeginsOver known before now history q (Ok (lines, Some plan)) → RestoresPlan earlier later now after had has plan (Ok end)
+    → TellsOver known before after history q (Ok (record { lines = lines; end = Done end }))
+tells_restored None earlier later before now after had has history q lines plan end begins made = tt
+tells_restored (Some text) earlier later before now after had has history q lines plan end begins made =
+    (begins.0, (plan, made.0, begins.1, made.3.0, Appends-trans before now after (begun history q text).text (manifest made.0) begins.2 made.2))
 
-pub tells_stopped : (known before now after : Option (List ℕ)) (history : List JobRows) (q : Request) (clean : Bool) (plan : Plan) (why : ConsoleFault) → BeginsOver known before now history q (Ok (clean, Some plan))
-    → StopsAt now after why → TellsOver known before after history q (Err why)
-tells_stopped None before now after history q clean plan why begins stops = tt
-tells_stopped (Some text) before now after history q clean plan fault.Memory begins stops = tt
-tells_stopped (Some text) before now after history q clean plan (fault.Plan why) begins stops = absurd stops
-tells_stopped (Some text) before now after history q clean plan (fault.Piece why) begins stops =
+pub tells_stopped : (known before now after : Option (List ℕ)) (history : List JobRows) (q : Request) (lines : Lines) (plan : Plan) (why : ConsoleFault)
+    → BeginsOver known before now history q (Ok (lines, Some plan)) → StopsAt now after why → TellsOver known before after history q (Err why)
+tells_stopped None before now after history q lines plan why begins stops = tt
+tells_stopped (Some text) before now after history q lines plan fault.Memory begins stops = tt
+tells_stopped (Some text) before now after history q lines plan (fault.Plan why) begins stops = absurd stops
+tells_stopped (Some text) before now after history q lines plan (fault.Piece why) begins stops =
     (plan, begins.1, Appends-kept before now after (begun history q text).text begins.2 stops)
-tells_stopped (Some text) before now after history q clean plan (fault.Io why) begins stops = tt
+tells_stopped (Some text) before now after history q lines plan (fault.Io why) begins stops = tt
 
--- ---- up to the manifest
+-- ---- the files of a run
 
-pub restores_undone : (known : Option (List ℕ)) (earlier later : Told) (before after : Option (List ℕ)) (history : List JobRows) (q : Request) (clean : Bool)
-    → BeginsOver known before after history q (Ok (clean, None)) → RestoresOver known earlier later before after history q clean None
-restores_undone None earlier later before after history q clean begins = tt
-restores_undone (Some text) earlier later before after history q clean begins = (begins.0, (begins.1, begins.2))
+pub restores_undone : (known : Option (List ℕ)) (earlier later : Told) (before after : Option (List ℕ)) (history : List JobRows) (q : Request) (lines : Lines)
+    → BeginsOver known before after history q (Ok (lines, None)) → RestoresOver known earlier later before after history q (are_accepted lines) None
+restores_undone None earlier later before after history q lines begins = tt
+restores_undone (Some text) earlier later before after history q lines begins = (begins.0, (begins.1, begins.2))
 
-pub restores_files : (known : Option (List ℕ)) (earlier later : Told) (before now after : Option (List ℕ)) (history : List JobRows) (q : Request) (clean : Bool) (plan : Plan) (os : Outcomes)
-    → BeginsOver known before now history q (Ok (clean, Some plan)) → OverPlan earlier later plan (Gives (Ok os)) → WritesManifest now after os
-    → RestoresOver known earlier later before after history q clean (files_in (Some os))
-restores_files None earlier later before now after history q clean plan os begins given written = tt
-restores_files (Some text) earlier later before now after history q clean plan os begins given written = (
-  begins.0,
-  (
-    plan,
-    begins.1,
-    given,
-    Appends-trans before now after (begun history q text).text (manifest (map restored os.items)) begins.2 written,
-  ),
-)
-
--- what is said of the run up to the manifest holds of what is told of it
-pub told_none : (P : Result ConsoleRun ConsoleFault → Type 0) (clean : Bool) (outcomes : Option Outcomes) → outcomes ≡ None → P (run_to (Ok (clean, outcomes)))
-    → P (Ok (record { is_clean = clean; restored = None }))
-told_none P clean outcomes none h = subst (λ (o : Option Outcomes). P (run_to (Ok (clean, o)))) none h
-
-pub told_files : (P : Result ConsoleRun ConsoleFault → Type 0) (clean : Bool) (outcomes : Option Outcomes) (os : Outcomes) (whole : Bool) → outcomes ≡ Some os
-    → whole ≡ are_files (map restored os.items) → P (run_to (Ok (clean, outcomes))) → P (Ok (record { is_clean = clean; restored = Some whole }))
-told_files P clean outcomes os whole found is h =
-    subst (λ (w : Bool). P (Ok (record { is_clean = clean; restored = Some w }))) (sym is) (subst (λ (o : Option Outcomes). P (run_to (Ok (clean, o)))) found h)
+pub restores_files : (known : Option (List ℕ)) (earlier later : Told) (before now after : Option (List ℕ)) (had has : InSink) (history : List JobRows) (q : Request) (lines : Lines) (plan : Plan)
+    (end : RestoreEnd) → BeginsOver known before now history q (Ok (lines, Some plan)) → (made : RestoresPlan earlier later now after had has plan (Ok end))
+    → RestoresOver known earlier later before after history q (are_accepted lines) (Some made.0)
+restores_files None earlier later before now after had has history q lines plan end begins made = tt
+restores_files (Some text) earlier later before now after had has history q lines plan end begins made =
+    (begins.0, (plan, begins.1, made.1, Appends-trans before now after (begun history q text).text (manifest made.0) begins.2 made.2))

@@ -8,7 +8,7 @@ use Rattle.br_model.specs.Choice.{Request, choose}
 use Rattle.br_model.specs.View.{Entry, view_of}
 use Rattle.br_model.specs.Plan.{Plan, selection, plan_of, plan_groups, plan_names}
 use Rattle.br_model.specs.PlanMeaning.{IsCopy, PlanMeansSelection, by_key, rows_of_jobs}
-use Rattle.br_engine.specs.Extracting.{are_files}
+use Rattle.br_engine.specs.Outputs.{are_files}
 use Rattle.br_engine.specs.Restoring.{restored_files}
 use Rattle.br_console.specs.Running.{opening, begun, console_run}
 use Rattle.br_console.specs.Selecting.{RunsMeanSelection}

@@ -1,4 +1,4 @@
--- A talk line after line: what was written and what is left stand for the whole.
+-- A session line after line: what was written and what is left stand for the whole.
 use Rattle.std.proofs.Common.{◌≡◌, ℕ, suc, ◌-◌, ◌<◌, Bool, true, false, not, cond, ◌&&◌, List, [], ◌∷◌, ◌++◌, length, take, filter, Option, Some, None, Result, Ok, Err, ne_eqb, lt-ltb, refl, ap, sym, subst, ◌∙◌, append_assoc, arith}
 use Rattle.std.proofs.lemmas.List.{append-nil}
 use Rattle.std.proofs.lemmas.List.Splits.{length-slice_split}
@@ -13,8 +13,9 @@ use Rattle.br_model.specs.Console as model
 use Rattle.br_model.specs.Console.{apply, read_command, resolve, is_directory_of, cwd_line, some_of, matching, matches, last_component, says, child_line, found_line, meant, meant_directories, with_marks, without_marks, without_empty_end, console_lines, said, written, answer_of, after_answer, ends, ends_done, dialogue, marks_at_done}
 use Rattle.br_model.proofs.AnswerLaws.{bind_ok, refuse_ok, ok_is}
 use Rattle.br_mark.specs.Seen.{Situation}
-use Rattle.br_console.specs.Talking.{are_answered, console_after, lines_said, behind_lines, left_unsaid, TalksOver, marks_told, LeavesOver, ReadsLine}
-use Rattle.br_console.specs.declared.talking.Talk.{Talk}
+use Rattle.br_console.specs.Talking.{are_answered, console_after, lines_said, behind_lines, left_unsaid, SessionOver, marks_told, LeavesOver, ReadsLine}
+use Rattle.br_console.specs.Ending.{are_accepted, is_done}
+use Rattle.br_console.specs.declared.ending.Session.{Session}
 
 -- ---- the first line of a text
 
@@ -121,7 +122,7 @@ goes_on (Ok model.EndsDone) e = absurd cc
 goes_on (Ok model.EndsQuit) e = absurd cc
 goes_on (Err n) e = refl
 
--- ---- what ends a talk leaves the console as it was
+-- ---- what ends a session leaves the console as it was
 
 -- a command that answers with a text does not end
 no_end : (c : model.Console) (s r : model.Console × model.Answer) → ◌≡◌ {A = Result (model.Console × model.Answer) ℕ} (Ok s) (Ok r) → ends (Ok s.1) ≡ false → ends (Ok r.1) ≡ true
@@ -287,7 +288,7 @@ turn left later now next t u r line heard text told is_line reads is same reply 
   shows = subst (λ (l : List ℕ). Appends now next l) (tells ∙ writes) shows;
 }
 
--- a line that does not end the talk
+-- a line that does not end the session
 pub one_more : (known left later before now next : Option (List ℕ)) (s t u : Situation) (clean after : Bool) (r : Result model.Answer ℕ)
     → SoFar known left before now s t clean → IsTurn left later now next t u r → ends r ≡ false → after ≡ (clean && not (is_err r))
     → SoFar known later before next s u after
@@ -318,19 +319,19 @@ one_more (Some text) (Some (x ∷ xs)) later before now next s t u clean after r
     })
 
 -- the lines came to their end
-pub none_left : (known left later before now : Option (List ℕ)) (s t : Situation) (talk : Talk) (line : List ℕ) (is_line : Bool)
-    → SoFar known left before now s t talk.is_clean → ReadsLine left later line is_line → is_line ≡ false → talk.is_done ≡ false
-    → TalksOver known later before now s (Ok talk) × LeavesOver known s t (Ok talk)
+pub none_left : (known left later before now : Option (List ℕ)) (s t : Situation) (session : Session) (line : List ℕ) (is_line : Bool)
+    → SoFar known left before now s t (are_accepted session.lines) → ReadsLine left later line is_line → is_line ≡ false → is_done session.end ≡ false
+    → SessionOver known later before now s (Ok session) × LeavesOver known s t (Ok session)
 unfolding console_lines dialogue marks_at_done are_answered console_after lines_said behind_lines
-none_left None left later before now s t talk line is_line so_far reads last undone = (tt, tt)
-none_left (Some text) None later before now s t talk line is_line so_far reads last undone = absurd so_far
-none_left (Some text) (Some (x ∷ xs)) later before now s t talk line is_line so_far reads last undone =
+none_left None left later before now s t session line is_line so_far reads last undone = (tt, tt)
+none_left (Some text) None later before now s t session line is_line so_far reads last undone = absurd so_far
+none_left (Some text) (Some (x ∷ xs)) later before now s t session line is_line so_far reads last undone =
     absurd (untrue (sym (reads.2 ∙ ap not (is_filled x xs)) ∙ last))
-none_left (Some text) (Some []) later before now s t talk line is_line so_far reads last undone = (
+none_left (Some text) (Some []) later before now s t session line is_line so_far reads last undone = (
   record {
     written = subst (λ l. Appends before now l) (sym (so_far.written_whole ∙ append-nil so_far.shown)) so_far.appended;
     done = undone ∙ sym (ap is_some so_far.marks);
-    clean = sym (so_far.answered ∙ and_true talk.is_clean);
+    clean = sym (so_far.answered ∙ and_true (are_accepted session.lines));
     unsaid = reads.0 ∙ ap Some (sym so_far.unsaid);
   },
   record {
@@ -343,16 +344,16 @@ option_of : (b : Bool) (marks : List (List ℕ)) → is_some (cond b (Some marks
 option_of true marks = refl
 option_of false marks = refl
 
--- a line ended the talk
-pub one_ends : (known left later before now next : Option (List ℕ)) (s t u : Situation) (clean : Bool) (talk : Talk) (r : Result model.Answer ℕ)
+-- a line ended the session
+pub one_ends : (known left later before now next : Option (List ℕ)) (s t u : Situation) (clean : Bool) (session : Session) (r : Result model.Answer ℕ)
     → SoFar known left before now s t clean → IsTurn left later now next t u r → ends r ≡ true
-    → talk.is_done ≡ ends_done r → talk.is_clean ≡ (clean && not (is_err r))
-    → TalksOver known later before next s (Ok talk) × LeavesOver known s u (Ok talk)
+    → is_done session.end ≡ ends_done r → are_accepted session.lines ≡ (clean && not (is_err r))
+    → SessionOver known later before next s (Ok session) × LeavesOver known s u (Ok session)
 unfolding behind_lines
-one_ends None left later before now next s t u clean talk r so_far turn off done is_clean = (tt, tt)
-one_ends (Some text) None later before now next s t u clean talk r so_far turn off done is_clean = absurd so_far
-one_ends (Some text) (Some []) later before now next s t u clean talk r so_far turn off done is_clean = absurd (untrue turn.reads.2)
-one_ends (Some text) (Some (x ∷ xs)) later before now next s t u clean talk r so_far turn off done is_clean =
+one_ends None left later before now next s t u clean session r so_far turn off done is_clean = (tt, tt)
+one_ends (Some text) None later before now next s t u clean session r so_far turn off done is_clean = absurd so_far
+one_ends (Some text) (Some []) later before now next s t u clean session r so_far turn off done is_clean = absurd (untrue turn.reads.2)
+one_ends (Some text) (Some (x ∷ xs)) later before now next s t u clean session r so_far turn off done is_clean =
     let line = turn.line in
     let is_said = turn.is_said in
     let more = console_lines (drop_through 10 (x ∷ xs)) in
@@ -372,6 +373,6 @@ one_ends (Some text) (Some (x ∷ xs)) later before now next s t u clean talk r 
       },
       record {
         state = sym (so_far.state ∙ ap (console_after t.view t.state) parts ∙ state_end t u line more r is_said off);
-        marks = ap (λ (c : model.Console). marks_told talk c) kept ∙ ap (λ b. cond b (Some t.state.marked) None) done ∙ sym marks;
+        marks = ap (λ (c : model.Console). marks_told session c) kept ∙ ap (λ b. cond b (Some t.state.marked) None) done ∙ sym marks;
       },
     )

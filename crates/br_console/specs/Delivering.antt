@@ -1,36 +1,79 @@
--- A run of the console that also delivers: behind the manifest the restored files, put into a sink.
-use Rattle.std.specs.Prelude.{◌≡◌, ℕ, List, Option, Some, None, option_map, Result, Ok, Err}
+-- A run of the console as its contracts state it: over what reader, drives, writer and sink show before and after.
+use Rattle.std.specs.Prelude.{◌≡◌, ℕ, List, map, Option, Result, Ok, Err, IfOk, ⊤}
+use Rattle.br_model.specs.Volume.{Volume}
 use Rattle.br_model.specs.File.{Item}
 use Rattle.br_model.specs.Restored.{Restored}
 use Rattle.br_model.specs.Job.{JobRows}
-use Rattle.br_model.specs.Choice.{Request}
-use Rattle.br_model.specs.Delivery.{Stop}
+use Rattle.br_model.specs.Choice.{Request, choose}
+use Rattle.br_model.specs.Plan.{Plan}
 use Rattle.br_engine.specs.Restoring.{Told}
-use Rattle.br_engine.specs.Extracting.{are_files}
-use Rattle.br_engine.specs.Delivering.{IsDelivered, IsStopped}
-use Rattle.br_console.specs.Running.{RestoresOver}
+use Rattle.br_engine.specs.Outputs.{InSink, StopsByFailure}
+use Rattle.br_engine.specs.Delivering.{in_sink, sink_failures}
+use Rattle.br_engine.specs.declared.outputs.Outputs.{Outputs}
+use Rattle.br_engine.specs.declared.outputs.RestoreEnd.{RestoreEnd}
+use Rattle.br_console.specs.Ending.{LeavesSink, are_accepted}
+use Rattle.br_console.specs.Running.{BeginsOver, RestoresOver, RestoresPlan, RunsOver, TellsOver}
+use Rattle.br_console.specs.declared.ending.Lines.{Lines}
+use Rattle.br_console.specs.declared.ending.End.{End}
+use Rattle.br_console.specs.declared.ending.End.TheVariants.{Done, Quit}
+use Rattle.br_console.specs.declared.ending.ConsoleRun.{ConsoleRun}
 use Rattle.br_console.specs.declared.console_fault.ConsoleFault.{ConsoleFault}
-use Rattle.br_console.specs.declared.running.ConsoleRun.{ConsoleRun}
-use Rattle.br_console.specs.declared.delivering.ConsoleDelivery.{ConsoleDelivery}
+use Rattle.br_console.specs.declared.running.JobSelection.{JobSelection}
 
--- the run inside a delivery
-abbrev pub run_of : Result ConsoleDelivery ConsoleFault → Result ConsoleRun ConsoleFault
-run_of (Ok made) = Ok made.run
-run_of (Err why) = Err why
-
--- without files nothing was put, and nothing stopped; else all of them were put, or those before the stop
-abbrev pub IsPut : Option (List Item) → Option (List Item) → Option Stop → Option (List Restored) → Type 0
-IsPut had has None None = has ≡ had
-IsPut had has (Some stop) None = ⊥
-IsPut had has None (Some rs) = IsDelivered had has rs
-IsPut had has (Some stop) (Some rs) = IsStopped had has stop rs
-
--- The run restored these files, or none where the dialogue did not end by `done`; it tells whether each is one, and the very same
--- files were put. Where the run is refused nothing was put.
-abbrev pub DeliversInto : Option (List ℕ) → Told → Told → Option (List ℕ) → Option (List ℕ) → Option (List Item) → Option (List Item) → List JobRows → Request → Result ConsoleDelivery ConsoleFault → Type 0
-DeliversInto known earlier later before after had has history q (Ok made) =
+-- The run restored these files, or none if the dialogue did not end by `done`, and the very same files were put. If the run is refused,
+-- nothing was put.
+abbrev pub Delivers : Option (List ℕ) → Told → Told → Option (List ℕ) → Option (List ℕ) → InSink → InSink → List JobRows → Request → Result ConsoleRun ConsoleFault → Type 0
+Delivers known earlier later before after had has history q (Ok run) =
     (files : Option (List Restored))
-    × RestoresOver known earlier later before after history q made.run.is_clean files
-    × (made.run.restored ≡ option_map are_files files)
-    × IsPut had has made.stop files
-DeliversInto known earlier later before after had has history q (Err why) = has ≡ had
+    × RestoresOver known earlier later before after history q (are_accepted run.lines) files
+    × LeavesSink had has run.end files
+Delivers known earlier later before after had has history q (Err why) = has ≡ had
+
+-- ---- over drives and outputs
+
+abbrev pub DeliversInto : {D W S : Type 0} → Option (List ℕ) → (D → Option (List Volume)) → (W → Option (List ℕ)) → (S → Option (List Item))
+    → List D → List D → Outputs W S → Outputs W S → JobSelection → Result ConsoleRun ConsoleFault → Type 0
+DeliversInto known shows contents has earlier later before after asked result =
+    Delivers known (map shows earlier) (map shows later) (contents before.writer) (contents after.writer) (in_sink has before) (in_sink has after)
+    asked.history.now asked.request.now result
+
+-- the run is that of the history, the request and the lines over all volumes that each of the drives may be taken to show
+abbrev pub RunsInto : {D W S : Type 0} → Option (List ℕ) → (D → Option (List Volume)) → (W → Option (List ℕ))
+    → List D → List D → Outputs W S → Outputs W S → JobSelection → Result ConsoleRun ConsoleFault → Type 0
+RunsInto known shows contents earlier later before after asked result =
+    RunsOver known (map shows earlier) (map shows later) (contents before.writer) (contents after.writer) asked.history.now asked.request.now result
+
+-- what is written, whatever the drives do
+abbrev pub TellsInto : {W S : Type 0} → Option (List ℕ) → (W → Option (List ℕ)) → Outputs W S → Outputs W S → JobSelection → Result ConsoleRun ConsoleFault → Type 0
+TellsInto known contents before after asked result =
+    TellsOver known (contents before.writer) (contents after.writer) asked.history.now asked.request.now result
+
+-- all that comes before a drive is asked
+abbrev pub BeginsInto : Option (List ℕ) → Option (List ℕ) → Option (List ℕ) → JobSelection → Result (Lines × Option Plan) ConsoleFault → Type 0
+BeginsInto known before after asked result = BeginsOver known before after asked.history.now asked.request.now result
+
+-- the restore by a plan
+abbrev pub RestoresInto : {D W S : Type 0} → (D → Option (List Volume)) → (W → Option (List ℕ)) → (S → Option (List Item))
+    → List D → List D → Outputs W S → Outputs W S → Plan → Result RestoreEnd ConsoleFault → Type 0
+RestoresInto shows contents has earlier later before after plan result =
+    RestoresPlan (map shows earlier) (map shows later) (contents before.writer) (contents after.writer) (in_sink has before) (in_sink has after) plan result
+
+-- if the choice of jobs is refused, this holds
+abbrev pub IfUnchosen : JobSelection → Type 0 → Type 0
+IfUnchosen asked holds = (n : ℕ) → choose asked.history.now asked.request.now ≡ Err n → holds
+
+-- ---- a sink that failed
+
+-- if the delivery of a run stopped by 80, the sink has failed once more
+abbrev pub EndsByFailure : Option ℕ → Option ℕ → End → Type 0
+EndsByFailure earlier later (Done end) = StopsByFailure earlier later end
+EndsByFailure earlier later Quit = ⊤
+
+-- a stop by 80 was counted as a failure of the sink
+abbrev pub RunStopIsCounted : {W S : Type 0} → (S → ℕ) → Outputs W S → Outputs W S → Result ConsoleRun ConsoleFault → Type 0
+RunStopIsCounted failures before after result =
+    IfOk result (λ run. EndsByFailure (sink_failures failures before) (sink_failures failures after) run.end)
+
+-- the same of the restore by a plan
+abbrev pub PlanStopIsCounted : {W S : Type 0} → (S → ℕ) → Outputs W S → Outputs W S → Result RestoreEnd ConsoleFault → Type 0
+PlanStopIsCounted failures before after result = IfOk result (StopsByFailure (sink_failures failures before) (sink_failures failures after))

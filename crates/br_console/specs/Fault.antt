@@ -1,5 +1,7 @@
--- Why a run of the console broke off, and the line that says so.
-use Rattle.std.specs.Prelude.{ℕ, List, [], Option, Some, None, option_map, ⊤}
+-- Why a run of the console ended early, and the line that says so.
+use Rattle.std.specs.Prelude.{◌≡◌, ℕ, List, [], Option, Some, None, option_map, ⊤}
+use Rattle.std.specs.declared.io.ErrorKind.{ErrorKind}
+use Rattle.std.specs.declared.io.ErrorKind.TheVariants.{OutOfMemory}
 use Rattle.br_model.specs.Text.{refused_line}
 use Rattle.br_model.specs.Meaning as model
 use Rattle.br_match.specs.Fault as piece
@@ -13,8 +15,7 @@ pub data Refusal : Type 0 where
   OfPlan : ℕ → Refusal
   OfPiece : model.PieceFault → Refusal
 
--- the refusal that history, lines and volumes decide, nothing for want of memory, a drive that failed, and a fault of reading or
--- writing
+-- The refusal that history, lines and volumes decide. There is none if memory ran out, a drive failed, or reading or writing failed.
 abbrev pub cause : ConsoleFault → Option Refusal
 cause Memory = None
 cause (Plan fault) = option_map OfPlan (plan.cause fault)
@@ -42,9 +43,13 @@ IsNoPiece (Plan fault) = ⊤
 IsNoPiece (Piece fault) = ⊥
 IsNoPiece (Io fault) = ⊤
 
--- want of memory, or a fault of reading or writing, which may come at any time
+-- memory ran out, or reading or writing failed, which may happen at any time
 abbrev pub IsFree : ConsoleFault → Type 0
 IsFree Memory = ⊤
 IsFree (Plan fault) = ⊥
 IsFree (Piece fault) = ⊥
 IsFree (Io fault) = ⊤
+
+-- a fault of reading or writing with this kind is told as it is, or as memory that ran out if it is of that kind
+abbrev pub IsStreamFault : ErrorKind → ConsoleFault → ConsoleFault → Type 0
+IsStreamFault kind told e = IsFree e × (kind ≡ OutOfMemory → e ≡ Memory) × (¬ (kind ≡ OutOfMemory) → e ≡ told)

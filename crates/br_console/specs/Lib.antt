@@ -1,4 +1,5 @@
 pub mod Fault
+pub mod Ending
 pub mod Talking
 pub mod Running
 pub mod Selecting

@@ -1,5 +1,5 @@
--- A run of the console: from a history and the lines of a dialogue to a bootstrap, and over volumes to a manifest; what is written
--- behind what the writer held, and what is answered or refused.
+-- A run of the console: from a history and the lines of a dialogue to a bootstrap, and over volumes to a manifest; what is appended to
+-- what the writer held, and what is returned or refused.
 use Rattle.std.specs.Prelude.{◌≡◌, ℕ, Bool, true, List, [], ◌++◌, map, Vec, Option, Some, None, option_map, IfSome, Result, Ok, Err, ⊤}
 use Rattle.std.specs.Global.{Global}
 use Rattle.std.specs.Io.KnownBytes.{Appends, Keeps}
@@ -17,16 +17,23 @@ use Rattle.br_model.specs.Console.{at_start, console_lines, dialogue, marks_at_d
 use Rattle.br_model.specs.Plan.{Plan, plan_of}
 use Rattle.br_plan.specs.Fault as plan
 use Rattle.br_mark.specs.Seen.{Situation}
-use Rattle.br_join.specs.Outcome.{restored}
-use Rattle.br_engine.specs.Restoring.{Told, AllStand, Outcomes, restored_files}
-use Rattle.br_engine.specs.Extracting.{are_files}
-use Rattle.br_console.specs.Fault.{Refusal, OfPlan, OfPiece, cause}
+use Rattle.br_engine.specs.Restoring.{Told, AllStand, restored_files}
+use Rattle.br_engine.specs.Outputs.{EndTells, InSink, are_files}
+use Rattle.br_engine.specs.Delivering.{EndsWith}
+use Rattle.br_engine.specs.declared.outputs.RestoreEnd.{RestoreEnd}
+use Rattle.br_engine.specs.declared.fault.ExtractFault.{ExtractFault}
+use Rattle.br_engine.specs.declared.fault.ExtractFault.TheVariants as extract
+use Rattle.br_console.specs.Fault.{IsFree, Refusal, OfPlan, OfPiece, cause, fault_number}
+use Rattle.br_console.specs.Ending.{EndIs, are_accepted}
 use Rattle.br_console.specs.Talking.{are_answered}
 use Rattle.br_console.specs.declared.console_fault.ConsoleFault.{ConsoleFault}
 use Rattle.br_console.specs.declared.console_fault.ConsoleFault.TheVariants as fault
-use Rattle.br_console.specs.declared.running.ConsoleRun.{ConsoleRun}
+use Rattle.br_console.specs.declared.ending.Lines.{Lines}
+use Rattle.br_console.specs.declared.ending.End.{End}
+use Rattle.br_console.specs.declared.ending.End.TheVariants.{Done, Quit}
+use Rattle.br_console.specs.declared.ending.ConsoleRun.{ConsoleRun}
 
--- ---- what stands before a drive is asked
+-- ---- before a drive is asked
 
 -- the console over the view of the chosen jobs, at the root and without marks; or the refusal of the choice
 unfoldable pub opening : List JobRows → Request → Result Situation ℕ
@@ -34,18 +41,18 @@ opening history q = do
   jobs ← choose history q
   Ok (record { view = view_of jobs; state = at_start })
 
--- what is written before a drive is asked, whether no line was refused, and the plan, where the dialogue ended by `done`
+-- what is written before a drive is asked, if no line was refused, and the plan, if the dialogue ended by `done`
 pub record Begun : Type 0 where
   pub text : List ℕ
   pub is_clean : Bool
   pub plan : Result (Option Plan) ℕ
 
--- behind a dialogue that ended by `done` the bootstrap of the plan, unless the plan is refused
+-- after a dialogue that ended by `done` comes the bootstrap of the plan, unless the plan is refused
 abbrev pub with_plan : List ℕ → Bool → Result Plan ℕ → Begun
 with_plan text clean (Ok plan) = record { text = text ++ canonical plan.groups; is_clean = clean; plan = Ok (Some plan) }
 with_plan text clean (Err n) = record { text = text; is_clean = clean; plan = Err n }
 
--- behind a dialogue with these marks at its `done`, if there is one
+-- after a dialogue with these marks at its `done`, if there is one
 abbrev pub with_marks : List JobRows → Request → List ℕ → Bool → Option (List (List ℕ)) → Begun
 with_marks history q text clean None = record { text = text; is_clean = clean; plan = Ok None }
 with_marks history q text clean (Some marks) = with_plan text clean (plan_of history q marks)
@@ -56,18 +63,23 @@ with_console history q lines (Ok s) =
     with_marks history q (dialogue s.view s.state lines) (are_answered s.view s.state lines) (marks_at_done s.view s.state lines)
 with_console history q lines (Err n) = record { text = []; is_clean = true; plan = Err n }
 
--- what stands before a drive is asked, for the lines of a text
+-- all that comes before a drive is asked, for the lines of a text
 unfoldable pub begun : List JobRows → Request → List ℕ → Begun
 begun history q text = with_console history q (console_lines text) (opening history q)
 
 -- ---- the whole of a run
 
--- what is written, and what is answered or refused
+-- what a run returns: if no line was refused, and if each outcome is a file, if the dialogue ended by `done`
+pub record Answer : Type 0 where
+  pub is_clean : Bool
+  pub restored : Option Bool
+
+-- what is written, and what is returned or refused
 pub record Run : Type 0 where
   pub text : List ℕ
-  pub answer : Result ConsoleRun Refusal
+  pub answer : Result Answer Refusal
 
--- behind what was written the manifest of the files, or the fault of a piece and nothing more
+-- after what was written the manifest of the files, or the fault of a piece and nothing more
 abbrev pub with_files : List ℕ → Bool → Result (List Restored) model.PieceFault → Run
 with_files text clean (Ok rs) = record { text = text ++ manifest rs; answer = Ok (record { is_clean = clean; restored = Some (are_files rs) }) }
 with_files text clean (Err why) = record { text = text; answer = Err (OfPiece why) }
@@ -78,7 +90,7 @@ over_volumes text clean volumes (Ok None) = record { text = text; answer = Ok (r
 over_volumes text clean volumes (Ok (Some plan)) = with_files text clean (restored_files plan.groups (Some plan.names) volumes)
 over_volumes text clean volumes (Err n) = record { text = text; answer = Err (OfPlan n) }
 
--- a run over volumes from what stands before they are asked
+-- a run over volumes from what is there before they are asked
 abbrev pub run_from : Begun → List Volume → Run
 run_from b volumes = over_volumes b.text b.is_clean volumes b.plan
 
@@ -86,22 +98,28 @@ run_from b volumes = over_volumes b.text b.is_clean volumes b.plan
 unfoldable pub console_run : List JobRows → Request → List ℕ → List Volume → Run
 console_run history q text volumes = run_from (begun history q text) volumes
 
--- the refusal is the expected one, and what is expected was written behind what the writer held; no refusal to compare means want
--- of memory, a drive that failed, or a fault of reading or writing, which may come at any time
+-- ---- what a run returns
+
+-- a run returned this
+abbrev pub Shows : ConsoleRun → Answer → Type 0
+Shows run answer = (are_accepted run.lines ≡ answer.is_clean) × EndIs run.end answer.restored
+
+-- The refusal is the expected one, and what is expected was appended to what the writer held. There is no refusal to compare if memory
+-- ran out, a drive failed, or reading or writing failed, which may happen at any time.
 abbrev pub RefusesRun : Option (List ℕ) → Option (List ℕ) → Run → Option Refusal → Type 0
 RefusesRun before after expected None = ⊤
 RefusesRun before after expected (Some why) = (expected.answer ≡ Err why) × Appends before after expected.text
 
--- the answer is the expected one, and what is expected was written behind what the writer held
+-- what is returned is as expected, and what is expected was appended to what the writer held
 abbrev pub Runs : Option (List ℕ) → Option (List ℕ) → Result ConsoleRun ConsoleFault → Run → Type 0
-Runs before after (Ok run) expected = (expected.answer ≡ Ok run) × Appends before after expected.text
+Runs before after (Ok run) expected = (answer : Answer) × (expected.answer ≡ Ok answer) × Shows run answer × Appends before after expected.text
 Runs before after (Err why) expected = RefusesRun before after expected (cause why)
 
 -- each of the drives may be taken to show these volumes, for the pieces of the plan if there is one
 abbrev pub AllStandForPlan : Told → Told → Begun → List Volume → Type 0
 AllStandForPlan earlier later b volumes = (plan : Plan) → b.plan ≡ Ok (Some plan) → AllStand earlier later (pieces_of plan.groups) volumes
 
--- where the reader tells its bytes, the run is that of these bytes over all volumes that each of the drives may be taken to show
+-- if the reader tells its bytes, the run is that of these bytes over all volumes that each of the drives may be taken to show
 abbrev pub RunsOver : Option (List ℕ) → Told → Told → Option (List ℕ) → Option (List ℕ) → List JobRows → Request → Result ConsoleRun ConsoleFault → Type 0
 RunsOver (Some text) earlier later before after history q result =
     (volumes : List Volume) → AllStandForPlan earlier later (begun history q text) volumes → Runs before after result (console_run history q text volumes)
@@ -109,30 +127,30 @@ RunsOver None earlier later before after history q result = ⊤
 
 -- ---- a run over any drives
 
--- without a plan nothing more was written than what stands before a drive is asked, else the manifest of some files behind it, and
--- the answer is whether each of them is a file
-abbrev pub Ends : Option (List ℕ) → Option (List ℕ) → Begun → Option Bool → Type 0
-Ends before after b None = (b.plan ≡ Ok None) × Appends before after b.text
-Ends before after b (Some whole) =
-    (plan : Plan) × (rs : List Restored) × (b.plan ≡ Ok (Some plan)) × (whole ≡ are_files rs) × Appends before after (b.text ++ manifest rs)
+-- Without a plan nothing more was written than what is written before a drive is asked. Otherwise the manifest of some files follows it,
+-- and the end says if each of them is a file.
+abbrev pub Ends : Option (List ℕ) → Option (List ℕ) → Begun → End → Type 0
+Ends before after b Quit = (b.plan ≡ Ok None) × Appends before after b.text
+Ends before after b (Done end) =
+    (plan : Plan) × (rs : List Restored) × (b.plan ≡ Ok (Some plan)) × EndTells end rs × Appends before after (b.text ++ manifest rs)
 
--- whatever the drives do, what stands before one is asked was written first; and nothing more where the choice or the plan is
--- refused, or a piece by whatever fault
+-- Whatever the drives do, what is written before one is asked was written first; and nothing more if the choice or the plan is refused,
+-- or a piece by whatever fault.
 abbrev pub Tells : Option (List ℕ) → Option (List ℕ) → Begun → Result ConsoleRun ConsoleFault → Type 0
-Tells before after b (Ok run) = (b.is_clean ≡ run.is_clean) × Ends before after b run.restored
+Tells before after b (Ok run) = (b.is_clean ≡ are_accepted run.lines) × Ends before after b run.end
 Tells before after b (Err fault.Memory) = ⊤
 Tells before after b (Err (fault.Plan why)) = IfSome (plan.cause why) (λ n. (b.plan ≡ Err n) × Appends before after b.text)
 Tells before after b (Err (fault.Piece why)) = (plan : Plan) × (b.plan ≡ Ok (Some plan)) × Appends before after b.text
 Tells before after b (Err (fault.Io why)) = ⊤
 
--- the same where the reader tells its bytes
+-- the same if the reader tells its bytes
 abbrev pub TellsOver : Option (List ℕ) → Option (List ℕ) → Option (List ℕ) → List JobRows → Request → Result ConsoleRun ConsoleFault → Type 0
 TellsOver (Some text) before after history q result = Tells before after (begun history q text) result
 TellsOver None before after history q result = ⊤
 
 -- ---- the steps of a run
 
--- the marks that a talk ended with, if it ended by `done`
+-- the marks with which a session ended, if it ended by `done`
 abbrev pub Marks : Type 0
 Marks = Option (Vec (List ℕ) Global)
 
@@ -146,9 +164,9 @@ pub record IsDialogue (lines : List (List ℕ)) (before after : Option (List ℕ
   pub clean_is : clean ≡ are_answered s.view s.state lines
   pub marks_are : marks ≡ marks_at_done s.view s.state lines
 
--- where the reader tells its bytes, their lines were talked over with the console
-abbrev pub MarksOver : Option (List ℕ) → Option (List ℕ) → Option (List ℕ) → Situation → Result (Bool × Marks) ConsoleFault → Type 0
-MarksOver (Some text) before after s (Ok talked) = IsDialogue (console_lines text) before after s talked.0 (marks_in talked.1)
+-- if the reader tells its bytes, the dialogue of their lines with the console was written
+abbrev pub MarksOver : Option (List ℕ) → Option (List ℕ) → Option (List ℕ) → Situation → Result (Lines × Marks) ConsoleFault → Type 0
+MarksOver (Some text) before after s (Ok made) = IsDialogue (console_lines text) before after s (are_accepted made.0) (marks_in made.1)
 MarksOver (Some text) before after s (Err why) = ⊤
 MarksOver None before after s result = ⊤
 
@@ -160,16 +178,16 @@ WritesPlan before after expected (Err (fault.Plan why)) = IsRefusal (plan.cause 
 WritesPlan before after expected (Err (fault.Piece why)) = ⊥
 WritesPlan before after expected (Err (fault.Io why)) = ⊤
 
--- the same is written and stands as expected before a drive is asked; or the choice or the plan is refused as expected
-abbrev pub Begins : Option (List ℕ) → Option (List ℕ) → Begun → Result (Bool × Option Plan) ConsoleFault → Type 0
-Begins before after b (Ok made) = (b.is_clean ≡ made.0) × (b.plan ≡ Ok made.1) × Appends before after b.text
+-- what is expected before a drive is asked was written, with the expected lines and plan; or the choice or the plan is refused as expected
+abbrev pub Begins : Option (List ℕ) → Option (List ℕ) → Begun → Result (Lines × Option Plan) ConsoleFault → Type 0
+Begins before after b (Ok made) = (b.is_clean ≡ are_accepted made.0) × (b.plan ≡ Ok made.1) × Appends before after b.text
 Begins before after b (Err fault.Memory) = ⊤
 Begins before after b (Err (fault.Plan why)) = IfSome (plan.cause why) (λ n. (b.plan ≡ Err n) × Appends before after b.text)
 Begins before after b (Err (fault.Piece why)) = ⊥
 Begins before after b (Err (fault.Io why)) = ⊤
 
--- where the reader tells its bytes, all stands as these say
-abbrev pub BeginsOver : Option (List ℕ) → Option (List ℕ) → Option (List ℕ) → List JobRows → Request → Result (Bool × Option Plan) ConsoleFault → Type 0
+-- the same if the reader tells its bytes
+abbrev pub BeginsOver : Option (List ℕ) → Option (List ℕ) → Option (List ℕ) → List JobRows → Request → Result (Lines × Option Plan) ConsoleFault → Type 0
 BeginsOver (Some text) before after history q result = Begins before after (begun history q text) result
 BeginsOver None before after history q result = ⊤
 
@@ -182,41 +200,42 @@ abbrev pub OverPlan : Told → Told → Plan → Said → Type 0
 OverPlan earlier later plan holds =
     (volumes : List Volume) → AllStand earlier later (pieces_of plan.groups) volumes → holds (restored_files plan.groups (Some plan.names) volumes)
 
--- the outcomes are the files; or the refusal is the fault of a piece
-abbrev pub Gives : Result Outcomes ConsoleFault → Result (List Restored) model.PieceFault → Type 0
-Gives (Ok os) expected = expected ≡ Ok (map restored os.items)
-Gives (Err why) expected = IsRefusal (cause why) (refused_as OfPiece expected)
-
--- the manifest of these outcomes was written
-abbrev pub WritesManifest : Option (List ℕ) → Option (List ℕ) → Outcomes → Type 0
-WritesManifest before after os = Appends before after (manifest (map restored os.items))
-
--- behind the fault of a piece nothing was written
+-- after the fault of a piece nothing was written
 abbrev pub StopsAt : Option (List ℕ) → Option (List ℕ) → ConsoleFault → Type 0
 StopsAt before after fault.Memory = ⊤
 StopsAt before after (fault.Plan why) = ⊥
 StopsAt before after (fault.Piece why) = Keeps before after
 StopsAt before after (fault.Io why) = ⊤
 
--- ---- up to the manifest
+-- The files are those of the plan, their manifest was written, and the restore ended so; or the refusal is the fault of a piece, and nothing
+-- was put.
+abbrev pub RestoresPlan : Told → Told → Option (List ℕ) → Option (List ℕ) → InSink → InSink → Plan → Result RestoreEnd ConsoleFault → Type 0
+RestoresPlan earlier later before after had has plan (Ok end) =
+    (rs : List Restored) × OverPlan earlier later plan (λ expected. expected ≡ Ok rs) × Appends before after (manifest rs) × EndsWith had has rs end
+RestoresPlan earlier later before after had has plan (Err why) =
+    OverPlan earlier later plan (λ expected. IsRefusal (cause why) (refused_as OfPiece expected)) × StopsAt before after why × (has ≡ had)
 
--- the files of the outcomes, where there are any
-abbrev pub files_in : Option Outcomes → Option (List Restored)
-files_in outcomes = option_map (λ (os : Outcomes). map restored os.items) outcomes
+-- the fault of a restore as one of a run: memory that ran out for reading or writing is told as such
+abbrev pub BecomesFault : ExtractFault → ConsoleFault → Type 0
+BecomesFault extract.Memory why = why ≡ fault.Memory
+BecomesFault (extract.Bootstrap e) why = ⊥
+BecomesFault (extract.Piece e) why = why ≡ fault.Piece e
+BecomesFault (extract.Io e) why = IsFree why
 
--- the run that came to these outcomes
-abbrev pub run_to : Result (Bool × Option Outcomes) ConsoleFault → Result ConsoleRun ConsoleFault
-run_to (Ok made) = Ok (record { is_clean = made.0; restored = option_map are_files (files_in made.1) })
-run_to (Err why) = Err why
+-- a drive failed
+abbrev pub IsDriveFault : ConsoleFault → Type 0
+IsDriveFault why = fault_number why ≡ Some 13
 
--- without files the dialogue did not end by `done`, and what stands before a drive is asked was written; else these are the files
--- of the plan, and their manifest was written behind it
+-- ---- the files of a run
+
+-- Without files the dialogue did not end by `done`, and what comes before a drive is asked was written. Otherwise these are the files of the
+-- plan, and their manifest follows it.
 abbrev pub Restores : Told → Told → Option (List ℕ) → Option (List ℕ) → Begun → Option (List Restored) → Type 0
 Restores earlier later before after b None = (b.plan ≡ Ok None) × Appends before after b.text
 Restores earlier later before after b (Some rs) =
     (plan : Plan) × (b.plan ≡ Ok (Some plan)) × OverPlan earlier later plan (λ expected. expected ≡ Ok rs) × Appends before after (b.text ++ manifest rs)
 
--- the same where the reader tells its bytes, and whether no line was refused
+-- the same if the reader tells its bytes, and if no line was refused
 abbrev pub RestoresOver : Option (List ℕ) → Told → Told → Option (List ℕ) → Option (List ℕ) → List JobRows → Request → Bool → Option (List Restored) → Type 0
 RestoresOver (Some text) earlier later before after history q clean files =
     ((begun history q text).is_clean ≡ clean) × Restores earlier later before after (begun history q text) files

@@ -15,8 +15,8 @@ use Rattle.br_model.specs.PlanMeaning.{IsCopy, by_key, rows_of_jobs}
 use Rattle.br_model.specs.Stored.{Holds}
 use Rattle.br_console.specs.Running.{Run, begun, console_run}
 
--- behind dialogue and bootstrap a run wrote the manifest of these entries' copies in order of key, one for each entry and no others,
--- and it answers that each outcome is a file
+-- After dialogue and bootstrap a run wrote the manifest of these entries' copies in order of key, one for each entry and no others, and it
+-- returns that each outcome is a file.
 pub record RestoresAll (jobs : List Job) (selected : List Entry) (before : List ℕ) (run : Run) (clean : Bool) : Type 0 where
   pub copies : List Restored
   pub text_is : run.text ≡ before ++ manifest copies
@@ -24,8 +24,8 @@ pub record RestoresAll (jobs : List Job) (selected : List Entry) (before : List 
   pub are_copies : AllZip (IsCopy jobs) (by_key selected) copies
   pub are_all : IsPermutation selected (by_key selected)
 
--- Of jobs with what they saved: where the lines end by `done` with some paths of the view marked, and the chosen jobs stand on volumes,
--- the run over all volumes that extend these restores the marked entries of the view of the chosen jobs.
+-- Of jobs with what they saved: if the lines end by `done` with some paths of the view marked, and volumes hold the chosen jobs, the run over
+-- all volumes that extend these restores the marked entries of the view of the chosen jobs.
 abbrev pub RunsMeanSelection : Type 0
 RunsMeanSelection =
     (jobs : List Job) (q : Request) (text : List ℕ) (chosen : List JobRows) (marks : List (List ℕ)) (volumes later : List Volume)

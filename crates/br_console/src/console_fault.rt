@@ -1,7 +1,6 @@
 ghost use Rattle.std.specs.Prelude.{◌≡◌, ◌++◌, OnOk};
 ghost use Rattle.std.specs.IoError.{error_kind};
-ghost use Rattle.std.specs.declared.io.ErrorKind.TheVariants.{OutOfMemory};
-ghost use Rattle.br_console.specs.Fault.{fault_number, fault_text, IsFree};
+ghost use Rattle.br_console.specs.Fault.{fault_number, fault_text, IsStreamFault};
 ghost use Rattle.br_console.specs.declared.console_fault.ConsoleFault.TheVariants.{Memory, Plan, Piece, Io};
 
 use br_engine::{push_piece_line, push_refused_line};
@@ -11,7 +10,7 @@ use std::alloc::AllocError;
 use std::io::{self, ErrorKind};
 use thiserror::Error;
 
-/// Why a run of the console broke off.
+/// Why a run of the console ended early.
 #[derive(Debug, Drop, Error)]
 pub enum ConsoleFault {
     #[error("out of memory")]
@@ -51,9 +50,9 @@ impl From<PieceFault> for ConsoleFault {
     }
 }
 
-/// An input or an output for which memory ran out is `Memory`.
+/// A fault of reading or writing because memory ran out is `Memory`.
 impl From<io::Error> for ConsoleFault {
-    ghost from_gives = { λ fault e. IsFree e × (error_kind fault ≡ OutOfMemory → e ≡ Memory) × (¬ (error_kind fault ≡ OutOfMemory) → e ≡ Io fault) };
+    ghost from_gives = { λ fault e. IsStreamFault (error_kind fault) (Io fault) e };
 
     fn from(fault: io::Error) -> ConsoleFault {
         if fault.kind() == ErrorKind::OutOfMemory {
@@ -65,8 +64,8 @@ impl From<io::Error> for ConsoleFault {
 }
 
 impl ConsoleFault {
-    /// The number of the refusal: 1 want of memory, 50, 53 or 54 no jobs to choose, 51 nothing marked, 10 to 14 a volume. A fault
-    /// of reading or writing is no refusal.
+    /// Returns the number of the refusal: 1 out of memory, 50, 53 or 54 no jobs to choose, 51 nothing
+    /// marked, 10 to 14 a volume. A fault of reading or writing is no refusal.
     pub fn number(&self) -> Option<u32>
         ensures { result ≡ fault_number self.now }
     {
@@ -78,10 +77,10 @@ impl ConsoleFault {
         }
     }
 
-    /// Writes the line of the refusal: `refused N VOLUME ADDRESS` for 10 to 14, with the volume escaped, else `refused N`.
-    /// Nothing for a fault of reading or writing.
+    /// Appends the line of the refusal: `refused N VOLUME ADDRESS` for 10 to 14, with the volume escaped,
+    /// otherwise `refused N`. Appends nothing for a fault of reading or writing.
     ///
-    /// Where memory is short, a part of the line may stand there.
+    /// If memory runs out here, a part of the line may have been appended.
     pub fn push_line(&self, text: &mut Vec<u8>) -> Result<(), AllocError>
         ensures { OnOk result (text.new.items ≡ text.old.items ++ fault_text self.now) }
     {

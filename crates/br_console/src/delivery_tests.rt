@@ -1,5 +1,6 @@
 use super::*;
 use crate::talk_tests::{file_rows, job_row};
+use br_engine::{Outputs, RestoreEnd};
 use br_history::{History, JobRows};
 use br_plan::Request;
 use br_session::Span;
@@ -11,13 +12,14 @@ use std::io::{self, Error, ErrorKind, Write};
 use std::test::Fail;
 use std::thread::Threads;
 
-/// A block of 143 bytes of session 1, 7, with the file `/a` of the bytes `hello` and the hard link `/b` to it.
+/// A block of 143 bytes of session 1, 7, with the file `/a` of the bytes `hello` and the hard link `/b`
+/// to it.
 const LINKED: &[u8] = b"\0\0\0\0\0\0\0\x8f\0\0\0\0BB02\0\0\0\x01\0\0\0\x07\
     \0\0\0\x01\0\0\0\x01\0\0\0\x261 3 /a\0A A IGk B A A A F A A A A A A\0\0\
     \0\0\0\x01\0\0\0\x02\0\0\0\x05hello\
     \0\0\0\x02\0\0\0\x01\0\0\0\x282 1 /b\0A A IGk B A A A F A A A A A B\0/a\0";
 
-/// One of 160 bytes, with the same file and `/a/b` of the bytes `world`.
+/// A block of 160 bytes, with the same file and `/a/b` of the bytes `world`.
 const BELOW: &[u8] = b"\0\0\0\0\0\0\0\xa0\0\0\0\0BB02\0\0\0\x01\0\0\0\x07\
     \0\0\0\x01\0\0\0\x01\0\0\0\x261 3 /a\0A A IGk B A A A F A A A A A A\0\0\
     \0\0\0\x01\0\0\0\x02\0\0\0\x05hello\
@@ -39,6 +41,15 @@ const BELOW_TEXT: &[u8] = b"2 marked\n\
 /// Path and bytes of a file.
 type Put<'p> = (&'p [u8], &'p [u8]);
 
+/// How a run is to end.
+#[derive(Clone, Copy, PartialEq, Eq)]
+enum Expected {
+    AllFiles,
+    Quit,
+    /// Number and count of the stop.
+    Stop(u32, u64),
+}
+
 /// What a run that delivers is given, and what comes of it.
 #[derive(Clone, Copy)]
 struct Case<'a> {
@@ -47,12 +58,12 @@ struct Case<'a> {
     /// The path of its second file.
     second: &'a [u8],
     lines: &'a [u8],
-    /// The how manieth put fails, 0 for none.
+    /// Index of the put that fails, from 1; 0 if none does.
     fails_at: u64,
     text: &'a [u8],
-    run: ConsoleRun,
-    /// Number and count of the stop.
-    stop: Option<(u32, u64)>,
+    lines_are: Lines,
+    end: Expected,
+    /// The files in the sink.
     put: &'a [Put<'a>],
 }
 
@@ -62,28 +73,23 @@ const DELIVERED: Case<'static> = Case {
     lines: b"mark *\ndone\n",
     fails_at: 0,
     text: LINKED_TEXT,
-    run: ConsoleRun {
-        is_clean: true,
-        restored: Some(true),
-    },
-    stop: None,
+    lines_are: Lines::AllAccepted,
+    end: Expected::AllFiles,
     put: &[(b"/a", b"hello"), (b"/b", b"")],
 };
 
 const QUIT: Case<'static> = Case {
     lines: b"frob\nmark *\nquit\n",
     text: b"refused 55\n2 marked\n",
-    run: ConsoleRun {
-        is_clean: false,
-        restored: None,
-    },
+    lines_are: Lines::SomeRefused,
+    end: Expected::Quit,
     put: &[],
     ..DELIVERED
 };
 
 const FAILED: Case<'static> = Case {
     fails_at: 2,
-    stop: Some((80, 1)),
+    end: Expected::Stop(80, 1),
     put: &[(b"/a", b"hello")],
     ..DELIVERED
 };
@@ -92,12 +98,12 @@ const IN_THE_WAY: Case<'static> = Case {
     block: BELOW,
     second: b"/a/b",
     text: BELOW_TEXT,
-    stop: Some((81, 1)),
+    end: Expected::Stop(81, 1),
     put: &[(b"/a", b"hello")],
     ..DELIVERED
 };
 
-/// The visit of the job to its volume.
+/// Returns the visit of the job to its volume.
 fn spans(alloc: Global, block: &[u8]) -> Result<Vec<Span>, Fail> {
     let mut spans = Vec::new(alloc);
     spans.push(Span {
@@ -111,7 +117,7 @@ fn spans(alloc: Global, block: &[u8]) -> Result<Vec<Span>, Fail> {
     Ok(spans)
 }
 
-/// A Full of two files.
+/// Returns a Full of two files.
 fn rows(alloc: Global, case: &Case<'_>) -> Result<JobRows, Fail> {
     Ok(JobRows::new(
         job_row(alloc, 1, b'F', 100)?,
@@ -141,7 +147,7 @@ fn request(alloc: Global) -> Result<Request, Fail> {
     })
 }
 
-/// Two drives over its volume.
+/// Returns two drives over its volume.
 fn drives(alloc: Global, block: &[u8]) -> Result<Vec<MemDrive>, Fail> {
     let mut drives = Vec::new(alloc);
     drives.push(drive(alloc, block)?)?;
@@ -171,9 +177,8 @@ fn ran<W: Write + Drop>(
     alloc: Global,
     world: &mut World,
     mut lines: &[u8],
-    writer: &mut W,
-    sink: &mut MemSink,
-) -> Result<ConsoleDelivery, ConsoleFault> {
+    out: &mut Outputs<W, MemSink>,
+) -> Result<ConsoleRun, ConsoleFault> {
     let World {
         history,
         request,
@@ -182,26 +187,27 @@ fn ran<W: Write + Drop>(
     if drives.is_empty() || drives.len() > 16 {
         return Err(ConsoleFault::Memory);
     }
-    run_console_into(
-        rt, alloc, history, request, &mut lines, drives, writer, sink,
-    )
+    let asked = JobSelection { history, request };
+    run_console(rt, alloc, &asked, &mut lines, drives, out)
 }
 
-fn is_made(made: &ConsoleDelivery, case: &Case<'_>) -> bool {
-    let is_stop = match &made.stop {
-        None => case.stop.is_none(),
-        Some(stop) => case.stop == Some((stop.number(), stop.done())),
-    };
-    is_stop && made.run == case.run
+/// Returns how a run ended, if it is one of the ends that cases expect.
+fn end_of(run: &ConsoleRun) -> Option<Expected> {
+    match &run.end {
+        End::Quit => Some(Expected::Quit),
+        End::Done(RestoreEnd::AllFiles) => Some(Expected::AllFiles),
+        End::Done(RestoreEnd::SomeFaults) => None,
+        End::Done(RestoreEnd::Stopped(stop)) => Some(Expected::Stop(stop.number(), stop.done())),
+    }
 }
 
-/// Whether this is the file.
+/// Returns if this is the file.
 fn is_put(alloc: Global, item: &Item, file: &Put<'_>) -> Result<bool, Fail> {
     let bytes = item.bytes.to_vec(alloc)?;
     Ok(item.path.bytes() == file.0 && bytes.as_slice() == file.1)
 }
 
-/// Whether these are the files.
+/// Returns if these are the files.
 fn are_put(alloc: Global, items: &[Item], put: &[Put<'_>]) -> Result<bool, Fail> {
     for (item, file) in items.iter().zip(put) {
         if !is_put(alloc, item, file)? {
@@ -211,25 +217,29 @@ fn are_put(alloc: Global, items: &[Item], put: &[Put<'_>]) -> Result<bool, Fail>
     Ok(items.len() == put.len())
 }
 
-/// Whether a run over this world answers and writes as expected.
+/// Returns if a run over this world returns and writes as expected.
 fn is_told(
     rt: &(impl Threads + Sync),
     alloc: Global,
     world: &mut World,
     case: &Case<'_>,
-    sink: &mut MemSink,
+    out: &mut Outputs<Vec<u8>, MemSink>,
 ) -> Result<bool, Fail> {
-    let mut text = Vec::new(alloc);
-    let made = ran(rt, alloc, world, case.lines, &mut text, sink)?;
-    Ok(is_made(&made, case) && text.as_slice() == case.text)
+    let run = ran(rt, alloc, world, case.lines, out)?;
+    Ok(run.lines == case.lines_are && end_of(&run) == Some(case.end))
 }
 
-/// Whether a run is as expected, and what it puts is.
+/// Returns if a run is as expected, and its text and the files in its sink are.
 fn holds(rt: &(impl Threads + Sync), alloc: Global, case: &Case<'_>) -> Result<bool, Fail> {
     let mut world = world_of(alloc, case)?;
-    let mut sink = MemSink::failing_at(alloc, case.fails_at);
-    let is_told = is_told(rt, alloc, &mut world, case, &mut sink)?;
-    Ok(are_put(alloc, sink.items(), case.put)? && is_told)
+    let mut out = Outputs {
+        writer: Vec::new(alloc),
+        sink: Some(MemSink::failing_at(alloc, case.fails_at)),
+    };
+    let is_told = is_told(rt, alloc, &mut world, case, &mut out)?;
+    let is_written = out.writer.as_slice() == case.text;
+    let sink = out.sink.as_ref().ok_or("a sink")?;
+    Ok(are_put(alloc, sink.items(), case.put)? && is_told && is_written)
 }
 
 #[test]
@@ -240,13 +250,13 @@ fn the_files_of_the_manifest_are_put(rt: HostRuntime) -> Result<(), Fail> {
 }
 
 #[test]
-fn a_delivery_that_stops_is_told_beside_the_run(rt: HostRuntime) -> Result<(), Fail> {
+fn a_delivery_that_stops_is_the_end_of_the_run(rt: HostRuntime) -> Result<(), Fail> {
     assert!(rt; holds(&rt, rt.alloc(), &FAILED)?);
     assert!(rt; holds(&rt, rt.alloc(), &IN_THE_WAY)?);
     Ok(())
 }
 
-/// What takes bytes and can be flushed so many times.
+/// A stream that takes bytes and can be flushed this number of times.
 #[derive(Drop)]
 struct Clogging(u32);
 
@@ -264,29 +274,25 @@ impl Write for Clogging {
     }
 }
 
-/// Whether a run comes to its end with so many flushes, and how many files it puts.
+/// Returns if a run ends with this number of flushes, and the number of files that it puts.
 fn put_with(
     rt: &(impl Threads + Sync),
     alloc: Global,
     flushes: u32,
 ) -> Result<(bool, usize), Fail> {
     let mut world = world_of(alloc, &DELIVERED)?;
-    let mut sink = MemSink::new(alloc);
-    let mut writer = Clogging(flushes);
-    let run = ran(
-        rt,
-        alloc,
-        &mut world,
-        DELIVERED.lines,
-        &mut writer,
-        &mut sink,
-    );
+    let mut out = Outputs {
+        writer: Clogging(flushes),
+        sink: Some(MemSink::new(alloc)),
+    };
+    let run = ran(rt, alloc, &mut world, DELIVERED.lines, &mut out);
+    let sink = out.sink.as_ref().ok_or("a sink")?;
     Ok((run.is_ok(), sink.items().len()))
 }
 
 /// The two lines and the bootstrap are flushed before the manifest is.
 #[test]
-fn nothing_is_put_where_the_manifest_is_not_flushed(rt: HostRuntime) -> Result<(), Fail> {
+fn nothing_is_put_if_the_manifest_is_not_flushed(rt: HostRuntime) -> Result<(), Fail> {
     assert_eq!(rt; put_with(&rt, rt.alloc(), 3)?, (false, 0));
     assert_eq!(rt; put_with(&rt, rt.alloc(), 4)?, (true, 2));
     Ok(())

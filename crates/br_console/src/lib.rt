@@ -1,11 +1,11 @@
-//! The restore console: from the history of some jobs and a dialogue to a bootstrap, the files that it gives, and their manifest, and
-//! into a sink.
+//! The restore console: from the history of some jobs and a dialogue to a bootstrap, the files that it
+//! gives and their manifest, and into a sink if there is one.
 #![tactic(auto)]
 
 mod console_fault;
-mod delivering;
 #[cfg(test)]
 mod delivery_tests;
+mod ending;
 mod reply;
 mod running;
 mod selecting;
@@ -14,7 +14,7 @@ mod talk_tests;
 mod talking;
 
 pub use console_fault::ConsoleFault;
-pub use delivering::{ConsoleDelivery, run_console_into};
-pub use running::{ConsoleRun, run_console};
+pub use ending::{ConsoleRun, End, Lines, Session, SessionEnd};
+pub use running::{JobSelection, run_console};
 pub use selecting::runs_mean_selection;
-pub use talking::{Talk, converse};
+pub use talking::converse;

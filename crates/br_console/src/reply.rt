@@ -7,10 +7,10 @@ use br_engine::push_refused_line;
 use br_mark::{Answer, Command, Console, MarkFault};
 use std::alloc::{AllocError, Global};
 
-/// What a console says to a line.
+/// A console's reply to a line.
 #[derive(Drop)]
 pub(crate) enum Reply {
-    /// Lines to be printed, each with its end.
+    /// Lines to print, each with its line feed.
     Text(Vec<u8>),
     /// The number of a refusal: 55, 56 or 57.
     Refused(u32),
@@ -19,27 +19,28 @@ pub(crate) enum Reply {
 }
 
 impl Reply {
+    /// Returns if the line was refused.
     pub(crate) fn is_refused(&self) -> bool
         ensures { result ≡ is_err (replied self.now) }
     {
         matches!(self, Reply::Refused(_))
     }
 
-    /// Whether the dialogue ends here.
+    /// Returns if the dialogue ends here.
     pub(crate) fn ends(&self) -> bool
         ensures { result ≡ ends (replied self.now) }
     {
         matches!(self, Reply::Done | Reply::Quit)
     }
 
-    /// Whether it ends here with the marks.
+    /// Returns if the dialogue ends here by `done`.
     pub(crate) fn ends_done(&self) -> bool
         ensures { result ≡ ends_done (replied self.now) }
     {
         matches!(self, Reply::Done)
     }
 
-    /// What is written for it.
+    /// Returns what is written for the reply.
     pub(crate) fn into_text(self, alloc: Global) -> Result<Vec<u8>, AllocError>
         ensures { IfOk result (λ text. text.items ≡ written (replied self)) }
     {
@@ -55,7 +56,7 @@ impl Reply {
     }
 }
 
-/// The reply to a refused line.
+/// Returns the reply to a refused line.
 fn refused(fault: MarkFault) -> Result<Reply, AllocError>
     ensures known { IfOk result (λ reply. cause fault ≡ Some (fault_number fault)) }
     ensures reply { IfOk result (λ reply. replied reply ≡ Err (fault_number fault)) }
@@ -66,7 +67,7 @@ fn refused(fault: MarkFault) -> Result<Reply, AllocError>
     }
 }
 
-/// Says a line to the console.
+/// Gives a line to the console. Returns its reply.
 pub(crate) fn say(
     alloc: Global,
     console: &mut Console<'_>,

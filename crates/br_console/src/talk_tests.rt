@@ -26,7 +26,7 @@ fn letter(byte: u8) -> Result<Letter, Fail> {
     Ok(Letter::new(byte).ok_or("a letter")?)
 }
 
-/// The row of a file of three bytes.
+/// Returns the row of a file of three bytes.
 fn file_row(alloc: Global, path: &[u8], index: u32) -> Result<FileRow, Fail> {
     Ok(FileRow {
         path: Path::new(alloc, path)?,
@@ -44,7 +44,7 @@ pub(crate) fn file_rows(alloc: Global, shapes: &[Shape<'_>]) -> Result<Vec<FileR
     Ok(files)
 }
 
-/// The row of a good backup of this number, level and start.
+/// Returns the row of a good backup of this number, level and start.
 pub(crate) fn job_row(alloc: Global, id: u32, level: u8, start: u64) -> Result<JobRow, Fail> {
     Ok(JobRow {
         id: JobId::new(id).ok_or("a number")?,
@@ -58,7 +58,7 @@ pub(crate) fn job_row(alloc: Global, id: u32, level: u8, start: u64) -> Result<J
     })
 }
 
-/// A good backup of this number, level and start with these rows.
+/// Returns a good backup of this number, level and start with these rows.
 fn job(
     alloc: Global,
     id: u32,
@@ -73,42 +73,42 @@ fn job(
     )?)
 }
 
-/// A Full with these rows.
+/// Returns a Full with these rows.
 fn full(alloc: Global, shapes: &[Shape<'_>]) -> Result<JobRows, Fail> {
     job(alloc, 1, b'F', 100, shapes)
 }
 
-/// The tree of the view of one job.
+/// Returns the tree of the view of one job.
 #[tactic(auto, unfolding(br_model::specs::Job::no_pair))]
 fn tree_of<'h>(alloc: Global, job: &'h JobRows) -> Result<Tree<'h>, Fail> {
     let view = View::build(alloc, &[job])?;
     Ok(Tree::build(alloc, view)?)
 }
 
-/// What is said over a Full, and what comes of it.
+/// A session over a Full, and what comes of it.
 #[derive(Clone, Copy)]
 struct Case<'a> {
     shapes: &'a [Shape<'a>],
     lines: &'a [u8],
     /// What the writer holds before.
     before: &'a [u8],
-    talk: Talk,
+    session: Session,
     text: &'a [u8],
     /// The lines that stay unread.
     left: &'a [u8],
-    /// The one path that is marked at the end, nothing for none.
+    /// The one path that is marked at the end; empty if none is.
     marked: &'a [u8],
 }
 
-/// Whether a talk with this console ends, writes and reads as expected.
+/// Returns if a session with this console ends, writes and reads as expected.
 fn is_held(alloc: Global, console: &mut Console<'_>, case: &Case<'_>) -> Result<bool, Fail> {
     let mut left = case.lines;
     let mut text = Vec::from_slice(alloc, case.before)?;
-    let talk = converse(alloc, console, &mut left, &mut text)?;
-    Ok(talk == case.talk && text.as_slice() == case.text && left == case.left)
+    let session = converse(alloc, console, &mut left, &mut text)?;
+    Ok(session == case.session && text.as_slice() == case.text && left == case.left)
 }
 
-/// Whether this is the one path, where there are paths.
+/// Returns if this is the one path, or empty without paths.
 fn is_the_one(paths: &[Path], path: &[u8]) -> bool {
     match paths {
         [] => path.is_empty(),
@@ -122,7 +122,7 @@ fn is_marked(alloc: Global, console: &Console<'_>, path: &[u8]) -> Result<bool, 
     Ok(is_the_one(&marked, path))
 }
 
-/// Whether a talk is as expected, and the marks behind it are.
+/// Returns if a session is as expected, and the marks after it are.
 fn holds(alloc: Global, case: &Case<'_>) -> Result<bool, Fail> {
     let job = full(alloc, case.shapes)?;
     let mut console = Console::new(alloc, tree_of(alloc, &job)?)?;
@@ -136,9 +136,9 @@ const TO_DONE: Case<'static> = Case {
     lines: b"mark *\nmark nil\ncd etc\nunmark passwd\nlsmark\nls\ncount\n\
     cd /nil\ncd ..\nls\nfrob\nunmark *\ndone\n",
     before: b"",
-    talk: Talk {
-        is_done: true,
-        is_clean: false,
+    session: Session {
+        lines: Lines::SomeRefused,
+        end: SessionEnd::Done,
     },
     text: b"4 marked\nrefused 57\ncwd is: /etc/\n1 unmarked\n/etc/\n/etc/hosts\n\
     *hosts\n passwd\n4 paths, 3 marked\nrefused 56\ncwd is: /\n*etc/\n+home/\nrefused 55\n3 unmarked\n",
@@ -146,13 +146,13 @@ const TO_DONE: Case<'static> = Case {
     marked: b"",
 };
 
-const LINES_BEHIND: Case<'static> = Case {
+const LINES_AFTER: Case<'static> = Case {
     shapes: FILES,
     lines: b"mark home\ndone\npwd\nquit\n",
     before: b"> ",
-    talk: Talk {
-        is_done: true,
-        is_clean: true,
+    session: Session {
+        lines: Lines::AllAccepted,
+        end: SessionEnd::Done,
     },
     text: b"> 1 marked\n",
     left: b"pwd\nquit\n",
@@ -163,9 +163,9 @@ const QUIT: Case<'static> = Case {
     shapes: FILES,
     lines: b"mark home\nquit\ndone\n",
     before: b"",
-    talk: Talk {
-        is_done: false,
-        is_clean: true,
+    session: Session {
+        lines: Lines::AllAccepted,
+        end: SessionEnd::Quit,
     },
     text: b"1 marked\n",
     left: b"done\n",
@@ -176,9 +176,9 @@ const NO_LINES: Case<'static> = Case {
     shapes: FILES,
     lines: b"",
     before: b"",
-    talk: Talk {
-        is_done: false,
-        is_clean: true,
+    session: Session {
+        lines: Lines::AllAccepted,
+        end: SessionEnd::Quit,
     },
     text: b"",
     left: b"",
@@ -186,26 +186,26 @@ const NO_LINES: Case<'static> = Case {
 };
 
 #[test]
-fn a_talk_ends_at_done_at_quit_or_with_its_lines(rt: HostRuntime) -> Result<(), Fail> {
+fn a_session_ends_at_done_at_quit_or_at_the_end_of_input(rt: HostRuntime) -> Result<(), Fail> {
     assert!(rt; holds(rt.alloc(), &TO_DONE)?);
-    assert!(rt; holds(rt.alloc(), &LINES_BEHIND)?);
+    assert!(rt; holds(rt.alloc(), &LINES_AFTER)?);
     assert!(rt; holds(rt.alloc(), &QUIT)?);
     assert!(rt; holds(rt.alloc(), &NO_LINES)?);
     Ok(())
 }
 
-/// Talks over a tree, from a console at `/`.
-fn talk_over<R: BufRead + Drop, W: Write + Drop>(
+/// Runs a session over a tree, from a console at `/`.
+fn session_over<R: BufRead + Drop, W: Write + Drop>(
     alloc: Global,
     tree: Tree<'_>,
     reader: &mut R,
     writer: &mut W,
-) -> Result<Talk, ConsoleFault> {
+) -> Result<Session, ConsoleFault> {
     let mut console = Console::new(alloc, tree)?;
     converse(alloc, &mut console, reader, writer)
 }
 
-/// Whether this is written for these lines over a tree.
+/// Returns if this is written for these lines over a tree.
 fn is_written(
     alloc: Global,
     tree: Tree<'_>,
@@ -213,11 +213,11 @@ fn is_written(
     expected: &[u8],
 ) -> Result<bool, Fail> {
     let mut text = Vec::new(alloc);
-    talk_over(alloc, tree, &mut lines, &mut text)?;
+    session_over(alloc, tree, &mut lines, &mut text)?;
     Ok(text.as_slice() == expected)
 }
 
-/// Whether this is written for these lines over a Full with these rows.
+/// Returns if this is written for these lines over a Full with these rows.
 fn is_told(
     alloc: Global,
     shapes: &[Shape<'_>],
@@ -245,7 +245,7 @@ fn a_line_ends_at_its_line_feed(rt: HostRuntime) -> Result<(), Fail> {
     Ok(())
 }
 
-/// Whether ways are refused or followed.
+/// Returns if ways are refused or followed.
 fn ways_are_told(alloc: Global) -> Result<bool, Fail> {
     is_told(
         alloc,
@@ -277,7 +277,7 @@ fn number(job: &JobRows) -> u32
     job.row().id.get()
 }
 
-/// Whether these are two or three jobs of distinct numbers.
+/// Returns if these are two or three jobs of distinct numbers.
 #[tactic(auto, unfolding(br_model::specs::Job::no_pair))]
 fn are_apart(jobs: &[&JobRows]) -> bool
     ensures { result ≡ true → no_pair (λ j k. j.row.id == k.row.id) (map (λ j. j.now) jobs.now) ≡ true }
@@ -289,7 +289,7 @@ fn are_apart(jobs: &[&JobRows]) -> bool
     }
 }
 
-/// The tree of the view of two or three jobs.
+/// Returns the tree of the view of two or three jobs.
 fn tree_over<'h>(alloc: Global, jobs: &[&'h JobRows]) -> Result<Tree<'h>, Fail> {
     if !are_apart(jobs) {
         return Err(Fail::new("jobs of one number"));
@@ -298,25 +298,25 @@ fn tree_over<'h>(alloc: Global, jobs: &[&'h JobRows]) -> Result<Tree<'h>, Fail> 
     Ok(Tree::build(alloc, view)?)
 }
 
-/// Whether these paths are found in the view of these jobs.
+/// Returns if these paths are found in the view of these jobs.
 fn is_found(alloc: Global, jobs: &[&JobRows], expected: &[u8]) -> Result<bool, Fail> {
     is_written(alloc, tree_over(alloc, jobs)?, b"find *\n", expected)
 }
 
-/// Whether a third job that saves `/a` brings it back.
+/// Returns if a third job that saves `/a` brings it back.
 fn is_found_again(alloc: Global, first: &JobRows, second: &JobRows) -> Result<bool, Fail> {
     let third = job(alloc, 3, b'I', 300, &[(b"/a", 1)])?;
     is_found(alloc, &[first, second, &third], b" /a\n /b\n")
 }
 
-/// Whether a second job that notes `/a` as deleted hides it.
+/// Returns if a second job that notes `/a` as deleted hides it.
 fn is_hidden(alloc: Global, first: &JobRows) -> Result<bool, Fail> {
     let second = job(alloc, 2, b'I', 200, &[(b"/a", 0)])?;
     let is_hidden = is_found(alloc, &[first, &second], b" /b\n")?;
     Ok(is_hidden && is_found_again(alloc, first, &second)?)
 }
 
-/// Whether the newest copies of the paths of some jobs are found.
+/// Returns if the newest copies of the paths of some jobs are found.
 fn newest_copies_are_found(alloc: Global) -> Result<bool, Fail> {
     let first = full(alloc, &[(b"/a", 1), (b"/b", 2)])?;
     is_hidden(alloc, &first)
@@ -332,7 +332,7 @@ fn lines_are_answered_from_the_view(rt: HostRuntime) -> Result<(), Fail> {
     Ok(())
 }
 
-/// What can be neither read nor written: the kind of its errors.
+/// A stream that can be neither read nor written, with the kind of its errors.
 #[derive(Drop)]
 struct Broken(ErrorKind);
 
@@ -352,20 +352,21 @@ impl Write for Broken {
     }
 }
 
-/// The number of the fault of a talk over this job, 0 for a fault of reading or writing.
+/// Returns the number of the fault of a session over this job, 0 for a fault of reading or writing.
 fn fault_over<R: BufRead + Drop, W: Write + Drop>(
     alloc: Global,
     job: &JobRows,
     reader: &mut R,
     writer: &mut W,
 ) -> Result<u32, Fail> {
-    match talk_over(alloc, tree_of(alloc, job)?, reader, writer) {
+    match session_over(alloc, tree_of(alloc, job)?, reader, writer) {
         Ok(_) => Err(Fail::new("no fault")),
         Err(fault) => Ok(fault.number().unwrap_or(0)),
     }
 }
 
-/// Whether a fault of this kind behind a line has this number, 0 for a fault of reading or writing, and the line is answered.
+/// Returns if a fault of this kind after a line has this number, 0 for a fault of reading or writing, and
+/// the line is answered.
 fn is_seen(alloc: Global, job: &JobRows, kind: ErrorKind, number: u32) -> Result<bool, Fail> {
     let mut reader = BufReader::new(alloc, b"pwd\nls".as_slice().chain(Broken(kind)))?;
     let mut writer = BufWriter::new(alloc, Vec::new(alloc))?;
@@ -373,23 +374,23 @@ fn is_seen(alloc: Global, job: &JobRows, kind: ErrorKind, number: u32) -> Result
     Ok(fault == number && writer.get_ref().as_slice() == b"cwd is: /\n".as_slice())
 }
 
-/// Whether each answer is seen before the next line is read.
+/// Returns if each answer is seen before the next line is read.
 fn answers_are_seen(alloc: Global, job: &JobRows) -> Result<bool, Fail> {
     let broken = is_seen(alloc, job, ErrorKind::BrokenPipe, 0)?;
     let full = is_seen(alloc, job, ErrorKind::OutOfMemory, 1)?;
     Ok(broken && full)
 }
 
-/// Whether an answer that can't be written is a fault of writing.
+/// Returns if an answer that can't be written is a fault of writing.
 fn writing_fails(alloc: Global, job: &JobRows) -> Result<bool, Fail> {
     let mut lines = b"pwd\n".as_slice();
     let mut writer = Broken(ErrorKind::BrokenPipe);
-    let talk = talk_over(alloc, tree_of(alloc, job)?, &mut lines, &mut writer);
-    Ok(matches!(&talk, Err(ConsoleFault::Io(_))))
+    let run = session_over(alloc, tree_of(alloc, job)?, &mut lines, &mut writer);
+    Ok(matches!(&run, Err(ConsoleFault::Io(_))))
 }
 
 #[test]
-fn faults_of_streams_are_told_behind_what_is_seen(rt: HostRuntime) -> Result<(), Fail> {
+fn faults_of_streams_come_after_what_is_seen(rt: HostRuntime) -> Result<(), Fail> {
     let job = full(rt.alloc(), FILES)?;
     assert!(rt; answers_are_seen(rt.alloc(), &job)?);
     assert!(rt; writing_fails(rt.alloc(), &job)?);

@@ -2,27 +2,39 @@ ghost use Rattle.std.specs.Prelude.{◌≡◌, IfOk, IfErr, OnOk};
 ghost use Rattle.std.specs.Io.KnownBytes.{Appends};
 ghost use Rattle.std.specs.Io.BufRead.{strip_last};
 ghost use Rattle.br_console.specs.Fault.{IsFree};
-ghost use Rattle.br_console.specs.Talking.{ReadsLine, TalksOver, LeavesOver};
+ghost use Rattle.br_console.specs.Ending.{are_accepted, is_done};
+ghost use Rattle.br_console.specs.Talking.{Converses, LeavesOver, ReadsLine};
 
 use crate::console_fault::ConsoleFault;
+use crate::ending::{Lines, Session, SessionEnd};
 use crate::reply::say;
 use br_mark::Console;
 use std::alloc::Global;
 use std::io::{self, BufRead, Error, ErrorKind, Write};
 
-/// How many lines are read before the input has to end.
+/// The number of lines after which the input must have ended.
 const MAX_LINES: u64 = 1 << 40;
 
-/// How a talk with a console ended.
-#[derive(Clone, Copy, Debug, PartialEq, Eq)]
-pub struct Talk {
-    /// It ended by `done`, not by `quit` or at the end of the lines.
-    pub is_done: bool,
-    /// No line was refused.
-    pub is_clean: bool,
+/// Returns what came of a session, by two flags: it ended by `done`, and no line was refused.
+fn session_of(done: bool, clean: bool) -> Session
+    ensures done { is_done result.end ≡ done }
+    ensures clean { are_accepted result.lines ≡ clean }
+{
+    Session {
+        lines: if clean {
+            Lines::AllAccepted
+        } else {
+            Lines::SomeRefused
+        },
+        end: if done {
+            SessionEnd::Done
+        } else {
+            SessionEnd::Quit
+        },
+    }
 }
 
-/// Takes the line feed from the end of a line, if it has one.
+/// Removes the line feed from the end of a line, if it has one.
 fn drop_feed(line: &mut Vec<u8>)
     ensures { line.new.items ≡ strip_last 10 line.old.items }
 {
@@ -31,7 +43,8 @@ fn drop_feed(line: &mut Vec<u8>)
     }
 }
 
-/// Reads the next line without its line feed, in place of what `line` holds. False at the end of the input.
+/// Reads the next line without its line feed, in place of what `line` holds. Returns false at the end of
+/// input.
 fn read_line<R: BufRead>(reader: &mut R, line: &mut Vec<u8>) -> io::Result<bool>
     ensures { IfOk result (λ is_line. ReadsLine (R.remaining reader.old) (R.remaining reader.new) line.new.items is_line) }
 {
@@ -41,7 +54,7 @@ fn read_line<R: BufRead>(reader: &mut R, line: &mut Vec<u8>) -> io::Result<bool>
     Ok(len > 0)
 }
 
-/// Writes a text and hands it on, so that it is seen before the next line is read.
+/// Writes a text and flushes it, so that it is seen before the next line is read.
 pub(crate) fn show<W: Write>(writer: &mut W, text: &[u8]) -> io::Result<()>
     ensures { OnOk result (Appends (W.contents writer.old) (W.contents writer.new) text.now) }
 {
@@ -49,26 +62,31 @@ pub(crate) fn show<W: Write>(writer: &mut W, text: &[u8]) -> io::Result<()>
     writer.flush()
 }
 
-/// The fault of an input that has no end.
+/// Returns the fault of an input that has no end.
 fn never_ends() -> ConsoleFault
     ensures { IsFree result }
 {
     ConsoleFault::Io(Error::new(ErrorKind::TimedOut, "the input has no end"))
 }
 
-/// Talks with a console: reads line after line, of any length, says each to the console, and writes what it answers, or
-/// `refused N` where it refuses the line by 55, 56 or 57. The writer is flushed behind each answer. A line ends at its line feed
-/// alone, which the last one may lack. The talk ends at `done`, at `quit`, or where the reader ends; lines behind stay unread.
+/// Runs a console session: reads line after line, of any length, gives each to the console, and writes
+/// the answer, or `refused N` if the console refuses the line by 55, 56 or 57. The writer is flushed
+/// after each answer. A line ends at its line feed alone, which the last one may lack. The session ends
+/// at `done`, at `quit` or at the end of input; lines after `done` or `quit` stay unread.
 ///
-/// `Memory` where memory ran out. `Io` where the reader or the writer failed, or the reader has not come to its end after 2^40
-/// lines. Then a part of an answer may be written.
+/// # Errors
+///
+/// - `Memory` if memory ran out.
+/// - `Io` if the reader or the writer failed, or the reader has not ended after 2^40 lines.
+///
+/// After an error a part of an answer may have been written.
 pub fn converse<R: BufRead + Drop, W: Write + Drop>(
     alloc: Global,
     console: &mut Console<'_>,
     reader: &mut R,
     writer: &mut W,
-) -> Result<Talk, ConsoleFault>
-    ensures talk { TalksOver (R.remaining reader.old) (R.remaining reader.new) (W.contents writer.old) (W.contents writer.new) console.old result }
+) -> Result<Session, ConsoleFault>
+    ensures session { Converses R.remaining W.contents reader.old reader.new writer.old writer.new console.old result }
     ensures leaves { LeavesOver (R.remaining reader.old) console.old console.new result }
     ensures view { console.new.view ≡ console.old.view }
     ensures free { IfErr result IsFree }
@@ -77,17 +95,14 @@ pub fn converse<R: BufRead + Drop, W: Write + Drop>(
     let mut is_clean = true;
     for _ in 0..MAX_LINES {
         if !read_line(reader, &mut line)? {
-            return Ok(Talk {
-                is_done: false,
-                is_clean,
-            });
+            return Ok(session_of(false, is_clean));
         }
         let reply = say(alloc, console, &line)?;
         let (ends, is_done) = (reply.ends(), reply.ends_done());
         is_clean &= !reply.is_refused();
         show(writer, &reply.into_text(alloc)?)?;
         if ends {
-            return Ok(Talk { is_done, is_clean });
+            return Ok(session_of(is_done, is_clean));
         }
     }
     Err(never_ends())

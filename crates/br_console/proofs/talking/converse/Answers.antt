@@ -1,15 +1,17 @@
-use Rattle.std.proofs.Common.{◌&&◌, false, not, refl, ap, sym, ◌∙◌}
+use Rattle.std.proofs.Common.{◌&&◌, Bool, not, ap, sym, subst, ◌∙◌}
 use Rattle.br_console.specs.Talking.{replied}
-use Rattle.br_console.proofs.TalkLaws.{none_left, one_ends, one_more, turn}
+use Rattle.br_console.proofs.TalkLaws.{SoFar, none_left, one_ends, one_more, turn}
 use Rattle.br_console.proofs.talking.converse.Goals as goal
 
 pub returns-then-not-branch : goal.returns-then-not-branch
 returns-then-not-branch g c =
     let both =
     none_left (g.R.Read.remaining c.args.reader.now) (g.R.Read.remaining c.loop.reader) (g.R.Read.remaining c.read_line.new.reader) (g.W.Write.contents c.args.writer.now) (g.W.Write.contents c.loop.writer)
-    c.args.console.now c.loop.console (record { is_done = false; is_clean = c.loop.is_clean }) c.read_line.new.line.items c.in_ok-read_line.field-0
-    c.loop.invariant.0 c.in_ok-read_line.ensures c.if-not-branch.true refl in
-    record { talk = both.0; leaves = both.1; view = c.loop.invariant.1; free = tt }
+    c.args.console.now c.loop.console c.session_of.result c.read_line.new.line.items c.in_ok-read_line.field-0
+    (subst (λ (clean : Bool). SoFar (g.R.Read.remaining c.args.reader.now) (g.R.Read.remaining c.loop.reader) (g.W.Write.contents c.args.writer.now) (g.W.Write.contents c.loop.writer) c.args.console.now c.loop.console clean)
+    (sym c.session_of.ensures.clean) c.loop.invariant.0)
+    c.in_ok-read_line.ensures c.if-not-branch.true c.session_of.ensures.done in
+    record { session = both.0; leaves = both.1; view = c.loop.invariant.1; free = tt }
 
 pub returns-then-ends : goal.returns-then-ends
 returns-then-ends g c =
@@ -20,10 +22,11 @@ returns-then-ends g c =
     c.in_ok-into_text.ensures c.deref-in-loop.ensures.value c.in_ok-show.ensures in
     let both =
     one_ends (g.R.Read.remaining c.args.reader.now) (g.R.Read.remaining c.loop.reader) (g.R.Read.remaining c.read_line.new.reader) (g.W.Write.contents c.args.writer.now) (g.W.Write.contents c.loop.writer) (g.W.Write.contents c.show.new.writer)
-    c.args.console.now c.loop.console c.say.new.console c.loop.is_clean (record { is_done = c.ends_done-is_done.result; is_clean = c.loop.is_clean && not c.is_refused.result })
+    c.args.console.now c.loop.console c.say.new.console c.loop.is_clean c.session_of-then-ends.result
     (replied c.in_ok-reply.reply) c.loop.invariant.0 said
-    (sym c.ends-ends.ensures ∙ c.if-ends.true) c.ends_done-is_done.ensures (ap (λ b. c.loop.is_clean && not b) c.is_refused.ensures) in
-    record { talk = both.0; leaves = both.1; view = c.say.ensures.view ∙ c.loop.invariant.1; free = tt }
+    (sym c.ends-ends.ensures ∙ c.if-ends.true) (c.session_of-then-ends.ensures.done ∙ c.ends_done-is_done.ensures)
+    (c.session_of-then-ends.ensures.clean ∙ ap (λ b. c.loop.is_clean && not b) c.is_refused.ensures) in
+    record { session = both.0; leaves = both.1; view = c.say.ensures.view ∙ c.loop.invariant.1; free = tt }
 
 pub loop-preserved : goal.loop-preserved
 loop-preserved g c =
