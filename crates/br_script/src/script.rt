@@ -5,7 +5,8 @@ ghost use Rattle.br_script.specs.Store.{with_bytes};
 use crate::input::{Lines, MAX_TURNS, Reading, no_end};
 use crate::line::{LineFault, MAX_LINE, ScriptLine, read_line};
 use br_bsr::{Bootstrap, read_bootstrap};
-use br_engine::{ExtractFault, extract};
+use br_engine::{ExtractFault, Outputs, RestoreEnd, extract};
+use br_sink::MemSink;
 use br_types::VolName;
 use br_volume::MemDrive;
 use std::alloc::{AllocError, Global};
@@ -185,13 +186,17 @@ impl Script {
         };
         let volumes = mem::replace(&mut self.volumes, Vec::new(self.alloc));
         drives.push_reserved(MemDrive::new(volumes));
-        let run = extract(rt, self.alloc, bootstrap, &mut drives, writer);
+        let mut out = Outputs {
+            writer: &mut *writer,
+            sink: None::<MemSink>,
+        };
+        let run = extract(rt, self.alloc, bootstrap, &mut drives, &mut out);
         if let Some(drive) = drives.pop() {
             self.volumes = drive.into_volumes();
         }
         match run {
-            Ok(are_files) => {
-                self.is_clean = self.is_clean && are_files;
+            Ok(end) => {
+                self.is_clean = self.is_clean && matches!(end, RestoreEnd::AllFiles);
                 Ok(())
             }
             Err(fault) => self.refuse_extract(fault, writer),

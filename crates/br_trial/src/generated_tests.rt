@@ -1,7 +1,6 @@
 //! What is restored of histories that are drawn is what a plain walk over the saved files gives.
 use crate::drawn::{Dice, File, Job, NOTHING, draw_jobs, history_of};
-use crate::test_data::{Asked, RESTORED, drives_over, tell};
-use br_console::ConsoleRun;
+use crate::test_data::{Asked, RESTORED, Returned, drives_over, tell};
 use br_history::History;
 use br_session::Span;
 use br_volume::{MemDrive, MemStore};
@@ -94,7 +93,7 @@ fn folder_of(alloc: Global, jobs: &[Job], chosen: &[usize]) -> Result<Folder, Fa
     Ok(folder)
 }
 
-/// Whether this file of the job is the one in the folder.
+/// Returns if this file of the job is the one in the folder.
 fn is_there(folder: &Folder, job: &Job, index: u32, file: &File) -> bool {
     match folder.get(file.path.as_bytes()) {
         Some((id, place)) => *id == job.backup.shape.id && *place == index,
@@ -106,7 +105,7 @@ fn is_marked(folder: &Folder, job: &Job, index: u32, file: &File, wish: Wish) ->
     is_there(folder, job, index, file) && (wish.is_all || file.path.starts_with("/l/"))
 }
 
-/// Whether a marked link of the job names this index.
+/// Returns if a marked link of the job names this index.
 fn is_named(folder: &Folder, job: &Job, named: u32, wish: Wish) -> Result<bool, Fail> {
     let mut is_named = false;
     for (i, file) in job.backup.files.iter().enumerate() {
@@ -316,8 +315,8 @@ fn expected(alloc: Global, text: &mut String, jobs: &[Job], wish: Wish) -> Resul
     restored(alloc, text, &folder, jobs, &chosen, wish)
 }
 
-/// Whether this is the answer of a run, or the number of its refusal.
-fn is_answer(run: Result<ConsoleRun, u32>, number: u32) -> bool {
+/// Returns if this is the answer of a run, or the number of its refusal.
+fn is_answer(run: Result<Returned, u32>, number: u32) -> bool {
     match run {
         Ok(run) => number == 0 && run == RESTORED,
         Err(refused) => number != 0 && refused == number,
@@ -339,7 +338,7 @@ fn lines_of(wish: Wish) -> &'static [u8] {
     }
 }
 
-/// Whether a run for a wish has this answer, or is refused by this number, and writes this.
+/// Returns if a run for a wish has this answer, or is refused by this number, and writes this.
 fn is_told(
     rt: &(impl Threads + Sync),
     alloc: Global,
@@ -354,7 +353,7 @@ fn is_told(
     Ok(is_answer(told.run, number) && told.text.as_slice() == text.as_bytes())
 }
 
-/// Whether a wish is granted as expected.
+/// Returns if a wish is granted as expected.
 fn is_granted(
     rt: &(impl Threads + Sync),
     alloc: Global,
@@ -367,7 +366,7 @@ fn is_granted(
     is_told(rt, alloc, drawn.history, drives, wish, number, &text)
 }
 
-/// Whether all files of a client, and those below `/l/` alone, are restored as expected before a moment.
+/// Returns if all files of a client, and those below `/l/` alone, are restored as expected before a moment.
 fn are_granted_before(
     rt: &(impl Threads + Sync),
     alloc: Global,
@@ -391,7 +390,7 @@ fn are_granted_before(
     Ok(first && second)
 }
 
-/// Whether the wishes for a client are granted as expected before several moments.
+/// Returns if the wishes for a client are granted as expected before several moments.
 fn are_granted(
     rt: &(impl Threads + Sync),
     alloc: Global,
@@ -406,7 +405,7 @@ fn are_granted(
     Ok(all)
 }
 
-/// Whether the wishes for each client are granted as expected.
+/// Returns if the wishes for each client are granted as expected.
 fn all_granted(
     rt: &(impl Threads + Sync),
     alloc: Global,
@@ -419,7 +418,7 @@ fn all_granted(
     Ok(first && second && third)
 }
 
-/// Whether the jobs, which wrote these volumes, are restored as expected.
+/// Returns if the jobs, which wrote these volumes, are restored as expected.
 fn are_restored(
     rt: &(impl Threads + Sync),
     alloc: Global,

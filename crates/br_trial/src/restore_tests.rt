@@ -1,10 +1,12 @@
 //! Whole restores from a history: what is said to the console, the bootstrap and the manifest.
 use crate::test_data::{
-    Asked, Given, RESTORED, Shape, Visits, drives_over, rows_of, save, store_session, tell,
+    Asked, Ended, Given, RESTORED, Returned, Shape, Visits, drives_over, rows_of, save,
+    store_session, tell,
 };
-use br_console::ConsoleRun;
-use br_engine::run_extract;
+use br_console::Lines;
+use br_engine::{Outputs, extract_text};
 use br_history::History;
+use br_sink::MemSink;
 use br_types::{SessionKey, VolName};
 use br_volume::{MemDrive, MemStore, VolumeStore};
 use std::alloc::Global;
@@ -80,12 +82,12 @@ pub(crate) struct Case {
     lines: &'static [u8],
     /// The lines that stay unread.
     left: &'static [u8],
-    /// The answer, or the number of the refusal.
-    run: Result<ConsoleRun, u32>,
+    /// What is returned, or the number of the refusal.
+    run: Result<Returned, u32>,
     text: &'static [u8],
 }
 
-/// Whether a run over these volumes is as expected.
+/// Returns if a run over these volumes is as expected.
 pub(crate) fn runs(
     rt: &(impl Threads + Sync),
     alloc: Global,
@@ -98,7 +100,7 @@ pub(crate) fn runs(
     Ok(told.run == case.run && is_written && told.left == case.left)
 }
 
-/// Whether a run is as expected.
+/// Returns if a run is as expected.
 fn holds(
     rt: &(impl Threads + Sync),
     alloc: Global,
@@ -152,7 +154,7 @@ F 2 200 1 3 /b 0,0,33188,1,0,0,0,14,0,0,0,0,0,0 = 14 f96b697d7cb7938d525a2f31aaf
 total 2 0 0\n",
 };
 
-/// Whether a run over two jobs is as expected.
+/// Returns if a run over two jobs is as expected.
 fn holds_of_two(rt: &(impl Threads + Sync), alloc: Global, case: &Case) -> Result<bool, Fail> {
     holds(rt, alloc, two_jobs(alloc)?, case)
 }
@@ -180,23 +182,20 @@ fn two_spoilt_jobs(alloc: Global) -> Result<World, Fail> {
     Ok(world)
 }
 
-/// Whether what stands behind the planned bytes is not read.
+/// Returns if what follows the planned bytes is not read.
 fn spoilt_blocks_are_not_read(rt: &(impl Threads + Sync), alloc: Global) -> Result<bool, Fail> {
     holds(rt, alloc, two_spoilt_jobs(alloc)?, &TWO_JOBS)
 }
 
-/// The number of the refusal of reading the spoilt volumes whole.
+/// Returns the number of the refusal of reading the spoilt volumes whole.
 fn refusal_of_all(rt: &(impl Threads + Sync), alloc: Global) -> Result<u32, Fail> {
     let world = two_spoilt_jobs(alloc)?;
     let mut drives = drives_over(alloc, world.store.into_volumes())?;
-    let mut text = Vec::new(alloc);
-    let run = run_extract(
-        rt,
-        alloc,
-        &mut b"Volume=A\n".as_slice(),
-        &mut drives,
-        &mut text,
-    );
+    let mut out = Outputs {
+        writer: Vec::new(alloc),
+        sink: None::<MemSink>,
+    };
+    let run = extract_text(rt, alloc, b"Volume=A\n", &mut drives, &mut out);
     match run {
         Ok(_) => Ok(0),
         Err(fault) => Ok(fault.number().unwrap_or(0)),
@@ -212,9 +211,9 @@ fn the_planned_bytes_alone_of_two_volumes_are_read(rt: HostRuntime) -> Result<()
 }
 
 /// A run in which no line was refused and nothing is restored.
-const UNRESTORED: ConsoleRun = ConsoleRun {
-    is_clean: true,
-    restored: None,
+const UNRESTORED: Returned = Returned {
+    lines: Lines::AllAccepted,
+    end: Ended::Quit,
 };
 
 const QUIT: Case = Case {
@@ -232,7 +231,7 @@ const ENDED: Case = Case {
     ..TWO_JOBS
 };
 
-/// Whether a request is refused by this number with nothing read and nothing written.
+/// Returns if a request is refused by this number with nothing read and nothing written.
 fn is_refused(
     rt: &(impl Threads + Sync),
     alloc: Global,
@@ -275,14 +274,14 @@ const FAILED: Case = Case {
     ..NO_VOLUMES
 };
 
-/// Whether a run without volumes is refused behind the bootstrap.
+/// Returns if a run without volumes is refused behind the bootstrap.
 fn runs_without_volumes(rt: &(impl Threads + Sync), alloc: Global) -> Result<bool, Fail> {
     let World { history, .. } = two_jobs(alloc)?;
     let mut drives = drives_over(alloc, Vec::new(alloc))?;
     runs(rt, alloc, &history, &mut drives, &NO_VOLUMES)
 }
 
-/// Whether a run with a drive that fails at its third call is refused behind the bootstrap.
+/// Returns if a run with a drive that fails at its third call is refused behind the bootstrap.
 fn runs_with_a_failing_drive(rt: &(impl Threads + Sync), alloc: Global) -> Result<bool, Fail> {
     let World { store, history } = two_jobs(alloc)?;
     let mut drives = Vec::new(alloc);
@@ -322,7 +321,7 @@ fn three_jobs(alloc: Global) -> Result<World, Fail> {
     Ok(world)
 }
 
-/// Whether all of the three jobs before a moment are restored so.
+/// Returns if all of the three jobs before a moment are restored so.
 fn are_restored(
     rt: &(impl Threads + Sync),
     alloc: Global,
@@ -398,7 +397,7 @@ total 2 0 0\n",
     ..TWO_JOBS
 };
 
-/// Whether a hard link brings its file.
+/// Returns if a hard link brings its file.
 fn a_link_brings_its_file(rt: &(impl Threads + Sync), alloc: Global) -> Result<bool, Fail> {
     holds(rt, alloc, linked(alloc)?, &LINKED)
 }
@@ -443,9 +442,9 @@ cd /nil\ncd ..\nls\nfrob\nunmark *\ndone\npwd\n",
 
 const DIRECTORY: Case = Case {
     lines: b"cd etc\nmarkdir\nfrob\ndone\n",
-    run: Ok(ConsoleRun {
-        is_clean: false,
-        restored: Some(true),
+    run: Ok(Returned {
+        lines: Lines::SomeRefused,
+        end: Ended::AllFiles,
     }),
     text: b"cwd is: /etc/\n1 marked\nrefused 55\n\
 Volume=\"V\"\nVolSessionId=1\nVolSessionTime=100\nVolAddr=0-289\nFileIndex=2\n\
@@ -454,7 +453,7 @@ total 1 0 0\n",
     ..TWO_JOBS
 };
 
-/// Whether a run over the directories is as expected.
+/// Returns if a run over the directories is as expected.
 fn holds_of_directories(
     rt: &(impl Threads + Sync),
     alloc: Global,
@@ -488,9 +487,9 @@ fn disagreeing(alloc: Global) -> Result<World, Fail> {
 }
 
 const DISAGREEING: Case = Case {
-    run: Ok(ConsoleRun {
-        is_clean: true,
-        restored: Some(false),
+    run: Ok(Returned {
+        lines: Lines::AllAccepted,
+        end: Ended::SomeFaults,
     }),
     text: b"2 marked\n\
 Volume=\"V\"\nVolSessionId=1\nVolSessionTime=100\nVolAddr=0-86\nFileIndex=1-2\n\
@@ -498,7 +497,7 @@ X 1 100 1 69\nX 1 100 2 63\ntotal 0 2 0\n",
     ..TWO_JOBS
 };
 
-/// Whether volumes that differ from the rows are told in the manifest.
+/// Returns if volumes that differ from the rows are told in the manifest.
 fn differences_are_told(rt: &(impl Threads + Sync), alloc: Global) -> Result<bool, Fail> {
     holds(rt, alloc, disagreeing(alloc)?, &DISAGREEING)
 }

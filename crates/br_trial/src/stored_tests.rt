@@ -23,7 +23,7 @@ fn stored(alloc: Global, history: &History) -> Result<History, Fail> {
     Ok(store.load_history()?)
 }
 
-/// Whether the jobs have the numbers 1 and 2.
+/// Returns if the jobs have the numbers 1 and 2.
 fn are_in_order(jobs: &[JobRows]) -> bool {
     match jobs {
         [first, second] => first.row().id.get() == 1 && second.row().id.get() == 2,
@@ -31,7 +31,7 @@ fn are_in_order(jobs: &[JobRows]) -> bool {
     }
 }
 
-/// Whether two jobs are loaded in order of their numbers, and restored.
+/// Returns if two jobs are loaded in order of their numbers, and restored.
 fn two_stored_jobs_are_restored(rt: &(impl Threads + Sync), alloc: Global) -> Result<bool, Fail> {
     let World { store, history } = two_jobs(alloc)?;
     let loaded = stored(alloc, &history)?;

@@ -3,10 +3,12 @@ ghost use Rattle.std.specs.Prelude.{◌≡◌, true, [], length, IfOk};
 ghost use Rattle.br_session.specs.Outcome.{ArePlaces};
 
 use br_attr::Stat;
-use br_console::{ConsoleFault, ConsoleRun, run_console};
+use br_console::{ConsoleFault, ConsoleRun, End, JobSelection, Lines, run_console};
+use br_engine::{Outputs, RestoreEnd};
 use br_history::{FileRow, History, JobRow, JobRows};
 use br_plan::Request;
 use br_session::{Place, SavedFile, Span, Written, write_session};
+use br_sink::MemSink;
 use br_types::{JobId, Letter, Name, Path, SessionKey, VolName};
 use br_volume::{MemDrive, MemStore, VolumeStore};
 use std::alloc::{AllocError, Global};
@@ -254,19 +256,51 @@ fn request(alloc: Global, asked: Asked<'_>) -> Result<Request, Fail> {
     })
 }
 
+/// How a run of the console without a sink ended.
+#[derive(Clone, Copy, Debug, PartialEq, Eq)]
+pub(crate) enum Ended {
+    /// Each outcome is a file.
+    AllFiles,
+    /// Some outcome is not a file.
+    SomeFaults,
+    /// By `quit` or the end of input.
+    Quit,
+    /// A delivery stopped.
+    Stopped,
+}
+
+/// What a run of the console returned.
+#[derive(Clone, Copy, Debug, PartialEq, Eq)]
+pub(crate) struct Returned {
+    pub(crate) lines: Lines,
+    pub(crate) end: Ended,
+}
+
 /// What came of a run of the console, and what it wrote and left unread.
 #[derive(Drop)]
 pub(crate) struct Told<'a> {
-    /// The answer, or the number of the refusal, 0 for a fault of reading or writing.
-    pub(crate) run: Result<ConsoleRun, u32>,
+    /// What it returned, or the number of the refusal, 0 for a fault of reading or writing.
+    pub(crate) run: Result<Returned, u32>,
     pub(crate) text: Vec<u8>,
     pub(crate) left: &'a [u8],
 }
 
-/// The answer of a run, or the number of its refusal.
-fn answer(run: Result<ConsoleRun, ConsoleFault>) -> Result<ConsoleRun, u32> {
+fn ended(end: &End) -> Ended {
+    match end {
+        End::Quit => Ended::Quit,
+        End::Done(RestoreEnd::AllFiles) => Ended::AllFiles,
+        End::Done(RestoreEnd::SomeFaults) => Ended::SomeFaults,
+        End::Done(RestoreEnd::Stopped(_)) => Ended::Stopped,
+    }
+}
+
+/// Returns what a run returned, or the number of its refusal.
+fn returned(run: Result<ConsoleRun, ConsoleFault>) -> Result<Returned, u32> {
     match run {
-        Ok(run) => Ok(run),
+        Ok(run) => Ok(Returned {
+            lines: run.lines,
+            end: ended(&run.end),
+        }),
         Err(fault) => Err(fault.number().unwrap_or(0)),
     }
 }
@@ -310,11 +344,16 @@ fn ran<'a>(
         return Err(Fail::new("1 to 16 drives"));
     }
     let mut left = lines;
-    let mut text = Vec::new(alloc);
-    let run = run_console(rt, alloc, history, request, &mut left, drives, &mut text);
+    let mut out = Outputs {
+        writer: Vec::new(alloc),
+        sink: None::<MemSink>,
+    };
+    let asked = JobSelection { history, request };
+    let run = run_console(rt, alloc, &asked, &mut left, drives, &mut out);
+    let Outputs { writer, .. } = out;
     Ok(Told {
-        run: answer(run),
-        text,
+        run: returned(run),
+        text: writer,
         left,
     })
 }
@@ -333,7 +372,7 @@ pub(crate) fn tell<'a>(
 }
 
 /// A run in which no line was refused and each outcome is a file.
-pub(crate) const RESTORED: ConsoleRun = ConsoleRun {
-    is_clean: true,
-    restored: Some(true),
+pub(crate) const RESTORED: Returned = Returned {
+    lines: Lines::AllAccepted,
+    end: Ended::AllFiles,
 };

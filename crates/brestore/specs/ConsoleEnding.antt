@@ -1,9 +1,13 @@
 -- How a run of the console ends.
-use Rattle.std.specs.Prelude.{if◌then◌else◌, ℕ, List, [], Option, Some, None, Result, Ok, Err, Bool, true, false}
-use Rattle.br_model.specs.Text.{refused_line}
-use Rattle.br_model.specs.Delivery.{Stop}
+use Rattle.std.specs.Prelude.{ℕ, List, [], Result, Ok, Err}
+use Rattle.br_engine.specs.Outputs.{end_text}
+use Rattle.br_engine.specs.declared.outputs.RestoreEnd.TheVariants.{AllFiles, SomeFaults, Stopped}
 use Rattle.br_console.specs.Fault.{fault_text}
-use Rattle.br_console.specs.declared.delivering.ConsoleDelivery.{ConsoleDelivery}
+use Rattle.br_console.specs.declared.ending.Lines.{Lines}
+use Rattle.br_console.specs.declared.ending.Lines.TheVariants.{AllAccepted, SomeRefused}
+use Rattle.br_console.specs.declared.ending.End.{End}
+use Rattle.br_console.specs.declared.ending.End.TheVariants.{Done, Quit}
+use Rattle.br_console.specs.declared.ending.ConsoleRun.{ConsoleRun}
 use Rattle.br_console.specs.declared.console_fault.ConsoleFault.{ConsoleFault}
 use Rattle.br_console.specs.declared.console_fault.ConsoleFault.TheVariants.{Io}
 
@@ -11,27 +15,29 @@ abbrev pub fault_status : ConsoleFault → ℕ
 fault_status (Io e) = 3
 fault_status _ = 1
 
--- 0 where no line was refused and no outcome is missing a file
-abbrev pub clean_status : Bool → Option Bool → ℕ
-clean_status is_clean (Some false) = 1
-clean_status is_clean _ = if is_clean then 0 else 1
+-- 0 if no line was refused
+abbrev pub lines_status : Lines → ℕ
+lines_status AllAccepted = 0
+lines_status SomeRefused = 1
 
--- 1 where the delivery stopped, else the status of the run
-abbrev pub delivery_status : Option Stop → ℕ → ℕ
-delivery_status None status = status
-delivery_status (Some stop) status = 1
+-- 1 if some outcome is not a file or the delivery stopped; otherwise the status of the lines
+abbrev pub status_by : Lines → End → ℕ
+status_by lines Quit = lines_status lines
+status_by lines (Done AllFiles) = lines_status lines
+status_by lines (Done SomeFaults) = 1
+status_by lines (Done (Stopped stop)) = 1
 
--- the line of the stop, if there is one
-abbrev pub stop_text : Option Stop → List ℕ
-stop_text None = []
-stop_text (Some stop) = refused_line stop.number
+-- the line of a delivery that stopped
+abbrev pub end_line : End → List ℕ
+end_line Quit = []
+end_line (Done end) = end_text end
 
--- 3 where reading or writing failed
-abbrev pub run_status : Result ConsoleDelivery ConsoleFault → ℕ
-run_status (Ok made) = delivery_status made.stop (clean_status made.run.is_clean made.run.restored)
+-- 3 if reading or writing failed, 1 for any other fault
+abbrev pub run_status : Result ConsoleRun ConsoleFault → ℕ
+run_status (Ok run) = status_by run.lines run.end
 run_status (Err fault) = fault_status fault
 
 -- the line of the refusal or of the stop, if there is one
-abbrev pub run_refusal : Result ConsoleDelivery ConsoleFault → List ℕ
-run_refusal (Ok made) = stop_text made.stop
+abbrev pub run_refusal : Result ConsoleRun ConsoleFault → List ℕ
+run_refusal (Ok run) = end_line run.end
 run_refusal (Err fault) = fault_text fault

@@ -1,47 +1,48 @@
 //! The command `extract`.
-ghost use Rattle.std.specs.Prelude.{◌≡◌, ◌<◌, ◌≤◌, Some, map, length, IfOk, IfErr};
-ghost use Rattle.br_engine.specs.Delivering.{DeliversText};
-ghost use Rattle.br_engine.specs.Extracting.{RunsOver, WritesNothing};
+ghost use Rattle.std.specs.Prelude.{◌≡◌, ◌<◌, ◌≤◌, length, IfOk};
 ghost use Rattle.brestore.specs.Ending.{run_refusal, run_status};
 
-use br_engine::{ExtractFault, run_extract, run_extract_into};
-use br_sink::{FolderSink, Sink};
-use br_volume::{Drive, FolderDrive};
+use br_engine::{ExtractFault, Outputs, RestoreEnd, extract_text};
+use br_sink::{FolderFault, FolderSink};
+use br_volume::FolderDrive;
 use std::alloc::{AllocError, Global};
 use std::fs;
-use std::io::{self, BufWriter, Error, ErrorKind, Write};
+use std::io::{self, BufWriter, ErrorKind};
 use std::rt::Files;
 use std::thread::Threads;
 
-/// The exit status where all was carried out.
+/// The exit status if all was carried out.
 pub(crate) const CLEAN: u8 = 0;
 
-/// The exit status where something was refused, or some outcome is not a file.
+/// The exit status if something was refused, or some outcome is not a file.
 pub(crate) const REFUSED: u8 = 1;
 
 /// The exit status for a fault of the program's own files and streams.
 pub(crate) const BAD_STREAM: u8 = 3;
 
-/// How a run ended.
+/// Exit status and refusal line of a run.
 #[derive(Debug, Drop)]
 pub(crate) struct Ending {
     pub(crate) status: u8,
-    /// The line of the refusal, empty where nothing was refused.
+    /// The line of the refusal; empty if nothing was refused.
     pub(crate) refusal: Vec<u8>,
 }
 
-/// How a run ended that gave this answer.
+/// Returns the exit status and the refusal line for this result.
 pub(crate) fn ending_of(
     alloc: Global,
-    run: &Result<bool, ExtractFault>,
+    run: &Result<RestoreEnd, ExtractFault>,
 ) -> Result<Ending, AllocError>
     ensures status { IfOk result (λ ending. ending.status ≡ run_status run.now) }
     ensures refusal { IfOk result (λ ending. ending.refusal.items ≡ run_refusal run.now) }
 {
     let mut refusal = Vec::new(alloc);
     let status = match run {
-        Ok(true) => CLEAN,
-        Ok(false) => REFUSED,
+        Ok(RestoreEnd::AllFiles) => CLEAN,
+        Ok(end) => {
+            end.push_line(&mut refusal)?;
+            REFUSED
+        }
         Err(ExtractFault::Io(_)) => BAD_STREAM,
         Err(fault) => {
             fault.push_line(&mut refusal)?;
@@ -51,42 +52,11 @@ pub(crate) fn ending_of(
     Ok(Ending { status, refusal })
 }
 
-/// Runs the text of a bootstrap over some drives, and writes the manifest through.
-pub(crate) fn run_through<D: Drive + Send, W: Write + Drop>(
-    threads: &(impl Threads + Sync),
-    alloc: Global,
-    text: &[u8],
-    drives: &mut Vec<D>,
-    writer: &mut W,
-) -> Result<bool, ExtractFault>
-    requires drives { (0 < length drives.old.items) × (length drives.old.items ≤ 16) }
-    ensures runs { RunsOver (Some text.now) (map D.shows drives.old.items) (map D.shows drives.new.items) (W.contents writer.old) (W.contents writer.new) result }
-    ensures nothing { IfErr result (WritesNothing (W.contents writer.old) (W.contents writer.new)) }
-{
-    let mut reader = text;
-    let are_files = run_extract(threads, alloc, &mut reader, drives, writer)?;
-    writer.flush()?;
-    Ok(are_files)
-}
-
-/// The same, and delivers the files into a sink once the manifest is written through.
-pub(crate) fn run_into<D: Drive + Send, W: Write + Drop, S: Sink>(
-    threads: &(impl Threads + Sync),
-    alloc: Global,
-    text: &[u8],
-    drives: &mut Vec<D>,
-    writer: &mut W,
-    sink: &mut S,
-) -> Result<bool, ExtractFault>
-    requires drives { (0 < length drives.old.items) × (length drives.old.items ≤ 16) }
-    ensures delivers { DeliversText (Some text.now) (map D.shows drives.old.items) (map D.shows drives.new.items) (W.contents writer.old) (W.contents writer.new) (S.has sink.old) (S.has sink.new) result }
-{
-    let mut reader = text;
-    run_extract_into(threads, alloc, &mut reader, drives, writer, sink)
-}
-
-/// Tells the operator how a run ended, on standard error. The exit status.
-fn report<R: Eprint + AllocGlobal>(rt: &R, run: Result<bool, ExtractFault>) -> io::Result<u8> {
+/// Prints how a run ended to standard error. Returns the exit status.
+fn report<R: Eprint + AllocGlobal>(
+    rt: &R,
+    run: Result<RestoreEnd, ExtractFault>,
+) -> io::Result<u8> {
     let ending = ending_of(rt.alloc(), &run)?;
     if let Err(ExtractFault::Io(e)) = run {
         if e.kind() == ErrorKind::OutOfMemory {
@@ -99,7 +69,8 @@ fn report<R: Eprint + AllocGlobal>(rt: &R, run: Result<bool, ExtractFault>) -> i
     Ok(ending.status)
 }
 
-/// The text in the file of a bootstrap; none where it could not be read, which is told on standard error.
+/// Returns the text in the file of a bootstrap. If it can't be read, prints why to standard error and
+/// returns none.
 fn read_bsr<R: Files + Eprint + AllocGlobal>(rt: &R, bsr: &str) -> io::Result<Option<Vec<u8>>> {
     match fs::read(rt, bsr) {
         Ok(text) => Ok(Some(text)),
@@ -111,7 +82,7 @@ fn read_bsr<R: Files + Eprint + AllocGlobal>(rt: &R, bsr: &str) -> io::Result<Op
     }
 }
 
-/// So many drives over the volumes in a folder.
+/// Creates `count` drives over the volumes in a folder.
 pub(crate) fn drives_over<'r>(
     rt: &'r HostRuntime,
     volumes: &str,
@@ -126,54 +97,31 @@ pub(crate) fn drives_over<'r>(
     Ok(drives)
 }
 
-/// Runs the bootstrap, and prints the manifest. The exit status.
-fn print_manifest(
-    rt: &HostRuntime,
-    threads: &(impl Threads + Sync),
-    bsr: &str,
-    volumes: &str,
-    drives: usize,
-) -> io::Result<u8>
-    requires few { (0 < drives) × (drives ≤ 16) }
-{
-    let Some(text) = read_bsr(rt, bsr)? else {
-        return Ok(BAD_STREAM);
+/// Returns the sink over the folder to deliver into, if there is one.
+pub(crate) fn sink_over<'r>(
+    rt: &'r HostRuntime,
+    into: Option<&str>,
+) -> Result<Option<FolderSink<&'r HostRuntime>>, FolderFault> {
+    let Some(folder) = into else {
+        return Ok(None);
     };
-    let mut drives = drives_over(rt, volumes, drives)?;
-    let mut writer = BufWriter::new(rt.alloc(), io::writer(rt))?;
-    let run = run_through(threads, rt.alloc(), &text, &mut drives, &mut writer);
-    report(rt, run)
+    Ok(Some(FolderSink::new(rt.alloc(), rt, folder)?))
 }
 
-/// The same, and delivers the files into a sink behind it.
-fn fill_sink<S: Sink>(
-    rt: &HostRuntime,
-    threads: &(impl Threads + Sync),
-    bsr: &str,
-    volumes: &str,
-    drives: usize,
-    sink: &mut S,
-) -> io::Result<u8>
-    requires few { (0 < drives) × (drives ≤ 16) }
-{
-    let Some(text) = read_bsr(rt, bsr)? else {
-        return Ok(BAD_STREAM);
-    };
-    let mut drives = drives_over(rt, volumes, drives)?;
-    let mut writer = BufWriter::new(rt.alloc(), io::writer(rt))?;
-    let run = run_into(threads, rt.alloc(), &text, &mut drives, &mut writer, sink);
-    report(rt, run)
-}
-
-/// Runs the bootstrap in the file `bsr` over the volumes in the folder `volumes`, which so many drives read at once, and puts the
-/// restored files into the folder `into` where there is one. The manifest goes to standard output, and what is refused to standard error. The exit status: 0
-/// where nothing was refused and each outcome is a file, 1 where something was refused or some outcome is not a file, 3 where the
-/// bootstrap could not be read or the manifest not be written.
+/// Restores by the bootstrap in the file `bsr` over the volumes in the folder `volumes`, which `drives`
+/// drives read at once. The manifest goes to standard output, and what is refused to standard error. If
+/// there is a folder `into`, the restored files are then put into it.
 ///
-/// The folder `into` has to be there and empty, else it is refused (81) before anything is read. The manifest is printed before
-/// anything is put.
+/// The folder `into` has to exist and be empty, else it is refused (81) before anything is read. The
+/// manifest is printed before anything is written into it.
 ///
-/// An error for want of memory, or where standard error failed.
+/// Returns the exit status: 0 if nothing was refused and each outcome is a file; 1 if something was
+/// refused or some outcome is not a file; 3 if the bootstrap could not be read or the manifest could not
+/// be written.
+///
+/// # Errors
+///
+/// If memory ran out or standard error failed.
 pub(crate) fn extract_files(
     rt: &HostRuntime,
     threads: &(impl Threads + Sync),
@@ -184,14 +132,19 @@ pub(crate) fn extract_files(
 ) -> io::Result<u8>
     requires few { (0 < drives) × (drives ≤ 16) }
 {
-    let Some(folder) = into else {
-        return print_manifest(rt, threads, bsr, volumes, drives);
-    };
-    match FolderSink::new(rt.alloc(), rt, folder) {
-        Ok(mut sink) => fill_sink(rt, threads, bsr, volumes, drives, &mut sink),
+    let sink = match sink_over(rt, into) {
+        Ok(sink) => sink,
         Err(fault) => {
             eprintln!(rt; "refused {}", fault.number())?;
-            Ok(REFUSED)
+            return Ok(REFUSED);
         }
-    }
+    };
+    let Some(text) = read_bsr(rt, bsr)? else {
+        return Ok(BAD_STREAM);
+    };
+    let mut drives = drives_over(rt, volumes, drives)?;
+    let writer = BufWriter::new(rt.alloc(), io::writer(rt))?;
+    let mut out = Outputs { writer, sink };
+    let run = extract_text(threads, rt.alloc(), &text, &mut drives, &mut out);
+    report(rt, run)
 }

@@ -1,5 +1,7 @@
 //! Volumes and bootstraps that Bacula wrote: the small cases of bench/, whose README.md tells where they come from.
-use crate::extract::{ending_of, run_through};
+use crate::extract::ending_of;
+use br_engine::{Outputs, extract_text};
+use br_sink::MemSink;
 use br_types::VolName;
 use br_volume::MemDrive;
 use std::process::Abort;
@@ -24,10 +26,13 @@ fn runs<R: Abort + AllocGlobal + Threads + Sync>(rt: &R, case: Case) -> Result<(
     volumes.push((name, Vec::from_slice(alloc, case.volume)?))?;
     let mut drives = Vec::new(alloc);
     drives.push(MemDrive::new(volumes))?;
-    let mut written = Vec::new(alloc);
-    let run = run_through(rt, alloc, case.bootstrap, &mut drives, &mut written);
+    let mut out = Outputs {
+        writer: Vec::new(alloc),
+        sink: None::<MemSink>,
+    };
+    let run = extract_text(rt, alloc, case.bootstrap, &mut drives, &mut out);
     let ending = ending_of(alloc, &run)?;
-    assert_eq!(rt; written.as_slice(), case.manifest);
+    assert_eq!(rt; out.writer.as_slice(), case.manifest);
     assert_eq!(rt; ending.refusal.as_slice(), case.refusal);
     assert_eq!(rt; ending.status, case.status);
     Ok(())

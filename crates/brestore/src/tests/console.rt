@@ -1,5 +1,5 @@
 //! The command `console`: what it refuses before a line is read, and a catalogue in a file.
-use crate::console::{prepare, restore_marked};
+use crate::console::{restore_marked, set_up};
 use crate::tests::into::new_place;
 use br_command::ConsoleOptions;
 use std::test::Fail;
@@ -22,14 +22,14 @@ const BAD_MOMENT: ConsoleOptions<'static> = ConsoleOptions {
     ..GIVEN
 };
 
-/// The path of a file for one test.
+/// Returns the path of a file for one test.
 fn path_of(rt: &HostRuntime, name: &str) -> Result<String, Fail> {
     let temporary = env::temp_dir(rt)?;
     let id = process::id(rt.process());
     Ok(format!(in rt.alloc(); "{}/brestore_{name}_{id}.db", temporary.display())?)
 }
 
-/// The status of a run over a catalogue.
+/// Returns the exit status of a run over a catalogue.
 fn status_over(rt: &HostRuntime, threads: &(impl Threads + Sync), db: &str) -> Result<u8, Fail> {
     Ok(restore_marked(
         rt,
@@ -42,7 +42,7 @@ fn status_over(rt: &HostRuntime, threads: &(impl Threads + Sync), db: &str) -> R
     )?)
 }
 
-/// Whether a run over a file with these bytes is refused, and the file stays as it was.
+/// Returns if a run over a file with these bytes is refused and keeps the file.
 fn is_kept(rt: &HostRuntime, threads: &(impl Threads + Sync), bytes: &[u8]) -> Result<bool, Fail> {
     let path = path_of(rt, "kept")?;
     fs::write(rt, path.as_str(), bytes)?;
@@ -67,15 +67,16 @@ fn a_file_that_is_no_catalogue_is_refused(rt: HostRuntime) -> Result<(), Fail> {
     Ok(())
 }
 
-/// Why a talk does not begin, 0 where it does.
+/// Returns the number of the refusal before a session, 0 if there is none.
 fn refusal_of(rt: &HostRuntime, given: &ConsoleOptions<'_>) -> u32 {
-    match prepare(rt, given) {
+    match set_up(rt, given) {
         Ok(_) => 0,
-        Err(number) => number,
+        Err(fault) => fault.number(),
     }
 }
 
-/// The refusals of a delivery into this folder: of a bad moment, of a catalogue that is not there, and the status of a run.
+/// Returns the refusals of a delivery into this folder: of a bad moment, of a catalogue that is not
+/// there, and the exit status of a run.
 fn refusals_into(
     rt: &HostRuntime,
     threads: &(impl Threads + Sync),
@@ -98,7 +99,7 @@ fn refusals_into(
 }
 
 #[test]
-fn the_folder_is_tested_behind_the_moment_and_before_the_catalogue(
+fn the_folder_is_tested_after_the_moment_and_before_the_catalogue(
     rt: HostRuntime,
 ) -> Result<(), Fail> {
     let place = new_place(&rt, "tested", b"/d/b")?;

@@ -2,7 +2,8 @@
 use crate::console::ending_of;
 use crate::extract::{Ending, drives_over};
 use crate::tests::into::{has, new_place};
-use br_console::run_console_into;
+use br_console::{JobSelection, run_console};
+use br_engine::Outputs;
 use br_history::{FileRow, History, JobRow, JobRows};
 use br_plan::Request;
 use br_session::Span;
@@ -23,7 +24,7 @@ struct Case {
     status: u8,
     refusal: &'static [u8],
     text: &'static [u8],
-    /// Name and bytes of what is there behind it.
+    /// Name and bytes of the files that are there afterwards.
     files: &'static [(&'static str, &'static [u8])],
 }
 
@@ -40,7 +41,7 @@ const DELIVERED: Case = Case {
     files: &[("into/a", b"hello"), ("into/d/b", b"world")],
 };
 
-const IN_THE_WAY: Case = Case {
+const CONFLICT: Case = Case {
     name: "talk_way",
     second: b"/a/b",
     status: 1,
@@ -71,7 +72,7 @@ fn letter(byte: u8) -> Result<Letter, Fail> {
     Ok(Letter::new(byte).ok_or("a letter")?)
 }
 
-/// The row of the Full that wrote the volume.
+/// Returns the row of the Full that wrote the volume.
 fn job_row(alloc: Global) -> Result<JobRow, Fail> {
     Ok(JobRow {
         id: JobId::new(1).ok_or("a number")?,
@@ -114,7 +115,7 @@ fn spans(alloc: Global) -> Result<Vec<Span>, Fail> {
     Ok(spans)
 }
 
-/// The job that wrote the volume.
+/// Returns the job that wrote the volume.
 fn rows(alloc: Global, second: &[u8]) -> Result<JobRows, Fail> {
     Ok(JobRows::new(job_row(alloc)?, file_rows(alloc, second)?, spans(alloc)?)?)
 }
@@ -133,7 +134,7 @@ fn request(alloc: Global) -> Result<Request, Fail> {
     })
 }
 
-/// How a run over these jobs into a folder ends, and what is written.
+/// Returns how a run over these jobs into a folder ends, and appends what it writes.
 fn ended(
     rt: &HostRuntime,
     threads: &(impl Threads + Sync),
@@ -143,23 +144,28 @@ fn ended(
     text: &mut Vec<u8>,
 ) -> Result<Ending, Fail> {
     let request = request(rt.alloc())?;
-    let mut sink = FolderSink::new(rt.alloc(), rt, into)?;
     let mut drives = drives_over(rt, volumes, 2)?;
     let mut lines = b"mark *\ndone\n".as_slice();
-    let run = run_console_into(
+    let mut out = Outputs {
+        writer: text,
+        sink: Some(FolderSink::new(rt.alloc(), rt, into)?),
+    };
+    let asked = JobSelection {
+        history,
+        request: &request,
+    };
+    let run = run_console(
         threads,
         rt.alloc(),
-        history,
-        &request,
+        &asked,
         &mut lines,
         &mut drives,
-        text,
-        &mut sink,
+        &mut out,
     );
     Ok(ending_of(rt.alloc(), &run)?)
 }
 
-/// Whether a run in a place ends with this status, this line and this text.
+/// Returns if a run in a place ends with this status, this line and this text.
 fn ends(
     rt: &HostRuntime,
     threads: &(impl Threads + Sync),
@@ -185,7 +191,7 @@ fn ends(
     )
 }
 
-/// Whether these files are in a place.
+/// Returns if these files are in a place.
 fn are_there(rt: &HostRuntime, place: &str, case: &Case) -> Result<bool, Fail> {
     let mut are_there = true;
     for (name, bytes) in case.files {
@@ -194,7 +200,7 @@ fn are_there(rt: &HostRuntime, place: &str, case: &Case) -> Result<bool, Fail> {
     Ok(are_there)
 }
 
-/// Whether a delivery is as expected.
+/// Returns if a delivery is as expected.
 fn holds(rt: &HostRuntime, threads: &(impl Threads + Sync), case: &Case) -> Result<bool, Fail> {
     let place = new_place(rt, case.name, case.second)?;
     let ends = ends(rt, threads, place.as_str(), case)?;
@@ -210,8 +216,8 @@ fn what_was_marked_is_delivered(rt: HostRuntime) -> Result<(), Fail> {
 }
 
 #[test]
-fn a_stop_is_told_behind_the_manifest(rt: HostRuntime) -> Result<(), Fail> {
-    assert!(rt; holds(&rt, &rt, &IN_THE_WAY)?);
+fn a_stop_comes_after_the_manifest(rt: HostRuntime) -> Result<(), Fail> {
+    assert!(rt; holds(&rt, &rt, &CONFLICT)?);
     assert!(rt; holds(&rt, &rt, &NO_TEXT)?);
     Ok(())
 }

@@ -1,5 +1,6 @@
 //! Deliveries into a folder, from volumes in a folder.
-use crate::extract::{Ending, REFUSED, drives_over, ending_of, extract_files, run_into};
+use crate::extract::{Ending, REFUSED, drives_over, ending_of, extract_files};
+use br_engine::{Outputs, extract_text};
 use br_sink::FolderSink;
 use std::test::Fail;
 use std::thread::Threads;
@@ -15,7 +16,7 @@ const FRONT: &[u8] = b"\0\0\0\0\0\0\0\xa0\0\0\0\0BB02\0\0\0\x01\0\0\0\x64\
 const BACK: &[u8] = b"\0A A IGk B A A A F A A A A A A\0\0\
     \0\0\0\x02\0\0\0\x02\0\0\0\x05world";
 
-/// A new folder with empty folders `into` and `volumes`.
+/// Creates a folder with empty folders `into` and `volumes`.
 fn new_folders(rt: &HostRuntime, name: &str) -> Result<String, Fail> {
     let temporary = env::temp_dir(rt)?;
     let id = process::id(rt.process());
@@ -26,7 +27,7 @@ fn new_folders(rt: &HostRuntime, name: &str) -> Result<String, Fail> {
     Ok(place)
 }
 
-/// Puts a volume of these parts into a place.
+/// Writes a volume of these parts into a place.
 fn put_volume(rt: &HostRuntime, place: &str, name: &str, parts: [&[u8]; 3]) -> Result<(), Fail> {
     let mut bytes = Vec::new(rt.alloc());
     for part in parts {
@@ -37,7 +38,7 @@ fn put_volume(rt: &HostRuntime, place: &str, name: &str, parts: [&[u8]; 3]) -> R
     Ok(())
 }
 
-/// A new place with a volume `V` whose second file has this path of 4 bytes.
+/// Creates a place with a volume `V` whose second file has this path of 4 bytes.
 pub(super) fn new_place(rt: &HostRuntime, name: &str, path: &[u8]) -> Result<String, Fail> {
     let place = new_folders(rt, name)?;
     put_volume(rt, place.as_str(), "V", [FRONT, path, BACK])?;
@@ -70,7 +71,8 @@ const TWO_VOLUMES: &[u8] =
     Volume=B\nVolSessionId=2\nVolSessionTime=200\nVolAddr=108-171\nFileIndex=1\n\
     Volume=A\nVolSessionId=2\nVolSessionTime=200\nVolAddr=64-171\nFileIndex=1\n";
 
-/// Delivers by a bootstrap from the volumes into the folder of a place: how it ended, and the manifest.
+/// Delivers by a bootstrap from the volumes into the folder of a place. Returns how it ended, and the
+/// manifest.
 fn delivered(
     rt: &HostRuntime,
     threads: &(impl Threads + Sync),
@@ -79,21 +81,18 @@ fn delivered(
 ) -> Result<(Ending, Vec<u8>), Fail> {
     let volumes = format!(in rt.alloc(); "{place}/volumes")?;
     let into = format!(in rt.alloc(); "{place}/into")?;
-    let mut sink = FolderSink::new(rt.alloc(), rt, into.as_str())?;
     let mut drives = drives_over(rt, volumes.as_str(), 3)?;
-    let mut written = Vec::new(rt.alloc());
-    let run = run_into(
-        threads,
-        rt.alloc(),
-        text,
-        &mut drives,
-        &mut written,
-        &mut sink,
-    );
-    Ok((ending_of(rt.alloc(), &run)?, written))
+    let mut out = Outputs {
+        writer: Vec::new(rt.alloc()),
+        sink: Some(FolderSink::new(rt.alloc(), rt, into.as_str())?),
+    };
+    let run = extract_text(threads, rt.alloc(), text, &mut drives, &mut out);
+    let ending = ending_of(rt.alloc(), &run)?;
+    let Outputs { writer, .. } = out;
+    Ok((ending, writer))
 }
 
-/// Whether a delivery ends with this status, this line of a refusal and this manifest.
+/// Returns if a delivery ends with this status, this line of a refusal and this manifest.
 fn ends(
     rt: &HostRuntime,
     threads: &(impl Threads + Sync),
@@ -109,7 +108,7 @@ fn ends(
     )
 }
 
-/// Whether a file of a place has these bytes.
+/// Returns if a file of a place has these bytes.
 pub(super) fn has(rt: &HostRuntime, place: &str, name: &str, bytes: &[u8]) -> Result<bool, Fail> {
     let path = format!(in rt.alloc(); "{place}/{name}")?;
     let found = fs::read(rt, path.as_str())?;
@@ -145,7 +144,7 @@ fn files_that_go_on_over_volumes_are_delivered(rt: HostRuntime) -> Result<(), Fa
 }
 
 #[test]
-fn a_path_in_the_way_stops_behind_the_manifest(rt: HostRuntime) -> Result<(), Fail> {
+fn a_path_that_conflicts_stops_after_the_manifest(rt: HostRuntime) -> Result<(), Fail> {
     let place = new_place(&rt, "way", b"/a/b")?;
     let manifest =
         b"F 1 100 1 3 /a 0,0,33188,1,0,0,0,5,0,0,0,0,0,0 = 5 5d41402abc4b2a76b9719d911017c592\n\
@@ -165,7 +164,7 @@ fn a_path_in_the_way_stops_behind_the_manifest(rt: HostRuntime) -> Result<(), Fa
 }
 
 #[test]
-fn a_path_that_is_no_text_stops_behind_the_manifest(rt: HostRuntime) -> Result<(), Fail> {
+fn a_path_that_is_no_text_stops_after_the_manifest(rt: HostRuntime) -> Result<(), Fail> {
     let place = new_place(&rt, "text", b"/b\xff\xfe")?;
     let manifest =
         b"F 1 100 1 3 /a 0,0,33188,1,0,0,0,5,0,0,0,0,0,0 = 5 5d41402abc4b2a76b9719d911017c592\n\
