@@ -50,7 +50,7 @@ written_more a b c some count left next le least is so_far more =
     subst (Appends a c) (ap (λ (xs : List ℕ). zeros (count - left) ++ xs) (some_zeros left next some least is) ∙ zeros_more count left next le least)
     (Appends-trans a b c (zeros (count - left)) some so_far more)
 
--- where none are left, all are done
+-- if none are left, all are done
 pub none_left : (count left : ℕ) → left ≤ 0 → zeros (count - left) ≡ zeros count
 none_left count left past = let all : count - left ≡ count = omega (arith, past) in ap zeros all
 

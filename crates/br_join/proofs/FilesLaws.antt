@@ -47,7 +47,7 @@ no_fragments : (key : FileKey) → fragments_for key (listed []) ≡ []
 unfolding fragments_for
 no_fragments key = refl
 
--- hits of other files in front have none
+-- hits of other files before have none
 others_in_front : (key : FileKey) (bs hs : List Hit) → AllByRecursion (IsApart key) bs → fragments_for key (listed (bs ++ hs)) ≡ fragments_for key (listed hs)
 others_in_front key [] hs a = refl
 others_in_front key (b ∷ bs) hs a = other_step key b (bs ++ hs) a.0 ∙ others_in_front key bs hs a.1
@@ -235,7 +235,7 @@ more_files done new item left rest all pushed so_far next =
 
 -- ---- files that were made of runs
 
--- where a file was made of each run, they are the files of the runs
+-- if a file was made of each run, they are the files of the runs
 all_made : (E : Type 0) (runs : List Restored) (files : List (FileKey × Outcome))
     → AllZip (λ (run : Restored) (made : Result (FileKey × Outcome) E). IfOk made (λ f. restored f ≡ run)) runs (map Ok files) → map restored files ≡ runs
 all_made E [] [] h = refl

@@ -81,6 +81,6 @@ all_second (e ∷ es) = ap (λ b. e.1 && b) (all_second es)
 pub number_entries : (m : BTreeMap ℕ Bool) → IsOrdered nat_cmp m → entries (as_map m) ≡ m.entries
 number_entries m h = entries_of_sorted nat_cmp_total m.entries h
 
--- all values of the tree are closed exactly where all pieces are
+-- all values of the tree are closed exactly if all pieces are
 pub all_closed_is : (m : BTreeMap ℕ Bool) → IsOrdered nat_cmp m → list_all (λ (b : Bool). b) (values_of m.entries) ≡ list_all (λ (p : ℕ × Bool). p.1) (entries (as_map m))
 all_closed_is m h = all_second m.entries ∙ sym (ap (list_all (λ (p : ℕ × Bool). p.1)) (number_entries m h))

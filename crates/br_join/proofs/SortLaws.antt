@@ -1,4 +1,4 @@
--- Hits that are put in order of file and place, the first at each place kept, are what the set of
+-- Hits sorted by file and place, the first at each place kept, are what the set of
 -- them lists.
 use Rattle.std.proofs.Common.{◌≡◌, ◌==◌, Bool, true, false, cond, not, ◌&&◌, Option, Some, None, List, [], ◌∷◌, filter, pos, refl, sym, ap, subst, ◌∙◌}
 use Rattle.std.specs.List.{AllByRecursion, dedup, dedup_from}

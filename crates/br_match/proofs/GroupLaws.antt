@@ -15,7 +15,7 @@ use Rattle.br_model.proofs.AnswerLaws.{refuse_ok, ok_is}
 use Rattle.br_model.proofs.ListLaws.{all_any, all_weaker}
 use Rattle.br_match.specs.Groups.{AreAlike, admits_block, admits_record, first_admitting, hits_of_fragments}
 
--- where the walk for some groups ends, if it ends no earlier than at an address
+-- the end of the walk for some groups, if it is no earlier than an address
 abbrev pub bound_from : ℕ → List Group → Option ℕ
 bound_from n groups =
     cond (list_any (λ (g : Group). is_empty g.addresses) groups) None (Some (fold (λ m g. max m (last_address g)) n groups))
@@ -54,7 +54,7 @@ one_more first address n (g ∷ gs) f =
     moved None xs ys = refl
     moved (Some h) xs ys = refl
 
--- where the hits so far go on with what the next fragment gives
+-- the hits so far, followed by those of the next fragment
 pub pushed_more : (first : Fragment → Option ℕ) (address ordinal : ℕ) (fragments : List Fragment) (f : Fragment) (o : Option Hit) (before found after : List Hit)
     → o ≡ option_map (hit_at (record { address = address; bytes = [] }) (ordinal, f)) (first f) → ordinal ≡ length fragments
     → found ≡ before ++ hits_of_fragments first address 0 fragments → after ≡ found ++ listed o

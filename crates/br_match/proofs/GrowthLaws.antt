@@ -30,7 +30,7 @@ grows_more (Some e) (Some t) (Some l) p q = extends_more e t l q p
 
 -- ---- volumes that a drive may be taken to show
 
--- for pieces and others behind them, thus for these pieces until then
+-- for pieces and others after them, thus for these pieces until then
 pub stands_so_far : (earlier then later : List Volume) (ps rest : List Piece) (volumes : List Volume)
     → Extends later then → StandsForEach earlier later (ps ++ rest) volumes → StandsForEach earlier then ps volumes
 stands_so_far earlier then later ps rest volumes grown (more, inl same) = (more, inl (extends_more then later volumes same grown))

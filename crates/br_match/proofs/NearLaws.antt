@@ -1,4 +1,4 @@
--- The groups that have ended before an address, and those that begin behind it.
+-- The groups that have ended before an address, and those that begin after it.
 use Rattle.std.proofs.Common.{◌≡◌, ℕ, suc, zero, ◌+◌, ◌-◌, ◌<◌, ◌≤◌, ◌^◌, ◌/◌, ◌%◌, ◌⊎◌, inl, inr, Bool, false, ◌||◌, ◌&&◌, List, [], ◌∷◌, ◌++◌, length, take, drop, filter, get_or, refl, ap, sym, subst, ◌∙◌, arith}
 use Rattle.std.proofs.Math.Bool.{or-false, and-false}
 use Rattle.std.proofs.Math.Seq.{get_or-append_seam}
@@ -59,7 +59,7 @@ pub record StartsSoFar (groups : List (ℕ × Group)) (least : ℕ) (starts : Li
   pub so_far : AreStarts groups starts
   pub lowest : (k d : ℕ) → k < length starts → least ≤ get_or starts k d
 
--- one more group in front of them
+-- one more group before them
 in_front_of_all : (groups : List (ℕ × Group)) (starts : List ℕ) (least first : ℕ) (g : ℕ × Group) → BeginsAt g first
     → StartsSoFar groups least starts → StartsSoFar (g ∷ groups) (min first least) (min first least ∷ starts)
 in_front_of_all groups starts least first g at s = record {
@@ -79,7 +79,7 @@ in_front_of_all groups starts least first g at s = record {
     rise (suc i) zero d le lt = absurd (omega arith)
     rise (suc i) (suc j) d le lt = s.so_far.rising i j d (omega arith) (omega arith)
 
--- the same where the addresses come in the other order
+-- the same if the addresses come in the other order
 pub starts_more : (groups : List (ℕ × Group)) (pushed : List ℕ) (least first : ℕ) (g : ℕ × Group) → BeginsAt g first
     → StartsSoFar groups least (reverse pushed) → StartsSoFar (g ∷ groups) (min first least) (reverse (pushed ++ min first least ∷ []))
 starts_more groups pushed least first g at s = rw (reverse-append pushed (min first least ∷ [])) (in_front_of_all groups (reverse pushed) least first g at s)
@@ -122,7 +122,7 @@ around groups ends starts address first begun end bounded fits past ahead end_is
         let at = zip_at BeginsAt groups starts place d 0 bounded.begun.each (omega (arith, long, longer)) in
         rw (get_or-drop (end - first) (drop first groups) k d, get_or-drop first groups ((end - first) + k) d) (at.1 address (ahead.1 place 0 (omega (arith, end_is)) at.0))
 
--- the same, told by equations
+-- the same, as equations
 pub around_seen : (whole groups given near : List (ℕ × Group)) (ends starts seen_ends seen_starts : List ℕ) (address first begun end : ℕ)
     → groups ≡ whole → given ≡ groups → seen_ends ≡ ends → seen_starts ≡ starts → IsBounded groups ends starts → address < 2 ^ 64
     → IsPartitionPoint (λ (n : ℕ). n < address) (λ (n : ℕ). address ≤ n) seen_ends first → IsPartitionPoint (λ (n : ℕ). n ≤ address) (λ (n : ℕ). address < n) seen_starts begun

@@ -16,7 +16,7 @@ use Rattle.br_match.specs.Walk.{unknown, step_on, Over, AfterWalk, AfterHead, Fo
 use Rattle.br_match.proofs.GrowthLaws.{extends_more}
 use Rattle.br_match.proofs.SeenLaws.{head_alike, block_alike, head_read, head_refused, head_ends, step_unknown, block_never_ends, block_read, block_refused}
 
--- what holds over all such volumes, where a weaker fact is asked
+-- what holds over all such volumes, if a weaker fact is asked
 pub over_weaker : (earlier later : Option (List Volume)) (piece : Piece) (P Q : List Volume → Type 0) → ((volumes : List Volume) → P volumes → Q volumes)
     → Over earlier later piece P → Over earlier later piece Q
 over_weaker None later piece P Q weaker over = tt
@@ -53,7 +53,7 @@ over_any None later piece P all = tt
 over_any (Some earlier) None piece P all = tt
 over_any (Some earlier) (Some later) piece P all = λ volumes stands. all volumes
 
--- one call behind another
+-- one call after another
 pub over_join : (a b c : Option (List Volume)) (piece : Piece) (P Q R : List Volume → Type 0) → OnlyGrows a b → OnlyGrows b c
     → Over a b piece P → Over b c piece Q → ((volumes : List Volume) → P volumes → Q volumes → R volumes) → Over a c piece R
 over_join None b c piece P Q R p q first second join = tt
@@ -113,7 +113,7 @@ block_got : (volumes : List Volume) (piece : Piece) (a : ℕ) (h : Header) (buff
 block_got volumes piece a h buffer End has reads = absurd (block_never_ends volumes piece a h has (read_gives volumes piece a h.size buffer End reads))
 block_got volumes piece a h buffer (Block n) has reads = read_gives volumes piece a h.size buffer (Block n) reads
 
--- the block is read, and its hits are put behind those before
+-- the block is read, and its hits are appended
 pub block_there : (volumes : List Volume) (piece : Piece) (a : ℕ) (h : Header) (buffer block : List ℕ) (got : Got) (before after : List Hit) → is_above (bound_of (just_groups piece.groups)) a ≡ false
     → read_block buffer ≡ Ok block → after ≡ before ++ hits_in piece.groups (record { address = a; bytes = block })
     → ReadsAt piece.volume a h.size buffer (Ok got) volumes → HasHead volumes piece a h → IsStep volumes piece a (a + h.size) before after

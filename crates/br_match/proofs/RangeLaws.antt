@@ -33,11 +33,11 @@ too_high low high n p = grind (arith, nat_tests)
 some_range : (rs : List Range) → 0 < length rs → is_empty rs ≡ false
 some_range rs some = ne_eqb (length rs) 0 (λ e. omega (arith, e, some))
 
--- where no range begins at the number or before it
+-- if no range begins at the number or before it
 pub none_begun : (rs : List Range) (n : ℕ) → is_empty rs ≡ false → IsPartitionPoint (λ (r : Range). r.low ≤ n) (λ (r : Range). n < r.low) rs 0 → admits rs n ≡ false
 none_begun rs n some point = rw some (list_any_none (holds n) rs (λ k d within. too_low (get_or rs k d).low (get_or rs k d).high n (point.1 k d (omega arith) within)))
 
--- where some begin there, the last of these decides
+-- if some begin there, the last of these decides
 pub last_decides : (rs : List Range) (n count : ℕ) (last : Range) → is_empty rs ≡ false → IsRising rs → IsPartitionPoint (λ (r : Range). r.low ≤ n) (λ (r : Range). n < r.low) rs count
     → 0 < count → count ≤ length rs → last ≡ get_or rs (count - 1) last → admits rs n ≡ leb n last.high
 last_decides rs n count last some rising point begun within is = rw some (go (leb n last.high) refl)

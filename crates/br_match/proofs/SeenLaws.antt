@@ -25,7 +25,7 @@ use Rattle.br_match.proofs.StepLaws.{rest_is_step_on}
 
 -- ---- headers and blocks at the front of some bytes
 
--- a header is read in the first 24 bytes, or in all where there are fewer
+-- a header is read in the first 24 bytes, or in all if there are fewer
 head_alone : (left : List ℕ) → read_header (take 24 left) ≡ read_header left
 head_alone left =
     elim (cases_lt (length left) 24) [
@@ -38,7 +38,7 @@ head_alone left =
         let none : drop 24 xs ≡ [] = nil_from_length (drop 24 xs) (omega (arith, length-drop 24 xs)) in
         sym (append-nil (take 24 xs)) ∙ ap (λ (ys : List ℕ). take 24 xs ++ ys) (sym none) ∙ take-append-drop 24 xs
 
--- in as many bytes as a header says, the block is whole where so many are there
+-- in the number of bytes that a header states, the block is whole if they are there
 block_alone : (left : List ℕ) (h : Header) → read_header left ≡ Ok h
     → read_block (take h.size left) ≡ cond (ltb (length left) h.size) (Err 12) (Ok (take h.size left))
 unfolding read_block
@@ -62,7 +62,7 @@ block_alone left h read =
 
 -- ---- what a step is
 
--- the step at an address where a header stands
+-- the step at an address that has a header
 abbrev pub step_in : Piece → List ℕ → ℕ → Header → Result (Option (List Hit × ℕ)) PieceFault
 step_in piece left address h =
     cond (is_covered (just_groups piece.groups) address && ltb (length left) h.size)
@@ -80,7 +80,7 @@ next_is numbered bytes address near within r read =
     let some : is_empty (drop address bytes) ≡ false = long_is_not_empty (drop address bytes) (omega (arith, length-drop address bytes, within)) in
     rw (some, near, read) refl
 
--- where a header stands
+-- at a header
 pub step_of_head : (volumes : List Volume) (piece : Piece) (address : ℕ) (h : Header) → is_above (bound_of (just_groups piece.groups)) address ≡ false
     → (has : HasHead volumes piece address h) → step_on volumes piece address ≡ step_in piece (drop address has.bytes) address h
 unfolding step_on step_among
@@ -100,7 +100,7 @@ step_of_head volumes piece address h near has =
     told true = refl
     told false = refl
 
--- where the header is bad
+-- at a bad header
 pub step_of_bad_head : (volumes : List Volume) (piece : Piece) (address : ℕ) (bytes : List ℕ) (number : ℕ) → is_above (bound_of (just_groups piece.groups)) address ≡ false
     → volume_bytes volumes piece.volume ≡ Some bytes → address < length bytes → read_header (drop address bytes) ≡ Err number
     → step_on volumes piece address ≡ Err (record { number = number; volume = piece.volume; address = address })
@@ -112,12 +112,12 @@ step_of_bad_head volumes piece address bytes number near found within read =
     show : Option (LaidBlock × ℕ) → Result (Option (List Hit × ℕ)) BlockFault
     show step = Ok (option_map (λ (s : LaidBlock × ℕ). (hits_in piece.groups s.0, s.1)) step)
 
--- where the volume is not there
+-- on an unknown volume
 pub step_of_unknown : (volumes : List Volume) (piece : Piece) (address : ℕ) → volume_bytes volumes piece.volume ≡ None → step_on volumes piece address ≡ Err (unknown piece.volume)
 unfolding step_on
 step_of_unknown volumes piece address none = rw none refl
 
--- where the walk ends
+-- at the end of the walk
 step_at_end : (volumes : List Volume) (piece : Piece) (address : ℕ) (bytes : List ℕ) → volume_bytes volumes piece.volume ≡ Some bytes
     → (is_empty (drop address bytes) || is_above (bound_of (just_groups piece.groups)) address) ≡ true → step_on volumes piece address ≡ Ok None
 unfolding step_on step_among next_block
@@ -136,7 +136,7 @@ step_above volumes piece address follows above = go (volume_bytes volumes piece.
     go None is = absurd (never (bound_of (just_groups piece.groups)) (subst (λ (a : ℕ). is_above (bound_of (just_groups piece.groups)) a ≡ true) (follows.there is) above))
     go (Some bytes) is = step_at_end volumes piece address bytes is (or_right (is_empty (drop address bytes)) (is_above (bound_of (just_groups piece.groups)) address) above)
 
--- ---- where a piece is enclosed, its walk stays within the bytes
+-- ---- the walk of an enclosed piece stays within the bytes
 
 below_all : (L n : ℕ) (gs : List (ℕ × Group)) → n < L → AllByRecursion (λ (g : ℕ × Group). (is_empty g.1.addresses ≡ false) × (last_address g.1 < L)) gs
     → fold (λ m g. max m (last_address g)) n (just_groups gs) < L

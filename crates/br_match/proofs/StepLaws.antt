@@ -1,4 +1,4 @@
--- The walk of a piece's volume: from an address on it is the step there, and behind it the walk
+-- The walk of a piece's volume: from an address on it is the step there, and then the walk
 -- from the next address.
 use Rattle.std.proofs.Common.{◌≡◌, ℕ, zero, suc, ◌+◌, ◌*◌, ◌/◌, ◌<◌, Bool, true, false, ◌&&◌, ◌||◌, ltb, List, [], ◌∷◌, ◌++◌, length, drop, Option, Some, None, Result, Ok, Err, cond, ap, sym, ◌∙◌, refl, arith, add-one}
 use Rattle.std.proofs.lemmas.List.{length-drop, drop-drop}
@@ -61,7 +61,7 @@ enough (suc n) (suc m) address left bound covered fits also =
 
 -- ---- one step, and the rest
 
--- the hits of a step in some bytes, and those behind it
+-- the hits of a step in some bytes, and those after it
 abbrev and_more : (ℕ → Result (List Hit) BlockFault) → Option (List Hit × ℕ) → Result (List Hit) BlockFault
 and_more rest None = Ok []
 and_more rest (Some s) = do
@@ -134,7 +134,7 @@ rest_is_step numbered bytes address =
     ends true = refl
     ends false = valid (read_header left) refl
 
--- from an address on the walk is the step there, and behind it the walk from the next address
+-- from an address on the walk is the step there, and then the walk from the next address
 pub rest_is_step_on : (volumes : List Volume) (piece : Piece) (address : ℕ)
     → rest_on volumes piece address ≡ (step_on volumes piece address >>= and_rest (rest_on volumes piece))
 unfolding rest_on step_on
