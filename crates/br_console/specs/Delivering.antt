@@ -1,18 +1,18 @@
 -- A run of the console as its contracts state it: over what reader, drives, writer and sink show before and after.
-use Rattle.std.specs.Prelude.{◌≡◌, ℕ, List, map, Option, Result, Ok, Err, IfOk, ⊤}
+use Rattle.std.specs.Prelude.{◌≡◌, ℕ, List, Vec, map, Option, Result, Ok, Err, IfOk, ⊤}
+use Rattle.std.specs.Global.{Global}
 use Rattle.br_model.specs.Volume.{Volume}
 use Rattle.br_model.specs.File.{Item}
 use Rattle.br_model.specs.Restored.{Restored}
 use Rattle.br_model.specs.Job.{JobRows}
 use Rattle.br_model.specs.Choice.{Request, choose}
-use Rattle.br_model.specs.Plan.{Plan}
+use Rattle.br_model.specs.Plan.{Plan, plan_of}
 use Rattle.br_engine.specs.Restoring.{Told}
 use Rattle.br_engine.specs.Outputs.{InSink, StopsByFailure}
 use Rattle.br_engine.specs.Delivering.{in_sink, sink_failures}
 use Rattle.br_engine.specs.declared.outputs.Outputs.{Outputs}
-use Rattle.br_engine.specs.declared.outputs.RestoreEnd.{RestoreEnd}
 use Rattle.br_console.specs.Ending.{LeavesSink, are_accepted}
-use Rattle.br_console.specs.Running.{BeginsOver, RestoresOver, RestoresPlan, RunsOver, TellsOver}
+use Rattle.br_console.specs.Running.{BeginsOver, RestoresOver, RunsOver, TellsOver}
 use Rattle.br_console.specs.declared.ending.Lines.{Lines}
 use Rattle.br_console.specs.declared.ending.End.{End}
 use Rattle.br_console.specs.declared.ending.End.TheVariants.{Done, Quit}
@@ -32,16 +32,16 @@ Delivers known earlier later before after had has history q (Err why) = has ≡ 
 -- ---- over drives and outputs
 
 abbrev pub DeliversInto : {D W S : Type 0} → Option (List ℕ) → (D → Option (List Volume)) → (W → Option (List ℕ)) → (S → Option (List Item))
-    → List D → List D → Outputs W S → Outputs W S → JobSelection → Result ConsoleRun ConsoleFault → Type 0
+    → Vec D Global → Vec D Global → Outputs W S → Outputs W S → JobSelection → Result ConsoleRun ConsoleFault → Type 0
 DeliversInto known shows contents has earlier later before after asked result =
-    Delivers known (map shows earlier) (map shows later) (contents before.writer) (contents after.writer) (in_sink has before) (in_sink has after)
+    Delivers known (map shows earlier.items) (map shows later.items) (contents before.writer) (contents after.writer) (in_sink has before) (in_sink has after)
     asked.history.now asked.request.now result
 
 -- the run is that of the history, the request and the lines over all volumes that each of the drives may be taken to show
 abbrev pub RunsInto : {D W S : Type 0} → Option (List ℕ) → (D → Option (List Volume)) → (W → Option (List ℕ))
-    → List D → List D → Outputs W S → Outputs W S → JobSelection → Result ConsoleRun ConsoleFault → Type 0
+    → Vec D Global → Vec D Global → Outputs W S → Outputs W S → JobSelection → Result ConsoleRun ConsoleFault → Type 0
 RunsInto known shows contents earlier later before after asked result =
-    RunsOver known (map shows earlier) (map shows later) (contents before.writer) (contents after.writer) asked.history.now asked.request.now result
+    RunsOver known (map shows earlier.items) (map shows later.items) (contents before.writer) (contents after.writer) asked.history.now asked.request.now result
 
 -- what is written, whatever the drives do
 abbrev pub TellsInto : {W S : Type 0} → Option (List ℕ) → (W → Option (List ℕ)) → Outputs W S → Outputs W S → JobSelection → Result ConsoleRun ConsoleFault → Type 0
@@ -52,11 +52,9 @@ TellsInto known contents before after asked result =
 abbrev pub BeginsInto : Option (List ℕ) → Option (List ℕ) → Option (List ℕ) → JobSelection → Result (Lines × Option Plan) ConsoleFault → Type 0
 BeginsInto known before after asked result = BeginsOver known before after asked.history.now asked.request.now result
 
--- the restore by a plan
-abbrev pub RestoresInto : {D W S : Type 0} → (D → Option (List Volume)) → (W → Option (List ℕ)) → (S → Option (List Item))
-    → List D → List D → Outputs W S → Outputs W S → Plan → Result RestoreEnd ConsoleFault → Type 0
-RestoresInto shows contents has earlier later before after plan result =
-    RestoresPlan (map shows earlier) (map shows later) (contents before.writer) (contents after.writer) (in_sink has before) (in_sink has after) plan result
+-- the plan for some marked paths
+abbrev pub plan_for : JobSelection → List (List ℕ) → Result Plan ℕ
+plan_for asked marks = plan_of asked.history.now asked.request.now marks
 
 -- if the choice of jobs is refused, this holds
 abbrev pub IfUnchosen : JobSelection → Type 0 → Type 0
@@ -73,7 +71,3 @@ EndsByFailure earlier later Quit = ⊤
 abbrev pub RunStopIsCounted : {W S : Type 0} → (S → ℕ) → Outputs W S → Outputs W S → Result ConsoleRun ConsoleFault → Type 0
 RunStopIsCounted failures before after result =
     IfOk result (λ run. EndsByFailure (sink_failures failures before) (sink_failures failures after) run.end)
-
--- the same of the restore by a plan
-abbrev pub PlanStopIsCounted : {W S : Type 0} → (S → ℕ) → Outputs W S → Outputs W S → Result RestoreEnd ConsoleFault → Type 0
-PlanStopIsCounted failures before after result = IfOk result (StopsByFailure (sink_failures failures before) (sink_failures failures after))

@@ -1,21 +1,19 @@
 ghost use Rattle.std.specs.Prelude.{◌≡◌, ℕ, Err, IfErr, IfOk};
 ghost use Rattle.br_model.specs.Answer.{Answers};
-ghost use Rattle.br_model.specs.Plan.{plan_of};
 ghost use Rattle.br_plan.specs.Fault.{cause};
 ghost use Rattle.br_pool.specs.Pool.{AreDrives, FailsByDrive, StayInPlace};
 ghost use Rattle.br_engine.specs.Fault.{IsNoLine};
 ghost use Rattle.br_engine.specs.Delivering.{CountsFailures};
 ghost use Rattle.br_console.specs.Fault.{IsFree, IsNoPiece};
 ghost use Rattle.br_console.specs.Running.{BecomesFault, IsDriveFault, MarksOver, WritesPlan, opening};
-ghost use Rattle.br_console.specs.Delivering.{BeginsInto, DeliversInto, IfUnchosen, RestoresInto, RunsInto, TellsInto};
-ghost use Rattle.br_console.specs.Delivering.{PlanStopIsCounted, RunStopIsCounted};
+ghost use Rattle.br_console.specs.Delivering.{BeginsInto, DeliversInto, IfUnchosen, RunStopIsCounted, RunsInto, TellsInto, plan_for};
 
 use crate::console_fault::ConsoleFault;
 use crate::ending::{ConsoleRun, End, Lines, SessionEnd};
 use crate::talking::{converse, show};
 use br_bsr::write_bootstrap;
 use br_choose::choose;
-use br_engine::{ExtractFault, Outputs, RestoreEnd, restore_into};
+use br_engine::{ExtractFault, Outputs, restore_into};
 use br_history::History;
 use br_mark::Console;
 use br_plan::{Plan, PlanFault, Request};
@@ -29,6 +27,7 @@ use std::io::{BufRead, Write};
 use std::thread::Threads;
 
 /// The jobs over which the console runs.
+#[derive(Drop)]
 pub struct JobSelection<'h> {
     /// All jobs of the catalogue.
     pub history: &'h History,
@@ -84,7 +83,7 @@ fn write_plan<W: Write + Drop>(
     marks: &[Path],
     writer: &mut W,
 ) -> Result<Plan, ConsoleFault>
-    ensures { WritesPlan (W.contents writer.old) (W.contents writer.new) (plan_of asked.now.history.now asked.now.request.now marks.now) result }
+    ensures { WritesPlan (W.contents writer.old) (W.contents writer.new) (plan_for asked.now marks.now) result }
 {
     let plan = Plan::make(alloc, asked.history, asked.request, marks)?;
     let text = write_bootstrap(alloc, plan.bootstrap())?;
@@ -126,28 +125,6 @@ fn console_fault(fault: ExtractFault) -> ConsoleFault
     }
 }
 
-/// Restores the files of a plan under their names.
-fn restore_plan<D: Drive + Send, W: Write, S: Sink>(
-    rt: &(impl Threads + Sync),
-    alloc: Global,
-    plan: Plan,
-    drives: &mut Vec<D>,
-    out: &mut Outputs<W, S>,
-) -> Result<RestoreEnd, ConsoleFault>
-    requires drives { AreDrives drives.old.items }
-    ensures restores { RestoresInto D.shows W.contents S.has drives.old.items drives.new.items out.old out.new plan result }
-    ensures places { StayInPlace D.shows D.failures drives.old.items drives.new.items }
-    ensures failed { FailsByDrive D.failures drives.old.items drives.new.items IsDriveFault result }
-    ensures sink_counted { CountsFailures S.failures out.old out.new }
-    ensures sink_failed { PlanStopIsCounted S.failures out.old out.new result }
-{
-    let (bootstrap, names) = plan.into_parts();
-    match restore_into(rt, alloc, &bootstrap, Some(names), drives, out) {
-        Ok(end) => Ok(end),
-        Err(fault) => Err(console_fault(fault)),
-    }
-}
-
 /// Runs the console over a history: chooses the jobs of a request, and runs a session over their view as
 /// `converse`, from a console at `/` without marks.
 ///
@@ -173,8 +150,8 @@ pub fn run_console<R: BufRead + Drop, D: Drive + Send, W: Write + Drop, S: Sink>
     out: &mut Outputs<W, S>,
 ) -> Result<ConsoleRun, ConsoleFault>
     requires drives { AreDrives drives.old.items }
-    ensures delivers { DeliversInto (R.remaining reader.old) D.shows W.contents S.has drives.old.items drives.new.items out.old out.new asked.now result }
-    ensures runs { RunsInto (R.remaining reader.old) D.shows W.contents drives.old.items drives.new.items out.old out.new asked.now result }
+    ensures delivers { DeliversInto (R.remaining reader.old) D.shows W.contents S.has drives.old drives.new out.old out.new asked.now result }
+    ensures runs { RunsInto (R.remaining reader.old) D.shows W.contents drives.old drives.new out.old out.new asked.now result }
     ensures tells { TellsInto (R.remaining reader.old) W.contents out.old out.new asked.now result }
     ensures untouched { IfUnchosen asked.now ((reader.new ≡ reader.old) × (drives.new ≡ drives.old) × (out.new ≡ out.old)) }
     ensures places { StayInPlace D.shows D.failures drives.old.items drives.new.items }
@@ -189,9 +166,12 @@ pub fn run_console<R: BufRead + Drop, D: Drive + Send, W: Write + Drop, S: Sink>
             end: End::Quit,
         });
     };
-    let end = restore_plan(rt, alloc, plan, drives, out)?;
-    Ok(ConsoleRun {
-        lines,
-        end: End::Done(end),
-    })
+    let (bootstrap, names) = plan.into_parts();
+    match restore_into(rt, alloc, &bootstrap, Some(names), drives, out) {
+        Ok(end) => Ok(ConsoleRun {
+            lines,
+            end: End::Done(end),
+        }),
+        Err(fault) => Err(console_fault(fault)),
+    }
 }

@@ -1,10 +1,13 @@
-use Rattle.std.proofs.Common.{◌≡◌, Option, Some, None, Ok, Err, map, refl, subst}
+use Rattle.std.proofs.Common.{◌≡◌, List, Option, Some, None, Ok, Err, map, refl, subst}
 use Rattle.std.proofs.lemmas.Result.{err_from_is_err_and}
+use Rattle.br_model.specs.Bootstrap.{Group}
+use Rattle.br_model.specs.Restored.{Planned}
 use Rattle.br_model.specs.Plan.{Plan}
 use Rattle.br_pool.proofs.WorkedLaws.{all_kept}
-use Rattle.br_engine.specs.Delivering.{in_sink}
+use Rattle.br_engine.specs.Extracting.{OverVolumes}
+use Rattle.br_engine.specs.Delivering.{Delivers, in_sink}
 use Rattle.br_console.specs.Running.{BeginsOver}
-use Rattle.br_console.proofs.RunLaws.{drive_fails_in_piece, restores_files, restores_undone, runs_refused, runs_restored, runs_stopped, runs_undone, tells_refused, tells_restored, tells_stopped, tells_undone}
+use Rattle.br_console.proofs.RunLaws.{drive_fails_in_piece, drive_fault_stays, plan_refused, plan_restored, restores_files, restores_undone, runs_refused, runs_restored, runs_stopped, runs_undone, tells_refused, tells_restored, tells_stopped, tells_undone}
 use Rattle.br_console.proofs.running.run_console.Goals as goal
 
 -- ---- before a drive is asked
@@ -87,83 +90,142 @@ returns-in_default-clause-places g c = all_kept g.D.Drive.shows g.D.Drive.failur
 
 -- ---- the restore is refused
 
-pub returns-in_err-end-clause-delivers : goal.returns-in_err-end-clause-delivers
-returns-in_err-end-clause-delivers g c =
-    let p = err_from_is_err_and c.from_residual-in_err-end.result c.from_residual-in_err-end.ensures.1 in
-    rw p.1 c.in_err-end.ensures.restores.2
-
-pub returns-in_err-end-clause-runs : goal.returns-in_err-end-clause-runs
-returns-in_err-end-clause-runs g c =
-    let p = err_from_is_err_and c.from_residual-in_err-end.result c.from_residual-in_err-end.ensures.1 in
-    let known = g.R.Read.remaining c.args.reader.now in
-    let before = g.W.Write.contents c.args.out.now.writer in
-    let now = g.W.Write.contents c.prepare.new.writer in
-    let asked = c.args.asked.now in
-    let lines = c.in_ok-lines.lines in
-    rw (p.1, p.2)
-    (runs_stopped known (map g.D.Drive.shows c.args.drives.now.items) (map g.D.Drive.shows c.restore_plan.new.drives.items) before now (g.W.Write.contents c.restore_plan.new.out.writer)
-    (in_sink g.S.Sink.has c.args.out.now) (in_sink g.S.Sink.has c.restore_plan.new.out) asked.history.now asked.request.now lines c.in-Some.plan c.in_err-end.field-0.0
-    (subst (λ (plan : Option Plan). BeginsOver known before now asked.history.now asked.request.now (Ok (lines, plan))) c.in-Some.is c.in_ok-lines.ensures.begins)
-    c.in_err-end.ensures.restores)
-
-pub returns-in_err-end-clause-tells : goal.returns-in_err-end-clause-tells
-returns-in_err-end-clause-tells g c =
-    let p = err_from_is_err_and c.from_residual-in_err-end.result c.from_residual-in_err-end.ensures.1 in
-    let known = g.R.Read.remaining c.args.reader.now in
-    let before = g.W.Write.contents c.args.out.now.writer in
-    let now = g.W.Write.contents c.prepare.new.writer in
-    let asked = c.args.asked.now in
-    let lines = c.in_ok-lines.lines in
-    rw (p.1, p.2)
-    (tells_stopped known before now (g.W.Write.contents c.restore_plan.new.out.writer) asked.history.now asked.request.now lines c.in-Some.plan c.in_err-end.field-0.0
-    (subst (λ (plan : Option Plan). BeginsOver known before now asked.history.now asked.request.now (Ok (lines, plan))) c.in-Some.is c.in_ok-lines.ensures.begins)
-    c.in_err-end.ensures.restores.1)
-
-pub returns-in_err-end-clause-untouched : goal.returns-in_err-end-clause-untouched
-returns-in_err-end-clause-untouched g c = λ n refused. absurd (c.in_ok-lines.ensures.chosen n refused)
-
--- ---- the files are restored
-
 pub returns-clause-delivers : goal.returns-clause-delivers
 returns-clause-delivers g c =
     let known = g.R.Read.remaining c.args.reader.now in
+    let earlier = map g.D.Drive.shows c.args.drives.now.items in
+    let later = map g.D.Drive.shows c.restore_into.new.drives.items in
     let before = g.W.Write.contents c.args.out.now.writer in
     let now = g.W.Write.contents c.prepare.new.writer in
+    let after = g.W.Write.contents c.restore_into.new.out.writer in
+    let had = in_sink g.S.Sink.has c.args.out.now in
+    let has = in_sink g.S.Sink.has c.restore_into.new.out in
     let asked = c.args.asked.now in
     let lines = c.in_ok-lines.lines in
-    let made = c.in_ok-end.ensures.restores in (
-      Some made.0,
-      restores_files known (map g.D.Drive.shows c.args.drives.now.items) (map g.D.Drive.shows c.restore_plan.new.drives.items) before now (g.W.Write.contents c.restore_plan.new.out.writer)
-          (in_sink g.S.Sink.has c.args.out.now) (in_sink g.S.Sink.has c.restore_plan.new.out) asked.history.now asked.request.now lines c.in-Some.plan c.in_ok-end.end
-          (subst (λ (plan : Option Plan). BeginsOver known before now asked.history.now asked.request.now (Ok (lines, plan))) c.in-Some.is c.in_ok-lines.ensures.begins) made,
-      made.3,
-    )
+    let plan = c.in-Some.plan in
+    let begins = subst (λ (p : Option Plan). BeginsOver known before now asked.history.now asked.request.now (Ok (lines, p))) c.in-Some.is c.in_ok-lines.ensures.begins in
+    let made =
+    plan_refused earlier later now after had has plan c.in-Err.fault c.console_fault.result c.console_fault.ensures
+    (subst (λ (groups : List Group). Delivers (λ holds. OverVolumes earlier later groups (Some plan.names) holds) now after had has (Err c.in-Err.fault)) c.into_parts-bootstrap.ensures.bootstrap
+    (subst (λ (names : List Planned). Delivers (λ holds. OverVolumes earlier later c.into_parts-bootstrap.result.0 (Some names) holds) now after had has (Err c.in-Err.fault)) c.into_parts-bootstrap.ensures.names
+    c.in-Err.ensures.delivers)) in
+    made.2
 
 pub returns-clause-runs : goal.returns-clause-runs
 returns-clause-runs g c =
     let known = g.R.Read.remaining c.args.reader.now in
+    let earlier = map g.D.Drive.shows c.args.drives.now.items in
+    let later = map g.D.Drive.shows c.restore_into.new.drives.items in
     let before = g.W.Write.contents c.args.out.now.writer in
     let now = g.W.Write.contents c.prepare.new.writer in
+    let after = g.W.Write.contents c.restore_into.new.out.writer in
+    let had = in_sink g.S.Sink.has c.args.out.now in
+    let has = in_sink g.S.Sink.has c.restore_into.new.out in
     let asked = c.args.asked.now in
     let lines = c.in_ok-lines.lines in
-    runs_restored known (map g.D.Drive.shows c.args.drives.now.items) (map g.D.Drive.shows c.restore_plan.new.drives.items) before now (g.W.Write.contents c.restore_plan.new.out.writer)
-    (in_sink g.S.Sink.has c.args.out.now) (in_sink g.S.Sink.has c.restore_plan.new.out) asked.history.now asked.request.now lines c.in-Some.plan c.in_ok-end.end
-    (subst (λ (plan : Option Plan). BeginsOver known before now asked.history.now asked.request.now (Ok (lines, plan))) c.in-Some.is c.in_ok-lines.ensures.begins)
-    c.in_ok-end.ensures.restores
+    let plan = c.in-Some.plan in
+    let begins = subst (λ (p : Option Plan). BeginsOver known before now asked.history.now asked.request.now (Ok (lines, p))) c.in-Some.is c.in_ok-lines.ensures.begins in
+    let made =
+    plan_refused earlier later now after had has plan c.in-Err.fault c.console_fault.result c.console_fault.ensures
+    (subst (λ (groups : List Group). Delivers (λ holds. OverVolumes earlier later groups (Some plan.names) holds) now after had has (Err c.in-Err.fault)) c.into_parts-bootstrap.ensures.bootstrap
+    (subst (λ (names : List Planned). Delivers (λ holds. OverVolumes earlier later c.into_parts-bootstrap.result.0 (Some names) holds) now after had has (Err c.in-Err.fault)) c.into_parts-bootstrap.ensures.names
+    c.in-Err.ensures.delivers)) in
+    runs_stopped known earlier later before now after had has asked.history.now asked.request.now lines plan c.console_fault.result begins made
 
 pub returns-clause-tells : goal.returns-clause-tells
 returns-clause-tells g c =
     let known = g.R.Read.remaining c.args.reader.now in
     let earlier = map g.D.Drive.shows c.args.drives.now.items in
-    let later = map g.D.Drive.shows c.restore_plan.new.drives.items in
+    let later = map g.D.Drive.shows c.restore_into.new.drives.items in
     let before = g.W.Write.contents c.args.out.now.writer in
     let now = g.W.Write.contents c.prepare.new.writer in
+    let after = g.W.Write.contents c.restore_into.new.out.writer in
+    let had = in_sink g.S.Sink.has c.args.out.now in
+    let has = in_sink g.S.Sink.has c.restore_into.new.out in
     let asked = c.args.asked.now in
     let lines = c.in_ok-lines.lines in
-    tells_restored known earlier later before now (g.W.Write.contents c.restore_plan.new.out.writer)
-    (in_sink g.S.Sink.has c.args.out.now) (in_sink g.S.Sink.has c.restore_plan.new.out) asked.history.now asked.request.now lines c.in-Some.plan c.in_ok-end.end
-    (subst (λ (plan : Option Plan). BeginsOver known before now asked.history.now asked.request.now (Ok (lines, plan))) c.in-Some.is c.in_ok-lines.ensures.begins)
-    c.in_ok-end.ensures.restores
+    let plan = c.in-Some.plan in
+    let begins = subst (λ (p : Option Plan). BeginsOver known before now asked.history.now asked.request.now (Ok (lines, p))) c.in-Some.is c.in_ok-lines.ensures.begins in
+    let made =
+    plan_refused earlier later now after had has plan c.in-Err.fault c.console_fault.result c.console_fault.ensures
+    (subst (λ (groups : List Group). Delivers (λ holds. OverVolumes earlier later groups (Some plan.names) holds) now after had has (Err c.in-Err.fault)) c.into_parts-bootstrap.ensures.bootstrap
+    (subst (λ (names : List Planned). Delivers (λ holds. OverVolumes earlier later c.into_parts-bootstrap.result.0 (Some names) holds) now after had has (Err c.in-Err.fault)) c.into_parts-bootstrap.ensures.names
+    c.in-Err.ensures.delivers)) in
+    tells_stopped known before now after asked.history.now asked.request.now lines plan c.console_fault.result begins made.1
 
 pub returns-clause-untouched : goal.returns-clause-untouched
 returns-clause-untouched g c = λ n refused. absurd (c.in_ok-lines.ensures.chosen n refused)
+
+pub returns-clause-failed : goal.returns-clause-failed
+returns-clause-failed g c = λ is. c.in-Err.ensures.failed (drive_fault_stays c.in-Err.fault c.console_fault.result c.console_fault.ensures is)
+
+-- ---- the files are restored
+
+pub returns-in-Ok-clause-delivers : goal.returns-in-Ok-clause-delivers
+returns-in-Ok-clause-delivers g c =
+    let known = g.R.Read.remaining c.args.reader.now in
+    let earlier = map g.D.Drive.shows c.args.drives.now.items in
+    let later = map g.D.Drive.shows c.restore_into.new.drives.items in
+    let before = g.W.Write.contents c.args.out.now.writer in
+    let now = g.W.Write.contents c.prepare.new.writer in
+    let after = g.W.Write.contents c.restore_into.new.out.writer in
+    let had = in_sink g.S.Sink.has c.args.out.now in
+    let has = in_sink g.S.Sink.has c.restore_into.new.out in
+    let asked = c.args.asked.now in
+    let lines = c.in_ok-lines.lines in
+    let plan = c.in-Some.plan in
+    let begins = subst (λ (p : Option Plan). BeginsOver known before now asked.history.now asked.request.now (Ok (lines, p))) c.in-Some.is c.in_ok-lines.ensures.begins in
+    let made =
+    plan_restored earlier later now after had has plan c.in-Ok.end
+    (subst (λ (groups : List Group). Delivers (λ holds. OverVolumes earlier later groups (Some plan.names) holds) now after had has (Ok c.in-Ok.end)) c.into_parts-bootstrap.ensures.bootstrap
+    (subst (λ (names : List Planned). Delivers (λ holds. OverVolumes earlier later c.into_parts-bootstrap.result.0 (Some names) holds) now after had has (Ok c.in-Ok.end)) c.into_parts-bootstrap.ensures.names
+    c.in-Ok.ensures.delivers)) in (
+      Some made.0,
+      restores_files known earlier later before now after had has asked.history.now asked.request.now lines plan c.in-Ok.end begins made,
+      made.3,
+    )
+
+pub returns-in-Ok-clause-runs : goal.returns-in-Ok-clause-runs
+returns-in-Ok-clause-runs g c =
+    let known = g.R.Read.remaining c.args.reader.now in
+    let earlier = map g.D.Drive.shows c.args.drives.now.items in
+    let later = map g.D.Drive.shows c.restore_into.new.drives.items in
+    let before = g.W.Write.contents c.args.out.now.writer in
+    let now = g.W.Write.contents c.prepare.new.writer in
+    let after = g.W.Write.contents c.restore_into.new.out.writer in
+    let had = in_sink g.S.Sink.has c.args.out.now in
+    let has = in_sink g.S.Sink.has c.restore_into.new.out in
+    let asked = c.args.asked.now in
+    let lines = c.in_ok-lines.lines in
+    let plan = c.in-Some.plan in
+    let begins = subst (λ (p : Option Plan). BeginsOver known before now asked.history.now asked.request.now (Ok (lines, p))) c.in-Some.is c.in_ok-lines.ensures.begins in
+    let made =
+    plan_restored earlier later now after had has plan c.in-Ok.end
+    (subst (λ (groups : List Group). Delivers (λ holds. OverVolumes earlier later groups (Some plan.names) holds) now after had has (Ok c.in-Ok.end)) c.into_parts-bootstrap.ensures.bootstrap
+    (subst (λ (names : List Planned). Delivers (λ holds. OverVolumes earlier later c.into_parts-bootstrap.result.0 (Some names) holds) now after had has (Ok c.in-Ok.end)) c.into_parts-bootstrap.ensures.names
+    c.in-Ok.ensures.delivers)) in
+    runs_restored known earlier later before now after had has asked.history.now asked.request.now lines plan c.in-Ok.end begins made
+
+pub returns-in-Ok-clause-tells : goal.returns-in-Ok-clause-tells
+returns-in-Ok-clause-tells g c =
+    let known = g.R.Read.remaining c.args.reader.now in
+    let earlier = map g.D.Drive.shows c.args.drives.now.items in
+    let later = map g.D.Drive.shows c.restore_into.new.drives.items in
+    let before = g.W.Write.contents c.args.out.now.writer in
+    let now = g.W.Write.contents c.prepare.new.writer in
+    let after = g.W.Write.contents c.restore_into.new.out.writer in
+    let had = in_sink g.S.Sink.has c.args.out.now in
+    let has = in_sink g.S.Sink.has c.restore_into.new.out in
+    let asked = c.args.asked.now in
+    let lines = c.in_ok-lines.lines in
+    let plan = c.in-Some.plan in
+    let begins = subst (λ (p : Option Plan). BeginsOver known before now asked.history.now asked.request.now (Ok (lines, p))) c.in-Some.is c.in_ok-lines.ensures.begins in
+    let made =
+    plan_restored earlier later now after had has plan c.in-Ok.end
+    (subst (λ (groups : List Group). Delivers (λ holds. OverVolumes earlier later groups (Some plan.names) holds) now after had has (Ok c.in-Ok.end)) c.into_parts-bootstrap.ensures.bootstrap
+    (subst (λ (names : List Planned). Delivers (λ holds. OverVolumes earlier later c.into_parts-bootstrap.result.0 (Some names) holds) now after had has (Ok c.in-Ok.end)) c.into_parts-bootstrap.ensures.names
+    c.in-Ok.ensures.delivers)) in
+    tells_restored known earlier later before now after had has asked.history.now asked.request.now lines plan c.in-Ok.end begins made
+
+pub returns-in-Ok-clause-untouched : goal.returns-in-Ok-clause-untouched
+returns-in-Ok-clause-untouched g c = λ n refused. absurd (c.in_ok-lines.ensures.chosen n refused)
