@@ -1,2 +1,3 @@
+pub mod SpaceLaws
 pub mod SpellingLaws
 pub mod StoreLaws

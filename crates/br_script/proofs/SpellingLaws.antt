@@ -4,31 +4,31 @@ use Rattle.std.proofs.lemmas.List.{append-nil}
 use Rattle.br_types.specs.Escape.{in_front}
 use Rattle.br_script.specs.Spelling.{pairs_read}
 
--- bytes in front of others, where these are there
-abbrev pub behind : List ℕ → Option (List ℕ) → Option (List ℕ)
-behind front None = None
-behind front (Some bytes) = Some (front ++ bytes)
+-- bytes before others, if there are others
+abbrev pub after_front : List ℕ → Option (List ℕ) → Option (List ℕ)
+after_front front None = None
+after_front front (Some bytes) = Some (front ++ bytes)
 
-behind_none : (bytes : Option (List ℕ)) → bytes ≡ behind [] bytes
-behind_none None = refl
-behind_none (Some bytes) = refl
+none_after : (bytes : Option (List ℕ)) → bytes ≡ after_front [] bytes
+none_after None = refl
+none_after (Some bytes) = refl
 
-behind_more : (front : List ℕ) (byte : ℕ) (bytes : Option (List ℕ)) → behind front (in_front (Some byte) bytes) ≡ behind (front ++ byte ∷ []) bytes
+more_after : (front : List ℕ) (byte : ℕ) (bytes : Option (List ℕ)) → after_front front (in_front (Some byte) bytes) ≡ after_front (front ++ byte ∷ []) bytes
 unfolding in_front
-behind_more front byte None = refl
-behind_more front byte (Some bytes) = ap Some (sym (append_assoc front (byte ∷ []) bytes))
+more_after front byte None = refl
+more_after front byte (Some bytes) = ap Some (sym (append_assoc front (byte ∷ []) bytes))
 
 -- nothing is read so far
-pub read_none : (text bytes : List ℕ) → bytes ≡ [] → pairs_read text ≡ behind bytes (pairs_read text)
-read_none text bytes e = behind_none (pairs_read text) ∙ ap (λ (l : List ℕ). behind l (pairs_read text)) (sym e)
+pub read_none : (text bytes : List ℕ) → bytes ≡ [] → pairs_read text ≡ after_front bytes (pairs_read text)
+read_none text bytes e = none_after (pairs_read text) ∙ ap (λ (l : List ℕ). after_front l (pairs_read text)) (sym e)
 
 -- a byte more is read
-pub read_more : (text left rest bytes after : List ℕ) (byte : ℕ) → pairs_read text ≡ behind bytes (pairs_read left)
-    → pairs_read left ≡ in_front (Some byte) (pairs_read rest) → after ≡ bytes ++ byte ∷ [] → pairs_read text ≡ behind after (pairs_read rest)
+pub read_more : (text left rest bytes after : List ℕ) (byte : ℕ) → pairs_read text ≡ after_front bytes (pairs_read left)
+    → pairs_read left ≡ in_front (Some byte) (pairs_read rest) → after ≡ bytes ++ byte ∷ [] → pairs_read text ≡ after_front after (pairs_read rest)
 read_more text left rest bytes after byte so_far first pushed =
-    so_far ∙ ap (behind bytes) first ∙ behind_more bytes byte (pairs_read rest) ∙ ap (λ (l : List ℕ). behind l (pairs_read rest)) (sym pushed)
+    so_far ∙ ap (after_front bytes) first ∙ more_after bytes byte (pairs_read rest) ∙ ap (λ (l : List ℕ). after_front l (pairs_read rest)) (sym pushed)
 
 -- nothing is left
-pub read_all : (text left bytes : List ℕ) → pairs_read text ≡ behind bytes (pairs_read left) → left ≡ [] → pairs_read text ≡ Some bytes
+pub read_all : (text left bytes : List ℕ) → pairs_read text ≡ after_front bytes (pairs_read left) → left ≡ [] → pairs_read text ≡ Some bytes
 unfolding pairs_read
-read_all text left bytes so_far none = so_far ∙ ap (λ (l : List ℕ). behind bytes (pairs_read l)) none ∙ ap Some (append-nil bytes)
+read_all text left bytes so_far none = so_far ∙ ap (λ (l : List ℕ). after_front bytes (pairs_read l)) none ∙ ap Some (append-nil bytes)

@@ -1,4 +1,4 @@
--- Volumes that are kept as pairs, with bytes put behind those of one.
+-- Volumes that are kept as pairs, with bytes appended to one.
 use Rattle.std.proofs.Common.{◌≡◌, ℕ, zero, suc, ◌<◌, Bool, true, false, cond, List, [], ◌∷◌, ◌++◌, length, get_or, set, Some, None, Result, Ok, Err, OnOk, OnErr, is_ok, refl, ap, sym, ◌∙◌, arith}
 use Rattle.std.proofs.Math.Seq.{map-set_same}
 use Rattle.std.proofs.lemmas.Bool.{or_parts}
@@ -18,7 +18,7 @@ on_err : {X E : Type 0} (r : Result X E) (P : Type 0) → (is_ok r ≡ false →
 on_err (Ok x) P f = tt
 on_err (Err e) P f = f refl
 
--- the bytes go behind those of the first of the name
+-- the bytes are appended to the first of the name
 extended : {A : Type 0} (kept : List (List ℕ × Vec ℕ A)) (place : ℕ) (name bytes : List ℕ) (was : List ℕ × Vec ℕ A) (now : Vec ℕ A)
     → place < length kept → bytes_eq (get_or kept place was).0 name ≡ true → ((k : ℕ) → k < place → bytes_eq (get_or kept k was).0 name ≡ false)
     → was ≡ get_or kept place was → now.items ≡ was.1.items ++ bytes → volumes_of (set kept place (was.0, now)) ≡ with_bytes (volumes_of kept) name bytes
@@ -34,7 +34,7 @@ extended (v ∷ kept) (suc place) name bytes was now less first before is grown 
     (extended kept place name bytes was now (omega (arith, less)) first (λ k lt. before (suc k) (omega (arith, lt))) is grown)
     )
 
--- a volume is made behind the others
+-- a volume is made after the others
 made : {A : Type 0} (kept : List (List ℕ × Vec ℕ A)) (name bytes : List ℕ) (volume : Vec ℕ A)
     → list_any (λ (v : List ℕ × Vec ℕ A). bytes_eq v.0 name) kept ≡ false → volume.items ≡ bytes
     → volumes_of (kept ++ (name, volume) ∷ []) ≡ with_bytes (volumes_of kept) name bytes
@@ -44,16 +44,16 @@ made {A} (v ∷ kept) name bytes volume none is =
     let parts : (bytes_eq v.0 name ≡ false) × (list_any (λ (w : List ℕ × Vec ℕ A). bytes_eq w.0 name) kept ≡ false) = or_parts (bytes_eq v.0 name) _ none in
     rw parts.0 (ap (λ (l : List Volume). record { name = v.0; bytes = v.1.items } ∷ l) (made kept name bytes volume parts.1 is))
 
--- what is kept after bytes were put behind those of the volume that was found
-pub put_behind : {X E A : Type 0} (r : Result X E) (seen kept : List (List ℕ × Vec ℕ A)) (place : ℕ) (name bytes : List ℕ) (was : List ℕ × Vec ℕ A) (now : Vec ℕ A)
+-- what is kept after bytes were appended to the volume that was found
+pub appended : {X E A : Type 0} (r : Result X E) (seen kept : List (List ℕ × Vec ℕ A)) (place : ℕ) (name bytes : List ℕ) (was : List ℕ × Vec ℕ A) (now : Vec ℕ A)
     → seen ≡ kept → Some place ≡ position (λ v. bytes_eq v.0 name) seen → was ≡ get_or kept place was
     → now.items ≡ cond (is_ok r) (was.1.items ++ bytes) was.1.items
     → OnOk r (volumes_of (set kept place (was.0, now)) ≡ with_bytes (volumes_of kept) name bytes)
-put_behind r seen kept place name bytes was now same found is items =
+appended r seen kept place name bytes was now same found is items =
     let at = position-Some (λ v. bytes_eq v.0 name) kept place was (ap (position (λ v. bytes_eq v.0 name)) (sym same) ∙ sym found) in
     on_ok r _ (λ ok. extended kept place name bytes was now at.0 at.1 at.2 is (items ∙ ap (λ (b : Bool). cond b (was.1.items ++ bytes) was.1.items) ok))
 
--- nothing is changed where memory is short
+-- nothing is changed if memory runs out
 pub left_alone : {X E A : Type 0} (r : Result X E) (kept : List (List ℕ × Vec ℕ A)) (place : ℕ) (bytes : List ℕ) (was : List ℕ × Vec ℕ A) (now : Vec ℕ A)
     → was ≡ get_or kept place was → now.items ≡ cond (is_ok r) (was.1.items ++ bytes) was.1.items
     → OnErr r (volumes_of (set kept place (was.0, now)) ≡ volumes_of kept)

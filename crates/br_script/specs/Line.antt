@@ -33,11 +33,11 @@ volume_by (name, Some digits) =
     >>= (λ n. refused_as (λ _. tt) (checked_volume_name n)
     >>= (λ v. some_or (bytes_spelled digits) tt >>= (λ bytes. Ok (Volume v bytes))))
 
--- what the fields behind `volume` ask for
+-- what the fields after `volume` ask for
 unfoldable pub volume_said : List ℕ → Result Said (Unit {0})
 volume_said fields = volume_by (fields_of fields)
 
--- the first word and the fields behind it
+-- the first word and the fields after it
 abbrev pub said_by : List ℕ × Option (List ℕ) → Result Said (Unit {0})
 said_by (word, Some fields) = if bytes_eq word (codes "volume") then volume_said fields else Err tt
 said_by (word, None) =
@@ -49,7 +49,7 @@ said_by (word, None) =
 unfoldable pub line_said : List ℕ → Result Said (Unit {0})
 line_said text = if nat_le (length text) 4096 then said_by (fields_of text) else Err tt
 
--- the refusal that the line decides, nothing for want of memory
+-- the refusal that the line decides, none if memory ran out
 abbrev pub line_cause : LineFault → Option (Unit {0})
 line_cause Memory = None
 line_cause BadScript = Some tt

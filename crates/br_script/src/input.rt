@@ -1,21 +1,22 @@
+use bstr::ByteSlice;
 use std::io::{self, BufRead, Error, ErrorKind};
 
-/// How often an input is read before its end has to come.
+/// The number of turns of reading within which an input has to end.
 pub(crate) const MAX_TURNS: u64 = 1 << 40;
 
-/// What came of reading a line.
+/// The result of reading a line.
 #[derive(Clone, Copy, Debug, PartialEq, Eq)]
 pub(crate) enum Reading {
-    /// A line, which now stands in the buffer.
+    /// A line, which is now in the buffer.
     Line,
-    /// There was no memory for the line. It is passed over.
+    /// Memory ran out for the line, which is skipped.
     NoMemory,
-    /// The input has come to its end.
+    /// The end of input.
     End,
 }
 
 impl Reading {
-    /// The same of a line of which something was read.
+    /// Returns the result for a line of which something was read.
     fn begun(self) -> Reading {
         match self {
             Reading::End => Reading::Line,
@@ -24,11 +25,12 @@ impl Reading {
     }
 }
 
+/// Returns the error for an input that does not end.
 pub(crate) fn no_end() -> Error {
     Error::new(ErrorKind::TimedOut, "the input has no end")
 }
 
-/// What came of one turn of reading.
+/// The result of one turn of reading.
 enum Part {
     /// The turn was interrupted.
     Nothing,
@@ -39,7 +41,7 @@ enum Part {
     InputEnd,
 }
 
-/// The lines of an input. A line ends at LF alone, which the last may lack.
+/// The lines of an input. A line ends at LF alone, which the last line may lack.
 #[derive(Drop)]
 pub(crate) struct Lines<R> {
     reader: R,
@@ -47,7 +49,7 @@ pub(crate) struct Lines<R> {
     number: u64,
 }
 
-/// Puts bytes behind a line, as far as it has at most `most` then. Whether there was memory for them.
+/// Appends bytes to a line, up to `most` bytes in all. Returns false if memory ran out.
 fn keep(line: &mut Vec<u8>, part: &[u8], most: usize) -> bool {
     let room = most.saturating_sub(line.len()).min(part.len());
     line.extend_from_slice(&part[..room]).is_ok()
@@ -62,13 +64,13 @@ impl<R: BufRead> Lines<R> {
         }
     }
 
-    /// The number of the line that was read last, from 1.
+    /// Returns the number of the line that was read last, from 1.
     pub(crate) fn number(&self) -> u64 {
         self.number
     }
 
-    /// One turn of reading: what the reader has at hand of a line goes behind `line`, as far as that has at most `most` bytes then.
-    /// Also whether there was memory for it.
+    /// Appends to `line` what the reader has at hand of it, up to `most` bytes in all. Returns false beside the result if memory
+    /// ran out.
     fn read_part(&mut self, line: &mut Vec<u8>, most: usize) -> io::Result<(Part, bool)> {
         if self.turns_left == 0 {
             return Err(no_end());
@@ -79,7 +81,7 @@ impl<R: BufRead> Lines<R> {
             Err(e) if e.kind() == ErrorKind::Interrupted => return Ok((Part::Nothing, true)),
             Err(e) => return Err(e),
         };
-        let (part, used, is_kept) = match available.iter().position(|byte| *byte == b'\n') {
+        let (part, used, is_kept) = match available.find_byte(b'\n') {
             Some(at) => (Part::LineEnd, at + 1, keep(line, &available[..at], most)),
             None if available.is_empty() => (Part::InputEnd, 0, true),
             None => (Part::More, available.len(), keep(line, available, most)),
@@ -88,7 +90,7 @@ impl<R: BufRead> Lines<R> {
         Ok((part, is_kept))
     }
 
-    /// Makes `line` the next line, without its LF. Of a longer line than `most` bytes only so many are kept.
+    /// Reads the next line into `line`, without its LF. Keeps at most `most` bytes of it.
     pub(crate) fn read(&mut self, line: &mut Vec<u8>, most: usize) -> io::Result<Reading> {
         line.clear();
         let (mut most, mut reading) = (most, Reading::End);

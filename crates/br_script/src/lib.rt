@@ -8,4 +8,4 @@ mod script;
 #[cfg(test)]
 mod tests;
 
-pub use script::run_script;
+pub use script::{ScriptEnd, run_script};

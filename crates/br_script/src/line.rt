@@ -7,10 +7,10 @@ use crate::fields::{cut, read_bytes};
 use br_types::{EscapeFault, NameFault, VolName, unescape};
 use std::alloc::{AllocError, Global};
 
-/// The most bytes of a line of a script, without its LF.
+/// The greatest number of bytes of a line of a script, without its LF.
 pub(crate) const MAX_LINE: usize = 4096;
 
-/// Why a line of a script is not carried out.
+/// Why a line of a script was refused.
 #[derive(Clone, Copy, Debug, PartialEq, Eq)]
 pub(crate) enum LineFault {
     Memory,
@@ -48,24 +48,24 @@ impl From<NameFault> for LineFault {
     }
 }
 
-/// What a line of a script asks for.
+/// A line of a script.
 #[derive(Debug, Drop)]
 pub(crate) enum ScriptLine {
-    /// The bytes go behind those of the volume, which is made if it is not there.
+    /// Appends bytes to a volume, which is made if it is not there.
     Volume { name: VolName, bytes: Vec<u8> },
-    /// The lines up to a line `.` are a bootstrap.
+    /// Begins a bootstrap, whose lines end before a line `.`.
     Bsr,
-    /// The kept bootstrap is to be run.
+    /// Runs the kept bootstrap.
     Extract,
 }
 
-/// `NAME HEX`.
+/// Reads the fields `NAME HEX`.
 #[tactic(auto, unfolding(crate::specs::Line::volume_said))]
 fn read_volume(alloc: Global, fields: &[u8]) -> Result<ScriptLine, LineFault>
     ensures { Answers said line_cause result (volume_said fields.now) }
 {
-    let (name, behind) = cut(fields);
-    let Some(bytes) = behind else {
+    let (name, after) = cut(fields);
+    let Some(bytes) = after else {
         return Err(LineFault::BadScript);
     };
     let name = unescape(alloc, name)?;
@@ -75,10 +75,12 @@ fn read_volume(alloc: Global, fields: &[u8]) -> Result<ScriptLine, LineFault>
     })
 }
 
-/// What a line asks for, given without its LF: `volume NAME HEX`, `bsr` or `extract`. Fields are separated by one space, names are
-/// escaped, and bytes are pairs of small hexadecimal digits, with `-` for none.
+/// Reads a line, given without its LF: `volume NAME HEX`, `bsr` or `extract`. Fields are separated by one space, names are
+/// escaped, and bytes are pairs of hexadecimal digits in lower case, or `-` for none.
 ///
-/// `BadScript` for any other line, and for one of more than 4,096 bytes.
+/// # Errors
+///
+/// `BadScript` for a line of more than 4,096 bytes, and for any other line.
 #[tactic(auto, unfolding(crate::specs::Line::line_said))]
 pub(crate) fn read_line(alloc: Global, line: &[u8]) -> Result<ScriptLine, LineFault>
     ensures { Answers said line_cause result (line_said line.now) }

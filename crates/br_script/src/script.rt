@@ -14,26 +14,34 @@ use std::io::{self, BufRead, Write};
 use std::mem;
 use std::thread::Threads;
 
-/// What a script has made so far.
+/// How a script ended.
+#[derive(Clone, Copy, Debug, PartialEq, Eq)]
+pub enum ScriptEnd {
+    /// Nothing was refused, and every outcome was a file.
+    Clean,
+    /// Something was refused, or some outcome was not a file.
+    Refused,
+}
+
+/// The state of a script that runs.
 #[derive(Drop)]
 struct Script {
     alloc: Global,
     volumes: Vec<(VolName, Vec<u8>)>,
     kept: Option<Bootstrap>,
-    /// Nothing was refused, and every outcome was a file.
-    is_clean: bool,
+    end: ScriptEnd,
 }
 
 /// The lines of a bootstrap in a script.
 enum BootstrapLines {
-    /// The text up to the line `.`.
+    /// The text before the line `.`.
     Text(Vec<u8>),
     NoMemory,
     /// The input ended before `.`.
     Unended,
 }
 
-/// Puts a line and its LF behind a text, if memory was there so far. Whether it was there for the line too.
+/// Appends a line and its LF, if no line before ran out of memory. Returns false if memory ran out now or before.
 fn push_line(text: &mut Vec<u8>, line: &[u8], reading: Reading, had_memory: bool) -> bool {
     had_memory
         && reading == Reading::Line
@@ -41,7 +49,7 @@ fn push_line(text: &mut Vec<u8>, line: &[u8], reading: Reading, had_memory: bool
         && text.push(b'\n').is_ok()
 }
 
-/// The lines up to a line `.`, or to the input's end.
+/// Reads the lines up to a line `.` or the end of input.
 fn read_bootstrap_lines<R: BufRead>(
     alloc: Global,
     lines: &mut Lines<R>,
@@ -65,7 +73,7 @@ fn read_bootstrap_lines<R: BufRead>(
     Err(no_end())
 }
 
-/// The place of the volume of this name, if it is there.
+/// Returns the place of the first volume with this name.
 fn place_of(volumes: &[(VolName, Vec<u8>)], name: &VolName) -> Option<usize>
     ensures { result ≡ position (λ v. bytes_eq v.0 name.now) volumes.now }
 {
@@ -74,7 +82,7 @@ fn place_of(volumes: &[(VolName, Vec<u8>)], name: &VolName) -> Option<usize>
         .position(|volume| volume.0.bytes() == name.bytes())
 }
 
-/// Puts bytes behind those of a volume, and makes the volume if it is not there. Where memory is short nothing is changed.
+/// Appends bytes to a volume, which is made if it is not there. Changes nothing if memory runs out.
 fn append(
     alloc: Global,
     volumes: &mut Vec<(VolName, Vec<u8>)>,
@@ -100,12 +108,12 @@ impl Script {
             alloc,
             volumes: Vec::new(alloc),
             kept: None,
-            is_clean: true,
+            end: ScriptEnd::Clean,
         }
     }
 
     fn refuse<W: Write>(&mut self, number: u32, writer: &mut W) -> io::Result<()> {
-        self.is_clean = false;
+        self.end = ScriptEnd::Refused;
         writeln!(writer, "refused {number}")
     }
 
@@ -118,7 +126,7 @@ impl Script {
         match fault {
             LineFault::Memory => self.refuse(1, writer),
             LineFault::BadScript => {
-                self.is_clean = false;
+                self.end = ScriptEnd::Refused;
                 writeln!(writer, "refused 90 line {number}")
             }
         }
@@ -131,7 +139,7 @@ impl Script {
         let mut text = Vec::new(self.alloc);
         match fault.push_line(&mut text) {
             Ok(()) => {
-                self.is_clean = false;
+                self.end = ScriptEnd::Refused;
                 writer.write_all(&text)
             }
             Err(_) => self.refuse(1, writer),
@@ -145,7 +153,7 @@ impl Script {
         }
     }
 
-    /// Reads the lines up to `.` as a bootstrap, which is kept in place of the one before; none is kept where it is refused.
+    /// Reads the lines up to `.` as a bootstrap and keeps it in place of the one before. Keeps none if it is refused.
     fn keep_bootstrap<R: BufRead, W: Write>(
         &mut self,
         lines: &mut Lines<R>,
@@ -195,8 +203,9 @@ impl Script {
             self.volumes = drive.into_volumes();
         }
         match run {
-            Ok(end) => {
-                self.is_clean = self.is_clean && matches!(end, RestoreEnd::AllFiles);
+            Ok(RestoreEnd::AllFiles) => Ok(()),
+            Ok(RestoreEnd::SomeFaults | RestoreEnd::Stopped(_)) => {
+                self.end = ScriptEnd::Refused;
                 Ok(())
             }
             Err(fault) => self.refuse_extract(fault, writer),
@@ -219,20 +228,20 @@ impl Script {
     }
 }
 
-/// Works off a script line by line over volumes in memory, and writes the answers. The answer is whether nothing was refused and
-/// every outcome was a file.
+/// Runs a script over volumes in memory, and writes its answers.
 ///
-/// `volume NAME HEX` puts bytes behind those of a volume. The lines between `bsr` and `.` are a bootstrap, which is kept until the
-/// next one. `extract` runs the kept bootstrap and writes the manifest. A line that is refused is answered by `refused N`, and
-/// what it asks for is not done.
+/// `volume NAME HEX` appends bytes to a volume. The lines between `bsr` and `.` are a bootstrap, which is kept until the next one.
+/// `extract` runs the kept bootstrap and writes the manifest. For a line that is refused, `refused N` is written and nothing done.
 ///
-/// An error where reading or writing failed, or where the reader has not come to its end after 2^40 turns.
+/// # Errors
+///
+/// An error of the reader or of the writer; `TimedOut` if the input does not end within 2^40 turns of reading.
 pub fn run_script<R: BufRead, W: Write>(
     rt: &(impl Threads + Sync),
     alloc: Global,
     reader: &mut R,
     writer: &mut W,
-) -> io::Result<bool> {
+) -> io::Result<ScriptEnd> {
     let mut lines = Lines::new(reader);
     let mut script = Script::new(alloc);
     let mut line = Vec::new(alloc);
@@ -240,7 +249,7 @@ pub fn run_script<R: BufRead, W: Write>(
         match lines.read(&mut line, MAX_LINE + 1)? {
             Reading::Line => script.carry_out(rt, &line, &mut lines, writer)?,
             Reading::NoMemory => script.refuse(1, writer)?,
-            Reading::End => return Ok(script.is_clean),
+            Reading::End => return Ok(script.end),
         }
     }
     Err(no_end())

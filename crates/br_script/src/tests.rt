@@ -1,4 +1,4 @@
-use crate::script::run_script;
+use crate::script::{ScriptEnd, run_script};
 use std::io::{self, BufReader, Error, ErrorKind, Read, Write};
 use std::process::Abort;
 use std::test::Fail;
@@ -39,44 +39,44 @@ fn script_of(rt: &HostRuntime, digits: &[u8], bootstrap: &[u8]) -> Result<Vec<u8
     Ok(script)
 }
 
-/// That a script is answered so, and whether all of it was carried out and every outcome was a file.
+/// Asserts what a script writes, and how it ends.
 fn answers<R: Abort + AllocGlobal + Threads + Sync>(
     rt: &R,
     script: &[u8],
     answer: &[u8],
-    is_clean: bool,
+    end: ScriptEnd,
 ) -> Result<(), Fail> {
     let mut reader = script;
     let mut written = Vec::new(rt.alloc());
-    let clean = run_script(rt, rt.alloc(), &mut reader, &mut written)?;
+    let ended = run_script(rt, rt.alloc(), &mut reader, &mut written)?;
     assert_eq!(rt; written.as_slice(), answer);
-    assert_eq!(rt; clean, is_clean);
+    assert_eq!(rt; ended, end);
     Ok(())
 }
 
 #[test]
 fn a_volume_is_restored(rt: HostRuntime) -> Result<(), Fail> {
     let script = script_of(&rt, &hello(&rt)?, ALL_OF_V1)?;
-    answers(&rt, &script, HELLO, true)
+    answers(&rt, &script, HELLO, ScriptEnd::Clean)
 }
 
 #[test]
 fn an_empty_volume_has_no_files(rt: HostRuntime) -> Result<(), Fail> {
     let script = script_of(&rt, b"-", ALL_OF_V1)?;
-    answers(&rt, &script, b"total 0 0 0\n", true)
+    answers(&rt, &script, b"total 0 0 0\n", ScriptEnd::Clean)
 }
 
 #[test]
 fn a_volume_has_to_be_there(rt: HostRuntime) -> Result<(), Fail> {
     let script = script_of(&rt, &hello(&rt)?, b"Volume=\"Q\"\n")?;
-    answers(&rt, &script, b"refused 14 Q 0\n", false)
+    answers(&rt, &script, b"refused 14 Q 0\n", ScriptEnd::Refused)
 }
 
 #[test]
 fn a_storage_filters_nothing(rt: HostRuntime) -> Result<(), Fail> {
     let bootstrap = b"Storage=\"S\"\nVolume=\"V1\"\nFileIndex=1\n";
     let script = script_of(&rt, &hello(&rt)?, bootstrap)?;
-    answers(&rt, &script, HELLO, true)
+    answers(&rt, &script, HELLO, ScriptEnd::Clean)
 }
 
 #[test]
@@ -100,7 +100,7 @@ fn keywords_are_joined_by_and_their_values_by_or(rt: HostRuntime) -> Result<(), 
         &rt,
         &script,
         b"X 3 100 5 63\nX 4 100 2 63\ntotal 0 2 0\n",
-        false,
+        ScriptEnd::Refused,
     )
 }
 
@@ -118,23 +118,23 @@ fn a_bootstrap_is_refused_by_line(rt: HostRuntime) -> Result<(), Fail> {
         let mut script = Vec::from_slice(rt.alloc(), b"bsr\n")?;
         script.extend_from_slice(bootstrap)?;
         script.extend_from_slice(b".\n")?;
-        answers(&rt, &script, answer, false)?;
+        answers(&rt, &script, answer, ScriptEnd::Refused)?;
     }
     Ok(())
 }
 
 #[test]
 fn a_line_of_a_bootstrap_has_at_most_4096_bytes(rt: HostRuntime) -> Result<(), Fail> {
-    for (len, answer, is_clean) in [
-        (4096, b"".as_slice(), true),
-        (4097, b"refused 34 line 2\n", false),
+    for (len, answer, end) in [
+        (4096, b"".as_slice(), ScriptEnd::Clean),
+        (4097, b"refused 34 line 2\n", ScriptEnd::Refused),
     ] {
         let mut script = Vec::from_slice(rt.alloc(), b"bsr\nVolume=\"V1\"\n")?;
         for _ in 0..len {
             script.push(b'#')?;
         }
         script.extend_from_slice(b"\n.\n")?;
-        answers(&rt, &script, answer, is_clean)?;
+        answers(&rt, &script, answer, end)?;
     }
     Ok(())
 }
@@ -144,21 +144,31 @@ fn a_refused_bootstrap_drops_the_kept_one(rt: HostRuntime) -> Result<(), Fail> {
     let script =
         b"volume V1 -\nbsr\nVolume=\"V1\"\n.\nextract\nextract\nbsr\nFileIndex=1\n.\nextract\n";
     let answer = b"total 0 0 0\ntotal 0 0 0\nrefused 30 line 1\nrefused 90 line 10\n";
-    answers(&rt, script, answer, false)
+    answers(&rt, script, answer, ScriptEnd::Refused)
 }
 
 #[test]
 fn a_stream_that_is_not_supported_is_told(rt: HostRuntime) -> Result<(), Fail> {
     let digits = block(&rt, b"0000005b", b"00000004", b"00000005")?;
     let script = script_of(&rt, &digits, ALL_OF_V1)?;
-    answers(&rt, &script, b"X 1 100 1 65 4\ntotal 0 1 0\n", false)
+    answers(
+        &rt,
+        &script,
+        b"X 1 100 1 65 4\ntotal 0 1 0\n",
+        ScriptEnd::Refused,
+    )
 }
 
 #[test]
 fn a_torn_record_is_told(rt: HostRuntime) -> Result<(), Fail> {
     let digits = block(&rt, b"0000005b", b"00000002", b"ffffffff")?;
     let script = script_of(&rt, &digits, ALL_OF_V1)?;
-    answers(&rt, &script, b"X 1 100 1 61\ntotal 0 1 0\n", false)
+    answers(
+        &rt,
+        &script,
+        b"X 1 100 1 61\ntotal 0 1 0\n",
+        ScriptEnd::Refused,
+    )
 }
 
 #[test]
@@ -167,7 +177,12 @@ fn a_record_that_goes_on_from_nothing_is_told(rt: HostRuntime) -> Result<(), Fai
         00000001fffffffe0000000568656c6c6f";
     let bootstrap = b"Volume=\"V1\"\nVolSessionId=1\n";
     let script = script_of(&rt, digits, bootstrap)?;
-    answers(&rt, &script, b"X 1 100 1 60\ntotal 0 1 0\n", false)
+    answers(
+        &rt,
+        &script,
+        b"X 1 100 1 60\ntotal 0 1 0\n",
+        ScriptEnd::Refused,
+    )
 }
 
 #[test]
@@ -176,7 +191,7 @@ fn a_block_that_is_cut_off_is_refused(rt: HostRuntime) -> Result<(), Fail> {
     for len in 1..91 {
         let front = digits.get(..2 * len).ok_or("too few digits")?;
         let script = script_of(&rt, front, ALL_OF_V1)?;
-        answers(&rt, &script, b"refused 12 V1 0\n", false)?;
+        answers(&rt, &script, b"refused 12 V1 0\n", ScriptEnd::Refused)?;
     }
     Ok(())
 }
@@ -190,7 +205,7 @@ fn a_bad_block_is_refused(rt: HostRuntime) -> Result<(), Fail> {
     ] {
         let digits = block(&rt, size, b"00000002", b"00000005")?;
         let script = script_of(&rt, &digits, ALL_OF_V1)?;
-        answers(&rt, &script, answer, false)?;
+        answers(&rt, &script, answer, ScriptEnd::Refused)?;
     }
     Ok(())
 }
@@ -224,16 +239,16 @@ fn lines_that_do_not_fit_are_refused(rt: HostRuntime) -> Result<(), Fail> {
         let mut script = Vec::from_slice(rt.alloc(), b"volume V1 -\n")?;
         script.extend_from_slice(line)?;
         script.extend_from_slice(b"\n")?;
-        answers(&rt, &script, b"refused 90 line 2\n", false)?;
+        answers(&rt, &script, b"refused 90 line 2\n", ScriptEnd::Refused)?;
     }
     Ok(())
 }
 
 #[test]
 fn a_line_has_at_most_4096_bytes(rt: HostRuntime) -> Result<(), Fail> {
-    for (name, answer, is_clean) in [
-        (b"V1".as_slice(), b"".as_slice(), true),
-        (b"V11", b"refused 90 line 1\n", false),
+    for (name, answer, end) in [
+        (b"V1".as_slice(), b"".as_slice(), ScriptEnd::Clean),
+        (b"V11", b"refused 90 line 1\n", ScriptEnd::Refused),
     ] {
         let mut script = Vec::from_slice(rt.alloc(), b"volume ")?;
         script.extend_from_slice(name)?;
@@ -241,7 +256,7 @@ fn a_line_has_at_most_4096_bytes(rt: HostRuntime) -> Result<(), Fail> {
         for _ in 0..4086 {
             script.push(b'0')?;
         }
-        answers(&rt, &script, answer, is_clean)?;
+        answers(&rt, &script, answer, end)?;
     }
     Ok(())
 }
@@ -249,9 +264,9 @@ fn a_line_has_at_most_4096_bytes(rt: HostRuntime) -> Result<(), Fail> {
 #[test]
 fn a_name_is_read_and_printed_escaped(rt: HostRuntime) -> Result<(), Fail> {
     let script = b"volume V\\x201 00\nbsr\nVolume=\"V 1\"\n.\nextract";
-    answers(&rt, script, b"refused 12 V\\x201 0\n", false)?;
+    answers(&rt, script, b"refused 12 V\\x201 0\n", ScriptEnd::Refused)?;
     let script = b"volume \\x56\\x31 -\nbsr\nVolume=V1\n.\nextract\n";
-    answers(&rt, script, b"total 0 0 0\n", true)
+    answers(&rt, script, b"total 0 0 0\n", ScriptEnd::Clean)
 }
 
 #[test]
@@ -262,19 +277,19 @@ fn bytes_go_behind_those_of_their_volume(rt: HostRuntime) -> Result<(), Fail> {
     script.extend_from_slice(front)?;
     script.extend_from_slice(b"\nvolume V2 00\n")?;
     script.extend_from_slice(&script_of(&rt, back, ALL_OF_V1)?)?;
-    answers(&rt, &script, HELLO, true)
+    answers(&rt, &script, HELLO, ScriptEnd::Clean)
 }
 
 #[test]
 fn an_input_that_ends_in_a_bootstrap_has_no_effect(rt: HostRuntime) -> Result<(), Fail> {
-    answers(&rt, b"", b"", true)?;
-    answers(&rt, b"bsr\nFileIndex=1\n", b"", true)?;
-    answers(&rt, b"bsr\n.\r\n..\n", b"", true)?;
+    answers(&rt, b"", b"", ScriptEnd::Clean)?;
+    answers(&rt, b"bsr\nFileIndex=1\n", b"", ScriptEnd::Clean)?;
+    answers(&rt, b"bsr\n.\r\n..\n", b"", ScriptEnd::Clean)?;
     answers(
         &rt,
         b"volume V1 -\nbsr\nVolume=V1\n.\nextract\nbsr\n",
         b"total 0 0 0\n",
-        true,
+        ScriptEnd::Clean,
     )
 }
 
@@ -299,7 +314,7 @@ impl Write for Broken {
 }
 
 /// The kind of error that a run ends with, if it ends with one.
-fn error_of(run: io::Result<bool>) -> Option<ErrorKind> {
+fn error_of(run: io::Result<ScriptEnd>) -> Option<ErrorKind> {
     match run {
         Ok(_) => None,
         Err(e) => Some(e.kind()),

@@ -1,9 +1,9 @@
-use Rattle.br_script.proofs.StoreLaws.{put_behind, left_alone, put_new}
+use Rattle.br_script.proofs.StoreLaws.{appended, left_alone, put_new}
 use Rattle.br_script.proofs.script.append.Goals as goal
 
 pub returns-in-Some-clause-ok : goal.returns-in-Some-clause-ok
 returns-in-Some-clause-ok c =
-    put_behind c.extend_from_slice.result c.deref.result.now c.args.volumes.now.items c.in-Some.place c.args.name c.args.bytes.now c.index_mut.result.now
+    appended c.extend_from_slice.result c.deref.result.now c.args.volumes.now.items c.in-Some.place c.args.name c.args.bytes.now c.index_mut.result.now
     c.extend_from_slice.new.self c.deref.ensures.value c.in-Some.ensures c.index_mut.ensures.value c.extend_from_slice.ensures.items
 
 pub returns-in-Some-clause-err : goal.returns-in-Some-clause-err
