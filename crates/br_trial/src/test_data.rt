@@ -285,7 +285,7 @@ pub(crate) struct Told<'a> {
     pub(crate) left: &'a [u8],
 }
 
-fn ended(end: &End) -> Ended {
+fn end_of(end: &End) -> Ended {
     match end {
         End::Quit => Ended::Quit,
         End::Done(RestoreEnd::AllFiles) => Ended::AllFiles,
@@ -295,11 +295,11 @@ fn ended(end: &End) -> Ended {
 }
 
 /// Returns what a run returned, or the number of its refusal.
-fn returned(run: Result<ConsoleRun, ConsoleFault>) -> Result<Returned, u32> {
+fn result_of(run: Result<ConsoleRun, ConsoleFault>) -> Result<Returned, u32> {
     match run {
         Ok(run) => Ok(Returned {
             lines: run.lines,
-            end: ended(&run.end),
+            end: end_of(&run.end),
         }),
         Err(fault) => Err(fault.number().unwrap_or(0)),
     }
@@ -352,7 +352,7 @@ fn ran<'a>(
     let run = run_console(rt, alloc, &asked, &mut left, drives, &mut out);
     let Outputs { writer, .. } = out;
     Ok(Told {
-        run: returned(run),
+        run: result_of(run),
         text: writer,
         left,
     })
