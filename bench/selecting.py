@@ -9,7 +9,7 @@ with what a walk over the same paths by this script finds.
     bench/selecting.py --paths N          N paths, and a tenth of that
     bench/selecting.py --program FILE     another program than crates/br_bench/out/br_bench
 
-The status is 1 if a count is wrong or the program failed, and with --strict also if a step grows by more than thirteen times.
+The status is 1 where a count is wrong or the program failed, and with --strict also where a step grows by more than thirteen times.
 """
 
 import argparse
@@ -22,21 +22,22 @@ import tempfile
 # Nothing is left beside the script.
 sys.dont_write_bytecode = True
 sys.path.insert(0, os.path.join(os.path.dirname(os.path.dirname(os.path.abspath(__file__))), "tools"))
-from common import BENCH_PROGRAM, MIB, run_measured
+from common import BENCH_PROGRAM as PROGRAM, run_measured
 
 STAGES = ("history", "view", "tree", "list", "mark", "plan")
 STEPS = ("history", "view", "tree", "/", "/home", "/home/user0/project1", "mark", "marked", "plan")
 DEEP = "/home/user0/project1/"
 MOST_GROWTH = 13.0
+MIB = 1 << 20
 
 
 def read_options():
     parser = argparse.ArgumentParser(description="Measures the steps of a selection.")
-    parser.add_argument("--program", default=BENCH_PROGRAM, help="the program (default: %(default)s)")
+    parser.add_argument("--program", default=PROGRAM, help="the program (default: %(default)s)")
     parser.add_argument("--paths", type=int, default=1_000_000, help="rows of the Full, a multiple of 10,000 (default: %(default)s)")
     parser.add_argument("--jobs", type=int, default=30, help="Incrementals, each of a hundredth of the paths (default: %(default)s)")
     parser.add_argument("--repeats", type=int, default=5, metavar="N", help="runs of each, of which the median counts (default: %(default)s)")
-    parser.add_argument("--strict", action="store_true", help="status 1 also if a step grows by more than thirteen times")
+    parser.add_argument("--strict", action="store_true", help="status 1 also where a step grows by more than thirteen times")
     return parser.parse_args()
 
 
