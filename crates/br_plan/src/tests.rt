@@ -141,7 +141,13 @@ fn plan(alloc: Global, history: &History, paths: &[&[u8]]) -> Result<Plan, Fail>
 /// The plan for what is marked by hand in a tree of the view at moment 250: all names in the root that match a pattern.
 fn plan_of_tree(alloc: Global, history: &History, pattern: &[u8]) -> Result<Plan, Fail> {
     let request = request(alloc, b"mars", b"home", 250)?;
-    let jobs = choose(alloc, history, &request.client, &request.fileset, 250)?;
+    let jobs = choose(
+        alloc,
+        history,
+        &request.client,
+        &request.fileset,
+        request.moment,
+    )?;
     let mut tree = Tree::build(alloc, View::build(alloc, &jobs)?)?;
     tree.mark(b"/", pattern);
     Ok(Plan::for_marked(alloc, history, &request, &tree)?)
