@@ -8,8 +8,10 @@ with what a walk over the same paths by this script finds.
     bench/selecting.py                    1,000,000 paths, and a tenth of that
     bench/selecting.py --paths N          N paths, and a tenth of that
     bench/selecting.py --program FILE     another program than crates/br_bench/out/br_bench
+    bench/selecting.py --before FILE      runs an earlier program in turns with it, and compares the sum of view, tree, mark and plan
 
-The status is 1 where a count is wrong or the program failed, and with --strict also where a step grows by more than thirteen times.
+The status is 1 if a count is wrong or the program failed. With --strict it is also 1 if a step grows by more than thirteen times,
+or if the sum is more than 60 % of that of the earlier program.
 """
 
 import argparse
@@ -26,18 +28,21 @@ from common import BENCH_PROGRAM as PROGRAM, run_measured
 
 STAGES = ("history", "view", "tree", "list", "mark", "plan")
 STEPS = ("history", "view", "tree", "/", "/home", "/home/user0/project1", "mark", "marked", "plan")
+SUMMED = ("view", "tree", "mark", "plan")
 DEEP = "/home/user0/project1/"
 MOST_GROWTH = 13.0
+MOST_OF_BEFORE = 0.6
 MIB = 1 << 20
 
 
 def read_options():
     parser = argparse.ArgumentParser(description="Measures the steps of a selection.")
     parser.add_argument("--program", default=PROGRAM, help="the program (default: %(default)s)")
+    parser.add_argument("--before", metavar="FILE", help="an earlier program to compare with")
     parser.add_argument("--paths", type=int, default=1_000_000, help="rows of the Full, a multiple of 10,000 (default: %(default)s)")
     parser.add_argument("--jobs", type=int, default=30, help="Incrementals, each of a hundredth of the paths (default: %(default)s)")
     parser.add_argument("--repeats", type=int, default=5, metavar="N", help="runs of each, of which the median counts (default: %(default)s)")
-    parser.add_argument("--strict", action="store_true", help="status 1 also where a step grows by more than thirteen times")
+    parser.add_argument("--strict", action="store_true", help="status 1 also if a step grows by more than thirteen times, or the sum is too large")
     return parser.parse_args()
 
 
@@ -110,9 +115,9 @@ def run(words, folder):
 class Measured:
     """A history of one size, with the seconds of each step and the peak memory of each stage, by runs."""
 
-    def __init__(self, options, paths):
+    def __init__(self, options, program, paths):
         self.words = [str(n) for n in (paths, options.jobs, paths // 100)]
-        self.program = options.program
+        self.program = program
         self.expected = expected_in_child(paths, options.jobs)
         self.seconds = {step: [] for step in STEPS}
         self.memory = {stage: [] for stage in STAGES}
@@ -133,6 +138,9 @@ class Measured:
 
     def second(self, step):
         return statistics.median(self.seconds[step])
+
+    def sum(self):
+        return sum(self.second(step) for step in SUMMED)
 
     def peak(self, stage):
         return statistics.median(self.memory[stage])
@@ -161,20 +169,32 @@ def show(small, large):
     return well
 
 
+def compare(before, after):
+    """Prints the sums of an earlier program and of this one. Whether the second is small enough."""
+    ratio = after.sum() / before.sum()
+    is_met = ratio <= MOST_OF_BEFORE
+    print(f"{' + '.join(SUMMED)}: before {before.sum():.3f} s, now {after.sum():.3f} s, {100 * ratio:.0f} %  {'' if is_met else 'MISSED'}")
+    return is_met
+
+
 def main():
     if sys.argv[1:2] == ["--expected"]:
         print("\n".join(expected_lines(int(sys.argv[2]), int(sys.argv[3]))))
         return 0
     options = read_options()
-    small, large = (Measured(options, paths) for paths in (options.paths // 10, options.paths))
+    small, large = (Measured(options, options.program, paths) for paths in (options.paths // 10, options.paths))
+    before = Measured(options, options.before, options.paths) if options.before else None
+    measured = [one for one in (small, large, before) if one]
     with tempfile.TemporaryDirectory() as folder:
         for _ in range(options.repeats):
             for stage in STAGES:
-                small.run(stage, folder)
-                large.run(stage, folder)
-    if not (small.is_right and large.is_right):
+                for one in measured:
+                    one.run(stage, folder)
+    if not all(one.is_right for one in measured):
         return 1
     well = show(small, large)
+    if before:
+        well &= compare(before, large)
     return 0 if well or not options.strict else 1
 
 
