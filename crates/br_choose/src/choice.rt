@@ -1,35 +1,32 @@
-ghost use Rattle.std.specs.Prelude.{◌≡◌, true, ◌&&◌, ◌==◌, ◌∷◌, ◌++◌, filter, map, option_to_list, IfOk};
+ghost use Rattle.std.specs.Prelude.{◌≡◌, true, ◌&&◌, ◌==◌, filter, map, IfOk};
 ghost use Rattle.std.specs.Option.{option_copied};
 ghost use Rattle.std.specs.List.{list_any, reduce};
-ghost use Rattle.br_model.specs.Answer.{Answers};
-ghost use Rattle.br_model.specs.Order.{in_order};
 ghost use Rattle.br_model.specs.Job.{is_history, no_pair};
 ghost use Rattle.br_model.specs.Choice as model;
-ghost use Rattle.br_choose.specs.Fault.{cause};
-ghost use Rattle.br_choose.specs.Wanted.{is_wanted, later};
+ghost use Rattle.br_choose.specs.Wanted.{Chooses, chain_of, is_wanted, later, request_for, wanted_jobs};
 
+use crate::criteria::{Criteria, later_of, rank};
 use crate::fault::ChooseFault;
-use crate::request::{Request, later_of, rank};
 use br_history::{History, JobRows};
 use br_types::Name;
 use std::alloc::{AllocError, Global};
 
-fn has_client(jobs: &[JobRows], request: &Request<'_>) -> bool
+fn has_client(jobs: &[JobRows], request: &Criteria<'_>) -> bool
     ensures { result ≡ list_any (model.is_of_client request.now.client) jobs.now }
 {
     jobs.iter().any(|rows| request.names_client(rows))
 }
 
-fn has_fileset(jobs: &[JobRows], request: &Request<'_>) -> bool
+fn has_fileset(jobs: &[JobRows], request: &Criteria<'_>) -> bool
     ensures { result ≡ list_any (λ j. model.is_of_client request.now.client j && model.is_of_fileset request.now.fileset j) jobs.now }
 {
     jobs.iter().any(|rows| request.names_client(rows) && request.names_fileset(rows))
 }
 
-/// The last of the wanted jobs at a level, after another job, if there is one.
+/// Returns the last of the wanted jobs at a level, after another job, if there is one.
 fn last_wanted<'h>(
     jobs: &'h [JobRows],
-    request: &Request<'_>,
+    request: &Criteria<'_>,
     level: u8,
     earlier: Option<&JobRows>,
 ) -> Option<&'h JobRows>
@@ -40,16 +37,16 @@ fn last_wanted<'h>(
         .reduce(|last, rows| later_of(last, rows))
 }
 
-/// The wanted jobs at a level after another one, in order of rank.
+/// Returns the wanted jobs at a level after another one, in order of rank.
 fn wanted_after<'h>(
     alloc: Global,
     jobs: &'h [JobRows],
-    request: &Request<'_>,
+    request: &Criteria<'_>,
     level: u8,
     earlier: &JobRows,
 ) -> Result<Vec<&'h JobRows>, AllocError>
     requires { is_history jobs.now ≡ true }
-    ensures { IfOk result (λ found. map (λ j. j.now) found.items ≡ in_order model.job_rank (filter (is_wanted request.now level (Some earlier.now)) jobs.now)) }
+    ensures { IfOk result (λ found. map (λ j. j.now) found.items ≡ wanted_jobs request.now level earlier.now jobs.now) }
 {
     let mut found: Vec<&JobRows> = jobs
         .iter()
@@ -59,14 +56,14 @@ fn wanted_after<'h>(
     Ok(found)
 }
 
-/// A Full, then a Differential, if there is one, then Incrementals.
+/// Joins a Full, then a Differential, if there is one, then Incrementals.
 fn joined<'h>(
     alloc: Global,
     full: &'h JobRows,
     differential: Option<&'h JobRows>,
     incrementals: &[&'h JobRows],
 ) -> Result<Vec<&'h JobRows>, AllocError>
-    ensures { IfOk result (λ jobs. map (λ j. j.now) jobs.items ≡ full.now ∷ option_to_list (option_copied differential.entry) ++ map (λ j. j.now) incrementals.now) }
+    ensures { IfOk result (λ jobs. map (λ j. j.now) jobs.items ≡ chain_of full.now (option_copied differential.entry) (map (λ j. j.now) incrementals.now)) }
 {
     let mut jobs = Vec::new(alloc);
     jobs.push(full)?;
@@ -77,13 +74,15 @@ fn joined<'h>(
     Ok(jobs)
 }
 
-/// The jobs from which the state of a file set of a client before a moment (in seconds since 1970) is restored. Of the good
-/// jobs, which are of type `B` with the status `T` or `W`, of the client and the file set that started before the moment, these
-/// are the last Full, then the last Differential after it, if there is one, and then every Incremental after the later of these.
-/// The order is by start time, and of equal ones by number; no two of them have one number.
+/// Chooses the jobs from which the state of a file set of a client before a moment (in seconds since 1970) is restored. Of the
+/// good jobs, which are of type `B` with the status `T` or `W`, of the client and the file set that started before the moment,
+/// these are the last Full, then the last Differential after it, if there is one, and then every Incremental after the later of
+/// these. The order is by start time, and of equal ones by number; no two of them have one number.
 ///
-/// `UnknownClient` where no job names the client, else `UnknownFileSet` where none of its jobs names the file set; these count
-/// each job, good or not, at any time. `NoFull` where no good Full started before the moment.
+/// # Errors
+///
+/// `UnknownClient` if no job names the client, `UnknownFileSet` if none of its jobs names the file set; these count each job, good
+/// or not, at any time. `NoFull` if no good Full started before the moment.
 pub fn choose<'h>(
     alloc: Global,
     history: &'h History,
@@ -91,11 +90,11 @@ pub fn choose<'h>(
     fileset: &Name,
     moment: u64,
 ) -> Result<Vec<&'h JobRows>, ChooseFault>
-    ensures answers { Answers (λ jobs. map (λ j. j.now) jobs.items) cause result (model.choose history.now (record { client = client.now; fileset = fileset.now; moment = moment })) }
+    ensures answers { Chooses history.now (request_for client.now fileset.now moment) result }
     ensures distinct { IfOk result (λ jobs. no_pair (λ j k. j.row.id == k.row.id) (map (λ j. j.now) jobs.items) ≡ true) }
 {
     let jobs = history.jobs();
-    let request = Request {
+    let request = Criteria {
         client,
         fileset,
         moment,

@@ -19,7 +19,7 @@ pub enum ChooseFault {
 }
 
 impl ChooseFault {
-    /// The number of the refusal: 1 want of memory, 50 no Full, 53 an unknown client, 54 an unknown file set of the client.
+    /// Returns the number of the refusal: 1 out of memory, 50 no Full, 53 an unknown client, 54 an unknown file set of the client.
     pub fn number(self) -> u32
         ensures { result ≡ fault_number self }
     {

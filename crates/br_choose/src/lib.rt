@@ -5,8 +5,8 @@
 #![tactic(auto)]
 
 mod choice;
+mod criteria;
 mod fault;
-mod request;
 #[cfg(test)]
 mod tests;
 

@@ -19,8 +19,8 @@ pub enum HistoryFault {
 }
 
 impl HistoryFault {
-    /// The number of the refusal: 1 want of memory, 40 a job's number that is there, 41 a session that is there, 42 rows that
-    /// cannot stand together.
+    /// Returns the number of the refusal: 1 out of memory, 40 a job's number that is there, 41 a session that is there, 42 rows
+    /// that conflict.
     pub fn number(self) -> u32
         ensures { result ≡ fault_number self }
     {

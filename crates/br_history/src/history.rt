@@ -14,7 +14,7 @@ use std::alloc::{AllocError, Global};
 use std::collections::BTreeSet;
 use std::marker::Model;
 
-/// Puts a number that is not there and a session into their sets, which stay as they are where memory runs out.
+/// Inserts a number that is not there and a session into their sets, which stay as they are if memory runs out.
 fn insert_both(
     ids: &mut BTreeSet<JobId>,
     sessions: &mut BTreeSet<SessionKey>,
@@ -56,7 +56,7 @@ impl Model for History {
 }
 
 impl History {
-    /// No job yet. It keeps the allocator, by which it grows.
+    /// Makes a history without jobs. It keeps the allocator, by which it grows.
     pub fn new(alloc: Global) -> History
         ensures { result ≡ [] }
     {
@@ -67,8 +67,11 @@ impl History {
         }
     }
 
-    /// Puts a job behind the others: `DuplicateJob` where its number is there, else `DuplicateSession` where its session is. A
-    /// refused job changes nothing, nor does one for which memory runs out.
+    /// Appends a job. A refused job changes nothing, nor does one for which memory runs out.
+    ///
+    /// # Errors
+    ///
+    /// `DuplicateJob` if its number is there, `DuplicateSession` if its session is.
     #[tactic(auto, unfolding(br_model::specs::Job::pushed))]
     pub fn push(&mut self, rows: JobRows) -> Result<(), HistoryFault>
         ensures answers { Answers (λ _. self.new) cause result (pushed self.old rows) }
@@ -92,21 +95,21 @@ impl History {
         Ok(())
     }
 
-    /// How many jobs there are.
+    /// Returns the number of jobs.
     pub fn len(&self) -> usize
         ensures { result ≡ length self.now }
     {
         self.jobs.len()
     }
 
-    /// The job at a place, counted from 0.
+    /// Returns the job at a place, counted from 0.
     pub fn get(&self, i: usize) -> Option<&JobRows>
         ensures { option_copied result ≡ slice_get self.now i }
     {
         self.jobs.get(i)
     }
 
-    /// All jobs.
+    /// Returns all jobs.
     pub fn jobs(&self) -> &[JobRows]
         ensures same { result.now ≡ self.now }
         ensures valid { is_history self.now ≡ true }
@@ -114,7 +117,7 @@ impl History {
         &self.jobs
     }
 
-    /// An equal history.
+    /// Returns an equal history.
     pub fn copy(&self, alloc: Global) -> Result<History, AllocError>
         ensures { IfOk result (λ history. history ≡ self.now) }
     {
@@ -122,7 +125,7 @@ impl History {
     }
 }
 
-/// The history with these jobs.
+/// Makes the history with these jobs.
 fn copied(alloc: Global, jobs: &[JobRows]) -> Result<History, AllocError>
     ensures { IfOk result (λ history. history ≡ jobs.now) }
 {

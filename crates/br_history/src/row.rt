@@ -39,7 +39,7 @@ impl Model for JobRow {
 }
 
 impl JobRow {
-    /// An equal row.
+    /// Returns an equal row.
     pub fn copy(&self, alloc: Global) -> Result<JobRow, AllocError>
         ensures { IfOk result (λ row. row ≡ self.now) }
     {
@@ -65,7 +65,7 @@ pub struct FileRow {
     pub index: u32,
     /// LStat, the numbers of a saved file as text; of a deletion any text.
     pub lstat: String,
-    /// MD5, where a digest was saved.
+    /// MD5, if a digest was saved.
     pub md5: Option<[u8; 16]>,
 }
 
@@ -79,14 +79,14 @@ impl Model for FileRow {
 }
 
 impl FileRow {
-    /// Whether the index is below 2^31 and a saved file has its numbers.
+    /// Returns whether the index is below 2^31 and a saved file has its numbers.
     pub(crate) fn is_valid(&self) -> bool
         ensures { result ≡ is_file_row self.now }
     {
         self.index <= MAX_INDEX && (self.index == 0 || Stat::read(self.lstat.as_bytes()).is_ok())
     }
 
-    /// An equal row.
+    /// Returns an equal row.
     pub fn copy(&self, alloc: Global) -> Result<FileRow, AllocError>
         ensures { IfOk result (λ row. row ≡ self.now) }
     {

@@ -26,7 +26,7 @@ fn are_file_rows(files: &[FileRow]) -> bool
     files.iter().all(|row| row.is_valid())
 }
 
-/// Notes an index above 0; whether it was not noted before.
+/// Notes an index above 0, and returns whether it was not noted before.
 fn is_new(seen: &mut BTreeSet<u32>, index: u32) -> Result<bool, AllocError>
     ensures answer { IfOk result (λ new. new ≡ not (not (index == 0) && contains nat_cmp seen.old index)) }
     ensures noted { OnOk result (Notes seen.old index seen.new) }
@@ -37,7 +37,7 @@ fn is_new(seen: &mut BTreeSet<u32>, index: u32) -> Result<bool, AllocError>
     Ok(seen.insert(index)?)
 }
 
-/// Whether no two rows have one index above 0.
+/// Returns whether no two rows have one index above 0.
 fn indexes_differ(alloc: Global, files: &[FileRow]) -> Result<bool, AllocError>
     ensures { IfOk result (λ differ. differ ≡ no_pair same_file files.now) }
 {
@@ -62,7 +62,7 @@ fn are_spans(spans: &[Span]) -> bool
     spans.iter().all(|span| is_span_of(span))
 }
 
-/// Whether the spans are numbered 1, 2, 3 and on.
+/// Returns whether the spans are numbered 1, 2, 3 and on.
 fn are_numbered(spans: &[Span]) -> bool
     ensures { result ≡ is_numbered spans.now }
 {
@@ -74,7 +74,7 @@ fn are_numbered(spans: &[Span]) -> bool
     true
 }
 
-/// Whether what ends at an address, if anything, reaches another one.
+/// Returns whether what ends at an address, if anything, reaches another one.
 fn reaches_to(end: Option<u64>, address: u64) -> bool
     ensures { result ≡ reaches address end }
 {
@@ -84,7 +84,7 @@ fn reaches_to(end: Option<u64>, address: u64) -> bool
     }
 }
 
-/// Whether the spans of each volume ascend and have no byte in common.
+/// Returns whether the spans of each volume ascend and have no byte in common.
 fn spans_ascend(alloc: Global, spans: &[Span]) -> Result<bool, AllocError>
     requires { list_all is_span spans.now ≡ true }
     ensures { IfOk result (λ ascend. ascend ≡ no_pair overlaps spans.now) }
@@ -100,7 +100,7 @@ fn spans_ascend(alloc: Global, spans: &[Span]) -> Result<bool, AllocError>
     Ok(true)
 }
 
-/// Whether a job's row, the rows of its files and its spans can stand together.
+/// Returns whether a job's row, the rows of its files and its spans fit together.
 #[tactic(auto, unfolding(br_model::specs::Job::are_rows))]
 fn can_stand(
     alloc: Global,
@@ -169,10 +169,14 @@ impl Model for JobRows {
 }
 
 impl JobRows {
-    /// These rows of a job, where they can stand together: the job starts before the year 10000; each FileIndex is below 2^31,
-    /// and no two rows have one that is above 0; a row with an index above 0 has an LStat that can be read; the spans are
-    /// numbered 1, 2, 3 and on by VolIndex, each has its ends in order and ends below 2^63, and those of one volume ascend and
-    /// have no byte in common. Else `BadRow`. The order of the rows of files is kept.
+    /// Joins the rows of a job that fit together: the job starts before the year 10000. Each FileIndex is below 2^31, and no two
+    /// rows have one that is above 0. A row with an index above 0 has an LStat that can be read. The spans are numbered 1, 2, 3
+    /// and on by VolIndex, each has its ends in order and ends below 2^63, and those of one volume ascend and have no byte in
+    /// common. The order of the rows of files is kept.
+    ///
+    /// # Errors
+    ///
+    /// `BadRow` if the rows do not fit together.
     #[tactic(auto, unfolding(br_model::specs::Job::checked_rows))]
     pub fn new(row: JobRow, files: Vec<FileRow>, spans: Vec<Span>) -> Result<JobRows, HistoryFault>
         ensures { Answers (λ rows. rows) cause result (checked_rows (record { row = row; files = files.items; spans = spans.items })) }
@@ -184,7 +188,7 @@ impl JobRows {
         Ok(JobRows { row, files, spans })
     }
 
-    /// The job's own row.
+    /// Returns the job's own row.
     pub fn row(&self) -> &JobRow
         ensures same { result.now ≡ self.now.row }
         ensures valid { are_rows self.now ≡ true }
@@ -192,7 +196,7 @@ impl JobRows {
         &self.row
     }
 
-    /// The rows of its files.
+    /// Returns the rows of its files.
     pub fn files(&self) -> &[FileRow]
         ensures same { result.now ≡ self.now.files }
         ensures valid { are_rows self.now ≡ true }
@@ -200,7 +204,7 @@ impl JobRows {
         &self.files
     }
 
-    /// Its spans, in the order of their numbers.
+    /// Returns its spans, in the order of their numbers.
     pub fn spans(&self) -> &[Span]
         ensures same { result.now ≡ self.now.spans }
         ensures valid { are_rows self.now ≡ true }
@@ -208,7 +212,7 @@ impl JobRows {
         &self.spans
     }
 
-    /// Equal rows.
+    /// Returns equal rows.
     pub fn copy(&self, alloc: Global) -> Result<JobRows, AllocError>
         ensures { IfOk result (λ rows. rows ≡ self.now) }
     {

@@ -12,7 +12,7 @@ use std::collections::BTreeMap;
 /// A row of a job, by reference.
 type Kept<'h> = (&'h JobRows, &'h FileRow);
 
-/// By what copies are ordered: start time and number of the job, then the index.
+/// Returns by what copies are ordered: start time and number of the job, then the index.
 fn rank(job: &JobRows, row: &FileRow) -> (u64, u32, u32)
     ensures start { result.0 ≡ job.now.row.start }
     ensures number { result.1 ≡ job.now.row.id }
@@ -22,7 +22,7 @@ fn rank(job: &JobRows, row: &FileRow) -> (u64, u32, u32)
     (job.start, job.id.get(), row.index)
 }
 
-/// Whether a copy is newer than one that is kept, if there is one.
+/// Returns whether a copy is newer than one that is kept, if there is one.
 fn is_news(known: Option<Kept<'_>>, job: &JobRows, row: &FileRow) -> bool
     ensures { result ≡ newest.is_news (option_map newest.copy_of known.entry) (job.now, row.now) }
 {
@@ -32,7 +32,7 @@ fn is_news(known: Option<Kept<'_>>, job: &JobRows, row: &FileRow) -> bool
     }
 }
 
-/// Keeps a copy where no newer one of its path is kept.
+/// Keeps a copy if no newer one of its path is kept.
 fn note<'h>(
     kept: &mut BTreeMap<&'h [u8], Kept<'h>>,
     job: &'h JobRows,
@@ -58,7 +58,7 @@ fn note_job<'h>(kept: &mut BTreeMap<&'h [u8], Kept<'h>>, job: &'h JobRows) -> Re
     Ok(())
 }
 
-/// The newest copy of each path, by the bytes of the path.
+/// Returns the newest copy of each path, by the bytes of the path.
 pub(crate) fn newest_copies<'h>(
     alloc: Global,
     jobs: &[&'h JobRows],
@@ -72,7 +72,7 @@ pub(crate) fn newest_copies<'h>(
     Ok(kept)
 }
 
-/// Paths and entries of the copies that are no deletions, in byte order of the paths.
+/// Returns paths and entries of the copies that are no deletions, in byte order of the paths.
 pub(crate) fn entries_of<'h>(
     alloc: Global,
     kept: &BTreeMap<&'h [u8], Kept<'h>>,

@@ -16,7 +16,7 @@ use std::cmp::Ordering;
 use std::marker::Model;
 use std::slice::Iter;
 
-/// How two paths stand in byte order.
+/// Compares two paths in byte order.
 fn compared(first: &Path, second: &Path) -> Ordering
     ensures { result ≡ slice_cmp nat_cmp first.now second.now }
 {
@@ -42,9 +42,9 @@ impl<'h> Model for View<'h> {
 }
 
 impl<'h> View<'h> {
-    /// The view of jobs with distinct numbers, in whatever order they come. A path's newest copy is in the job of the latest
-    /// start, of equal ones in that of the greatest number, that has a row for the path; of this job's rows for it the one with
-    /// the greatest FileIndex counts. Where that is 0, the path was deleted and is not in the view.
+    /// Builds the view of jobs with distinct numbers, in whatever order they come. A path's newest copy is in the job of the
+    /// latest start, of equal ones in that of the greatest number, that has a row for the path. Of this job's rows for it the
+    /// one with the greatest FileIndex counts. If that is 0, the path was deleted and is not in the view.
     pub fn build(alloc: Global, jobs: &[&'h JobRows]) -> Result<View<'h>, AllocError>
         requires { no_pair (λ j k. j.row.id == k.row.id) (map (λ j. j.now) jobs.now) ≡ true }
         ensures { IfOk result (λ view. view ≡ view_of (map (λ j. j.now) jobs.now)) }
@@ -54,7 +54,7 @@ impl<'h> View<'h> {
         Ok(View { entries })
     }
 
-    /// The newest copy of a path, if it is in the view.
+    /// Returns the newest copy of a path, if it is in the view.
     pub fn get(&self, path: &Path) -> Option<&Entry>
         ensures { option_map (entry_with path.now) (option_copied result) ≡ entry_at self.now path.now }
     {
@@ -67,7 +67,7 @@ impl<'h> View<'h> {
         }
     }
 
-    /// The paths and their newest copies, in byte order of the paths, each path once.
+    /// Returns the paths and their newest copies, in byte order of the paths, each path once.
     pub fn entries(&self) -> &[(&'h Path, Entry)]
         ensures same { map shown_pair result.now ≡ self.now }
         ensures ordered { IsView self.now }
@@ -75,7 +75,7 @@ impl<'h> View<'h> {
         self.entries.as_slice()
     }
 
-    /// An iterator over the paths and their newest copies, in byte order of the paths.
+    /// Returns an iterator over the paths and their newest copies, in byte order of the paths.
     pub fn iter(&self) -> Iter<'_, (&'h Path, Entry)>
         ensures same { map shown_pair (iter_rest result) ≡ self.now }
         ensures ordered { IsView self.now }
@@ -83,7 +83,7 @@ impl<'h> View<'h> {
         self.entries.iter()
     }
 
-    /// How many paths are in the view.
+    /// Returns the number of paths in the view.
     pub fn len(&self) -> usize
         ensures { result ≡ length self.now }
     {

@@ -7,7 +7,7 @@ use br_history::JobRows;
 use br_types::Name;
 use std::marker::Model;
 
-/// By what jobs are ordered: their start times, then their numbers.
+/// Returns by what jobs are ordered: their start times, then their numbers.
 pub(crate) fn rank(rows: &JobRows) -> (u64, u32)
     ensures start { result.0 ≡ rows.now.row.start }
     ensures number { result.1 ≡ rows.now.row.id }
@@ -16,7 +16,7 @@ pub(crate) fn rank(rows: &JobRows) -> (u64, u32)
     (row.start, row.id.get())
 }
 
-/// Whether a job comes after another, if there is one.
+/// Returns whether a job comes after another, if there is one.
 fn comes_behind(earlier: Option<&JobRows>, rows: &JobRows) -> bool
     ensures { result ≡ comes_after (option_copied earlier.entry) rows.now }
 {
@@ -26,7 +26,7 @@ fn comes_behind(earlier: Option<&JobRows>, rows: &JobRows) -> bool
     }
 }
 
-/// The later of two jobs.
+/// Returns the later of two jobs.
 pub(crate) fn later_of<'h>(first: &'h JobRows, second: &'h JobRows) -> &'h JobRows
     ensures { result.now ≡ later first.now second.now }
 {
@@ -37,7 +37,7 @@ pub(crate) fn later_of<'h>(first: &'h JobRows, second: &'h JobRows) -> &'h JobRo
     }
 }
 
-/// Whether a job is a backup that ended well, or with warnings.
+/// Returns whether a job is a backup that ended well, or with warnings.
 fn ended_well(rows: &JobRows) -> bool
     ensures { result ≡ is_good rows.now }
 {
@@ -45,16 +45,16 @@ fn ended_well(rows: &JobRows) -> bool
     row.kind.get() == b'B' && (row.status.get() == b'T' || row.status.get() == b'W')
 }
 
-/// What is to be restored: the state of a file set of a client before a moment.
+/// What a chosen job has to meet: its client, its file set, and the moment before which it began.
 #[derive(Drop)]
-pub(crate) struct Request<'r> {
+pub(crate) struct Criteria<'r> {
     pub(crate) client: &'r Name,
     pub(crate) fileset: &'r Name,
     /// In seconds since 1970.
     pub(crate) moment: u64,
 }
 
-impl<'r> Model for Request<'r> {
+impl<'r> Model for Criteria<'r> {
     ghost use Rattle.br_model.specs.Choice as model;
 
     ghost Value = { model.Request };
@@ -62,22 +62,22 @@ impl<'r> Model for Request<'r> {
     ghost view = { λ r. record { client = r.client.now; fileset = r.fileset.now; moment = r.moment } };
 }
 
-impl<'r> Request<'r> {
-    /// Whether a job is of the client.
+impl<'r> Criteria<'r> {
+    /// Returns whether a job is of the client.
     pub(crate) fn names_client(&self, rows: &JobRows) -> bool
         ensures { result ≡ is_of_client self.now.client rows.now }
     {
         rows.row().client.bytes() == self.client.bytes()
     }
 
-    /// Whether a job is of the file set.
+    /// Returns whether a job is of the file set.
     pub(crate) fn names_fileset(&self, rows: &JobRows) -> bool
         ensures { result ≡ is_of_fileset self.now.fileset rows.now }
     {
         rows.row().fileset.bytes() == self.fileset.bytes()
     }
 
-    /// Whether a job ended well, is of the client and the file set, and began before the moment.
+    /// Returns whether a job ended well, is of the client and the file set, and began before the moment.
     fn admits(&self, rows: &JobRows) -> bool
         ensures { result ≡ is_candidate self.now rows.now }
     {
@@ -87,7 +87,7 @@ impl<'r> Request<'r> {
             && rows.row().start < self.moment
     }
 
-    /// Whether a job is admitted, of this level, and comes after another job, if there is one.
+    /// Returns whether a job is admitted, of this level, and comes after another job, if there is one.
     pub(crate) fn wants(&self, rows: &JobRows, level: u8, earlier: Option<&JobRows>) -> bool
         ensures { result ≡ is_wanted self.now level (option_copied earlier.entry) rows.now }
     {
