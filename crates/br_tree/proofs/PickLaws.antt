@@ -10,7 +10,7 @@ use Rattle.br_model.specs.Name.{is_directory}
 use Rattle.br_model.specs.Console.{begins_with, is_below, child_of}
 use Rattle.br_model.proofs.OrderLaws.{rank_cmp, not_below_itself}
 use Rattle.br_model.proofs.ListLaws.{all_weaker, cons_not_empty}
-use Rattle.br_tree.specs.Walk.{is_own, is_picked, picks, AllPassing, NonePassing, IsRising, IsStep}
+use Rattle.br_tree.specs.Walk.{is_own, is_picked, picks, reach, AllPassing, NonePassing, IsRising, IsStep}
 use Rattle.br_tree.proofs.MatchLaws.{either_way}
 use Rattle.br_tree.proofs.FlagLaws.{Below}
 use Rattle.br_tree.proofs.PartLaws.{part, behind, part_splits, front_first}
@@ -84,10 +84,6 @@ later_not_own d name p q of_p of_q less =
     front_first (d ++ child_of d p) m.0 (subst (λ z. Below z (d ++ child_of d p)) m.1 (subst (Below p) front less)))
 
 -- ---- how far the meant ones reach
-
--- how many of a child's first paths are meant
-abbrev pub reach : Bool → List ℕ → List ℕ → List ℕ → List ℕ → ℕ → ℕ
-reach deep d pattern name p n = cond (not (is_empty name) && fits pattern name) (cond deep n (cond (is_own d p) 1 0)) 0
 
 and_none : (a b : Bool) → b ≡ false → (a && b) ≡ false
 and_none true b e = e

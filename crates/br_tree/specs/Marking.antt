@@ -1,7 +1,9 @@
 -- A view and its marked paths, and what marking and unmarking make of them.
-use Rattle.std.specs.Prelude.{ℕ, Bool, not, List, [], ◌++◌, length, map, filter, Option, Some, None, Result, Ok, Err}
+use Rattle.std.specs.Prelude.{ℕ, Bool, not, List, [], ◌++◌, length, map, filter, Option, Some, None, option_map, Result, Ok, Err}
+use Rattle.std.specs.Borrow.{Bor}
 use Rattle.br_model.specs.Order.{in_order, is_among}
 use Rattle.br_model.specs.View.{Entry, view_paths, IsView}
+use Rattle.br_model.specs.Console as model
 use Rattle.br_model.specs.Console.{Console, IsConsole, children, sign, matches, last_component, root}
 
 -- a view, and the marked ones of its paths in byte order
@@ -21,6 +23,14 @@ console_at directory m = record { directory = directory; marked = m.marked }
 pub record IsMarking (m : Marking) : Type 0 where
   pub view_is : IsView m.view
   pub marks_are : IsConsole m.view (console_at root m)
+
+-- the paths that a pattern means in a directory: the names that match, and all below the directories among them
+abbrev pub meant : Marking → List ℕ → List ℕ → Result (List (List ℕ)) ℕ
+meant m directory pattern = model.meant (paths_of m) directory pattern
+
+-- the own paths of the directories that match, without a pattern that of the directory itself
+abbrev pub meant_directories : Marking → List ℕ → Option (Bor (List ℕ)) → Result (List (List ℕ)) ℕ
+meant_directories m directory pattern = model.meant_directories (paths_of m) directory (option_map (λ (p : Bor (List ℕ)). p.now) pattern)
 
 -- a view without marks
 abbrev pub unmarked : List Entry → Marking

@@ -9,6 +9,7 @@ use Rattle.br_model.specs.Name.{is_slash, is_directory}
 use Rattle.br_model.specs.Console.{begins_with, is_below, child_of, children, matches, bare}
 use Rattle.br_model.specs.Text.{is_empty}
 use Rattle.br_view.specs.declared.entry.Entry.{Entry}
+use Rattle.br_tree.specs.Seen.{flagged}
 
 -- a path beside its entry
 abbrev pub Pair : Type 0
@@ -33,6 +34,14 @@ NonePassing test paths = AllByRecursion (λ path. test path ≡ false) paths
 abbrev pub IsRising : List (List ℕ) → Type 0
 IsRising [] = Unit {0}
 IsRising (path ∷ paths) = AllByRecursion (λ later. slice_cmp nat_cmp path later ≡ Less) paths × IsRising paths
+
+-- the paths of pairs rise
+abbrev pub AreSorted : List Pair → Type 0
+AreSorted pairs = IsRising (seen_paths pairs)
+
+-- the paths of pairs that are flagged
+abbrev pub marked_in : List Pair → List Bool → List (List ℕ)
+marked_in pairs flags = flagged (seen_paths pairs) flags
 
 -- from a first place to a last one the paths pass a test, and no other does
 pub record IsRun (test : List ℕ → Bool) (paths : List (List ℕ)) (first last : ℕ) : Type 0 where
@@ -72,6 +81,11 @@ picks deep directory pattern path = (deep || is_own directory path) && matches p
 -- the same of any path
 abbrev pub is_picked : Bool → List ℕ → List ℕ → List ℕ → Bool
 is_picked deep directory pattern path = is_below directory path && picks deep directory pattern path
+
+-- of the paths of a child from its first one on, the number of those that are meant: all, or its own path if that is the first
+abbrev pub reach : Bool → List ℕ → List ℕ → List ℕ → List ℕ → ℕ → ℕ
+reach deep directory pattern name path len =
+    if not (is_empty name) && matches pattern (bare name) then (if deep then len else (if is_own directory path then 1 else 0)) else 0
 
 -- the flags with those of the paths that pass set to a value
 abbrev pub set_where : (List ℕ → Bool) → Bool → List (List ℕ) → List Bool → List Bool

@@ -1,7 +1,7 @@
 ghost use Rattle.std.specs.Prelude.{◌≡◌};
 ghost use Rattle.br_tree.specs.Seen.{sign_byte};
 
-/// How a name of a directory stands to the marks.
+/// Says whether a name of a directory is marked, or something below it.
 #[derive(Clone, Copy, Debug, PartialEq, Eq)]
 pub enum Sign {
     /// Its own path is marked.
@@ -13,7 +13,7 @@ pub enum Sign {
 }
 
 impl Sign {
-    /// The byte that is shown for it: `*`, `+` or a space.
+    /// Returns the byte that is shown for it: `*`, `+` or a space.
     pub fn byte(self) -> u8
         ensures { result ≡ sign_byte self }
     {
@@ -25,11 +25,11 @@ impl Sign {
     }
 }
 
-/// A name of a directory, with the `/` at its end where it is one itself.
+/// A name of a directory, with the `/` at its end if it is a directory itself.
 #[derive(Clone, Copy, Debug)]
 pub struct Child<'h> {
     /// The name, a part of a path of the view.
     pub name: &'h [u8],
-    /// How it stands to the marks.
+    /// Whether it is marked, or something below it.
     pub sign: Sign,
 }

@@ -1,4 +1,4 @@
-//! The tree of a view: what stands in a directory, and which paths are marked.
+//! The tree of a view: what a directory contains, and which paths are marked.
 //!
 //! Contracts see a `Tree` as the view's entries and the marked paths in byte order.
 #![tactic(auto)]

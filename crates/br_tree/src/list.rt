@@ -1,6 +1,6 @@
 ghost use Rattle.std.specs.Prelude.{◌≡◌, ◌<◌, ◌+◌, drop, ◌++◌, [], ◌∷◌, if◌then◌else◌, length, map, IfOk, OnOk};
-ghost use Rattle.br_model.specs.Console.{matches, last_component};
-ghost use Rattle.br_tree.specs.Lists.{kept, found_in, last_part};
+ghost use Rattle.br_model.specs.Console.{last_component};
+ghost use Rattle.br_tree.specs.Lists.{kept, found_in, found_if, last_part};
 ghost use Rattle.br_tree.specs.Seen.{seen_path};
 
 use crate::pattern::{bare_name, matches as fits};
@@ -9,7 +9,7 @@ use br_types::Path;
 use br_view::Entry;
 use std::alloc::{AllocError, Global};
 
-/// A text behind a place.
+/// Returns a text after a place.
 fn behind(text: &[u8], place: usize) -> &[u8]
     requires { place < length text.now }
     ensures { result.now ≡ drop (place + 1) text.now }
@@ -17,7 +17,7 @@ fn behind(text: &[u8], place: usize) -> &[u8]
     text.split_at(place + 1).1
 }
 
-/// A text behind its last `/`.
+/// Returns a text after its last `/`.
 fn part_behind(text: &[u8]) -> &[u8]
     ensures { result.now ≡ last_part text.now }
 {
@@ -28,14 +28,14 @@ fn part_behind(text: &[u8]) -> &[u8]
     rest
 }
 
-/// The name behind the last `/` but one at the end.
+/// Returns the name after the last `/`, not counting one at the end.
 fn last_name(path: &[u8]) -> &[u8]
     ensures { result.now ≡ last_component path.now }
 {
     part_behind(bare_name(path))
 }
 
-/// The flag at a place.
+/// Returns the flag at a place.
 fn flag_at(flags: &[bool], place: usize) -> bool
     requires { place < length flags.now }
     ensures { drop place flags.now ≡ result ∷ drop (place + 1) flags.now }
@@ -43,7 +43,7 @@ fn flag_at(flags: &[bool], place: usize) -> bool
     flags[place]
 }
 
-/// The pair at a place.
+/// Returns the pair at a place.
 pub(crate) fn pair_at<'h>(entries: &[Shown<'h>], place: usize) -> Shown<'h>
     requires { place < length entries.now }
     ensures { drop place entries.now ≡ result ∷ drop (place + 1) entries.now }
@@ -52,7 +52,7 @@ pub(crate) fn pair_at<'h>(entries: &[Shown<'h>], place: usize) -> Shown<'h>
     (pair.0, pair.1)
 }
 
-/// Keeps a path and its newest copy where they are flagged.
+/// Keeps a path and its newest copy if they are flagged.
 fn keep_if<'h>(
     pairs: &mut Vec<Shown<'h>>,
     path: &'h Path,
@@ -69,7 +69,7 @@ fn keep_if<'h>(
     Ok(())
 }
 
-/// The pairs that are flagged.
+/// Returns the pairs that are flagged.
 pub(crate) fn flagged_pairs<'h>(
     alloc: Global,
     entries: &[Shown<'h>],
@@ -86,7 +86,7 @@ pub(crate) fn flagged_pairs<'h>(
     Ok(pairs)
 }
 
-/// Copies of the paths of some pairs.
+/// Copies the paths of some pairs.
 pub(crate) fn paths_of(alloc: Global, pairs: &[Shown<'_>]) -> Result<Vec<Path>, AllocError>
     ensures { IfOk result (λ paths. paths.items ≡ map (λ pair. pair.0.now) pairs.now) }
 {
@@ -100,14 +100,14 @@ pub(crate) fn paths_of(alloc: Global, pairs: &[Shown<'_>]) -> Result<Vec<Path>, 
     Ok(paths)
 }
 
-/// Notes a path whose last component matches.
+/// Notes a path if its last component matches.
 fn note_if<'h>(
     found: &mut Vec<(&'h Path, bool)>,
     path: &'h Path,
     flag: bool,
     pattern: &[u8],
 ) -> Result<(), AllocError>
-    ensures { OnOk result (map seen_path found.new.items ≡ map seen_path found.old.items ++ (if matches pattern.now (last_component path.now) then (path.now, flag) ∷ [] else [])) }
+    ensures { OnOk result (map seen_path found.new.items ≡ map seen_path found.old.items ++ found_if pattern.now path.now flag) }
 {
     if fits(pattern, last_name(path.bytes())) {
         if found.push((path, flag)).is_err() {
@@ -117,7 +117,7 @@ fn note_if<'h>(
     Ok(())
 }
 
-/// The paths whose last component matches, each with its flag.
+/// Returns the paths whose last component matches, each with its flag.
 pub(crate) fn found_pairs<'h>(
     alloc: Global,
     entries: &[Shown<'h>],

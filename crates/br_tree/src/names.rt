@@ -1,8 +1,7 @@
-ghost use Rattle.std.specs.Prelude.{◌≡◌, true, ◌<◌, ◌++◌, ◌∷◌, [], if◌then◌else◌, length, map, IfOk, OnOk};
+ghost use Rattle.std.specs.Prelude.{◌≡◌, true, ◌<◌, ◌++◌, length, IfOk, OnOk};
 ghost use Rattle.br_model.specs.Console as model;
-ghost use Rattle.br_model.specs.Text.{is_empty};
-ghost use Rattle.br_tree.specs.Seen.{flagged, seen_child, signed};
-ghost use Rattle.br_tree.specs.Walk.{seen_paths, some_name, AllPassing, IsFirstChild, IsRising};
+ghost use Rattle.br_tree.specs.Lists.{NotesChild, AreChildren};
+ghost use Rattle.br_tree.specs.Walk.{seen_paths, AllPassing, AreSorted, IsFirstChild, marked_in};
 
 use crate::child::Child;
 use crate::list::pair_at;
@@ -11,7 +10,7 @@ use crate::sign::sign_of;
 use crate::walk::part_of;
 use std::alloc::{AllocError, Global};
 
-/// The path of a child, of a path that is the child's or below it.
+/// Returns the path of a child, the front of a path that is the child's or below it.
 fn front_of<'p>(directory: &[u8], path: &'p [u8], name: &[u8]) -> &'p [u8]
     requires begins { model.begins_with path.now directory.now ≡ true }
     requires named { name.now ≡ model.child_of directory.now path.now }
@@ -20,9 +19,9 @@ fn front_of<'p>(directory: &[u8], path: &'p [u8], name: &[u8]) -> &'p [u8]
     &path[..directory.len() + name.len()]
 }
 
-/// The first of some paths in a directory, and how many of the first ones are of its child.
+/// Returns the first of some paths in a directory, and the number of first ones that are of its child.
 fn next_child<'h>(entries: &[Shown<'h>], directory: &[u8]) -> (&'h [u8], usize)
-    requires sorted { IsRising (seen_paths entries.now) }
+    requires sorted { AreSorted entries.now }
     requires begins { AllPassing (λ path. model.begins_with path directory.now) (seen_paths entries.now) }
     requires some { 0 < length entries.now }
     ensures { IsFirstChild directory.now (seen_paths entries.now) result.0.now result.1 }
@@ -42,10 +41,10 @@ fn note_child<'h>(
     directory: &[u8],
     path: &'h [u8],
 ) -> Result<(), AllocError>
-    requires sorted { IsRising (seen_paths entries.now) }
+    requires sorted { AreSorted entries.now }
     requires as_long { length flags.now ≡ length entries.now }
     requires begins { model.begins_with path.now directory.now ≡ true }
-    ensures { OnOk result (map seen_child noted.new.items ≡ map seen_child noted.old.items ++ map (signed (flagged (seen_paths entries.now) flags.now) directory.now) (some_name (model.child_of directory.now path.now))) }
+    ensures { OnOk result (NotesChild (marked_in entries.now flags.now) directory.now path.now noted.old.items noted.new.items) }
 {
     let name = child_name(directory, path);
     if !name.is_empty() {
@@ -57,16 +56,16 @@ fn note_child<'h>(
     Ok(())
 }
 
-/// The names in a directory, each with its sign.
+/// Returns the names in a directory, each with its sign.
 pub(crate) fn names_in<'h>(
     alloc: Global,
     entries: &[Shown<'h>],
     flags: &[bool],
     directory: &[u8],
 ) -> Result<Vec<Child<'h>>, AllocError>
-    requires sorted { IsRising (seen_paths entries.now) }
+    requires sorted { AreSorted entries.now }
     requires as_long { length flags.now ≡ length entries.now }
-    ensures { IfOk result (λ noted. map seen_child noted.items ≡ map (signed (flagged (seen_paths entries.now) flags.now) directory.now) (model.children (seen_paths entries.now) directory.now)) }
+    ensures { IfOk result (λ noted. AreChildren entries.now flags.now directory.now noted.items) }
 {
     let (first, last) = run_of(entries, directory);
     let run = part_of(entries, first, last);

@@ -4,7 +4,7 @@ ghost use Rattle.br_model.specs.Console as model;
 ghost use Rattle.br_model.specs.Name.{is_directory};
 ghost use Rattle.br_tree.specs.Fronts.{IsFront};
 
-/// Whether a name ends in a `/`.
+/// Returns whether a name ends in a `/`.
 pub(crate) fn is_directory_name(name: &[u8]) -> bool
     ensures { result ≡ is_directory name.now }
 {
@@ -14,7 +14,7 @@ pub(crate) fn is_directory_name(name: &[u8]) -> bool
     }
 }
 
-/// A name without the `/` at its end.
+/// Returns a name without the `/` at its end.
 pub fn bare_name(name: &[u8]) -> &[u8]
     ensures { result.now ≡ model.bare name.now }
 {
@@ -25,17 +25,17 @@ pub fn bare_name(name: &[u8]) -> &[u8]
     }
 }
 
-/// How a pattern stands to a name up to its first `*`.
+/// What a match of a pattern with a name comes to up to the first `*`.
 enum Front<'t> {
     /// There is no `*`, and it matches the whole name.
     Whole,
     /// It does not match.
     Never,
-    /// It matches, and these are the pattern behind the `*` and the name from there on.
+    /// It matches, and these are the pattern after the `*` and the name from there on.
     Star(&'t [u8], &'t [u8]),
 }
 
-/// Whether a byte of a pattern that is no `*` stands for a byte.
+/// Returns whether a byte of a pattern that is no `*` stands for a byte.
 fn takes(mark: u8, byte: u8) -> bool
     ensures { result ≡ (mark == 63 || mark == byte) }
 {
@@ -70,8 +70,8 @@ fn match_front<'t>(pattern: &'t [u8], name: &'t [u8]) -> Front<'t>
     }
 }
 
-/// Whether a pattern matches the name from some place on. What comes before a `*` is taken where it matches first: a later place
-/// leaves less of the name, and what it leaves is left by the first one too.
+/// Returns whether a pattern matches the name from some place on. What comes before a `*` is taken at the first place that
+/// matches: a later place leaves less of the name, and what it leaves is left by the first one too.
 fn matches_somewhere(pattern: &[u8], name: &[u8]) -> bool
     ensures { result ≡ list_any (model.matches pattern.now) (model.tails name.now) }
 {
@@ -92,8 +92,8 @@ fn matches_somewhere(pattern: &[u8], name: &[u8]) -> bool
     }
 }
 
-/// Whether a pattern matches a whole name: `*` stands for any bytes, `?` for one byte, any other byte for itself. It takes at
-/// most as many steps as the product of the lengths.
+/// Returns whether a pattern matches a whole name: `*` stands for any bytes, `?` for one byte, any other byte for itself. It
+/// takes at most as many steps as the product of the lengths.
 pub fn matches(pattern: &[u8], name: &[u8]) -> bool
     ensures { result ≡ model.matches pattern.now name.now }
 {

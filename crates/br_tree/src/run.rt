@@ -3,7 +3,7 @@ ghost use Rattle.std.specs.Cmp.Lexicographic.{slice_cmp};
 ghost use Rattle.std.specs.Ordering.{nat_cmp, is_lt};
 ghost use Rattle.br_model.specs.Console.{child_of, begins_with};
 ghost use Rattle.br_model.specs.Name.{is_slash};
-ghost use Rattle.br_tree.specs.Walk.{first_part, seen_paths, IsRising, IsRun, AllPassing, NonePassing};
+ghost use Rattle.br_tree.specs.Walk.{first_part, seen_paths, IsRun, AllPassing, NonePassing, AreSorted};
 
 use br_types::Path;
 use br_view::Entry;
@@ -11,7 +11,7 @@ use br_view::Entry;
 /// A path of a view beside its newest copy.
 pub(crate) type Shown<'h> = (&'h Path, Entry);
 
-/// Where the first `/` of a text stands.
+/// Returns the place of the first `/` of a text.
 pub(crate) fn slash_in(text: &[u8]) -> Option<usize>
     ensures place { result ≡ position is_slash text.now }
     ensures bound { IfSome result (λ place. place < length text.now) }
@@ -19,7 +19,7 @@ pub(crate) fn slash_in(text: &[u8]) -> Option<usize>
     text.iter().position(|byte| *byte == b'/')
 }
 
-/// A text up to its first `/`.
+/// Returns a text up to its first `/`.
 fn part_of(text: &[u8]) -> &[u8]
     ensures { result.now ≡ first_part text.now }
 {
@@ -29,30 +29,30 @@ fn part_of(text: &[u8]) -> &[u8]
     }
 }
 
-/// A path without as many bytes as a directory has.
+/// Returns a path without as many bytes as a directory has.
 pub(crate) fn rest_of<'p>(directory: &[u8], path: &'p [u8]) -> &'p [u8]
     ensures { result.now ≡ drop (length directory.now) path.now }
 {
     &path[directory.len().min(path.len())..]
 }
 
-/// The rest of a path behind a directory up to its next `/`.
+/// Returns the rest of a path after a directory, up to its next `/`.
 pub(crate) fn child_name<'p>(directory: &[u8], path: &'p [u8]) -> &'p [u8]
     ensures { result.now ≡ child_of directory.now path.now }
 {
     part_of(rest_of(directory, path))
 }
 
-/// Whether a path comes before a text in byte order.
+/// Returns whether a path comes before a text in byte order.
 fn comes_before(path: &Path, text: &[u8]) -> bool
     ensures { result ≡ is_lt (slice_cmp nat_cmp path.now text.now) }
 {
     path.bytes().cmp(text).is_lt()
 }
 
-/// From where on the paths do not come before a text.
+/// Returns the first place from which on no path comes before a text.
 pub(crate) fn not_before(entries: &[Shown<'_>], text: &[u8]) -> usize
-    requires { IsRising (seen_paths entries.now) }
+    requires { AreSorted entries.now }
     ensures bound { result ≤ length entries.now }
     ensures before { AllPassing (λ path. is_lt (slice_cmp nat_cmp path text.now)) (take result (seen_paths entries.now)) }
     ensures after { NonePassing (λ path. is_lt (slice_cmp nat_cmp path text.now)) (drop result (seen_paths entries.now)) }
@@ -60,9 +60,9 @@ pub(crate) fn not_before(entries: &[Shown<'_>], text: &[u8]) -> usize
     entries.partition_point(|entry| comes_before(entry.0, text))
 }
 
-/// How many of the first paths begin with a text, of paths of which none comes before it.
+/// Returns the number of first paths that begin with a text, of paths of which none comes before it.
 fn begin_with(entries: &[Shown<'_>], text: &[u8]) -> usize
-    requires sorted { IsRising (seen_paths entries.now) }
+    requires sorted { AreSorted entries.now }
     requires after { NonePassing (λ path. is_lt (slice_cmp nat_cmp path text.now)) (seen_paths entries.now) }
     ensures bound { result ≤ length entries.now }
     ensures within { AllPassing (λ path. begins_with path text.now) (take result (seen_paths entries.now)) }
@@ -71,18 +71,18 @@ fn begin_with(entries: &[Shown<'_>], text: &[u8]) -> usize
     entries.partition_point(|entry| entry.0.bytes().starts_with(text))
 }
 
-/// From where to where the paths begin with a text.
+/// Returns the places between which the paths begin with a text.
 pub(crate) fn run_of(entries: &[Shown<'_>], text: &[u8]) -> (usize, usize)
-    requires { IsRising (seen_paths entries.now) }
+    requires { AreSorted entries.now }
     ensures { IsRun (λ path. begins_with path text.now) (seen_paths entries.now) result.0 result.1 }
 {
     let first = not_before(entries, text);
     (first, first + begin_with(entries.split_at(first).1, text))
 }
 
-/// How many of the first paths in a directory are those of its first child: the child itself and what is below it.
+/// Returns the number of first paths in a directory that are of its first child: the child itself and what is below it.
 pub(crate) fn child_len(entries: &[Shown<'_>], directory: &[u8], name: &[u8]) -> usize
-    requires sorted { IsRising (seen_paths entries.now) }
+    requires sorted { AreSorted entries.now }
     requires below { AllPassing (λ path. begins_with path directory.now) (seen_paths entries.now) }
     requires first { NonePassing (λ path. is_lt (slice_cmp nat_cmp (child_of directory.now path) name.now)) (seen_paths entries.now) }
     ensures bound { result ≤ length entries.now }

@@ -2,22 +2,22 @@ ghost use Rattle.std.specs.Prelude.{◌≡◌, ◌≤◌, ◌-◌, length, take,
 ghost use Rattle.std.specs.List.{list_any};
 ghost use Rattle.br_model.specs.Console.{begins_with, sign};
 ghost use Rattle.br_model.specs.Order.{is_among};
-ghost use Rattle.br_tree.specs.Seen.{flagged, sign_byte};
-ghost use Rattle.br_tree.specs.Walk.{seen_paths, IsRising};
+ghost use Rattle.br_tree.specs.Seen.{sign_byte};
+ghost use Rattle.br_tree.specs.Walk.{AreSorted, marked_in};
 
 use crate::child::Sign;
 use crate::pattern::is_directory_name;
 use crate::run::{Shown, not_before, run_of};
 use crate::walk::own_len;
 
-/// Whether a flag is set.
+/// Returns whether a flag is set.
 fn any_set(flags: &[bool]) -> bool
     ensures { result ≡ list_any (λ flag. flag) flags.now }
 {
     flags.iter().any(|flag| *flag)
 }
 
-/// Whether a flag of some places is set.
+/// Returns whether a flag of some places is set.
 fn any_between(flags: &[bool], from: usize, to: usize) -> bool
     requires ordered { from ≤ to }
     requires bound { to ≤ length flags.now }
@@ -26,32 +26,32 @@ fn any_between(flags: &[bool], from: usize, to: usize) -> bool
     any_set(&flags[from..to])
 }
 
-/// Whether a path is marked.
+/// Returns whether a path is marked.
 fn is_marked(entries: &[Shown<'_>], flags: &[bool], path: &[u8]) -> bool
-    requires sorted { IsRising (seen_paths entries.now) }
+    requires sorted { AreSorted entries.now }
     requires as_long { length flags.now ≡ length entries.now }
-    ensures { result ≡ is_among (flagged (seen_paths entries.now) flags.now) path.now }
+    ensures { result ≡ is_among (marked_in entries.now flags.now) path.now }
 {
     let first = not_before(entries, path);
     let own = own_len(entries.split_at(first).1, path);
     any_between(flags, first, first + own)
 }
 
-/// Whether a path that begins with a text is marked.
+/// Returns whether a path that begins with a text is marked.
 fn begins_a_mark(entries: &[Shown<'_>], flags: &[bool], text: &[u8]) -> bool
-    requires sorted { IsRising (seen_paths entries.now) }
+    requires sorted { AreSorted entries.now }
     requires as_long { length flags.now ≡ length entries.now }
-    ensures { result ≡ list_any (λ path. begins_with path text.now) (flagged (seen_paths entries.now) flags.now) }
+    ensures { result ≡ list_any (λ path. begins_with path text.now) (marked_in entries.now flags.now) }
 {
     let (first, last) = run_of(entries, text);
     any_between(flags, first, last)
 }
 
-/// How a path stands to the marks.
+/// Returns whether a path is marked, or one below it.
 pub(crate) fn sign_of(entries: &[Shown<'_>], flags: &[bool], path: &[u8]) -> Sign
-    requires sorted { IsRising (seen_paths entries.now) }
+    requires sorted { AreSorted entries.now }
     requires as_long { length flags.now ≡ length entries.now }
-    ensures { sign_byte result ≡ sign (flagged (seen_paths entries.now) flags.now) path.now }
+    ensures { sign_byte result ≡ sign (marked_in entries.now flags.now) path.now }
 {
     if is_marked(entries, flags, path) {
         Sign::Marked

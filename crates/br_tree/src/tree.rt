@@ -1,7 +1,7 @@
-ghost use Rattle.std.specs.Prelude.{◌≡◌, map, length, ◌<◌, ◌^◌, option_map, bytes_eq, replicate, false, IfOk};
+ghost use Rattle.std.specs.Prelude.{◌≡◌, map, length, ◌<◌, ◌^◌, bytes_eq, replicate, false, IfOk};
 ghost use Rattle.std.specs.List.{list_any};
 ghost use Rattle.br_model.specs.Console as model;
-ghost use Rattle.br_tree.specs.Walk.{seen_paths, is_picked, set_where, changes, recount, IsRising};
+ghost use Rattle.br_tree.specs.Walk.{seen_paths, is_picked, set_where, changes, recount, IsRising, AreSorted, marked_in};
 ghost use Rattle.br_model.specs.View.{view_paths};
 ghost use Rattle.br_view.specs.Shown.{shown_pair};
 ghost use Rattle.br_tree.specs.Marking as marking;
@@ -17,7 +17,7 @@ use br_view::{Entry, View};
 use std::alloc::{AllocError, Global};
 use std::marker::Model;
 
-/// A number of paths as it is answered.
+/// Widens a number of paths.
 fn as_number(count: Option<usize>) -> Option<u64>
     ensures { result ≡ count }
 {
@@ -27,14 +27,14 @@ fn as_number(count: Option<usize>) -> Option<u64>
     }
 }
 
-/// As many flags, none of which is set.
+/// Returns `count` flags, none of which is set.
 fn flags_for(alloc: Global, count: usize) -> Result<Vec<bool>, AllocError>
     ensures { IfOk result (λ flags. flags.items ≡ replicate count false) }
 {
     vec![in alloc; false; count]
 }
 
-/// The number of marks after so many were set or taken.
+/// Returns the number of marks after `changed` of them were set or taken.
 fn recount_by(marks: usize, changed: Option<usize>, value: bool) -> usize
     requires { recount value marks changed < 2 ^ 64 }
     ensures { result ≡ recount value marks changed }
@@ -61,19 +61,19 @@ fn change_matching(
     deep: bool,
     value: bool,
 ) -> Option<u64>
-    requires sorted { IsRising (seen_paths entries.now) }
+    requires sorted { AreSorted entries.now }
     requires as_long { length flags.old ≡ length entries.now }
-    requires counted { marks.old ≡ length (flagged (seen_paths entries.now) flags.old) }
+    requires counted { marks.old ≡ length (marked_in entries.now flags.old) }
     ensures flags { flags.new ≡ set_where (is_picked deep directory.now pattern.now) value (seen_paths entries.now) flags.old }
     ensures answer { result ≡ changes (is_picked deep directory.now pattern.now) value (seen_paths entries.now) flags.old }
-    ensures counted { marks.new ≡ length (flagged (seen_paths entries.now) flags.new) }
+    ensures counted { marks.new ≡ length (marked_in entries.now flags.new) }
 {
     let changed = set_matching(entries, flags, directory, pattern, deep, value);
     *marks = recount_by(*marks, changed, value);
     as_number(changed)
 }
 
-/// The same for the path of the directory itself, as `set_own` does.
+/// Sets the flag of the path of the directory itself, as `set_own` does, and keeps the number of marks.
 fn change_own(
     entries: &[(&Path, Entry)],
     flags: &mut [bool],
@@ -81,28 +81,28 @@ fn change_own(
     directory: &[u8],
     value: bool,
 ) -> Option<u64>
-    requires sorted { IsRising (seen_paths entries.now) }
+    requires sorted { AreSorted entries.now }
     requires as_long { length flags.old ≡ length entries.now }
-    requires counted { marks.old ≡ length (flagged (seen_paths entries.now) flags.old) }
+    requires counted { marks.old ≡ length (marked_in entries.now flags.old) }
     ensures flags { flags.new ≡ set_where (bytes_eq directory.now) value (seen_paths entries.now) flags.old }
     ensures answer { result ≡ changes (bytes_eq directory.now) value (seen_paths entries.now) flags.old }
-    ensures counted { marks.new ≡ length (flagged (seen_paths entries.now) flags.new) }
+    ensures counted { marks.new ≡ length (marked_in entries.now flags.new) }
 {
     let changed = set_own(entries, flags, directory, value);
     *marks = recount_by(*marks, changed, value);
     as_number(changed)
 }
 
-/// Whether some path begins with a text.
+/// Returns whether some path begins with a text.
 fn begin_so(entries: &[(&Path, Entry)], text: &[u8]) -> bool
-    requires { IsRising (seen_paths entries.now) }
+    requires { AreSorted entries.now }
     ensures { result ≡ list_any (λ path. model.begins_with path text.now) (seen_paths entries.now) }
 {
     let (first, last) = run_of(entries, text);
     first < last
 }
 
-/// The entries of a view.
+/// Returns the entries of a view.
 fn rows<'v, 'h>(view: &'v View<'h>) -> &'v [(&'h Path, Entry)]
     ensures same { map shown_pair result.now ≡ view.now }
     ensures paths { seen_paths result.now ≡ view_paths view.now }
@@ -133,7 +133,7 @@ impl<'h> Model for Tree<'h> {
 }
 
 impl<'h> Tree<'h> {
-    /// A view in which nothing is marked.
+    /// Makes the tree of a view, in which nothing is marked.
     pub fn build(alloc: Global, view: View<'h>) -> Result<Tree<'h>, AllocError>
         ensures { IfOk result (λ tree. tree ≡ marking.unmarked view.entry) }
     {
@@ -145,7 +145,7 @@ impl<'h> Tree<'h> {
         })
     }
 
-    /// The paths and their newest copies, in byte order of the paths, each path once.
+    /// Returns the paths and their newest copies, in byte order of the paths, each path once.
     pub fn entries(&self) -> &[(&'h Path, Entry)]
         ensures same { map shown_pair result.now ≡ self.now.view }
         ensures valid { marking.IsMarking self.now }
@@ -160,7 +160,7 @@ impl<'h> Tree<'h> {
         self.is_marked.as_slice()
     }
 
-    /// How many paths there are, and how many of them are marked.
+    /// Returns the number of paths, and of those that are marked.
     pub fn count(&self) -> (u64, u64)
         ensures paths { result.0 ≡ length self.now.view }
         ensures marked { result.1 ≡ length self.now.marked }
@@ -168,18 +168,18 @@ impl<'h> Tree<'h> {
         (self.shown.len() as u64, self.marks as u64)
     }
 
-    /// Whether a directory stands in the view: the root does, and each text that a path begins with.
+    /// Returns whether the view has a directory: it has the root, and each text that a path begins with.
     pub fn has_dir(&self, directory: &[u8]) -> bool
         ensures { result ≡ model.is_directory_of (marking.paths_of self.now) directory.now }
     {
         directory == b"/".as_slice() || begin_so(rows(&self.shown), directory)
     }
 
-    /// Marks the children of a directory that match the pattern, and all below them, and says how many paths were not marked
-    /// before; nothing where no child matches, and then nothing changes.
+    /// Marks the children of a directory that match the pattern, and all below them. Returns the number of paths that were not
+    /// marked before. If no child matches, it returns nothing, and nothing changes.
     pub fn mark(&mut self, directory: &[u8], pattern: &[u8]) -> Option<u64>
-        ensures answer { result ≡ marking.newly_marked self.old (model.meant (marking.paths_of self.old) directory.now pattern.now) }
-        ensures marks { self.new ≡ marking.after_mark self.old (model.meant (marking.paths_of self.old) directory.now pattern.now) }
+        ensures answer { result ≡ marking.newly_marked self.old (marking.meant self.old directory.now pattern.now) }
+        ensures marks { self.new ≡ marking.after_mark self.old (marking.meant self.old directory.now pattern.now) }
     {
         change_matching(
             rows(&self.shown),
@@ -192,11 +192,11 @@ impl<'h> Tree<'h> {
         )
     }
 
-    /// Takes the marks from the children of a directory that match the pattern, and from all below them, and says how many
-    /// paths were marked before; nothing where no child matches, and then nothing changes.
+    /// Takes the marks from the children of a directory that match the pattern, and from all below them. Returns the number of
+    /// paths that were marked before. If no child matches, it returns nothing, and nothing changes.
     pub fn unmark(&mut self, directory: &[u8], pattern: &[u8]) -> Option<u64>
-        ensures answer { result ≡ marking.newly_unmarked self.old (model.meant (marking.paths_of self.old) directory.now pattern.now) }
-        ensures marks { self.new ≡ marking.after_unmark self.old (model.meant (marking.paths_of self.old) directory.now pattern.now) }
+        ensures answer { result ≡ marking.newly_unmarked self.old (marking.meant self.old directory.now pattern.now) }
+        ensures marks { self.new ≡ marking.after_unmark self.old (marking.meant self.old directory.now pattern.now) }
     {
         change_matching(
             rows(&self.shown),
@@ -210,11 +210,11 @@ impl<'h> Tree<'h> {
     }
 
     /// Marks the own paths of the directories in a directory that match the pattern, without a pattern the path of the
-    /// directory itself, and says how many were not marked before; nothing where there is no such path, and then nothing
-    /// changes.
+    /// directory itself. Returns the number of them that were not marked before. If there is no such path, it returns nothing,
+    /// and nothing changes.
     pub fn mark_dir(&mut self, directory: &[u8], pattern: Option<&[u8]>) -> Option<u64>
-        ensures answer { result ≡ marking.newly_marked self.old (model.meant_directories (marking.paths_of self.old) directory.now (option_map (λ p. p.now) pattern.entry)) }
-        ensures marks { self.new ≡ marking.after_mark self.old (model.meant_directories (marking.paths_of self.old) directory.now (option_map (λ p. p.now) pattern.entry)) }
+        ensures answer { result ≡ marking.newly_marked self.old (marking.meant_directories self.old directory.now pattern.entry) }
+        ensures marks { self.new ≡ marking.after_mark self.old (marking.meant_directories self.old directory.now pattern.entry) }
     {
         match pattern {
             Some(pattern) => change_matching(
@@ -237,11 +237,11 @@ impl<'h> Tree<'h> {
     }
 
     /// Takes the marks from the own paths of the directories in a directory that match the pattern, without a pattern from the
-    /// path of the directory itself, and says how many were marked before; nothing where there is no such path, and then
-    /// nothing changes.
+    /// path of the directory itself. Returns the number of them that were marked before. If there is no such path, it returns
+    /// nothing, and nothing changes.
     pub fn unmark_dir(&mut self, directory: &[u8], pattern: Option<&[u8]>) -> Option<u64>
-        ensures answer { result ≡ marking.newly_unmarked self.old (model.meant_directories (marking.paths_of self.old) directory.now (option_map (λ p. p.now) pattern.entry)) }
-        ensures marks { self.new ≡ marking.after_unmark self.old (model.meant_directories (marking.paths_of self.old) directory.now (option_map (λ p. p.now) pattern.entry)) }
+        ensures answer { result ≡ marking.newly_unmarked self.old (marking.meant_directories self.old directory.now pattern.entry) }
+        ensures marks { self.new ≡ marking.after_unmark self.old (marking.meant_directories self.old directory.now pattern.entry) }
     {
         match pattern {
             Some(pattern) => change_matching(
@@ -263,14 +263,14 @@ impl<'h> Tree<'h> {
         }
     }
 
-    /// The names in a directory in byte order, each with its sign.
+    /// Returns the names in a directory in byte order, each with its sign.
     pub fn children(&self, alloc: Global, directory: &[u8]) -> Result<Vec<Child<'h>>, AllocError>
         ensures { IfOk result (λ children. map seen_child children.items ≡ marking.signed_children self.now directory.now) }
     {
         names_in(alloc, rows(&self.shown), &self.is_marked, directory)
     }
 
-    /// The marked paths in byte order.
+    /// Returns the marked paths in byte order.
     pub fn marked(&self, alloc: Global) -> Result<Vec<Path>, AllocError>
         ensures { IfOk result (λ paths. paths.items ≡ self.now.marked) }
     {
@@ -278,7 +278,7 @@ impl<'h> Tree<'h> {
         paths_of(alloc, &pairs)
     }
 
-    /// The marked paths and their newest copies, in byte order of the paths.
+    /// Returns the marked paths and their newest copies, in byte order of the paths.
     pub fn marked_entries(&self, alloc: Global) -> Result<Vec<(&'h Path, Entry)>, AllocError>
         ensures entries { IfOk result (λ entries. map shown_pair entries.items ≡ marking.marked_entries self.now) }
         ensures paths { IfOk result (λ entries. map (λ e. e.0.now) entries.items ≡ self.now.marked) }
@@ -286,7 +286,7 @@ impl<'h> Tree<'h> {
         flagged_pairs(alloc, rows(&self.shown), &self.is_marked)
     }
 
-    /// The paths whose last component matches the pattern, each with whether it is marked.
+    /// Returns the paths whose last component matches the pattern, each with whether it is marked.
     pub fn find(&self, alloc: Global, pattern: &[u8]) -> Result<Vec<(&'h Path, bool)>, AllocError>
         ensures { IfOk result (λ found. map seen_path found.items ≡ marking.found_paths self.now pattern.now) }
     {

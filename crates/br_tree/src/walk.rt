@@ -1,14 +1,13 @@
-ghost use Rattle.std.specs.Prelude.{◌≡◌, true, ◌<◌, ◌≤◌, ◌-◌, ◌++◌, length, take, drop, count_by, replicate, bytes_eq, not, ◌&&◌, if◌then◌else◌};
+ghost use Rattle.std.specs.Prelude.{◌≡◌, true, ◌<◌, ◌≤◌, ◌-◌, ◌++◌, length, take, drop, count_by, replicate, bytes_eq};
 ghost use Rattle.std.specs.Cmp.Lexicographic.{slice_cmp};
 ghost use Rattle.std.specs.Ordering.{nat_cmp, is_lt};
-ghost use Rattle.br_model.specs.Console.{begins_with, child_of, matches, bare};
-ghost use Rattle.br_model.specs.Text.{is_empty};
-ghost use Rattle.br_tree.specs.Walk.{differs, seen_paths, is_picked, is_own, set_where, changes, AllPassing, NonePassing, IsRising, IsStep};
+ghost use Rattle.br_model.specs.Console.{begins_with, child_of};
+ghost use Rattle.br_tree.specs.Walk.{differs, seen_paths, is_picked, is_own, reach, set_where, changes, AllPassing, NonePassing, IsStep, AreSorted};
 
 use crate::pattern::{bare_name, is_directory_name, matches as fits};
 use crate::run::{Shown, child_len, child_name, not_before, rest_of, run_of};
 
-/// Sets flags to a value and says how many had another one.
+/// Sets flags to a value and returns the number of those that had another one.
 fn set_flags(flags: &mut [bool], value: bool) -> usize
     ensures flags { flags.new ≡ replicate (length flags.old) value }
     ensures count { result ≡ count_by (λ flag. differs value flag) flags.old }
@@ -19,7 +18,7 @@ fn set_flags(flags: &mut [bool], value: bool) -> usize
     count
 }
 
-/// Sets the flags of some places to a value and says how many had another one.
+/// Sets the flags of some places to a value and returns the number of those that had another one.
 fn set_range(flags: &mut [bool], from: usize, to: usize, value: bool) -> usize
     requires ordered { from ≤ to }
     requires bound { to ≤ length flags.old }
@@ -30,7 +29,7 @@ fn set_range(flags: &mut [bool], from: usize, to: usize, value: bool) -> usize
     set_flags(&mut flags[from..to], value)
 }
 
-/// Whether a path in a directory, of a child of this name, is that of the directory that the child is.
+/// Returns whether a path in a directory, of a child of this name, is that of the directory that the child is.
 fn is_own_path(directory: &[u8], path: &[u8], name: &[u8]) -> bool
     requires begins { begins_with path.now directory.now ≡ true }
     requires named { name.now ≡ child_of directory.now path.now }
@@ -39,7 +38,7 @@ fn is_own_path(directory: &[u8], path: &[u8], name: &[u8]) -> bool
     is_directory_name(path) && rest_of(directory, path) == name
 }
 
-/// Of as many paths of a child how many are meant, from its first path on.
+/// Returns the number of paths of a child that are meant, from its first path on.
 fn reach_of(
     path: &[u8],
     name: &[u8],
@@ -50,7 +49,7 @@ fn reach_of(
 ) -> usize
     requires begins { begins_with path.now directory.now ≡ true }
     requires named { name.now ≡ child_of directory.now path.now }
-    ensures { result ≡ (if not (is_empty name.now) && matches pattern.now (bare name.now) then (if deep then len else (if is_own directory.now path.now then 1 else 0)) else 0) }
+    ensures { result ≡ reach deep directory.now pattern.now name.now path.now len }
 {
     if name.is_empty() || !fits(pattern, bare_name(name)) {
         0
@@ -63,9 +62,9 @@ fn reach_of(
     }
 }
 
-/// Of the paths of the first child how many are meant, from the first on, and how many it has.
+/// Returns the number of paths of the first child that are meant, from the first on, and the number that it has.
 fn step(entries: &[Shown<'_>], directory: &[u8], pattern: &[u8], deep: bool) -> (usize, usize)
-    requires sorted { IsRising (seen_paths entries.now) }
+    requires sorted { AreSorted entries.now }
     requires begins { AllPassing (λ path. begins_with path directory.now) (seen_paths entries.now) }
     requires some { 0 < length entries.now }
     ensures { IsStep (is_picked deep directory.now pattern.now) (seen_paths entries.now) result.0 result.1 }
@@ -82,7 +81,7 @@ fn step(entries: &[Shown<'_>], directory: &[u8], pattern: &[u8], deep: bool) -> 
 }
 
 /// Sets the flags of the children of a directory that match a pattern and of all below them, or of the directories among them
-/// alone, and says how many had another value; nothing where no path is meant.
+/// alone. Returns the number of those that had another value, or nothing if no path is meant.
 fn set_children(
     entries: &[Shown<'_>],
     flags: &mut [bool],
@@ -91,7 +90,7 @@ fn set_children(
     deep: bool,
     value: bool,
 ) -> Option<usize>
-    requires sorted { IsRising (seen_paths entries.now) }
+    requires sorted { AreSorted entries.now }
     requires begins { AllPassing (λ path. begins_with path directory.now) (seen_paths entries.now) }
     requires as_long { length flags.old ≡ length entries.now }
     ensures flags { flags.new ≡ set_where (is_picked deep directory.now pattern.now) value (seen_paths entries.now) flags.old }
@@ -109,7 +108,7 @@ fn set_children(
     if found { Some(count) } else { None }
 }
 
-/// Pairs from a place to another.
+/// Returns the pairs from a place to another.
 pub(crate) fn part_of<'e, 'h>(
     entries: &'e [Shown<'h>],
     first: usize,
@@ -122,9 +121,9 @@ pub(crate) fn part_of<'e, 'h>(
     &entries[first..last]
 }
 
-/// How many of the first paths are a directory's own, of paths of which none comes before it.
+/// Returns the number of first paths that are a directory's own, of paths of which none comes before it.
 pub(crate) fn own_len(entries: &[Shown<'_>], directory: &[u8]) -> usize
-    requires sorted { IsRising (seen_paths entries.now) }
+    requires sorted { AreSorted entries.now }
     requires from { NonePassing (λ path. is_lt (slice_cmp nat_cmp path directory.now)) (seen_paths entries.now) }
     ensures bound { result ≤ length entries.now }
     ensures within { AllPassing (bytes_eq directory.now) (take result (seen_paths entries.now)) }
@@ -136,7 +135,7 @@ pub(crate) fn own_len(entries: &[Shown<'_>], directory: &[u8]) -> usize
     }
 }
 
-/// The same of the children of a directory in a whole view.
+/// Sets the flags in a whole view as `set_children` does.
 pub(crate) fn set_matching(
     entries: &[Shown<'_>],
     flags: &mut [bool],
@@ -145,7 +144,7 @@ pub(crate) fn set_matching(
     deep: bool,
     value: bool,
 ) -> Option<usize>
-    requires sorted { IsRising (seen_paths entries.now) }
+    requires sorted { AreSorted entries.now }
     requires as_long { length flags.old ≡ length entries.now }
     ensures flags { flags.new ≡ set_where (is_picked deep directory.now pattern.now) value (seen_paths entries.now) flags.old }
     ensures answer { result ≡ changes (is_picked deep directory.now pattern.now) value (seen_paths entries.now) flags.old }
@@ -161,14 +160,14 @@ pub(crate) fn set_matching(
     )
 }
 
-/// Sets the flag of the path of a directory and says how many had another value; nothing where it is no path.
+/// Sets the flag of the path of a directory. Returns the number of those that had another value, or nothing if it is no path.
 pub(crate) fn set_own(
     entries: &[Shown<'_>],
     flags: &mut [bool],
     directory: &[u8],
     value: bool,
 ) -> Option<usize>
-    requires sorted { IsRising (seen_paths entries.now) }
+    requires sorted { AreSorted entries.now }
     requires as_long { length flags.old ≡ length entries.now }
     ensures flags { flags.new ≡ set_where (bytes_eq directory.now) value (seen_paths entries.now) flags.old }
     ensures answer { result ≡ changes (bytes_eq directory.now) value (seen_paths entries.now) flags.old }
