@@ -1,3 +1,4 @@
+pub mod Applied
 pub mod Argument
 pub mod Fault
 pub mod Said

@@ -1,4 +1,4 @@
-/// What a console answers.
+/// What a console gives for a command.
 #[derive(Debug, Drop)]
 pub enum Answer {
     /// Lines to be printed, each with its end.

@@ -19,7 +19,7 @@ const MAX_LEN: usize = 4096;
 pub enum Command {
     /// Goes to a directory.
     Cd(Vec<u8>),
-    /// Says where the console stands.
+    /// Shows the directory of the console.
     Pwd,
     /// Shows the names in the directory, all or those that match.
     Ls(Option<Vec<u8>>),
@@ -31,13 +31,13 @@ pub enum Command {
     MarkDir(Option<Vec<u8>>),
     /// Takes such marks back.
     UnmarkDir(Option<Vec<u8>>),
-    /// Says how many paths there are, and how many are marked.
+    /// Shows the number of paths, and of those that are marked.
     Count,
     /// Shows the marked paths below the directory.
     LsMark,
     /// Shows the paths whose last component matches.
     Find(Vec<u8>),
-    /// Says how many paths are marked, and how many bytes their files have.
+    /// Shows the number of marked paths, and of the bytes of their files.
     Estimate,
     /// Ends the dialogue with the marks.
     Done,
@@ -45,14 +45,14 @@ pub enum Command {
     Quit,
 }
 
-/// A blank is a space or a tab.
+/// Returns whether a byte is a blank: a space or a tab.
 fn is_blank_byte(byte: u8) -> bool
     ensures { result ≡ is_blank byte }
 {
     byte == b' ' || byte == b'\t'
 }
 
-/// The text without the blanks at its front.
+/// Returns the text without the blanks at its front.
 fn without_front(text: &[u8]) -> &[u8]
     ensures { result.now ≡ trimmed_front text.now }
 {
@@ -66,7 +66,7 @@ fn without_front(text: &[u8]) -> &[u8]
     left
 }
 
-/// The text without the blanks at its end.
+/// Returns the text without the blanks at its end.
 fn without_end(text: &[u8]) -> &[u8]
     ensures { result.now ≡ trimmed_end text.now }
 {
@@ -80,7 +80,7 @@ fn without_end(text: &[u8]) -> &[u8]
     left
 }
 
-/// The text without the blanks at its ends.
+/// Returns the text without the blanks at its ends.
 #[tactic(auto, unfolding(br_model::specs::Text::trim_by))]
 fn trimmed(text: &[u8]) -> &[u8]
     ensures { result.now ≡ trim_by is_blank text.now }
@@ -94,7 +94,7 @@ fn blank_in(text: &[u8]) -> Option<usize>
     text.iter().position(|byte| is_blank_byte(*byte))
 }
 
-/// The text in front of the first blank, and what stands behind it.
+/// Returns the text before the first blank, and what comes after it.
 fn first_word(text: &[u8]) -> (&[u8], &[u8])
     ensures word { result.0.now ≡ before_first is_blank text.now }
     ensures rest { result.1.now ≡ after_first is_blank text.now }
@@ -105,7 +105,7 @@ fn first_word(text: &[u8]) -> (&[u8], &[u8])
     }
 }
 
-/// A command that takes no argument.
+/// Returns a command that takes no argument.
 fn alone(command: Command, text: &[u8]) -> Result<Command, MarkFault>
     ensures { AnswersAlways said fault_number result (model.alone (said command) text.now) }
 {
@@ -116,7 +116,7 @@ fn alone(command: Command, text: &[u8]) -> Result<Command, MarkFault>
     }
 }
 
-/// An argument that a command needs.
+/// Returns an argument that a command needs.
 fn needed(alloc: Global, text: &[u8]) -> Result<Vec<u8>, MarkFault>
     ensures { Answers (λ t. t.items) cause result (needed_text text.now) }
 {
@@ -126,7 +126,7 @@ fn needed(alloc: Global, text: &[u8]) -> Result<Vec<u8>, MarkFault>
     Ok(Vec::from_slice(alloc, text)?)
 }
 
-/// An argument that may be missing.
+/// Returns an argument that may be missing.
 fn wanted(alloc: Global, text: &[u8]) -> Result<Option<Vec<u8>>, AllocError>
     ensures { IfOk result (λ o. text_of o ≡ wanted_text text.now) }
 {
@@ -136,7 +136,7 @@ fn wanted(alloc: Global, text: &[u8]) -> Result<Option<Vec<u8>>, AllocError>
     Ok(Some(Vec::from_slice(alloc, text)?))
 }
 
-/// The command of a word and of the text behind it.
+/// Returns the command of a word and of the text after it.
 #[tactic(auto, unfolding(br_model::specs::Console::read_words))]
 fn read_words(alloc: Global, word: &[u8], text: &[u8]) -> Result<Command, MarkFault>
     ensures { Answers said cause result (model.read_words word.now text.now) }
@@ -173,9 +173,12 @@ fn read_words(alloc: Global, word: &[u8], text: &[u8]) -> Result<Command, MarkFa
 }
 
 impl Command {
-    /// The command of a line: its first word, and the rest of the line without the blanks (spaces and tabs) at its ends.
-    /// `UnknownCommand` where the line has more than 4,096 bytes, the word is none of the commands (small letters alone), or
-    /// its argument is missing or too much.
+    /// Reads the command of a line: its first word, and the rest of the line without the blanks (spaces and tabs) at its ends.
+    ///
+    /// # Errors
+    ///
+    /// `UnknownCommand` if the line has more than 4,096 bytes, the word is none of the commands (small letters alone), or its
+    /// argument is missing or too much.
     #[tactic(auto, unfolding(br_model::specs::Console::read_command))]
     pub fn read(alloc: Global, line: &[u8]) -> Result<Command, MarkFault>
         ensures { Answers said cause result (model.read_command line.now) }

@@ -1,11 +1,9 @@
 ghost use Rattle.std.specs.Prelude.{◌≡◌, IfOk, OnErr};
-ghost use Rattle.br_model.specs.Answer.{Answers};
 ghost use Rattle.br_model.specs.View.{IsView};
 ghost use Rattle.br_model.specs.Console as model;
 ghost use Rattle.br_tree.specs.Marking.{console_at};
-ghost use Rattle.br_mark.specs.Fault.{cause};
+ghost use Rattle.br_mark.specs.Applied.{Finds, Goes, Runs};
 ghost use Rattle.br_mark.specs.Said.{said};
-ghost use Rattle.br_mark.specs.Seen.{answer_said};
 
 use crate::answer::Answer;
 use crate::command::Command;
@@ -18,7 +16,7 @@ use br_types::Path;
 use std::alloc::{AllocError, Global};
 use std::marker::Model;
 
-/// Goes to the directory to which a way leads, and says where that is; `NoSuchDirectory` where there is none.
+/// Goes to the directory to which a way leads, and returns the line that shows it; `NoSuchDirectory` if there is none.
 #[tactic(auto, unfolding(br_model::specs::Console::apply))]
 fn go(
     alloc: Global,
@@ -26,7 +24,7 @@ fn go(
     directory: &mut Vec<u8>,
     way: &[u8],
 ) -> Result<Vec<u8>, MarkFault>
-    ensures answers { Answers (λ t. model.says (console_at directory.new.items tree.now) t.items) cause result (model.apply tree.now.view (console_at directory.old.items tree.now) (model.Cd way.now)) }
+    ensures answers { Goes directory.old.items directory.new.items tree.now (model.Cd way.now) result }
     ensures err { OnErr result (directory.new.items ≡ directory.old.items) }
 {
     let reached = resolve(alloc, directory, way)?;
@@ -56,7 +54,7 @@ impl<'h> Model for Console<'h> {
 }
 
 impl<'h> Console<'h> {
-    /// A console at `/`, with the marks that the tree has. It keeps the allocator.
+    /// Makes a console at `/`, with the marks that the tree has. It keeps the allocator.
     pub fn new(alloc: Global, tree: Tree<'h>) -> Result<Console<'h>, AllocError>
         ensures { IfOk result (λ c. c ≡ record { view = tree.entry.view; state = console_at model.root tree.entry }) }
     {
@@ -68,10 +66,10 @@ impl<'h> Console<'h> {
         })
     }
 
-    /// The lines of the paths whose last component matches; `NoMatch` where none does.
+    /// Returns the lines of the paths whose last component matches; `NoMatch` if none does.
     #[tactic(auto, unfolding(br_model::specs::Console::apply))]
     fn find(&self, pattern: &[u8]) -> Result<Vec<u8>, MarkFault>
-        ensures { Answers (λ t. model.says self.now.state t.items) cause result (model.apply self.now.view self.now.state (model.Find pattern.now)) }
+        ensures { Finds self.now pattern.now result }
     {
         let found = self.tree.find(self.alloc, pattern)?;
         if found.is_empty() {
@@ -80,11 +78,15 @@ impl<'h> Console<'h> {
         Ok(shows::found_lines(self.alloc, &found)?)
     }
 
-    /// Answers a command. `NoSuchDirectory` where `cd` leads to none, `NoMatch` where a pattern matches nothing, or `markdir` or
-    /// `unmarkdir` has no path to mark. A refused command changes nothing, nor does one for which memory runs out.
+    /// Runs a command. A refused command changes nothing, nor does one for which memory runs out.
+    ///
+    /// # Errors
+    ///
+    /// `NoSuchDirectory` if `cd` leads to none, `NoMatch` if a pattern matches nothing, or `markdir` or `unmarkdir` has no path to
+    /// mark.
     #[tactic(auto, unfolding(br_model::specs::Console::apply))]
     pub fn apply(&mut self, command: &Command) -> Result<Answer, MarkFault>
-        ensures answers { Answers (λ a. (self.new.state, answer_said a)) cause result (model.apply self.old.view self.old.state (said command.now)) }
+        ensures answers { Runs self.old self.new (said command.now) result }
         ensures view { self.new.view ≡ self.old.view }
         ensures err { OnErr result (self.new ≡ self.old) }
     {
@@ -120,7 +122,7 @@ impl<'h> Console<'h> {
         &self.tree
     }
 
-    /// The marked paths in byte order.
+    /// Returns the marked paths in byte order.
     pub fn marked(&self, alloc: Global) -> Result<Vec<Path>, AllocError>
         ensures same { IfOk result (λ paths. paths.items ≡ self.now.state.marked) }
         ensures view { IsView self.now.view }

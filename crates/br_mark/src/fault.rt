@@ -19,7 +19,7 @@ pub enum MarkFault {
 }
 
 impl MarkFault {
-    /// The number of the refusal: 1 want of memory, 55 no command, 56 no such directory, 57 nothing matches.
+    /// Returns the number of the refusal: 1 out of memory, 55 no command, 56 no such directory, 57 nothing matches.
     pub fn number(self) -> u32
         ensures { result ≡ fault_number self }
     {

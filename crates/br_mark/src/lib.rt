@@ -1,6 +1,6 @@
 //! The console of a restore: commands that walk through the view of some jobs and mark what is to be restored.
 //!
-//! A line is read as a `Command`, and a `Console` answers it. Contracts see a `Console` as the view beside the model's
+//! A line is read as a `Command`, and a `Console` runs it. Contracts see a `Console` as the view beside the model's
 //! console, which has the directory and the marked paths.
 #![tactic(auto)]
 

@@ -17,7 +17,7 @@ pub(crate) fn push_path(text: &mut Vec<u8>, path: &[u8]) -> Result<(), AllocErro
     text.extend_from_slice(b"\n")
 }
 
-/// Writes a name behind its sign as a line.
+/// Writes a name after its sign as a line.
 pub(crate) fn push_signed(text: &mut Vec<u8>, sign: u8, name: &[u8]) -> Result<(), AllocError>
     ensures { OnOk result (text.new.items ≡ text.old.items ++ line (sign ∷ escaped name.now)) }
 {
@@ -25,7 +25,7 @@ pub(crate) fn push_signed(text: &mut Vec<u8>, sign: u8, name: &[u8]) -> Result<(
     push_path(text, name)
 }
 
-/// The line that says where the console stands.
+/// Returns the line that shows the directory of the console.
 pub(crate) fn cwd_line(alloc: Global, directory: &[u8]) -> Result<Vec<u8>, AllocError>
     ensures { IfOk result (λ text. text.items ≡ model.cwd_line directory.now) }
 {
@@ -34,7 +34,7 @@ pub(crate) fn cwd_line(alloc: Global, directory: &[u8]) -> Result<Vec<u8>, Alloc
     Ok(text)
 }
 
-/// Writes how many paths got or lost a mark. It can't fail where there is room for `COUNT_LINE_LEN` bytes.
+/// Writes the number of paths that got or lost a mark. It can't fail if there is room for `COUNT_LINE_LEN` bytes.
 pub(crate) fn push_count(text: &mut Vec<u8>, count: u64, word: &[u8]) -> Result<(), AllocError>
     requires { length word.now ≤ 8 }
     ensures written { OnOk result (text.new.items ≡ text.old.items ++ model.count_line count word.now) }
@@ -47,7 +47,7 @@ pub(crate) fn push_count(text: &mut Vec<u8>, count: u64, word: &[u8]) -> Result<
     text.extend_from_slice(b"\n")
 }
 
-/// A line of two numbers, each with a text behind it.
+/// Returns a line of two numbers, each with a text after it.
 pub(crate) fn totals_line(
     alloc: Global,
     first: u64,

@@ -1,7 +1,7 @@
 ghost use Rattle.std.specs.Prelude.{◌≡◌, ◌≤◌, [], None, length, option_map, vec_len, vec_capacity, OnErr};
 ghost use Rattle.br_model.specs.Answer.{Answers};
 ghost use Rattle.br_model.specs.Console as model;
-ghost use Rattle.br_tree.specs.Marking.{console_at};
+ghost use Rattle.br_mark.specs.Applied.{Applies};
 ghost use Rattle.br_mark.specs.Fault.{cause};
 ghost use Rattle.br_mark.specs.Said.{text_of};
 ghost use Rattle.br_mark.specs.Seen.{answer_said, count_answer};
@@ -18,7 +18,7 @@ const MARKED: &[u8] = b"marked";
 /// What is said of paths that lost it.
 const UNMARKED: &[u8] = b"unmarked";
 
-/// The answer of how many paths got or lost a mark; `NoMatch` where none was meant. There is room for its line.
+/// Returns the line for the number of paths that got or lost a mark; `NoMatch` if none was meant. There is room for the line.
 fn counted(mut text: Vec<u8>, count: Option<u64>, word: &[u8]) -> Result<Answer, MarkFault>
     requires none { text.items ≡ [] }
     requires room { 64 ≤ vec_capacity text }
@@ -43,7 +43,7 @@ pub(crate) fn mark(
     directory: &[u8],
     pattern: &[u8],
 ) -> Result<Answer, MarkFault>
-    ensures answers { Answers (λ a. (console_at directory.now tree.new, answer_said a)) cause result (model.apply tree.old.view (console_at directory.now tree.old) (model.Mark pattern.now)) }
+    ensures answers { Applies directory.now tree.old tree.new (model.Mark pattern.now) result }
     ensures view { tree.new.view ≡ tree.old.view }
     ensures err { OnErr result (tree.new ≡ tree.old) }
 {
@@ -52,7 +52,7 @@ pub(crate) fn mark(
     counted(text, count, MARKED)
 }
 
-/// Takes such marks back.
+/// Takes the marks from the names in a directory that match, and from all below the directories among them.
 #[tactic(auto, unfolding(br_model::specs::Console::apply))]
 pub(crate) fn unmark(
     alloc: Global,
@@ -60,7 +60,7 @@ pub(crate) fn unmark(
     directory: &[u8],
     pattern: &[u8],
 ) -> Result<Answer, MarkFault>
-    ensures answers { Answers (λ a. (console_at directory.now tree.new, answer_said a)) cause result (model.apply tree.old.view (console_at directory.now tree.old) (model.Unmark pattern.now)) }
+    ensures answers { Applies directory.now tree.old tree.new (model.Unmark pattern.now) result }
     ensures view { tree.new.view ≡ tree.old.view }
     ensures err { OnErr result (tree.new ≡ tree.old) }
 {
@@ -69,7 +69,7 @@ pub(crate) fn unmark(
     counted(text, count, UNMARKED)
 }
 
-/// The bytes of a pattern, if there is one.
+/// Returns the bytes of a pattern, if there is one.
 fn bytes_of(pattern: &Option<Vec<u8>>) -> Option<&[u8]>
     ensures { option_map (λ p. p.now) result ≡ text_of pattern.now }
 {
@@ -87,7 +87,7 @@ pub(crate) fn mark_dir(
     directory: &[u8],
     pattern: &Option<Vec<u8>>,
 ) -> Result<Answer, MarkFault>
-    ensures answers { Answers (λ a. (console_at directory.now tree.new, answer_said a)) cause result (model.apply tree.old.view (console_at directory.now tree.old) (model.MarkDir (text_of pattern.now))) }
+    ensures answers { Applies directory.now tree.old tree.new (model.MarkDir (text_of pattern.now)) result }
     ensures view { tree.new.view ≡ tree.old.view }
     ensures err { OnErr result (tree.new ≡ tree.old) }
 {
@@ -96,7 +96,7 @@ pub(crate) fn mark_dir(
     counted(text, count, MARKED)
 }
 
-/// Takes such marks back.
+/// Takes the marks from the directories that match, without a pattern from the directory itself, and from nothing below.
 #[tactic(auto, unfolding(br_model::specs::Console::apply))]
 pub(crate) fn unmark_dir(
     alloc: Global,
@@ -104,7 +104,7 @@ pub(crate) fn unmark_dir(
     directory: &[u8],
     pattern: &Option<Vec<u8>>,
 ) -> Result<Answer, MarkFault>
-    ensures answers { Answers (λ a. (console_at directory.now tree.new, answer_said a)) cause result (model.apply tree.old.view (console_at directory.now tree.old) (model.UnmarkDir (text_of pattern.now))) }
+    ensures answers { Applies directory.now tree.old tree.new (model.UnmarkDir (text_of pattern.now)) result }
     ensures view { tree.new.view ≡ tree.old.view }
     ensures err { OnErr result (tree.new ≡ tree.old) }
 {

@@ -1,12 +1,9 @@
-ghost use Rattle.std.specs.Prelude.{◌≡◌, ◌<◌, ◌^◌, ◌++◌, length, codes, decimal, filter, flat_map, not, sum_by, None, Some, Ok, IfOk};
-ghost use Rattle.br_model.specs.Answer.{Answers};
+ghost use Rattle.std.specs.Prelude.{◌≡◌, ◌<◌, ◌^◌, filter, flat_map, not, sum_by, None, Some, IfOk};
 ghost use Rattle.br_model.specs.Name.{is_directory};
-ghost use Rattle.br_model.specs.Text.{line, escaped};
 ghost use Rattle.br_model.specs.Console as model;
-ghost use Rattle.br_tree.specs.Marking.{console_at};
-ghost use Rattle.br_tree.specs.Seen.{seen_child, seen_path};
-ghost use Rattle.br_mark.specs.Fault.{cause};
-ghost use Rattle.br_mark.specs.Seen.{signed_line, flagged_line, flag_sign};
+ghost use Rattle.br_tree.specs.Seen.{seen_path};
+ghost use Rattle.br_mark.specs.Applied.{Goes, Says, child_lines as lines_of, count_shown, estimate_shown, lines_within, matching_children};
+ghost use Rattle.br_mark.specs.Seen.{flagged_line, flag_sign};
 
 use crate::fault::MarkFault;
 use crate::line::{push_path, push_signed, totals_line};
@@ -15,9 +12,9 @@ use br_types::Path;
 use br_view::Entry;
 use std::alloc::{AllocError, Global};
 
-/// A line for each name.
+/// Returns a line for each name.
 fn child_lines(alloc: Global, children: &[Child<'_>]) -> Result<Vec<u8>, AllocError>
-    ensures { IfOk result (λ text. text.items ≡ flat_map (λ c. signed_line (seen_child c)) children.now) }
+    ensures { IfOk result (λ text. text.items ≡ lines_of children.now) }
 {
     let mut text = Vec::new(alloc);
     for child in children {
@@ -26,13 +23,13 @@ fn child_lines(alloc: Global, children: &[Child<'_>]) -> Result<Vec<u8>, AllocEr
     Ok(text)
 }
 
-/// A line for each name that matches.
+/// Returns a line for each name that matches.
 fn matching_lines(
     alloc: Global,
     children: &[Child<'_>],
     pattern: &[u8],
 ) -> Result<Vec<u8>, AllocError>
-    ensures { IfOk result (λ text. text.items ≡ flat_map (λ c. signed_line (seen_child c)) (filter (λ c. model.matches pattern.now (model.bare c.name.now)) children.now)) }
+    ensures { IfOk result (λ text. text.items ≡ lines_of (matching_children pattern.now children.now)) }
 {
     let mut text = Vec::new(alloc);
     for child in children {
@@ -43,16 +40,16 @@ fn matching_lines(
     Ok(text)
 }
 
-/// The lines of all names in a directory.
+/// Returns the lines of all names in a directory.
 #[tactic(auto, unfolding(br_model::specs::Console::apply))]
 pub(crate) fn list(alloc: Global, tree: &Tree<'_>, directory: &[u8]) -> Result<Vec<u8>, AllocError>
-    ensures { IfOk result (λ t. model.apply tree.now.view (console_at directory.now tree.now) (model.Ls None) ≡ Ok (model.says (console_at directory.now tree.now) t.items)) }
+    ensures { IfOk result (λ t. Says directory.now tree.now (model.Ls None) t.items) }
 {
     let children = tree.children(alloc, directory)?;
     child_lines(alloc, &children)
 }
 
-/// The lines of the names in a directory that match; `NoMatch` where none does.
+/// Returns the lines of the names in a directory that match; `NoMatch` if none does.
 #[tactic(auto, unfolding(br_model::specs::Console::apply))]
 pub(crate) fn list_matching(
     alloc: Global,
@@ -60,7 +57,7 @@ pub(crate) fn list_matching(
     directory: &[u8],
     pattern: &[u8],
 ) -> Result<Vec<u8>, MarkFault>
-    ensures { Answers (λ t. model.says (console_at directory.now tree.now) t.items) cause result (model.apply tree.now.view (console_at directory.now tree.now) (model.Ls (Some pattern.now))) }
+    ensures { Goes directory.now directory.now tree.now (model.Ls (Some pattern.now)) result }
 {
     let children = tree.children(alloc, directory)?;
     let text = matching_lines(alloc, &children, pattern)?;
@@ -70,14 +67,14 @@ pub(crate) fn list_matching(
     Ok(text)
 }
 
-/// The sign of a path: a star where it is marked, else a space.
+/// Returns the sign of a path: a star if it is marked, else a space.
 fn sign_of(is_marked: bool) -> u8
     ensures { result ≡ flag_sign is_marked }
 {
     if is_marked { b'*' } else { b' ' }
 }
 
-/// A line for each path.
+/// Returns a line for each path.
 pub(crate) fn found_lines(alloc: Global, found: &[(&Path, bool)]) -> Result<Vec<u8>, AllocError>
     ensures { IfOk result (λ text. text.items ≡ flat_map (λ p. flagged_line (seen_path p)) found.now) }
 {
@@ -88,20 +85,20 @@ pub(crate) fn found_lines(alloc: Global, found: &[(&Path, bool)]) -> Result<Vec<
     Ok(text)
 }
 
-/// Whether a path begins with a directory.
+/// Returns whether a path begins with a directory.
 fn is_within(path: &Path, directory: &[u8]) -> bool
     ensures { result ≡ model.begins_with path.now directory.now }
 {
     path.bytes().starts_with(directory)
 }
 
-/// A line for each path below a directory, and for the directory itself.
+/// Returns a line for each path below a directory, and for the directory itself.
 fn lines_below(
     alloc: Global,
     entries: &[(&Path, Entry)],
     directory: &[u8],
 ) -> Result<Vec<u8>, AllocError>
-    ensures { IfOk result (λ text. text.items ≡ flat_map (λ e. line (escaped e.0.now)) (filter (λ e. model.begins_with e.0.now directory.now) entries.now)) }
+    ensures { IfOk result (λ text. text.items ≡ lines_within directory.now entries.now) }
 {
     let mut text = Vec::new(alloc);
     for (path, _) in entries {
@@ -112,28 +109,28 @@ fn lines_below(
     Ok(text)
 }
 
-/// The lines of the marked paths below a directory.
+/// Returns the lines of the marked paths below a directory.
 #[tactic(auto, unfolding(br_model::specs::Console::apply))]
 pub(crate) fn list_marked(
     alloc: Global,
     tree: &Tree<'_>,
     directory: &[u8],
 ) -> Result<Vec<u8>, AllocError>
-    ensures { IfOk result (λ t. model.apply tree.now.view (console_at directory.now tree.now) model.LsMark ≡ Ok (model.says (console_at directory.now tree.now) t.items)) }
+    ensures { IfOk result (λ t. Says directory.now tree.now model.LsMark t.items) }
 {
     let entries = tree.marked_entries(alloc)?;
     lines_below(alloc, &entries, directory)
 }
 
-/// How many paths there are, and how many are marked.
+/// Returns the line for the number of paths, and of those that are marked.
 pub(crate) fn count(alloc: Global, tree: &Tree<'_>) -> Result<Vec<u8>, AllocError>
-    ensures { IfOk result (λ t. t.items ≡ line (decimal (length tree.now.view) ++ codes " paths, " ++ decimal (length tree.now.marked) ++ codes " marked")) }
+    ensures { IfOk result (λ t. t.items ≡ count_shown tree.now) }
 {
     let (paths, marked) = tree.count();
     totals_line(alloc, paths, b" paths, ", u128::from(marked), b" marked")
 }
 
-/// A size in bytes, a negative one as 0.
+/// Returns a size in bytes, 0 for a negative one.
 fn size_of(size: i64) -> u128
     ensures same { result ≡ model.size_of size }
     ensures fits { result < 2 ^ 63 }
@@ -141,7 +138,7 @@ fn size_of(size: i64) -> u128
     if size < 0 { 0 } else { size as u128 }
 }
 
-/// Whether the path is of a directory.
+/// Returns whether the path is of a directory.
 fn is_directory_path(path: &Path) -> bool
     ensures { result ≡ is_directory path.now }
 {
@@ -151,7 +148,7 @@ fn is_directory_path(path: &Path) -> bool
     }
 }
 
-/// The sizes of the files among these, without directories.
+/// Returns the sum of the sizes of the files among these, without directories.
 fn bytes_in(entries: &[(&Path, Entry)]) -> u128
     ensures { result ≡ sum_by (λ e. model.size_of e.1.size) (filter (λ e. not (is_directory e.0.now)) entries.now) }
 {
@@ -164,9 +161,9 @@ fn bytes_in(entries: &[(&Path, Entry)]) -> u128
     total
 }
 
-/// How many paths are marked, and how many bytes the files among them have.
+/// Returns the line for the number of marked paths, and of the bytes of the files among them.
 pub(crate) fn estimate(alloc: Global, tree: &Tree<'_>) -> Result<Vec<u8>, AllocError>
-    ensures { IfOk result (λ t. t.items ≡ line (decimal (length tree.now.marked) ++ codes " marked, " ++ decimal (model.marked_bytes tree.now.view tree.now.marked) ++ codes " bytes")) }
+    ensures { IfOk result (λ t. t.items ≡ estimate_shown tree.now) }
 {
     let entries = tree.marked_entries(alloc)?;
     let total = bytes_in(&entries);

@@ -9,14 +9,14 @@ use crate::fault::MarkFault;
 use br_tree::bare_name;
 use std::alloc::Global;
 
-/// How many bytes stand behind the last slash, if there is one.
+/// Returns the number of bytes after the last slash, if there is one.
 fn last_slash(name: &[u8]) -> Option<usize>
     ensures { result ≡ position is_slash (reverse name.now) }
 {
     name.iter().rev().position(|byte| *byte == b'/')
 }
 
-/// How many bytes the last component of a path has.
+/// Returns the number of bytes of the last component of a path.
 fn last_component_len(path: &[u8]) -> usize
     ensures { result ≡ length (model.last_component path.now) }
 {
@@ -68,7 +68,7 @@ fn follow(directory: &mut Vec<u8>, way: &[u8]) -> Result<(), MarkFault>
     Ok(())
 }
 
-/// The directory to which a way leads from a directory.
+/// Returns the directory to which a way leads from a directory.
 fn followed(alloc: Global, directory: &[u8], way: &[u8]) -> Result<Vec<u8>, MarkFault>
     ensures { Answers (λ d. d.items) cause result (model.walk directory.now (slice_split is_slash way.now)) }
 {
@@ -77,8 +77,12 @@ fn followed(alloc: Global, directory: &[u8], way: &[u8]) -> Result<Vec<u8>, Mark
     Ok(directory)
 }
 
-/// The directory to which a way leads, from the root where it begins with `/`; `NoSuchDirectory` where a component is empty.
-/// One `/` at its end may stand there. Whether there is such a directory is not asked.
+/// Returns the directory to which a way leads, from the root if it begins with `/`. One `/` at its end is allowed. Whether there
+/// is such a directory is not asked.
+///
+/// # Errors
+///
+/// `NoSuchDirectory` if a component is empty.
 #[tactic(auto, unfolding(br_model::specs::Console::resolve))]
 pub(crate) fn resolve(alloc: Global, directory: &[u8], way: &[u8]) -> Result<Vec<u8>, MarkFault>
     ensures { Answers (λ d. d.items) cause result (model.resolve directory.now way.now) }
