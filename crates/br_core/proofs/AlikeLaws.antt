@@ -14,7 +14,7 @@ use Rattle.br_match.specs.Walk.{step_among, step_on, rest_on, and_rest, Follows,
 use Rattle.br_match.proofs.StepLaws.{rest_is_step_on}
 use Rattle.br_match.proofs.SeenLaws.{step_in, step_of_head, step_of_bad_head, step_uncovered}
 
--- the piece has hits on the volumes, and its walk ends behind an address that has a byte there
+-- the piece has hits on the volumes, and its walk ends after an address that has a byte there
 pub record IsBounded (volumes : List Volume) (piece : Piece) : Type 0 where
   pub hits : List Hit
   pub defined : hits_on volumes piece ≡ Ok hits
@@ -40,7 +40,7 @@ record IsBlockAt (piece : Piece) (a : ℕ) (left : List ℕ) : Type 0 where
   read : read_header left ≡ Ok head
   whole : is_covered (just_groups piece.groups) a ≡ true → head.size ≤ length left
 
--- of two tests that do not both hold the second does not where the first does (as in br_match)
+-- of two tests that do not both hold the second does not if the first does (as in br_match)
 and_false : (a b : Bool) → (a && b) ≡ false → a ≡ true → b ≡ false
 and_false true b e p = e
 and_false false b e p = absurd cc
@@ -62,7 +62,7 @@ block_of_step volumes piece a bytes s near found within e = go (read_header (dro
         whole true short is c = absurd cc
         whole false short is c = ltb-false (length (drop a bytes)) h.size (and_false _ _ short c)
 
--- where a walk came of a piece that has hits the next step is not refused (as in br_match)
+-- the next step of a walk of a piece that has hits is not refused (as in br_match)
 step_follows : (volumes : List Volume) (piece : Piece) (a : ℕ) (hits : List Hit) → Follows volumes piece a → hits_on volumes piece ≡ Ok hits
     → (s : Option (List Hit × ℕ)) × (step_on volumes piece a ≡ Ok s)
 step_follows volumes piece a hits follows e =
@@ -84,7 +84,8 @@ whole_step piece left a h fits = go (is_covered (just_groups piece.groups) a) (l
     go true false e = refl
     go false c e = refl
 
--- over a volume with more bytes a step is the step over these, where the block is whole if it is covered
+-- over a volume with more bytes a step is the step over these, unless the block is covered and cut
+-- off
 step_over_more : (volumes later : List Volume) (piece : Piece) (a : ℕ) (bytes more : List ℕ) → is_above (bound_of (just_groups piece.groups)) a ≡ false
     → volume_bytes volumes piece.volume ≡ Some bytes → volume_bytes later piece.volume ≡ Some (bytes ++ more) → a < length bytes → IsBlockAt piece a (drop a bytes)
     → step_on later piece a ≡ step_on volumes piece a
@@ -118,7 +119,7 @@ step_over_more volumes later piece a bytes more near found grown within block =
         ∙ ap (λ (xs : List ℕ). Ok (Some (hits_in piece.groups (record { address = a; bytes = xs }), a + h.size))) same
         ∙ sym (step_of_head volumes piece a h near here ∙ whole_step piece (drop a bytes) a h fits)
 
--- where a walk of a bounded piece came, its step over volumes that go on is its step
+-- the step of a walk of a bounded piece over volumes that extend others is its step over these
 pub step_alike : (volumes later : List Volume) (piece : Piece) (a : ℕ) → IsBounded volumes piece → Follows volumes piece a → Extends later volumes
     → step_on later piece a ≡ step_on volumes piece a
 step_alike volumes later piece a is follows extends = go (is_above (bound_of (just_groups piece.groups)) a) refl

@@ -1,4 +1,5 @@
--- What steps make of the jobs and the volumes: a commit adds a job, and every other step leaves them.
+-- What steps make of the jobs and the volumes: a commit adds a job, and every other step leaves
+-- them.
 use Rattle.std.proofs.Common.{◌≡◌, ◌⊎◌, ℕ, true, false, ◌++◌, List, [], ◌∷◌, Ok, refl, sym, subst, inl, inr}
 use Rattle.std.proofs.lemmas.Bool.{and_parts, or_from}
 use Rattle.std.proofs.lemmas.List.Elements.{Contains-append_cases}
@@ -65,13 +66,13 @@ step_commits w after (Deliver number) (Planned n) h = absurd h
 step_commits w after (Deliver number) (Refused n) h = inl (unchanged w after h.1)
 step_commits w after (Deliver number) (Delivered rs) h = inl (record { jobs_are = λ t. (h.4 t).jobs; volumes_are = λ t. (h.4 t).volumes })
 
--- ---- jobs stand on volumes
+-- ---- volumes that hold jobs
 
--- the jobs of a state stand on its volumes
+-- the volumes of a state hold its jobs
 abbrev pub AllHold : World → Type 0
 AllHold w = (j : Job) → Contains w.jobs j → Holds w.volumes j
 
--- behind a commit the jobs stand on the volumes
+-- after a commit the volumes hold the jobs
 commit_holds : (w after : World) (c : ToCommit) → IsCommitted w c after → AllHold w → AllHold after
 commit_holds w after c is hold j among =
     elim (Contains-append_cases w.jobs (job_of c is.written.spans ∷ []) j (subst (λ (js : List Job). Contains js j) is.jobs_are among)) [
@@ -83,7 +84,7 @@ commit_holds w after c is hold j among =
           ]
     ]
 
--- behind each step they do
+-- after each step they do
 step_holds : (w after : World) (event : Event) (reply : Reply) → IsStep w event reply after → AllHold w → AllHold after
 step_holds w after event reply step hold =
     elim (step_commits w after event reply step) [
@@ -91,7 +92,7 @@ step_holds w after event reply step hold =
       | inr it ↦ commit_holds w after it.0 it.1 hold
     ]
 
--- where the jobs of the start stand on its volumes, those of every state stand on the volumes of these
+-- if the volumes of the start hold its jobs, those of every state hold the jobs of that state
 pub jobs_hold_lem : JobsHold
 jobs_hold_lem start last events replies begins hold run = run_keeps AllHold step_holds start last events replies run hold
 
@@ -122,7 +123,7 @@ pub record IsRecorded (w : World) : Type 0 where
   pub history : is_history (rows_of_jobs w.jobs) ≡ true
   pub are_jobs : AllByRecursion IsJob w.jobs
 
--- behind each step they are
+-- after each step they are
 step_records : (w after : World) (event : Event) (reply : Reply) → IsStep w event reply after → IsRecorded w → IsRecorded after
 step_records w after event reply step is =
     elim (step_commits w after event reply step) [

@@ -21,7 +21,8 @@ use Rattle.br_core.proofs.PlaceLaws.{was_there, without}
 use Rattle.br_core.proofs.HeldLaws.{IsHeld, batch_is_held, held_where_taken, held_with_batch, one_set, was_taken}
 use Rattle.br_core.proofs.StatusLaws.{IsAt, AreAt, at_weaker, are_at_new, claimed_at}
 
--- The restore is one of the plan over the volumes, what is on its way and what was taken are hits of the set, and each piece stands somewhere.
+-- The restore is one of the plan over the volumes, what is on its way and what was taken are hits
+-- of the set, and each piece stands somewhere.
 pub record IsGoing (volumes : List Volume) (plan : model.Plan) (set : Hits) (r : Restore) : Type 0 where
   pub volumes_are : r.volumes ≡ volumes
   pub plan_is : r.plan ≡ plan
@@ -174,7 +175,7 @@ going_moves volumes plan set (Commit c) r after readable is move = absurd move
 going_moves volumes plan set (Plan q script) r after readable is move = absurd move
 going_moves volumes plan set (Deliver number) r after readable is move = absurd move
 
--- ---- where a restore begins, and where it is whole
+-- ---- a restore at its beginning, and one that is whole
 
 -- a restore that was planned just now is under way
 pub going_begins : (w : World) (q : Request) (marks : List (List ℕ)) (plan : model.Plan) (set : Hits) → IsGoing w.volumes plan set (planned w q marks plan)
@@ -189,7 +190,7 @@ going_begins w q marks plan set = record {
     nothing : (h : Hit) → HasHit (planned w q marks plan).taken h → ⊥
     nothing h has = let none = sym (get-empty hit_cmp (h.key, h.spot)) ∙ has in absurd cc
 
--- where all pieces are finished and nothing is on its way the taken hits are the set
+-- if all pieces are finished and nothing is on its way, the taken hits are the set
 pub whole_is_set : (volumes : List Volume) (plan : model.Plan) (set : Hits) (r : Restore) → IsReadable volumes plan.groups set → IsGoing volumes plan set r → IsWhole r → r.taken ≡ set
 whole_is_set volumes plan set r readable is whole = one_set r.taken set is.taken_are back
   where

@@ -71,7 +71,7 @@ held_with_batch transit taken batch h (inr it) = inr (it.0, Contains-append_left
 pub batch_is_held : (transit : List (List Hit)) (taken : Hits) (batch : List Hit) (h : Hit) → Contains batch h → IsHeld (transit ++ batch ∷ []) taken h
 batch_is_held transit taken batch h inside = inr (batch, Contains-append_right transit (batch ∷ []) batch (first_in batch [] batch refl), inside)
 
--- a held hit stays so where a batch is taken
+-- a held hit stays so if a batch is taken
 pub held_where_taken : (set taken : Hits) (transit : List (List Hit)) (place : ℕ) (batch : List Hit) (h : Hit) → AreAmong taken set
     → ((g : Hit) → Contains batch g → HasHit set g) → slice_get transit place ≡ Some batch → IsHeld transit taken h → IsHeld (without place transit) (with_hits taken batch) h
 held_where_taken set taken transit place batch h among each at (inl has) = inl (stays_taken taken batch h has)

@@ -129,7 +129,7 @@ on_a = laid 0 block_0 ∷ []
 unfoldable pub on_b : List LaidBlock
 on_b = laid 0 block_1 ∷ laid 64 block_2 ∷ []
 
--- the job stands on the volumes
+-- the volumes hold the job
 unfoldable pub holds : Holds volumes job
 unfolding laid on_a on_b committing
 holds = record {

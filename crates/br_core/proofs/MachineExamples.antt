@@ -1,4 +1,5 @@
--- A run by example: what was read is taken from the last batch to the first, and delivered; and the headline applies to the run.
+-- A run by example: what was read is taken from the last batch to the first, and delivered; and the
+-- headline applies to the run.
 use Rattle.std.proofs.Common.{◌≡◌, List, [], ◌∷◌, ◌++◌, map, Some, None, Ok, refl, sym, ap, subst, ◌∙◌, inl, inr}
 use Rattle.std.specs.Prelude.{codes}
 use Rattle.std.specs.List.{AllZip}

@@ -38,7 +38,7 @@ get_before [] x i lt = absurd (omega arith)
 get_before (y ∷ ys) x zero lt = refl
 get_before (y ∷ ys) x (suc i) lt = get_before ys x i (omega arith)
 
--- the element at the end is at the place behind all others
+-- the element at the end is at the place after all others
 pub get_last : {X : Type 0} (xs : List X) (x : X) → slice_get (xs ++ x ∷ []) (length xs) ≡ Some x
 get_last [] x = refl
 get_last (y ∷ ys) x = get_last ys x
@@ -49,7 +49,7 @@ get_last (y ∷ ys) x = get_last ys x
 abbrev pub without : {X : Type 0} → ℕ → List X → List X
 without n xs = take n xs ++ drop (n + 1) xs
 
--- the first element stays where one behind it is left out
+-- the first element stays if one after it is left out
 without_later : {X : Type 0} (n : ℕ) (x : X) (xs : List X) → without (suc n) (x ∷ xs) ≡ x ∷ without n xs
 without_later n x xs = let more : suc n + 1 ≡ suc (n + 1) = omega arith in ap (λ (k : ℕ). (x ∷ take n xs) ++ drop k (x ∷ xs)) more
 

@@ -43,7 +43,7 @@ plan = record {
   names = record { key = record { session = key; index = 1 }; path = codes "/a" } ∷ [];
 }
 
--- the restore, where its pieces stand, what is on its way and what was taken
+-- the restore: the status of its pieces, what is on its way and what was taken
 unfoldable pub restore : List Status → List (List Hit) → Hits → Restore
 restore statuses transit taken = record {
   jobs = job ∷ [];
@@ -81,7 +81,7 @@ plans = (codes "/a" ∷ [], plan, refl, refl, refl)
 
 -- ---- the volumes that grow meanwhile
 
--- other bytes come behind those of each volume
+-- other bytes come after those of each volume
 unfoldable pub later : List Volume
 later = map (λ (v : Volume). record v { bytes = v.bytes ++ codes "spoilt" }) volumes
 

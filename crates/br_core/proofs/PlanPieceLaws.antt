@@ -1,4 +1,5 @@
--- The pieces of a plan over the volumes on which its jobs are laid: they are bounded, and their hits are those of the plan's meaning.
+-- The pieces of a plan over the volumes on which its jobs are laid: they are bounded, and their
+-- hits are those of the plan's meaning.
 use Rattle.std.proofs.Common.{◌≡◌, ℕ, ◌<◌, List, [], ◌∷◌, ◌++◌, length, map, Option, Some, Result, Ok, refl, sym, ap, subst, ◌∙◌}
 use Rattle.std.proofs.lemmas.Option.{same_Some}
 use Rattle.std.specs.Prelude.{Contains, flat_map, slice_get}
@@ -68,7 +69,8 @@ pub record IsPieceOf (volumes : List Volume) (set : Hits) (piece : Piece) : Type
   pub bounded : IsBounded volumes piece
   pub among : (h : Hit) → Contains bounded.hits h → HasHit set h
 
--- The set is the meaning of the groups over the volumes. Each of their pieces is bounded, with hits of the set, and each hit of the set is one of a piece.
+-- The set is the meaning of the groups over the volumes. Each of their pieces is bounded, with hits
+-- of the set, and each hit of the set is one of a piece.
 pub record IsReadable (volumes : List Volume) (groups : List Group) (set : Hits) : Type 0 where
   pub means : meaning groups volumes ≡ Ok set
   pub each : (n : ℕ) (piece : Piece) → slice_get (pieces_of groups) n ≡ Some piece → IsPieceOf volumes set piece

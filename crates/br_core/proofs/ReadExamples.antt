@@ -1,4 +1,5 @@
--- A delivery that is refused, and reads with a failure and a repeat while the volumes grow, by example.
+-- A delivery that is refused, and reads with a failure and a repeat while the volumes grow, by
+-- example.
 use Rattle.std.proofs.Common.{◌≡◌, ℕ, List, [], ◌∷◌, refl, sym, subst}
 use Rattle.std.proofs.lemmas.Option.{same_Some}
 use Rattle.std.specs.Prelude.{codes}

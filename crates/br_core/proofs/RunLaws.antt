@@ -1,4 +1,5 @@
--- A restore in a run: under way from its plan on, until it is over. Thus what it delivers is what was selected.
+-- A restore in a run: under way from its plan on, until it is over. Thus what it delivers is what
+-- was selected.
 use Rattle.std.proofs.Common.{◌≡◌, ◌⊎◌, ℕ, ◌<◌, List, [], ◌∷◌, ◌++◌, length, Option, Some, None, Ok, refl, sym, ap, subst, ◌∙◌, inl, inr, arith}
 use Rattle.std.proofs.lemmas.List.{length-append, length-set}
 use Rattle.std.proofs.lemmas.Option.{same_Some}
@@ -34,11 +35,11 @@ use Rattle.br_core.proofs.GoingLaws.{IsGoing, going_begins, going_moves, whole_i
 
 -- ---- the restores of a state
 
--- what stands under a number
+-- what is under a number
 abbrev at_number : World → List (Option Restore) → ℕ → Option Restore
 at_number w restores number = restore_at (record w { restores = restores }) number
 
--- of a list of restores the same is said where the places are the same
+-- of a list of restores the same is said if the places are the same
 places_alike : (w : World) (some other : List (Option Restore)) (m n : ℕ) → slice_get some m ≡ slice_get other n → at_number w some m ≡ at_number w other n
 places_alike w some other m n e = rw e refl
 
@@ -129,7 +130,8 @@ planned_is history chosen q script plan is_chosen e =
 abbrev selected_by : List JobRows → List Command → List Entry
 selected_by chosen script = selection (view_of chosen) (marks_of chosen script)
 
--- The chosen jobs are laid on the volumes of the moment, the plan is readable over these, and the restore is under way in the last state, if it is not over.
+-- The chosen jobs are laid on the volumes of the moment, the plan is readable over these, and the
+-- restore is under way in the last state, if it is not over.
 record IsFollowed (number : ℕ) (moment last : World) (chosen : List JobRows) (script : List Command) (plan : model.Plan) : Type 0 where
   laid : AllByRecursion (IsJobLaid moment.volumes) chosen
   groups_are : plan_groups (selected_by chosen script) chosen ≡ plan.groups

@@ -17,7 +17,8 @@ use Rattle.br_core.specs.Machine.{World, Restore, Event, Reply, IsStart, IsStep,
 use Rattle.br_core.specs.Machine.Event.{Plan, Deliver}
 use Rattle.br_core.specs.Machine.Reply.{Planned, Delivered}
 
--- A restore in a run: some steps, then its plan, then other steps. The jobs that were chosen for it stand on the volumes of that moment.
+-- A restore in a run: some steps, then its plan, then other steps. The volumes of that moment hold
+-- the jobs that were chosen for it.
 pub record IsPlanned (q : Request) (script : List Command) (number : ℕ) (moment last : World) (chosen : List JobRows) (plan : model.Plan) : Type 0 where
   pub start : World
   pub begun : World
@@ -33,8 +34,9 @@ pub record IsPlanned (q : Request) (script : List Command) (number : ℕ) (momen
   pub plan_is : plan_for (rows_of_jobs moment.jobs) q script ≡ Ok (marks_of chosen script, plan)
   pub hold : (j : Job) → Contains moment.jobs j → Contains chosen j.rows → Holds moment.volumes j
 
--- At every point of a run the hits of a restore, on their way or taken, are among those of its bootstrap over the volumes of its moment; where all
--- of its pieces are read and nothing is on its way, those that were taken are all of them.
+-- At every point of a run the hits of a restore, on their way or taken, are among those of its
+-- bootstrap over the volumes of its moment. If all of its pieces are read and nothing is on its
+-- way, the hits that were taken are all of them.
 abbrev pub HitsOfARun : Type 0
 HitsOfARun =
     (q : Request) (script : List Command) (number : ℕ) (moment last : World) (chosen : List JobRows) (plan : model.Plan) (r : Restore)
@@ -44,9 +46,10 @@ HitsOfARun =
     × AreAmong r.taken set
     × (IsWhole r → r.taken ≡ set)
 
--- After any commits, a restore that is planned then and delivered after any steps, in any order, with any failures and repeats, has exactly the
--- selected entries of that moment's view, each once, as the copy that its newest job saved; and these are the files that the bootstrap means over all volumes that
--- go on from those of that moment.
+-- A restore is planned after any commits and delivered after any steps, in any order, with any
+-- failures and repeats. It has exactly the selected entries of that moment's view, each once, as
+-- the copy that its newest job saved. These are the files that the bootstrap means over all volumes
+-- that extend those of that moment.
 abbrev pub Headline : Type 0
 Headline =
     (q : Request) (script : List Command) (number : ℕ) (moment last after : World) (chosen : List JobRows) (plan : model.Plan) (delivered : List Restored)
@@ -56,7 +59,7 @@ Headline =
     × ((later : List Volume) → Extends later moment.volumes
     → (hits : Hits) × (meaning plan.groups later ≡ Ok hits) × (files hits (Some plan.names) ≡ delivered))
 
--- where the jobs of the start stand on its volumes, all jobs of all states stand on the volumes of these
+-- if the volumes of the start hold its jobs, the volumes of every state hold the jobs of that state
 abbrev pub JobsHold : Type 0
 JobsHold =
     (start last : World) (events : List Event) (replies : List Reply) → IsStart start → ((j : Job) → Contains start.jobs j → Holds start.volumes j)

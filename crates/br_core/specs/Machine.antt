@@ -1,4 +1,5 @@
--- A machine of atomic steps: backups commit, restores are planned, and their pieces are read and delivered meanwhile, in any order.
+-- A machine of atomic steps: backups commit, restores are planned, and their pieces are read and
+-- delivered meanwhile, in any order.
 use Rattle.std.specs.Prelude.{◌≡◌, ℕ, ◌+◌, ◌⊎◌, true, List, [], ◌∷◌, ◌++◌, length, map, take, drop, set, Option, Some, None, Result, Ok, Err, slice_get, ⊤}
 use Rattle.std.specs.List.{AllByRecursion}
 use Rattle.std.specs.FinMap.{empty}
@@ -19,14 +20,16 @@ use Rattle.br_match.specs.Walk.{step_on}
 
 -- ---- states
 
--- where a piece of a restore stands: nobody reads it; or a walk does, before the block at this address; or it was read to its end
+-- the status of a piece of a restore: nobody reads it; a walk reads it and is before the block at
+-- this address; it was read to its end
 pub data Status : Type 0 where
   Waiting : Status
   Claimed : ℕ → Status
   Finished : Status
 
--- A restore that is not over: the jobs and the volumes of the moment in which it was planned, what was asked for, the plan, where each of its
--- pieces stands, the hits that are on their way, block by block, and the set of those that were taken.
+-- A restore that is not over: the jobs and the volumes of the moment in which it was planned, the
+-- request, the marks, the plan, the status of each piece, the hits that are on their way, block by
+-- block, and the set of the hits that were taken.
 pub record Restore : Type 0 where
   pub jobs : List Job
   pub volumes : List Volume
@@ -37,7 +40,8 @@ pub record Restore : Type 0 where
   pub transit : List (List Hit)
   pub taken : Hits
 
--- the jobs in the order of their commits, the volumes, and the restores under their numbers, from 0; none where one is over
+-- the jobs in the order of their commits, the volumes, and the restores under their numbers, from
+-- 0; none for a restore that is over
 pub record World : Type 0 where
   pub jobs : List Job
   pub volumes : List Volume
@@ -45,7 +49,8 @@ pub record World : Type 0 where
 
 -- ---- events and replies
 
--- a job that is to be committed, with its files, the paths that it notes as deleted, and where its blocks are to go
+-- a job that is to be committed, with its files, the paths that it notes as deleted, and the places
+-- for its blocks
 pub record ToCommit : Type 0 where
   pub row : JobRow
   pub files : List ToSave
@@ -53,8 +58,8 @@ pub record ToCommit : Type 0 where
   pub limit : ℕ
   pub places : List Place
 
--- What can happen. All but the first two are of the restore with the number that comes first; the second number is that of a piece, for
--- `Take` the place of what is taken among what is on its way.
+-- What can happen. All events but the first two are of the restore with the first number. The
+-- second number is that of a piece, or for `Take` the place of a batch among those on their way.
 pub data Event : Type 0 where
   Commit : ToCommit → Event
   Plan : Request → List Command → Event
@@ -65,7 +70,8 @@ pub data Event : Type 0 where
   Take : ℕ → ℕ → Event
   Deliver : ℕ → Event
 
--- what is answered: done; the number of the restore that was planned; the number of a refusal; the files of a restore
+-- the reply: done; the number of the restore that was planned; the number of a refusal; the files
+-- of a restore
 pub data Reply : Type 0 where
   Done : Reply
   Planned : ℕ → Reply
@@ -78,16 +84,16 @@ pub data Reply : Type 0 where
 abbrev pub lengths_of : List Volume → List (List ℕ × ℕ)
 lengths_of volumes = map (λ (v : Volume). (v.name, length v.bytes)) volumes
 
--- what the catalogue gets of the job where its spans are these
+-- the rows of the job in the catalogue, if its spans are these
 abbrev pub job_rows : ToCommit → List Span → JobRows
 job_rows c spans = rows_of c.row c.files c.deleted spans
 
--- the job where its spans are these
+-- the job, if its spans are these
 abbrev pub job_of : ToCommit → List Span → Job
 job_of c spans = record { rows = job_rows c spans; saved = map (λ (f : ToSave). f.file) c.files }
 
--- The job is there, and stands on the volumes. Its session was written to volumes that go on from the ones before, since other
--- commits may have left bytes, and those behind go on from these.
+-- The job is there, and the volumes hold it. Its session was written to volumes that extend those
+-- before, since other commits may have left bytes. The volumes after it extend those.
 pub record IsCommitted (before : World) (c : ToCommit) (after : World) : Type 0 where
   pub found : List Volume
   pub written : Written
@@ -100,7 +106,8 @@ pub record IsCommitted (before : World) (c : ToCommit) (after : World) : Type 0 
   pub holds : Holds after.volumes (job_of c written.spans)
   pub restores_are : after.restores ≡ before.restores
 
--- the job can be among the others, but a span would end past the greatest address, or there would be too many of them
+-- the job can be among the others, but a span would end past the greatest address, or there would
+-- be too many of them
 pub record IsTooLong (before : World) (c : ToCommit) : Type 0 where
   pub found : List Volume
   pub blocks : List (List ℕ)
@@ -116,7 +123,7 @@ pub record IsTooLong (before : World) (c : ToCommit) : Type 0 where
 abbrev pub marks_of : List JobRows → List Command → List (List ℕ)
 marks_of chosen script = (marks_after (view_of chosen) at_start script).marked
 
--- the plan for what a script marks: 53, 54 or 50 where no jobs are chosen, 51 where nothing is marked
+-- the plan for what a script marks: 53, 54 or 50 if no jobs are chosen, 51 if nothing is marked
 unfoldable pub plan_for : List JobRows → Request → List Command → Result ((List (List ℕ)) × model.Plan) ℕ
 plan_for history q script = do
   chosen ← choose history q
@@ -150,15 +157,16 @@ restore_at w number = flat (slice_get w.restores number)
 abbrev pub becomes : World → ℕ → Option Restore → World
 becomes w number it = record w { restores = set w.restores number it }
 
--- a piece of the restore stands here
+-- a piece of the restore has this status
 abbrev pub stands : Restore → ℕ → Status → Type 0
 stands r piece status = slice_get r.statuses piece ≡ Some status
 
--- the piece goes there
+-- the piece gets this status
 abbrev pub goes : Restore → ℕ → Status → Restore
 goes r piece status = record r { statuses = set r.statuses piece status }
 
--- A walk reads the block at its address, over volumes that go on from those of the restore: the block's hits, as one batch, are on their way.
+-- A walk reads the block at its address, over volumes that extend those of the restore. The block's
+-- hits, as one batch, are then on their way.
 pub record IsRead (r : Restore) (piece : ℕ) (after : Restore) : Type 0 where
   pub address : ℕ
   pub next : ℕ
@@ -209,7 +217,8 @@ Moves (Deliver number) r after = ⊥
 abbrev pub Can : World → ℕ → Event → Type 0
 Can w number event = (r : Restore) × (after : Restore) × (restore_at w number ≡ Some r) × Moves event r after
 
--- The event can happen: a commit and a plan always, every other where its restore is there and not over, and stands as the event asks.
+-- The event can happen: a commit and a plan always, every other if its restore is there and not
+-- over, and is as the event asks.
 abbrev pub IsEnabled : World → Event → Type 0
 IsEnabled w (Commit c) = ⊤
 IsEnabled w (Plan q script) = ⊤
@@ -227,7 +236,8 @@ Commits w c (Refused n) after = (after ≡ w) × ((pushed (rows_of_jobs w.jobs) 
 Commits w c (Planned n) after = ⊥
 Commits w c (Delivered rs) after = ⊥
 
--- what becomes of a plan: 50, 51, 53 or 54 and no change, or one more restore, under the next number
+-- what becomes of a plan: 50, 51, 53 or 54 and no change, or one more restore, under the next
+-- number
 abbrev pub Plans : World → Request → List Command → Reply → World → Type 0
 Plans w q script (Planned n) after =
     (marks : List (List ℕ)) × (plan : model.Plan) × (plan_for (rows_of_jobs w.jobs) q script ≡ Ok (marks, plan))
@@ -236,14 +246,16 @@ Plans w q script (Refused n) after = (after ≡ w) × (plan_for (rows_of_jobs w.
 Plans w q script Done after = ⊥
 Plans w q script (Delivered rs) after = ⊥
 
--- what becomes of an event of one restore: it changes that restore alone; 59 and no change where it is not enabled
+-- what becomes of an event of one restore: it changes that restore alone; 59 and no change if it is
+-- not enabled
 abbrev pub Goes : World → ℕ → Event → Reply → World → Type 0
 Goes w number event Done after = (r : Restore) × (r' : Restore) × (restore_at w number ≡ Some r) × Moves event r r' × (after ≡ becomes w number (Some r'))
 Goes w number event (Refused n) after = (n ≡ 59) × (after ≡ w) × (IsEnabled w event → ⊥)
 Goes w number event (Planned n) after = ⊥
 Goes w number event (Delivered rs) after = ⊥
 
--- what becomes of a delivery: the files of what was taken under the planned names, and the restore is over; 59 and no change where it is not enabled
+-- what becomes of a delivery: the files of what was taken under the planned names, and the restore
+-- is over; 59 and no change if it is not enabled
 abbrev pub Delivers : World → ℕ → Reply → World → Type 0
 Delivers w number (Delivered rs) after =
     (r : Restore) × (restore_at w number ≡ Some r) × IsWhole r × (rs ≡ files r.taken (Some r.plan.names)) × (after ≡ becomes w number None)
@@ -251,7 +263,7 @@ Delivers w number (Refused n) after = (n ≡ 59) × (after ≡ w) × (IsEnabled 
 Delivers w number Done after = ⊥
 Delivers w number (Planned n) after = ⊥
 
--- one step: an event in a state, its reply, and the state behind it
+-- one step: an event in a state, its reply, and the state after it
 abbrev pub IsStep : World → Event → Reply → World → Type 0
 IsStep w (Commit c) reply after = Commits w c reply after
 IsStep w (Plan q script) reply after = Plans w q script reply after
