@@ -152,8 +152,8 @@ impl Model for Attr {
 }
 
 impl Attr {
-    /// Reads the attribute record of the file with this index: `INDEX TYPE PATH NUL NUMBERS NUL LINK
-    /// NUL`. The last NUL may be missing, and what follows it is not read. This is stream 1 of
+    /// Reads the attribute record of the file with this index: `INDEX TYPE PATH NUL NUMBERS NUL
+    /// LINK NUL`. The last NUL may be missing, and what follows it is not read. This is stream 1 of
     /// Bacula's Developer's Guide ("Storage Media Output Format", Unix attributes).
     ///
     /// # Errors
@@ -200,8 +200,8 @@ impl Attr {
     }
 
     /// Returns the attribute record: `INDEX TYPE PATH NUL NUMBERS NUL LINK NUL` with index and type
-    /// in decimal without leading zeros, and the numbers as `Stat::write` returns them. `read` reads
-    /// it back.
+    /// in decimal without leading zeros, and the numbers as `Stat::write` returns them. `read`
+    /// reads it back.
     pub fn write(&self, alloc: Global) -> Result<Vec<u8>, AllocError>
         ensures text { IfOk result (λ text. text.items ≡ model.write_attributes self.now) }
         ensures reads_back { IfOk result (λ text. model.read_attributes text.items self.now.index ≡ Ok self.now) }

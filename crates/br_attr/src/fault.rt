@@ -22,8 +22,8 @@ pub enum AttrFault {
 }
 
 impl AttrFault {
-    /// Returns the number of the refusal: 1 for memory, 20 for a bad number, 21 for a missing field,
-    /// 22 for a bad path, 23 for another index.
+    /// Returns the number of the refusal: 1 for memory, 20 for a bad number, 21 for a missing
+    /// field, 22 for a bad path, 23 for another index.
     pub fn number(self) -> u32
         ensures { result ≡ fault_number self }
     {

@@ -1,5 +1,5 @@
-//! Numbers and attribute records of files, as backups store them: base 64 numbers, the 14 numbers of
-//! a file, and the record that names a file and its numbers.
+//! Numbers and attribute records of files, as backups store them: base 64 numbers, the 14 numbers
+//! of a file, and the record that names a file and its numbers.
 //!
 //! Any call that returns a `Result` with `AllocError`, or an enum with `Memory`, may also fail
 //! because memory ran out.

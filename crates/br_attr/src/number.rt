@@ -62,9 +62,10 @@ fn integer_of(minus: bool, digits: &[u8]) -> Option<i64>
     signed(minus, spelled_by(digits)?)
 }
 
-/// Reads a base 64 integer: an optional `-`, and at least one digit of `A-Z a-z 0-9 + /` for 0 to 63,
-/// the most significant first, without padding. There may be leading zeros, and `-A` is 0. Bacula's
-/// Developer's Guide, "Storage Media Output Format", has these numbers in the attributes of a file.
+/// Reads a base 64 integer: an optional `-`, and at least one digit of `A-Z a-z 0-9 + /` for 0 to
+/// 63, the most significant first, without padding. There may be leading zeros, and `-A` is 0.
+/// Bacula's Developer's Guide, "Storage Media Output Format", has these numbers in the attributes
+/// of a file.
 ///
 /// # Errors
 ///
@@ -113,8 +114,8 @@ fn push_digits(text: &mut Vec<u8>, magnitude: u64, count: u32) -> Result<(), All
     Ok(())
 }
 
-/// Appends an integer in base 64, as the shortest text from which `read_number` reads it: `-` if it is
-/// negative, and digits of `A-Z a-z 0-9 + /` for 0 to 63, the most significant first, without
+/// Appends an integer in base 64, as the shortest text from which `read_number` reads it: `-` if it
+/// is negative, and digits of `A-Z a-z 0-9 + /` for 0 to 63, the most significant first, without
 /// leading zeros. 0 is `A`.
 ///
 /// If memory runs out, a part of the digits may have been appended.

@@ -17,8 +17,8 @@ const COUNT: usize = 14;
 /// The number of numbers that a record must have.
 const NEEDED: usize = 13;
 
-/// The numbers of a file on the system that was backed up: the fields of `stat`, and for a hard link
-/// the index of the file that it names.
+/// The numbers of a file on the system that was backed up: the fields of `stat`, and for a hard
+/// link the index of the file that it names.
 #[derive(Clone, Copy, Debug, PartialEq, Eq)]
 pub struct Stat {
     dev: i64,
@@ -147,10 +147,10 @@ impl Stat {
         }
     }
 
-    /// Reads base 64 numbers with one or more spaces between them, before them and after them. Their
-    /// order is dev, ino, mode, nlink, uid, gid, rdev, size, blksize, blocks, atime, mtime, ctime,
-    /// LinkFI, as in Bacula's Developer's Guide ("Storage Media Output Format"). A missing LinkFI is
-    /// 0, and what follows the fourteenth number is not read.
+    /// Reads base 64 numbers with one or more spaces between them, before them and after them.
+    /// Their order is dev, ino, mode, nlink, uid, gid, rdev, size, blksize, blocks, atime, mtime,
+    /// ctime, LinkFI, as in Bacula's Developer's Guide ("Storage Media Output Format"). A missing
+    /// LinkFI is 0, and what follows the fourteenth number is not read.
     ///
     /// # Errors
     ///
@@ -209,8 +209,8 @@ impl Stat {
         push_numbers(text, &numbers[1..])
     }
 
-    /// Returns the text of the numbers: all 14 in the order of `read`, each as short as possible, with
-    /// one space between two.
+    /// Returns the text of the numbers: all 14 in the order of `read`, each as short as possible,
+    /// with one space between two.
     pub fn write(&self, alloc: Global) -> Result<Vec<u8>, AllocError>
         ensures { IfOk result (λ text. text.items ≡ write_stat self.now) }
     {

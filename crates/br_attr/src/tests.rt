@@ -24,7 +24,8 @@ const DATA: [i64; 7] = [3544, 4096, 8, 1202305474, 1202305474, 1202305474, 0];
 /// A hard link to file 2, with spaces around its numbers.
 const HARD_LINK: &[u8] = b"7 1 /b\0 A A A A A A A A A A A A  -B C \0/a\0rest";
 
-/// Records, and the number of the refusal when they are read for index 1; 0 if they are not refused.
+/// Records, and the number of the refusal when they are read for index 1; 0 if they are not
+/// refused.
 const RECORDS: [(&[u8], u32); 12] = [
     (b"1 3 /a\0A A A A A A A A A A A A A\0", 0),
     (b"1 3 /a\0A A A A A A A A A A A A\0\0", 21),

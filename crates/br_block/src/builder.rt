@@ -27,7 +27,12 @@ impl Model for BlockBuilder {
 
     ghost Value = { Building };
 
-    ghost view = { λ b. record { session = b.session; limit = b.limit; number = b.number; fragments = fragments_after b.session b.bytes.items } };
+    ghost view = { λ b. record {
+      session = b.session;
+      limit = b.limit;
+      number = b.number;
+      fragments = fragments_after b.session b.bytes.items;
+    } };
 
     ghost invariant = { λ b. IsBuilding b.session b.limit b.number b.bytes.items };
 }
@@ -87,8 +92,8 @@ impl BlockBuilder {
         self.limit - self.bytes.len() as u32
     }
 
-    /// Appends a fragment of the session. Each fragment so far has all its data: one with less is the
-    /// last of its block. If memory runs out, nothing was added.
+    /// Appends a fragment of the session. Each fragment so far has all its data: one with less is
+    /// the last of its block. If memory runs out, nothing was added.
     pub fn add(&mut self, fragment: &Fragment<'_>) -> Result<(), AllocError>
         requires fits { block_size self.old.fragments + 12 + length fragment.now.bytes ≤ self.old.limit }
         requires within { length fragment.now.bytes ≤ fragment.now.size }

@@ -15,8 +15,8 @@ pub enum BlockFault {
 }
 
 impl BlockFault {
-    /// Returns the number of the refusal: 10 for other letters than `BB02`, 11 for a size outside 24
-    /// to 4,194,304 bytes, 12 for bytes that end too early.
+    /// Returns the number of the refusal: 10 for other letters than `BB02`, 11 for a size outside
+    /// 24 to 4,194,304 bytes, 12 for bytes that end too early.
     pub fn number(self) -> u32
         ensures { result ≡ fault_number self }
     {

@@ -9,8 +9,8 @@ use std::marker::Model;
 /// The number of bytes of a record's header.
 pub(crate) const RECORD_HEADER_LEN: usize = 12;
 
-/// A record in a block, or the part of it that the block contains. The record's header is FileIndex,
-/// Stream and DataSize, four bytes each, and its data follows.
+/// A record in a block, or the part of it that the block contains. The record's header is
+/// FileIndex, Stream and DataSize, four bytes each, and its data follows.
 #[derive(Clone, Debug, Drop)]
 pub struct Fragment<'a> {
     /// The session of the block.

@@ -42,7 +42,8 @@ impl Model for BlockHead {
 }
 
 impl BlockHead {
-    /// Reads the header at the front of the bytes. It does not test whether the whole block follows.
+    /// Reads the header at the front of the bytes. It does not test whether the whole block
+    /// follows.
     ///
     /// # Errors
     ///

@@ -1,11 +1,11 @@
 //! Reads and writes Bacula's BB02 blocks: the header of a block and the fragments of records in it,
 //! which borrow from the block.
 //!
-//! The format is that of Bacula's Developer's Guide, "Storage Media Output Format". All numbers are in
-//! network byte order. Contracts see a header as its record of the model, a block as the list of its
-//! bytes, a fragment as the model's fragment, and `Fragments` as the list of the fragments that are
-//! left. They see a `BlockBuilder` as its limit, its number, its session and its fragments so far.
-//! Reading takes no memory.
+//! The format is that of Bacula's Developer's Guide, "Storage Media Output Format". All numbers are
+//! in network byte order. Contracts see a header as its record of the model, a block as the list of
+//! its bytes, a fragment as the model's fragment, and `Fragments` as the list of the fragments that
+//! are left. They see a `BlockBuilder` as its limit, its number, its session and its fragments so
+//! far. Reading takes no memory.
 #![tactic(auto)]
 
 mod block;

@@ -16,8 +16,8 @@ pub record AreSpansRefused (files : List ToSave) (key : SessionKey) (limit : ℕ
   pub packed : ArePacked limit key (session_records files) blocks
   pub refused : checked_spans starts (visits places blocks) ≡ Err 42
 
--- Files in order are written, unless memory runs out or their spans are refused. Else their order is
--- refused.
+-- Files in order are written, unless memory runs out or their spans are refused. Else their order
+-- is refused.
 abbrev pub IsOutcome : List ToSave → SessionKey → ℕ → List Place → List (List ℕ × ℕ) → Result Written SessionFault → Type 0
 IsOutcome files key limit places starts (Ok written) = (checked_order files ≡ Ok files) × IsWritten files key limit places starts written
 IsOutcome files key limit places starts (Err Memory) = checked_order files ≡ Ok files
@@ -26,8 +26,9 @@ IsOutcome files key limit places starts (Err BadRow) = (checked_order files ≡ 
 IsOutcome files key limit places starts (Err TooLarge) = ⊥
 IsOutcome files key limit places starts (Err BadSavedFile) = ⊥
 
--- Append the blocks to volumes that consist of whole blocks and have the given lengths. Then they, and
--- all volumes that extend them, hold each job of the session with these files and any deletions.
+-- Append the blocks to volumes that consist of whole blocks and have the given lengths. Then they,
+-- and all volumes that extend them, hold each job of the session with these files and any
+-- deletions.
 abbrev pub SessionHolds : List ToSave → SessionKey → List Place → List (List ℕ × ℕ) → Written → Type 0
 SessionHolds files key places starts written =
     (row : JobRow) (deleted : List (List ℕ)) (earlier later after : List Volume) → row.session ≡ key

@@ -17,8 +17,8 @@ abbrev pub with_last : List (List Fragment) → List Fragment → List (List Fra
 with_last closed [] = closed
 with_last closed (f ∷ fs) = closed ++ (f ∷ fs) ∷ []
 
--- The packer's closed blocks have these fragments, and `fragments` are these and those of the current
--- block. The blocks are numbered from 0.
+-- The packer's closed blocks have these fragments, and `fragments` are these and those of the
+-- current block. The blocks are numbered from 0.
 pub record AreIn (p : Packer) (closed : List (List Fragment)) (fragments : List Fragment) : Type 0 where
   pub blocks_are : map (λ b. b.items) p.blocks.items ≡ map (written_block p.session) (enumerate_from 0 closed)
   pub number_is : p.number ≡ length closed % 2 ^ 32
@@ -33,8 +33,8 @@ pub record HasPut (p : Packer) (fragments : List Fragment) : Type 0 where
   pub first : p.current.fragments ≡ [] → closed ≡ []
   pub are_closed : AreClosed p.limit (with_last closed p.current.fragments)
 
--- The packer has added these fragments, and its current block may take one more of this size. If that
--- one continues a record, the block that was current before is full.
+-- The packer has added these fragments, and its current block may take one more of this size. If
+-- that one continues a record, the block that was current before is full.
 pub record HasRoom (p : Packer) (before fragments : List Fragment) (size : ℕ) : Type 0 where
   pub closed : List (List Fragment)
   pub are_in : AreIn p closed fragments

@@ -21,8 +21,9 @@ pub enum SessionFault {
 }
 
 impl SessionFault {
-    /// Returns the number of the refusal: 1 for memory, 15 for a file that is too large, 16 for files
-    /// out of order, 17 for a file that cannot be saved, 42 for a span that does not fit a catalogue.
+    /// Returns the number of the refusal: 1 for memory, 15 for a file that is too large, 16 for
+    /// files out of order, 17 for a file that cannot be saved, 42 for a span that does not fit a
+    /// catalogue.
     pub fn number(self) -> u32
         ensures { result ≡ fault_number self }
     {

@@ -1,8 +1,8 @@
 //! Writes saved files as the blocks of a session.
 //!
-//! `write_session` packs the records of saved files into blocks, deals the blocks out to volumes, and
-//! returns the span of each volume that they take. The formats are those of Bacula's Developer's Guide
-//! ("Storage Media Output Format").
+//! `write_session` packs the records of saved files into blocks, deals the blocks out to volumes,
+//! and returns the span of each volume that they take. The formats are those of Bacula's
+//! Developer's Guide ("Storage Media Output Format").
 //!
 //! Any call that returns a `Result` with `AllocError`, or an enum with `Memory`, may also fail
 //! because memory ran out.

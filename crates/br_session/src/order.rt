@@ -43,8 +43,8 @@ fn are_all_linked_back(files: &[SavedFile]) -> bool
 ///
 /// # Errors
 ///
-/// `BadFileOrder` if a hard link does not name an earlier file with bytes, or there are 2^31 files or
-/// more.
+/// `BadFileOrder` if a hard link does not name an earlier file with bytes, or there are 2^31 files
+/// or more.
 #[tactic(auto, unfolding(br_model::specs::Session::checked_order))]
 pub(crate) fn check_order(files: &[SavedFile]) -> Result<(), SessionFault>
     ensures same { AnswersAlways (λ _. files.now) fault_number result (checked_order files.now) }

@@ -38,10 +38,10 @@ impl Model for Record {
 
 /// Packs the records of a session in order into blocks, each of at most `limit` bytes.
 ///
-/// A record begins in a block only if its header fits, with a byte of its data if it has any. Else the
-/// block is closed first. A record that is longer than the room left fills its block up to the limit
-/// and continues in the next one, after a header with the negated stream and the number of bytes that
-/// are left. Blocks are not padded.
+/// A record begins in a block only if its header fits, with a byte of its data if it has any. Else
+/// the block is closed first. A record that is longer than the room left fills its block up to the
+/// limit and continues in the next one, after a header with the negated stream and the number of
+/// bytes that are left. Blocks are not padded.
 #[derive(Drop)]
 pub(crate) struct Packer {
     alloc: Global,
@@ -106,8 +106,9 @@ impl Packer {
         Ok(())
     }
 
-    /// Adds a fragment with this header and as much of the data as fits. Returns the number of bytes
-    /// added. A fragment that continues a record begins a block, so the block before it is full.
+    /// Adds a fragment with this header and as much of the data as fits. Returns the number of
+    /// bytes added. A fragment that continues a record begins a block, so the block before it is
+    /// full.
     fn put(&mut self, index: FileIndex, stream: i32, left: &[u8]) -> Result<usize, AllocError>
         requires size { length left.now < 2 ^ 32 }
         requires filled { is_negative stream ≡ true → block_size self.old.current.fragments ≡ self.old.limit }
@@ -177,8 +178,8 @@ impl Packer {
     }
 }
 
-/// Packs the records of a session in order into blocks of at most `limit` bytes each, numbered from 0,
-/// modulo 2^32. The format is that of Bacula's Developer's Guide, "Storage Media Output Format".
+/// Packs the records of a session in order into blocks of at most `limit` bytes each, numbered from
+/// 0, modulo 2^32. The format is that of Bacula's Developer's Guide, "Storage Media Output Format".
 pub fn pack(
     alloc: Global,
     records: &[Record],

@@ -71,8 +71,8 @@ fn has_fragment(block: &Block<'_>, stream: i32, size: u32, count: usize) -> bool
     })
 }
 
-/// Returns whether the bytes are a block of the session with this number and this size, and exactly one
-/// fragment: of file 1, and of this stream, size and number of bytes.
+/// Returns whether the bytes are a block of the session with this number and this size, and exactly
+/// one fragment: of file 1, and of this stream, size and number of bytes.
 fn has_one(bytes: &[u8], number: u32, len: u32, stream: i32, size: u32, count: usize) -> bool {
     match Block::read(bytes) {
         Ok(block) => {

@@ -6,8 +6,8 @@ use std::marker::Model;
 pub struct Place {
     /// The volume.
     pub vol: VolName,
-    /// The number of blocks that it takes, at least 1. The last place takes all that are left, and may
-    /// have 0.
+    /// The number of blocks that it takes, at least 1. The last place takes all that are left, and
+    /// may have 0.
     pub blocks: u32,
 }
 

@@ -74,9 +74,9 @@ impl SavedFile {
     /// # Errors
     ///
     /// - `TooLarge` for more than 2^30 bytes.
-    /// - `BadSavedFile` for a type outside 1 to 5; for a path that ends in `/` unless the type is 5,
-    ///   or does not if it is 5; for bytes unless the type is 3; for a link text unless the type is 1
-    ///   or 4; for a link text with a NUL or of more than 4,096 bytes.
+    /// - `BadSavedFile` for a type outside 1 to 5; for a path that ends in `/` unless the type is 5, or
+    ///   does not if it is 5; for bytes unless the type is 3; for a link text unless the type is 1 or
+    ///   4; for a link text with a NUL or of more than 4,096 bytes.
     #[tactic(auto, unfolding(br_model::specs::Session::checked_file))]
     pub fn new(
         path: Path,

@@ -1,7 +1,8 @@
 use br_types::VolName;
 use std::marker::Model;
 
-/// A visit of a job to a volume: the bytes that it wrote there, and the files of which they have parts.
+/// A visit of a job to a volume: the bytes that it wrote there, and the files of which they have
+/// parts.
 #[derive(Debug, Drop)]
 pub struct Span {
     /// The volume.

@@ -68,12 +68,13 @@ fn push_span(spans: &mut Vec<Span>, span: Span) -> Result<(), AllocError>
     Ok(())
 }
 
-/// Returns the spans of the blocks, which are dealt out over the places to volumes of these lengths.
+/// Returns the spans of the blocks, which are dealt out over the places to volumes of these
+/// lengths.
 ///
 /// # Errors
 ///
-/// `BadRow` for the first span that ends after the address 2^63 - 2, or whose number does not fit 32
-/// bits.
+/// `BadRow` for the first span that ends after the address 2^63 - 2, or whose number does not fit
+/// 32 bits.
 pub(crate) fn spans_of(
     alloc: Global,
     blocks: &[Vec<u8>],

@@ -101,7 +101,8 @@ fn links_have_their_text(rt: HostRuntime) -> Result<(), Fail> {
     Ok(())
 }
 
-/// Returns the number of the refusal of a file of this type with 2^30 + 1 bytes; 0 if it can be saved.
+/// Returns the number of the refusal of a file of this type with 2^30 + 1 bytes; 0 if it can be
+/// saved.
 fn refusal_of_large(alloc: Global, kind: u32) -> Result<u32, Fail> {
     let stat = Stat::read(NUMBERS)?;
     let path = Path::new(alloc, b"/a")?;
@@ -170,8 +171,8 @@ fn links_alone_have_a_text(rt: HostRuntime) -> Result<(), Fail> {
     Ok(())
 }
 
-/// Returns the number of the refusal of a symbolic link with a text of `count` bytes; 0 if it can be
-/// saved.
+/// Returns the number of the refusal of a symbolic link with a text of `count` bytes; 0 if it can
+/// be saved.
 fn refusal_of_long(alloc: Global, count: usize) -> Result<u32, Fail> {
     let text = many(alloc, b'a', count)?;
     refusal_of(alloc, b"/a", 4, &text, b"")
@@ -411,7 +412,8 @@ fn a_file_and_a_link_are_one_block(rt: HostRuntime) -> Result<(), Fail> {
     Ok(())
 }
 
-/// The header of a record of stream 3 with 16 bytes, and the digest of `message digest` in RFC 1321.
+/// The header of a record of stream 3 with 16 bytes, and the digest of `message digest` in RFC
+/// 1321.
 const DIGEST: &[u8] =
     b"\0\0\0\x01\0\0\0\x03\0\0\0\x10\xf9\x6b\x69\x7d\x7c\xb7\x93\x8d\x52\x5a\x2f\x31\xaa\xf1\x61\xd0";
 
@@ -529,7 +531,8 @@ fn links_name_no_later_file_and_no_directory(rt: HostRuntime) -> Result<(), Fail
     Ok(())
 }
 
-/// Returns the number of the refusal of a file and a link with these numbers; 0 if they are written.
+/// Returns the number of the refusal of a file and a link with these numbers; 0 if they are
+/// written.
 fn refusal_of_numbers(alloc: Global, numbers: &[u8]) -> Result<u32, Fail> {
     let link = FileParts {
         path: b"/y",

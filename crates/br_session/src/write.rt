@@ -35,13 +35,14 @@ impl Model for Written {
 }
 
 /// Writes the files of a session, numbered from 1, as blocks of at most `limit` bytes. It deals the
-/// blocks out over the places, to volumes of the lengths in `starts`. A volume that is not named there
-/// is empty. If one is named twice, the first length counts. Several places may name one volume.
+/// blocks out over the places, to volumes of the lengths in `starts`. A volume that is not named
+/// there is empty. If one is named twice, the first length counts. Several places may name one
+/// volume.
 ///
-/// Each file has a record of stream 1 with its attributes, and records of stream 2 with 65,536 of its
-/// bytes each, the last with the rest. If its type is 2 or 3 and its digest is wanted, a record of
-/// stream 3 has the MD5 digest of its bytes. Each place takes its number of blocks, and the last all
-/// that are left. A place that takes a block has a span.
+/// Each file has a record of stream 1 with its attributes, and records of stream 2 with 65,536 of
+/// its bytes each, the last with the rest. If its type is 2 or 3 and its digest is wanted, a record
+/// of stream 3 has the MD5 digest of its bytes. Each place takes its number of blocks, and the last
+/// all that are left. A place that takes a block has a span.
 ///
 /// # Errors
 ///

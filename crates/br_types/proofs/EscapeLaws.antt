@@ -65,7 +65,7 @@ escape_reads b text less =
     let is : 16 * (b / 16) + b % 16 ≡ b = omega arith in
     ap (λ h. in_front (byte_of h (digit_value (hex_digit (b % 16)))) (unescaped text)) high ∙ ap (λ l. in_front (byte_of (Some (b / 16)) l) (unescaped text)) low ∙ ap (λ c. in_front (Some c) (unescaped text)) is
 
--- every byte but a backslash stands for itself
+-- every byte but a backslash is itself
 plain_reads : (b : ℕ) (text : List ℕ) → eqb b 92 ≡ false → unescaped (b ∷ text) ≡ in_front (Some b) (unescaped text)
 unfolding unescaped
 plain_reads b [] other = rw other refl

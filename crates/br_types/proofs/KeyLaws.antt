@@ -69,7 +69,7 @@ insert_last {X} (d ∷ es) rest e h =
     ap (λ o. match_ordering o (e ∷ d ∷ es) ((d.0, e.1) ∷ es) (d ∷ insert_entry key_cmp es e.0 e.1)) above
     ∙ ap (λ (fs : List (FileKey × X)). d ∷ fs) (insert_last es rest e h.1)
 
--- the next entry of a map, put into the copy of those before it
+-- the next entry of a map, inserted into the copy of those before it
 pub copied_more : {X : Type 0} (es left rest all new : List (FileKey × X)) (k : FileKey) (v w : X) → es ++ left ≡ all → left ≡ (k, v) ∷ rest
     → IsStrictlySortedBy key_cmp (keys_of all) → w ≡ v → new ≡ insert_entry key_cmp es k w → new ++ rest ≡ all
 copied_more {X} es left rest all new k v w joined next sorted same put =

@@ -48,8 +48,8 @@ pub fn push_hexadecimal(text: &mut Vec<u8>, bytes: &[u8]) -> Result<(), AllocErr
     Ok(())
 }
 
-/// Appends a name or a path as it is printed: each byte from `!` to `~` other than `\` as it is, and
-/// every other as `\x` and two hexadecimal digits in lower case. `unescape` reads it back.
+/// Appends a name or a path as it is printed: each byte from `!` to `~` other than `\` as it is,
+/// and every other as `\x` and two hexadecimal digits in lower case. `unescape` reads it back.
 ///
 /// If memory runs out, a part of the name may have been appended.
 #[tactic(auto, unfolding(br_model::specs::Text::escaped))]
@@ -104,8 +104,8 @@ fn first_byte(text: &[u8]) -> Result<Option<(u8, &[u8])>, EscapeFault>
     }
 }
 
-/// Reads an escaped text: `\x` and two hexadecimal digits in lower case are one byte, and every byte
-/// but `\` is itself. So a byte may be escaped without need, and may lack an escape that
+/// Reads an escaped text: `\x` and two hexadecimal digits in lower case are one byte, and every
+/// byte but `\` is itself. So a byte may be escaped without need, and may lack an escape that
 /// `push_escaped` writes.
 ///
 /// # Errors

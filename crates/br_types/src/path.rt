@@ -52,8 +52,8 @@ fn is_path_of(bytes: &[u8]) -> bool
 }
 
 /// An absolute path: it begins with `/`, has at most 4,096 bytes, no NUL, and no component that is
-/// empty, `.` or `..`. One `/` at the end marks a directory, so `/a` and `/a/` are two paths. `/` is
-/// a path, too.
+/// empty, `.` or `..`. One `/` at the end marks a directory, so `/a` and `/a/` are two paths. `/`
+/// is a path, too.
 #[derive(Debug, Drop)]
 pub struct Path {
     bytes: Vec<u8>,
