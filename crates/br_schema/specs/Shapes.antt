@@ -3,21 +3,32 @@ use Rattle.std.specs.Prelude.{◌≡◌, Bool, true, false, [], ◌∷◌, List,
 use Rattle.std.specs.Borrow.{Bor}
 use Rattle.sqlite.specs.Collation.TheVariants.{Binary}
 use Rattle.sqlite.specs.declared.types.Value.TheVariants.{Null}
+use Rattle.sqlite.specs.Kind.{Kind}
+use Rattle.sqlite.specs.Kind.TheVariants as kind
 use Rattle.sqlite.specs.Table.{Table}
 use Rattle.sqlite_value.specs.declared.keys.Order.{Order}
 use Rattle.sqlite_schema.specs.declared.schema.Action.TheVariants.{NoAction}
 use Rattle.sqlite_schema.specs.declared.schema.Column.{Column}
 use Rattle.sqlite_schema.specs.declared.schema.Index.{Index}
 use Rattle.sqlite_schema.specs.declared.schema.Reference.{Reference}
-use Rattle.br_schema.specs.Tables.{refers, unique_index}
+use Rattle.br_schema.specs.Tables.{column, key_column, refers, unique_index}
 use Rattle.br_schema.specs.declared.shape.ColumnShape.{ColumnShape}
+use Rattle.br_schema.specs.declared.shape.ColumnShape.TheVariants.{Key, Integer, Text, Any}
 use Rattle.br_schema.specs.declared.shape.IndexShape.{IndexShape}
 use Rattle.br_schema.specs.declared.shape.ReferenceShape.{ReferenceShape}
 use Rattle.br_schema.specs.declared.shape.TableShape.{TableShape}
 
--- the column of a shape: it is not STRICT, has no default and compares bytes
+-- a column that is not STRICT, has no default and compares bytes
+abbrev pub any_column : List ℕ → Kind → Bool → Column
+any_column name kind not_null =
+    record { name = name; kind = kind; is_strict = false; not_null = not_null; default = Null; collation = Binary }
+
+-- the column of a shape
 abbrev pub column_of : ColumnShape → Column
-column_of s = record { name = s.name.now; kind = s.kind; is_strict = false; not_null = s.not_null; default = Null; collation = Binary }
+column_of (Key name) = key_column name.now
+column_of (Integer name) = column name.now kind.Integer
+column_of (Text name) = column name.now kind.Text
+column_of (Any name) = column name.now kind.Any
 
 -- the reference of a shape, with no action
 abbrev pub reference_of : ReferenceShape → Reference

@@ -1,26 +1,38 @@
 //! Whether a schema is the catalogue's.
 
 ghost use Rattle.std.specs.Prelude.{◌≡◌, ◌↔◌, IsTrue, [], ◌∷◌, map};
-ghost use Rattle.br_schema.specs.Shapes.{HasNoAction, bare, column_of, index_of, key_of, orders_of};
+ghost use Rattle.br_schema.specs.Shapes.{HasNoAction, any_column, bare, column_of, index_of, key_of, orders_of};
 ghost use Rattle.br_schema.specs.Shapes.{primary_of, reference_of, table_of, uniques_of};
 ghost use Rattle.br_schema.specs.Tables.{no_schema, store_schema};
 
 use crate::shape::{ColumnShape, INDEXES, IndexShape, ReferenceShape, TABLES, TableShape};
 use sqlite_schema::code::Terms;
-use sqlite_schema::schema::{Action, Column, Index, Reference, Schema, Stamps, Table};
+use sqlite_schema::schema::{Action, Column, Index, Kind, Reference, Schema, Stamps, Table};
 use sqlite_value::keys::{Collation, Order};
 use sqlite_value::value::{Bytes, Value};
 
-/// Returns whether a column that is not STRICT has this shape.
+/// Returns whether a column has this name and kind, and is not STRICT.
+fn is_kind(column: &Column, name: &[u8], kind: Kind, not_null: bool) -> bool
+    ensures { IsTrue result ↔ (column.now ≡ any_column name.now kind not_null) }
+{
+    column.name.as_slice() == name
+        && column.kind == kind
+        && !column.is_strict
+        && column.not_null == not_null
+        && matches!(column.default, Value::Null)
+        && column.collation == Collation::Binary
+}
+
+/// Returns whether a column has this shape.
 fn is_column(column: &Column, shape: &ColumnShape) -> bool
     ensures { IsTrue result ↔ (column.now ≡ column_of shape.now) }
 {
-    column.name.as_slice() == shape.name
-        && column.kind == shape.kind
-        && !column.is_strict
-        && column.not_null == shape.not_null
-        && matches!(column.default, Value::Null)
-        && column.collation == Collation::Binary
+    match *shape {
+        ColumnShape::Key(name) => is_kind(column, name, Kind::Integer, false),
+        ColumnShape::Integer(name) => is_kind(column, name, Kind::Integer, true),
+        ColumnShape::Text(name) => is_kind(column, name, Kind::Text, true),
+        ColumnShape::Any(name) => is_kind(column, name, Kind::Any, true),
+    }
 }
 
 /// Returns whether columns have these shapes.

@@ -1,13 +1,14 @@
 //! The catalogue's tables and indexes as data.
 
-use sqlite_schema::schema::Kind;
+use ColumnShape::{Any, Integer, Key, Text};
 
-/// A column: its name, its kind, and whether it is NOT NULL.
+/// A column by its name: the key, or a column of a kind that is NOT NULL.
 #[derive(Clone, Copy)]
-pub(crate) struct ColumnShape {
-    pub(crate) name: &'static [u8],
-    pub(crate) kind: Kind,
-    pub(crate) not_null: bool,
+pub(crate) enum ColumnShape {
+    Key(&'static [u8]),
+    Integer(&'static [u8]),
+    Text(&'static [u8]),
+    Any(&'static [u8]),
 }
 
 /// A reference: the place of the column that refers, the table that it refers to and the column
@@ -40,128 +41,28 @@ pub(crate) struct IndexShape {
     pub(crate) columns: &'static [usize],
 }
 
-const VERSION_COLUMNS: [ColumnShape; 1] = [ColumnShape {
-    name: b"VersionId",
-    kind: Kind::Integer,
-    not_null: true,
-}];
+const VERSION_COLUMNS: [ColumnShape; 1] = [Integer(b"VersionId")];
 
-const CLIENT_COLUMNS: [ColumnShape; 2] = [
-    ColumnShape {
-        name: b"ClientId",
-        kind: Kind::Integer,
-        not_null: false,
-    },
-    ColumnShape {
-        name: b"Name",
-        kind: Kind::Text,
-        not_null: true,
-    },
-];
+const CLIENT_COLUMNS: [ColumnShape; 2] = [Key(b"ClientId"), Text(b"Name")];
 
-const FILESET_COLUMNS: [ColumnShape; 2] = [
-    ColumnShape {
-        name: b"FileSetId",
-        kind: Kind::Integer,
-        not_null: false,
-    },
-    ColumnShape {
-        name: b"FileSet",
-        kind: Kind::Text,
-        not_null: true,
-    },
-];
+const FILESET_COLUMNS: [ColumnShape; 2] = [Key(b"FileSetId"), Text(b"FileSet")];
 
-const MEDIA_COLUMNS: [ColumnShape; 3] = [
-    ColumnShape {
-        name: b"MediaId",
-        kind: Kind::Integer,
-        not_null: false,
-    },
-    ColumnShape {
-        name: b"VolumeName",
-        kind: Kind::Text,
-        not_null: true,
-    },
-    ColumnShape {
-        name: b"MediaType",
-        kind: Kind::Text,
-        not_null: true,
-    },
-];
+const MEDIA_COLUMNS: [ColumnShape; 3] = [Key(b"MediaId"), Text(b"VolumeName"), Text(b"MediaType")];
 
-const PATH_COLUMNS: [ColumnShape; 2] = [
-    ColumnShape {
-        name: b"PathId",
-        kind: Kind::Integer,
-        not_null: false,
-    },
-    ColumnShape {
-        name: b"Path",
-        kind: Kind::Any,
-        not_null: true,
-    },
-];
+const PATH_COLUMNS: [ColumnShape; 2] = [Key(b"PathId"), Any(b"Path")];
 
-const FILENAME_COLUMNS: [ColumnShape; 2] = [
-    ColumnShape {
-        name: b"FilenameId",
-        kind: Kind::Integer,
-        not_null: false,
-    },
-    ColumnShape {
-        name: b"Name",
-        kind: Kind::Any,
-        not_null: true,
-    },
-];
+const FILENAME_COLUMNS: [ColumnShape; 2] = [Key(b"FilenameId"), Any(b"Name")];
 
 const JOB_COLUMNS: [ColumnShape; 9] = [
-    ColumnShape {
-        name: b"JobId",
-        kind: Kind::Integer,
-        not_null: false,
-    },
-    ColumnShape {
-        name: b"Type",
-        kind: Kind::Text,
-        not_null: true,
-    },
-    ColumnShape {
-        name: b"Level",
-        kind: Kind::Text,
-        not_null: true,
-    },
-    ColumnShape {
-        name: b"ClientId",
-        kind: Kind::Integer,
-        not_null: true,
-    },
-    ColumnShape {
-        name: b"JobStatus",
-        kind: Kind::Text,
-        not_null: true,
-    },
-    ColumnShape {
-        name: b"StartTime",
-        kind: Kind::Integer,
-        not_null: true,
-    },
-    ColumnShape {
-        name: b"FileSetId",
-        kind: Kind::Integer,
-        not_null: true,
-    },
-    ColumnShape {
-        name: b"VolSessionId",
-        kind: Kind::Integer,
-        not_null: true,
-    },
-    ColumnShape {
-        name: b"VolSessionTime",
-        kind: Kind::Integer,
-        not_null: true,
-    },
+    Key(b"JobId"),
+    Text(b"Type"),
+    Text(b"Level"),
+    Integer(b"ClientId"),
+    Text(b"JobStatus"),
+    Integer(b"StartTime"),
+    Integer(b"FileSetId"),
+    Integer(b"VolSessionId"),
+    Integer(b"VolSessionTime"),
 ];
 
 const JOB_REFERENCES: [ReferenceShape; 2] = [
@@ -178,56 +79,16 @@ const JOB_REFERENCES: [ReferenceShape; 2] = [
 ];
 
 const JOB_MEDIA_COLUMNS: [ColumnShape; 10] = [
-    ColumnShape {
-        name: b"JobMediaId",
-        kind: Kind::Integer,
-        not_null: false,
-    },
-    ColumnShape {
-        name: b"JobId",
-        kind: Kind::Integer,
-        not_null: true,
-    },
-    ColumnShape {
-        name: b"MediaId",
-        kind: Kind::Integer,
-        not_null: true,
-    },
-    ColumnShape {
-        name: b"FirstIndex",
-        kind: Kind::Integer,
-        not_null: true,
-    },
-    ColumnShape {
-        name: b"LastIndex",
-        kind: Kind::Integer,
-        not_null: true,
-    },
-    ColumnShape {
-        name: b"StartFile",
-        kind: Kind::Integer,
-        not_null: true,
-    },
-    ColumnShape {
-        name: b"EndFile",
-        kind: Kind::Integer,
-        not_null: true,
-    },
-    ColumnShape {
-        name: b"StartBlock",
-        kind: Kind::Integer,
-        not_null: true,
-    },
-    ColumnShape {
-        name: b"EndBlock",
-        kind: Kind::Integer,
-        not_null: true,
-    },
-    ColumnShape {
-        name: b"VolIndex",
-        kind: Kind::Integer,
-        not_null: true,
-    },
+    Key(b"JobMediaId"),
+    Integer(b"JobId"),
+    Integer(b"MediaId"),
+    Integer(b"FirstIndex"),
+    Integer(b"LastIndex"),
+    Integer(b"StartFile"),
+    Integer(b"EndFile"),
+    Integer(b"StartBlock"),
+    Integer(b"EndBlock"),
+    Integer(b"VolIndex"),
 ];
 
 const JOB_MEDIA_REFERENCES: [ReferenceShape; 2] = [
@@ -244,41 +105,13 @@ const JOB_MEDIA_REFERENCES: [ReferenceShape; 2] = [
 ];
 
 const FILE_COLUMNS: [ColumnShape; 7] = [
-    ColumnShape {
-        name: b"FileId",
-        kind: Kind::Integer,
-        not_null: false,
-    },
-    ColumnShape {
-        name: b"FileIndex",
-        kind: Kind::Integer,
-        not_null: true,
-    },
-    ColumnShape {
-        name: b"JobId",
-        kind: Kind::Integer,
-        not_null: true,
-    },
-    ColumnShape {
-        name: b"PathId",
-        kind: Kind::Integer,
-        not_null: true,
-    },
-    ColumnShape {
-        name: b"FilenameId",
-        kind: Kind::Integer,
-        not_null: true,
-    },
-    ColumnShape {
-        name: b"LStat",
-        kind: Kind::Text,
-        not_null: true,
-    },
-    ColumnShape {
-        name: b"MD5",
-        kind: Kind::Text,
-        not_null: true,
-    },
+    Key(b"FileId"),
+    Integer(b"FileIndex"),
+    Integer(b"JobId"),
+    Integer(b"PathId"),
+    Integer(b"FilenameId"),
+    Text(b"LStat"),
+    Text(b"MD5"),
 ];
 
 const FILE_REFERENCES: [ReferenceShape; 3] = [
