@@ -88,7 +88,7 @@ impl<S: Alter> Store<S> {
     /// # Errors
     ///
     /// `Store`, with its cause, if the database fails; `BadCatalogue` if the version is not 1 or
-    /// the rows form no history.
+    /// the rows form no history; `Memory` if memory runs out while the rows are read.
     pub fn load_history(&mut self) -> Result<History, StoreFault>
         ensures answers { OnCleanDisk S.Store self.old self.new (λ old new.
             Answers (λ h. h) cause result (read_history (rows_in old.now.trees))) }
