@@ -36,8 +36,8 @@ fn are_valid(groups: &[Group]) -> bool
 }
 
 impl Bootstrap {
-    /// Makes the bootstrap of these groups in their order; `None` if there are 2^32 or more, or one is
-    /// not valid.
+    /// Makes the bootstrap of these groups in their order; `None` if there are 2^32 or more, or one
+    /// is not valid.
     pub fn new(groups: Vec<Group>) -> Option<Bootstrap>
         ensures valid { IsSome result ↔ ((length groups.items < 2 ^ 32) × (list_all is_group groups.items ≡ true)) }
         ensures value { IfSome result (λ bootstrap. bootstrap ≡ groups.items) }

@@ -24,9 +24,9 @@ pub enum BsrFault {
 }
 
 impl BsrFault {
-    /// Returns the number of the refusal: 1 for memory, 30 for a criterion before the first volume, 31
-    /// for an unknown keyword, 32 for an unsupported one, 33 for a bad value, 34 for a line that is
-    /// too long.
+    /// Returns the number of the refusal: 1 for memory, 30 for a criterion before the first volume,
+    /// 31 for an unknown keyword, 32 for an unsupported one, 33 for a bad value, 34 for a line that
+    /// is too long.
     pub fn number(self) -> u32
         ensures { result ≡ fault_number self }
     {

@@ -109,8 +109,8 @@ impl Group {
         }
     }
 
-    /// Returns whether the group hits a record of this session, file index and stream, in a block at
-    /// the address `addr` of its volume. It never hits a label, whose index is below 1.
+    /// Returns whether the group hits a record of this session, file index and stream, in a block
+    /// at the address `addr` of its volume. It never hits a label, whose index is below 1.
     pub fn hits(&self, addr: u64, session: SessionKey, index: i32, stream: i32) -> bool
         ensures { result ≡ hits_by self.now addr session index stream }
     {
@@ -158,8 +158,8 @@ impl Group {
         })
     }
 
-    /// Returns whether a text can state the group: the low end of each range is at most its high end,
-    /// and the criterion may have both numbers.
+    /// Returns whether a text can state the group: the low end of each range is at most its high
+    /// end, and the criterion may have both numbers.
     #[tactic(auto, unfolding(br_model::specs::BootstrapText::is_group))]
     pub fn is_valid(&self) -> bool
         ensures { result ≡ is_group self.now }

@@ -1,5 +1,5 @@
-//! Reads and writes bootstraps: texts that select the records to restore, as Bacula's Director writes
-//! them.
+//! Reads and writes bootstraps: texts that select the records to restore, as Bacula's Director
+//! writes them.
 //!
 //! A `Bootstrap` is read from its text and written as its canonical text, and its groups say which
 //! records they select.

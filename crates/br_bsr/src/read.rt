@@ -79,14 +79,16 @@ fn groups_in(alloc: Global, text: &[u8]) -> Result<Bootstrap, BsrFault>
     Ok(Bootstrap::from_valid(groups))
 }
 
-/// Reads the text of a bootstrap. The format is that of "The Bootstrap File" in Bacula's main manual.
+/// Reads the text of a bootstrap. The format is that of "The Bootstrap File" in Bacula's main
+/// manual.
 ///
-/// Lines end with LF or CR LF. The last LF may be missing. A line is blank or `keyword = value`, with a
-/// comment from the first `#` outside quotes on. Spaces and tabs may surround each part, and the case
-/// of keywords is ignored. `Volume` begins a group and takes a name, in quotes or without a space. The
-/// criteria VolSessionId, VolSessionTime, VolFile, VolBlock, VolAddr, FileIndex and Stream take
-/// numbers of 1 to 20 digits and ranges `a-b`, with commas between them. Several lines of one criterion
-/// are one list. Storage, MediaType, Device, Slot and Count are allowed in every line and ignored.
+/// Lines end with LF or CR LF. The last LF may be missing. A line is blank or `keyword = value`,
+/// with a comment from the first `#` outside quotes on. Spaces and tabs may surround each part, and
+/// the case of keywords is ignored. `Volume` begins a group and takes a name, in quotes or without
+/// a space. The criteria VolSessionId, VolSessionTime, VolFile, VolBlock, VolAddr, FileIndex and
+/// Stream take numbers of 1 to 20 digits and ranges `a-b`, with commas between them. Several lines
+/// of one criterion are one list. Storage, MediaType, Device, Slot and Count are allowed in every
+/// line and ignored.
 ///
 /// # Errors
 ///

@@ -40,7 +40,8 @@ fn place_of(text: &[u8], end: u8) -> Option<usize>
     text.iter().position(|byte| *byte == end)
 }
 
-/// Returns the text before the first byte `end` and the text after it; `None` if there is no such byte.
+/// Returns the text before the first byte `end` and the text after it; `None` if there is no such
+/// byte.
 pub fn cut(text: &[u8], end: u8) -> Option<(&[u8], &[u8])>
     ensures { MatchOption result
         ((list_any (λ c. c == end) text.now ≡ false) × (before_first (λ c. c == end) text.now ≡ text.now))

@@ -18,7 +18,8 @@ use std::alloc::Global;
 /// The greatest number of bytes of a line, without its end.
 const MAX_LINE: usize = 4096;
 
-/// The statement of a line: nothing that selects, the volume of a new group, or ranges of a criterion.
+/// The statement of a line: nothing that selects, the volume of a new group, or ranges of a
+/// criterion.
 #[derive(Debug, Drop)]
 pub enum Statement {
     Nothing,

@@ -214,7 +214,8 @@ fn wrongly_written(
     Ok(None)
 }
 
-/// Returns whether the first group is that of the full job, and the second that of the incremental one.
+/// Returns whether the first group is that of the full job, and the second that of the incremental
+/// one.
 fn are_two_jobs(groups: &[Group]) -> bool {
     match groups {
         [full, incremental] => {

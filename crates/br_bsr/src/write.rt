@@ -80,10 +80,10 @@ fn text_of(alloc: Global, groups: &[Group]) -> Result<Vec<u8>, AllocError>
     Ok(text)
 }
 
-/// Returns the canonical text of a bootstrap, which `read_bootstrap` reads back. Each group is a line
-/// `Volume="name"` and a line for each range: `Keyword=a-b`, or `Keyword=a` if both ends are equal.
-/// Keywords are in the order VolSessionId, VolSessionTime, VolFile, VolBlock, VolAddr, FileIndex,
-/// Stream. There are no blanks, and each line ends with LF.
+/// Returns the canonical text of a bootstrap, which `read_bootstrap` reads back. Each group is a
+/// line `Volume="name"` and a line for each range: `Keyword=a-b`, or `Keyword=a` if both ends are
+/// equal. Keywords are in the order VolSessionId, VolSessionTime, VolFile, VolBlock, VolAddr,
+/// FileIndex, Stream. There are no blanks, and each line ends with LF.
 pub fn write_bootstrap(alloc: Global, bootstrap: &Bootstrap) -> Result<Vec<u8>, AllocError>
     ensures canonical { IfOk result (λ text. text.items ≡ canonical bootstrap.now) }
     ensures reads_back { IfOk result (λ text. read_bootstrap text.items ≡ Ok bootstrap.now) }
