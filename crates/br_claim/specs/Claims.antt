@@ -61,8 +61,8 @@ some_ended seats = list_any (λ (s : Seated). s.ended) seats
 abbrev pub AllOf : TableId → List Seated → Type 0
 AllOf claims seats = AllByRecursion (λ (s : Seated). s.claims ≡ claims) seats
 
--- The lists have the numbers below some k up to n, each once and ascending in each list: all numbers
--- below n if a seat found that none is left.
+-- The lists have the numbers below some k up to n, each once and ascending in each list: all
+-- numbers below n if a seat found that none is left.
 pub record AreDealt (n : ℕ) (ended : Bool) (lists : List (List ℕ)) : Type 0 where
   pub ascending : AllAscending lists
   pub each : (k : ℕ) × (k ≤ n) × ((x : ℕ) → times_in x lists ≡ once_below x k) × (ended ≡ true → k ≡ n)

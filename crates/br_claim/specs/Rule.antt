@@ -34,8 +34,8 @@ abbrev pub AllUnder : ℕ → List ℕ → Type 0
 AllUnder n [] = Unit {0}
 AllUnder n (x ∷ xs) = (x < n) × AllUnder n xs
 
--- A seat that is not spent knows the limit. A seat without parts has drawn nothing, and one that drew
--- past the end knows that the word is there.
+-- A seat that is not spent knows the limit. A seat without parts has drawn nothing, and one that
+-- drew past the end knows that the word is there.
 pub record FitsHand (n word : ℕ) (v : Hand) : Type 0 where
   pub limit : 0 < v.parts → v.limit ≡ n
   pub past : v.past ≤ v.parts

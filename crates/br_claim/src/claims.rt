@@ -33,8 +33,8 @@ impl Model for Claims {
 }
 
 impl Claims {
-    /// Makes claims of the numbers below `n`, without seats and with no number drawn. They take their
-    /// memory from `alloc`.
+    /// Makes claims of the numbers below `n`, without seats and with no number drawn. They take
+    /// their memory from `alloc`.
     pub fn new(alloc: Global, n: u32) -> Result<Claims, AllocError>
         ensures { IfOk result (λ c. (c.limit ≡ n) × (c.seats ≡ 0)) }
     {
@@ -73,8 +73,8 @@ impl Claims {
         })
     }
 
-    /// Draws the next number and notes it in the seat. Returns `None` if all are drawn, and for this
-    /// seat from then on. It is one atomic step, takes no memory and never waits.
+    /// Draws the next number and notes it in the seat. Returns `None` if all are drawn, and for
+    /// this seat from then on. It is one atomic step, takes no memory and never waits.
     pub fn draw(&self, seat: &mut ClaimSeat) -> Option<u32>
         requires { seat.old.claims ≡ self.now.claims }
         ensures step { HasDrawn seat.old seat.new result }
@@ -84,8 +84,8 @@ impl Claims {
         self.word.draw(seat)
     }
 
-    /// Returns the numbers that each seat drew, in the order drawn, for the seats in the order given.
-    /// All seats that were made must be given back.
+    /// Returns the numbers that each seat drew, in the order drawn, for the seats in the order
+    /// given. All seats that were made must be given back.
     ///
     /// # Errors
     ///

@@ -5,7 +5,8 @@ use crate::rule::Hand;
 use atomic_table::Seat;
 use std::marker::Model;
 
-/// The claims' own seat. It cannot be used through a `&`, so threads can share the claims that keep it.
+/// The claims' own seat. It cannot be used through a `&`, so threads can share the claims that keep
+/// it.
 pub(crate) struct Kept {
     pub(crate) seat: Seat<(), Hand>,
 }

@@ -1,11 +1,11 @@
 //! Claims: the numbers below a limit, which threads draw from one shared word, each number once.
 //!
-//! A draw is one atomic step, takes no memory and never waits. At the end `Claims::gather` returns the
-//! numbers that each seat drew, in order.
+//! A draw is one atomic step, takes no memory and never waits. At the end `Claims::gather` returns
+//! the numbers that each seat drew, in order.
 //!
-//! Contracts see `Claims` as the claims' identity, the limit and the number of seats made. They see a
-//! `ClaimSeat` as the claims from which it draws, their limit, the numbers that it drew, and whether
-//! it found that none is left.
+//! Contracts see `Claims` as the claims' identity, the limit and the number of seats made. They see
+//! a `ClaimSeat` as the claims from which it draws, their limit, the numbers that it drew, and
+//! whether it found that none is left.
 #![tactic(auto)]
 
 mod claims;

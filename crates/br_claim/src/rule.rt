@@ -2,8 +2,8 @@
 use atomic_table::{Join, Play, Split, TableRule};
 use std::collections::LinkedList;
 
-/// What a seat knows: the numbers' limit, its parts of the right to know the whole, the numbers that
-/// it drew, and how often it drew past the end. No value of this type is made.
+/// What a seat knows: the numbers' limit, its parts of the right to know the whole, the numbers
+/// that it drew, and how often it drew past the end. No value of this type is made.
 pub struct Hand {
     pub limit: u32,
     pub parts: u64,

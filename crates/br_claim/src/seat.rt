@@ -2,8 +2,8 @@ use crate::rule::Hand;
 use atomic_table::Seat;
 use std::marker::Model;
 
-/// A thread's seat, with which it draws: its share of the claims, the numbers that it drew in order,
-/// and whether it found that none is left.
+/// A thread's seat, with which it draws: its share of the claims, the numbers that it drew in
+/// order, and whether it found that none is left.
 #[derive(Drop)]
 pub struct ClaimSeat {
     pub(crate) seat: Seat<(), Hand>,
