@@ -37,7 +37,7 @@ other_key true false v w l m clash h = h
 other_key false true v w l m clash h = refl
 other_key false false v w l m clash h = h
 
--- what a map has at a name, once a key is put in
+-- what a map has at a name after a key is inserted
 pub lookup_put : {K : Type 0} (f : K → List ℕ) (es : List (K × ℕ)) (k : K) (v : ℕ) (name : List ℕ)
     → lookup (is_named f name) (insert_entry (λ x y. rank_cmp (f x) (f y)) es k v) ≡ cond (is_named f name k) (Some v) (lookup (is_named f name) es)
 lookup_put f [] k v name = refl
@@ -65,7 +65,7 @@ none_later : (o : Option ℕ) → o ≡ option_or o None
 none_later None = refl
 none_later (Some k) = refl
 
--- a place that is noted where there was none
+-- a place that is noted if there was none
 pub noted_new : (volume name key : List ℕ) (next : ℕ) (before : List ℕ → Option ℕ) → key ≡ volume → before volume ≡ None
     → cond (is_eq (rank_cmp name key)) (Some next) (before name) ≡ noted_place volume next name (before name)
 noted_new volume name key next before same none =
@@ -81,7 +81,7 @@ noted_new volume name key next before same none =
     go false p true q = let t : bytes_eq name volume ≡ true = (bytes_eq-Decides name volume).1 (sym ((bytes_eq-Decides volume name).0 q)) in absurd cc
     go false p false q = none_later (before name)
 
--- where there was a place, nothing is noted
+-- if there was a place, nothing is noted
 pub noted_old : (volume name : List ℕ) (next k : ℕ) (before : List ℕ → Option ℕ) → before volume ≡ Some k → before name ≡ noted_place volume next name (before name)
 noted_old volume name next k before found = go (bytes_eq volume name) refl
   where
@@ -120,7 +120,8 @@ pub place_put : (o : Option ℕ) (ps : List Piece) (g : ℕ × Group) (name : Li
 place_put None ps g name e = place_behind name 0 (length ps) ps (first_piece (length ps) g) (omega arith)
 place_put (Some k) ps g name e = more_keeps_places name 0 k ps g ∙ noted_old g.1.volume name (length ps) k (place_among ps) (sym e)
 
--- a map that had the places of the pieces, and had the place of a group's volume noted, has those of the pieces with the group
+-- a map of the places of the pieces, once it notes the place of a group's volume, has the places of
+-- the pieces with the group
 pub places_step : (before after : List ℕ → Option ℕ) (o : Option ℕ) (ps qs : List Piece) (g : ℕ × Group) (volume : List ℕ) (next : ℕ)
     → ((name : List ℕ) → before name ≡ place_among ps name) → ((name : List ℕ) → after name ≡ noted_place volume next name (before name))
     → volume ≡ g.1.volume → next ≡ length ps → o ≡ place_among ps g.1.volume → qs ≡ put_at o ps g → (name : List ℕ) → after name ≡ place_among qs name

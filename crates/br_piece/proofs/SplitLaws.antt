@@ -1,4 +1,5 @@
--- The pieces of a bootstrap with one more group: those without it, and the group put into the piece of its volume.
+-- The pieces of a bootstrap with one more group: those without it, and the group in the piece of
+-- its volume.
 use Rattle.std.proofs.Common.{◌≡◌, ℕ, zero, suc, ◌+◌, ◌<◌, Bool, true, false, not, cond, List, [], ◌∷◌, ◌++◌, length, map, filter, Option, Some, None, refl, sym, ap, subst, ◌∙◌, ◌≤◌, get_or, set, take, length-append, length-take, arith}
 use Rattle.std.proofs.lemmas.Slice.Eq.{bytes_eq-Decides}
 use Rattle.std.proofs.lemmas.List.{append-nil, map-append}
@@ -14,7 +15,7 @@ use Rattle.br_piece.specs.Piece.{first_piece, with_one_more, with_more_at, put_a
 
 -- ---- volumes
 
--- the volumes with one more behind them, if it is not among them
+-- the volumes with one more after them, if it is not among them
 abbrev with_volume : List (List ℕ) → List ℕ → List (List ℕ)
 with_volume [] v = v ∷ []
 with_volume (w ∷ ws) v = cond (bytes_eq w v) (w ∷ ws) (w ∷ with_volume ws v)
@@ -109,7 +110,8 @@ no_groups gs v h =
 
 -- ---- pieces
 
--- the pieces with one more group, in the first piece of its volume, or in a new one behind them, where the first has this number
+-- the pieces with one more group, in the first piece of its volume or in a new last one, if the
+-- first piece has this number
 abbrev with_group : ℕ → List Piece → ℕ × Group → List Piece
 with_group k [] g = first_piece k g ∷ []
 with_group k (p ∷ ps) g = cond (bytes_eq p.volume g.1.volume) (with_one_more p g ∷ ps) (p ∷ with_group (k + 1) ps g)
@@ -146,7 +148,7 @@ put_from_is_with k (p ∷ ps) g = go (is_of g.1.volume p) (put_from_is_with (k +
     go true h = refl
     go false h = ap (λ o. put_from k o (p ∷ ps) g) (position_later g.1.volume 0 1 ps refl) ∙ put_later k later p ps g ∙ ap (λ l. p ∷ l) h
 
--- putting a group at the place of its volume
+-- a group is added at the place of its volume
 put_is_with : (ps : List Piece) (g : ℕ × Group) → put_at (place_among ps g.1.volume) ps g ≡ with_group 0 ps g
 put_is_with ps g = go (place_among ps g.1.volume) ∙ put_from_is_with 0 ps g
   where
@@ -160,7 +162,7 @@ piece_more gs g k w groups e = ap (λ (l : List (ℕ × Group)). record { number
 same_piece : (gs : List Group) (g : Group) (k : ℕ) (w : List ℕ) → bytes_eq g.volume w ≡ false → piece_of (gs ++ g ∷ []) (k, w) ≡ piece_of gs (k, w)
 same_piece gs g k w e = piece_more gs g k w (groups_on gs w) (groups_more gs g w false e ∙ append-nil (groups_on gs w))
 
--- the pieces of volumes that are none of the last group's
+-- the pieces of other volumes than the last group's
 same_pieces : (k : ℕ) (gs : List Group) (g : Group) (vs : List (List ℕ)) → AllByRecursion (Apart g.volume) vs
     → map (piece_of (gs ++ g ∷ [])) (enumerate_from k vs) ≡ map (piece_of gs) (enumerate_from k vs)
 same_pieces k gs g [] h = refl
@@ -229,7 +231,7 @@ more_keeps_length k [] g = refl
 more_keeps_length zero (p ∷ ps) g = refl
 more_keeps_length (suc k) (p ∷ ps) g = ap suc (more_keeps_length k ps g)
 
--- there is at most one piece more
+-- there is at most one more piece
 pub put_length : (o : Option ℕ) (ps : List Piece) (g : ℕ × Group) → length (put_at o ps g) ≤ length ps + 1
 put_length None ps g = omega (arith, length-append ps (first_piece (length ps) g ∷ []))
 put_length (Some k) ps g = omega (arith, more_keeps_length k ps g)

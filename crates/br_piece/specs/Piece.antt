@@ -1,4 +1,4 @@
--- Pieces as groups are put into them one by one.
+-- Pieces to which groups are added one by one.
 use Rattle.std.specs.Prelude.{ℕ, zero, suc, List, [], ◌∷◌, ◌++◌, length, bytes_eq, Option, Some, None, if◌then◌else◌, Vec}
 use Rattle.std.specs.List.{position_from}
 use Rattle.std.specs.Global.{Global}
@@ -13,7 +13,7 @@ use Rattle.br_model.specs.Meaning.{Piece}
 abbrev pub first_piece : ℕ → ℕ × Group → Piece
 first_piece number g = record { number = number; volume = g.1.volume; groups = g ∷ [] }
 
--- a piece with one more group behind its own
+-- a piece with one more group after its own
 abbrev pub with_one_more : Piece → ℕ × Group → Piece
 with_one_more p g = record { number = p.number; volume = p.volume; groups = p.groups ++ g ∷ [] }
 
@@ -27,7 +27,7 @@ with_more_at k [] g = []
 with_more_at zero (p ∷ ps) g = with_one_more p g ∷ ps
 with_more_at (suc k) (p ∷ ps) g = p ∷ with_more_at k ps g
 
--- the pieces with one more group, in the piece at its place, or in a new piece behind all the others
+-- the pieces with one more group, in the piece at its place, or in a new last piece
 abbrev pub put_at : Option ℕ → List Piece → ℕ × Group → List Piece
 put_at None pieces g = pieces ++ first_piece (length pieces) g ∷ []
 put_at (Some k) pieces g = with_more_at k pieces g
@@ -36,6 +36,6 @@ put_at (Some k) pieces g = with_more_at k pieces g
 abbrev pub place_in : BTreeMap (Vec ℕ Global) ℕ → List ℕ → Option ℕ
 place_in places name = get_by (λ (k : Vec ℕ Global). slice_cmp nat_cmp name k.items) places
 
--- the place of a name, once a place of a volume is noted, which counts only where there was none
+-- the place of a name after a place of a volume is noted, which counts only if there was none
 abbrev pub noted_place : List ℕ → ℕ → List ℕ → Option ℕ → Option ℕ
 noted_place volume next name before = option_or before (if bytes_eq volume name then Some next else None)

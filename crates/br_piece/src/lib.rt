@@ -1,6 +1,7 @@
-//! Pieces: the parts into which a bootstrap falls, one for each volume that it names.
+//! Splits a bootstrap into pieces, one for each volume that it names.
 //!
-//! A piece has the groups on its volume, under their numbers in the bootstrap, so that each volume can be read alone.
+//! A piece has the groups on its volume with their numbers in the bootstrap, so that each volume
+//! can be read alone.
 #![tactic(auto)]
 
 mod piece;

@@ -9,11 +9,11 @@ use std::marker::Model;
 /// The part of a bootstrap that is on one volume.
 #[derive(Debug, Drop)]
 pub struct Piece {
-    /// The number of the piece: how many volumes the bootstrap names before this one.
+    /// The number of the piece: the number of volumes that the bootstrap names before this one.
     pub number: u32,
     /// The volume.
     pub vol: VolName,
-    /// The groups on the volume, in order, each with its number in the bootstrap: how many groups stand before it there.
+    /// The groups on the volume in order, each with its number in the bootstrap, from 0.
     pub groups: Vec<(u32, Group)>,
 }
 
@@ -26,7 +26,8 @@ impl Model for Piece {
 }
 
 impl Piece {
-    /// The piece of this number with a copy of one group, of this number in the bootstrap.
+    /// Makes the piece of this number with a copy of one group, which has the number `group_number`
+    /// in the bootstrap.
     pub(crate) fn first(
         alloc: Global,
         number: u32,
@@ -45,7 +46,7 @@ impl Piece {
         })
     }
 
-    /// Puts a copy of a group, of this number in the bootstrap, behind the groups of the piece.
+    /// Appends a copy of a group, which has the number `group_number` in the bootstrap.
     pub(crate) fn add(
         &mut self,
         alloc: Global,

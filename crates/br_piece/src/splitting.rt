@@ -8,7 +8,8 @@ use br_types::VolName;
 use std::alloc::{AllocError, Global};
 use std::collections::BTreeMap;
 
-/// The place of the piece of a volume, if there is one. Where there is none, `next` is noted as its place from now on.
+/// Returns the place of a volume's piece, if there is one. If there is none, it notes `next` as the
+/// place from now on.
 fn place_for(
     alloc: Global,
     places: &mut BTreeMap<Vec<u8>, usize>,
@@ -27,7 +28,7 @@ fn place_for(
     }
 }
 
-/// Puts a copy of a group into the piece at a place, or into a new piece behind all the others where there is no place.
+/// Appends a copy of a group to the piece at a place, or to a new last piece if there is no place.
 fn put_at(
     alloc: Global,
     pieces: &mut Vec<Piece>,
@@ -49,13 +50,14 @@ fn put_at(
     Ok(())
 }
 
-/// The pieces of a bootstrap: one for each volume that it names, in order of first appearance and numbered from 0, with
-/// copies of the groups on that volume under their numbers in the bootstrap. A bootstrap without groups has no piece.
+/// Returns the pieces of a bootstrap: one for each volume that it names, in order of first
+/// appearance and numbered from 0, with copies of the groups on that volume and their numbers in
+/// the bootstrap. A bootstrap without groups has no pieces.
 ///
-/// Bacula reads a bootstrap volume by volume: its Director writes one or more groups, each begun by `Volume=`, for each
-/// volume that a restore needs (the manual's chapter on the bootstrap file).
+/// Bacula reads a bootstrap volume by volume: for each volume that a restore needs, its Director
+/// writes one or more groups, each begun by `Volume=` (the manual's chapter on the bootstrap file).
 ///
-/// The time is n log n in the number of groups. `AllocError` where memory is short.
+/// The time is n log n in the number of groups.
 pub fn split(alloc: Global, bootstrap: &Bootstrap) -> Result<Vec<Piece>, AllocError>
     ensures { IfOk result (λ pieces. pieces.items ≡ pieces_of bootstrap.now) }
 {
