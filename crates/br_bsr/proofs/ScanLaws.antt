@@ -1,11 +1,13 @@
 -- The places at which a text is cut.
-use Rattle.std.proofs.Common.{◌≡◌, ◌<◌, ◌≤◌, ◌+◌, ◌-◌, ◌||◌, ◌&&◌, ◌==◌, ℕ, suc, Bool, true, false, not, cond, ltb, Some, None, List, [], ◌∷◌, ◌++◌, length, take, drop, reverse, get_or, refl, ap, add_comm, add-one, append_assoc, drop-cons, sym, ◌∙◌, inl, inr, arith}
+use Rattle.std.proofs.Common.{◌≡◌, ◌<◌, ◌≤◌, ◌+◌, ◌-◌, ◌||◌, ◌&&◌, ◌==◌, ℕ, Option, suc, Bool, true, false, not, cond, ltb, Some, None, List, [], ◌∷◌, ◌++◌, length, take, drop, reverse, get_or, refl, ap, add_comm, add-one, append_assoc, drop-cons, sym, ◌∙◌, inl, inr, arith}
 use Rattle.std.specs.Prelude.{position}
 use Rattle.std.specs.List.{list_any, prefix_len, position_or_len, before_first}
 use Rattle.std.proofs.lemmas.Bool.Decides.{nat_tests}
 use Rattle.std.proofs.lemmas.Grind.{common_steps}
 use Rattle.std.proofs.lemmas.List.{reverse-append, reverse-reverse, append-nil}
 use Rattle.std.proofs.Math.Seq.{take-suc}
+use Rattle.std.proofs.lemmas.List.Sums.{position_or_len_is}
+use Rattle.bstr.specs.Find.{IsFirstByte, is_byte}
 use Rattle.br_model.specs.Text.{is_blank, trim_front}
 use Rattle.br_model.specs.BootstrapText.{before_comment}
 use Rattle.br_model.proofs.AnswerLaws.{chosen}
@@ -47,6 +49,23 @@ place_none p xs e =
       | inl h ↦ absurd cc
       | inr h ↦ (any_is_place p xs ∙ h.0, take_all_of xs (position_or_len p xs) (grind (arith, nat_tests)))
     ]
+
+-- ---- the first byte
+
+not_passed : (b : Bool) → ¬ (b ≡ true) → b ≡ false
+not_passed true h = absurd (h refl)
+not_passed false h = refl
+
+-- the first byte that bstr finds is at the first position
+pub first_is_position : (end : ℕ) (text : List ℕ) (r : Option ℕ) → IsFirstByte (is_byte end) text r → r ≡ position (λ c. c == end) text
+first_is_position end text None none =
+    let at : position_or_len (λ c. c == end) text ≡ length text =
+    position_or_len_is (λ c. c == end) text (length text) 0 (omega arith) (λ k below. not_passed _ (none k (omega arith) below)) (λ below. absurd (omega (arith, below))) in
+    rw at (grind (arith, nat_tests))
+first_is_position end text (Some i) (first, passes) =
+    let at : position_or_len (λ c. c == end) text ≡ i =
+    position_or_len_is (λ c. c == end) text i 0 (omega (arith, first.high)) (λ k below. not_passed _ (first.before k (omega arith) below)) (λ _. passes) in
+    rw at (grind (arith, nat_tests, first.high))
 
 -- ---- blanks at the ends
 

@@ -4,6 +4,7 @@ ghost use Rattle.br_model.specs.Text.{is_blank, trim_front};
 ghost use Rattle.br_model.specs.BootstrapText.{trimmed, before_comment, has_closed_quotes};
 
 use br_types::is_blank_byte;
+use bstr::ByteSlice;
 
 /// Returns the text without the blanks at its front.
 fn trimmed_front(text: &[u8]) -> &[u8]
@@ -37,7 +38,7 @@ pub fn trimmed_of(text: &[u8]) -> &[u8]
 fn place_of(text: &[u8], end: u8) -> Option<usize>
     ensures { result ≡ position (λ c. c == end) text.now }
 {
-    text.iter().position(|byte| *byte == end)
+    text.find_byte(end)
 }
 
 /// Returns the text before the first byte `end` and the text after it; `None` if there is no such
