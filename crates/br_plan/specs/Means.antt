@@ -1,5 +1,5 @@
 -- What a plan of a history promises.
-use Rattle.std.specs.Prelude.{◌≡◌, ℕ, if◌then◌else◌, List, Some, Result, Ok, Err, Contains}
+use Rattle.std.specs.Prelude.{◌≡◌, ℕ, Bool, if◌then◌else◌, List, map, Some, Result, Ok, Err, Contains}
 use Rattle.std.specs.List.{AllByRecursion, AllZip}
 use Rattle.std.specs.List.Sorted.{IsPermutation}
 use Rattle.br_model.specs.Text.{is_empty}
@@ -12,6 +12,8 @@ use Rattle.br_model.specs.View.{Entry, view_of}
 use Rattle.br_model.specs.Plan.{Plan, selection, plan_groups, plan_names}
 use Rattle.br_model.specs.PlanMeaning.{IsCopy, by_key, rows_of_jobs}
 use Rattle.br_model.specs.Stored.{Holds}
+use Rattle.br_view.specs.Shown.{shown_pair}
+use Rattle.br_plan.specs.Selected.{Pair, selected_by}
 
 -- the plan of selected entries of the chosen jobs
 abbrev pub plan_with : List Entry → List JobRows → Plan
@@ -20,6 +22,10 @@ plan_with selected jobs = record { groups = plan_groups selected jobs; names = p
 -- the plan of selected entries, or 51 if there is none
 abbrev pub plan_unless_empty : List Entry → List JobRows → Result Plan ℕ
 plan_unless_empty selected jobs = if is_empty selected then Err 51 else Ok (plan_with selected jobs)
+
+-- the plan of what flags select of entries of the view of jobs
+abbrev pub plan_by : List Pair → List Bool → List JobRows → Result Plan ℕ
+plan_by pairs flags jobs = plan_unless_empty (map shown_pair (selected_by pairs flags)) jobs
 
 -- where the request chooses jobs of the history, the entries are their view
 abbrev pub IsViewOfChosen : List JobRows → Request → List Entry → Type 0

@@ -13,7 +13,7 @@ use br_history::JobRows;
 use br_session::Span;
 use std::alloc::{AllocError, Global};
 
-/// The range of one number alone.
+/// Returns the range of one number alone.
 fn one_number(alloc: Global, number: u32) -> Result<Vec<Range>, AllocError>
     ensures same { IfOk result (λ ranges. ranges.items ≡ model.one_number number) }
     ensures valid { IfOk result (λ ranges. list_all (is_range SessionId) ranges.items ≡ true) }
@@ -26,7 +26,7 @@ fn one_number(alloc: Global, number: u32) -> Result<Vec<Range>, AllocError>
     Ok(ranges)
 }
 
-/// The range of the bytes of a span.
+/// Returns the range of the bytes of a span.
 fn bytes_of(alloc: Global, span: &Span) -> Result<Vec<Range>, AllocError>
     requires { is_span span.now ≡ true }
     ensures same { IfOk result (λ ranges. ranges.items ≡ record { low = span.now.start; high = span.now.end } ∷ []) }
@@ -40,7 +40,7 @@ fn bytes_of(alloc: Global, span: &Span) -> Result<Vec<Range>, AllocError>
     Ok(ranges)
 }
 
-/// The group of a span for these files of the job. A bootstrap may have it.
+/// Returns the group of a span for these files of the job.
 fn group_of(alloc: Global, job: &JobRows, span: &Span, part: &[FileOf]) -> Result<Group, AllocError>
     requires { is_span span.now ≡ true }
     ensures same { IfOk result (λ group. group ≡ model.span_group job.now.row.session span.now (indexes_of part.now)) }
@@ -91,7 +91,7 @@ fn add_job(groups: &mut Vec<Group>, files: &[FileOf], job: &JobRows) -> Result<(
     Ok(())
 }
 
-/// A group for each span of the jobs in which one of the files has a part.
+/// Returns a group for each span of the jobs in which one of the files has a part.
 pub(crate) fn groups_of(
     alloc: Global,
     files: &[FileOf],

@@ -16,7 +16,7 @@ use thiserror::Error;
 pub struct BadMoment;
 
 impl BadMoment {
-    /// The number of the refusal: 52.
+    /// Returns the number of the refusal: 52.
     pub fn number(self) -> u32
         ensures { result ≡ moment_number self }
     {
@@ -49,7 +49,7 @@ fn are_digits(bytes: &[u8]) -> bool
     bytes.iter().all(|byte| byte.is_ascii_digit())
 }
 
-/// Whether the text has 19 bytes and begins with `YYYY-MM-DD`.
+/// Returns whether the text has 19 bytes and begins with `YYYY-MM-DD`.
 fn has_date(text: &[u8]) -> bool
     ensures form { result ≡ has_date text.now }
     ensures long { result ≡ true → length text.now ≡ 19 }
@@ -62,7 +62,7 @@ fn has_date(text: &[u8]) -> bool
         && are_digits(&text[8..10])
 }
 
-/// Whether the text is of the form `YYYY-MM-DD HH:MM:SS`.
+/// Returns whether the text is of the form `YYYY-MM-DD HH:MM:SS`.
 #[tactic(auto, unfolding(br_model::specs::Moment::is_moment_text))]
 fn has_form(text: &[u8]) -> bool
     ensures form { result ≡ model.is_moment_text text.now }
@@ -77,7 +77,7 @@ fn has_form(text: &[u8]) -> bool
         && are_digits(&text[17..19])
 }
 
-/// The number of two digits.
+/// Returns the number of two digits.
 fn two(bytes: &[u8]) -> u64
     requires { length bytes.now ≡ 2 }
     ensures value { result ≡ fold (λ n c. 10 * n + (c - 48)) 0 bytes.now }
@@ -86,7 +86,7 @@ fn two(bytes: &[u8]) -> u64
     10 * u64::from(bytes[0].saturating_sub(b'0')) + u64::from(bytes[1].saturating_sub(b'0'))
 }
 
-/// The number of four digits.
+/// Returns the number of four digits.
 fn four(bytes: &[u8]) -> u64
     requires { length bytes.now ≡ 4 }
     ensures { result ≡ fold (λ n c. 10 * n + (c - 48)) 0 bytes.now }
@@ -94,7 +94,7 @@ fn four(bytes: &[u8]) -> u64
     100 * two(&bytes[..2]) + two(&bytes[2..])
 }
 
-/// The numbers in a text of the form.
+/// Returns the numbers in a text of the form.
 fn numbers_in(text: &[u8]) -> Moment
     requires { length text.now ≡ 19 }
     ensures { result ≡ model.moment_in text.now }
@@ -109,7 +109,7 @@ fn numbers_in(text: &[u8]) -> Moment
     }
 }
 
-/// The seconds from the beginning of 1970 to a moment, if it is in the calendar from then on.
+/// Returns the seconds from the beginning of 1970 to a moment, if it is in the calendar from then on.
 #[tactic(auto, unfolding(br_model::specs::Moment::is_moment))]
 fn seconds_of(moment: &Moment) -> Option<u64>
     requires { IsWritten moment.now }
@@ -133,8 +133,11 @@ fn seconds_of(moment: &Moment) -> Option<u64>
     }
 }
 
-/// The seconds since 1970 of a moment in UTC as `YYYY-MM-DD HH:MM:SS`, with digits in the places of the letters. It has to be a
-/// day of the calendar from 1970 on, an hour up to 23, and a minute and a second up to 59. Else `BadMoment`.
+/// Reads a moment in UTC as `YYYY-MM-DD HH:MM:SS`, with digits in the places of the letters, as seconds since 1970.
+///
+/// # Errors
+///
+/// `BadMoment` unless it is a day of the calendar from 1970 on, an hour up to 23, and a minute and a second up to 59.
 #[tactic(auto, unfolding(br_model::specs::Moment::read_moment))]
 pub fn read_moment(text: &[u8]) -> Result<u64, BadMoment>
     ensures { AnswersAlways (λ seconds. seconds) moment_number result (model.read_moment text.now) }

@@ -19,7 +19,7 @@ fn set_name(alloc: Global, names: &mut Names, path: &Path, entry: &Entry) -> Res
     Ok(())
 }
 
-/// Under which paths the files of the entries are restored.
+/// Returns the paths under which the files of the entries are restored.
 pub(crate) fn names_of(alloc: Global, entries: &[Shown<'_>]) -> Result<Names, AllocError>
     ensures { IfOk result (λ names. names ≡ finite.from_entries (map named_pair entries.now)) }
 {

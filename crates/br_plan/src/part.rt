@@ -8,10 +8,10 @@ use br_session::Span;
 use br_types::{FileIndex, JobId};
 use std::alloc::{AllocError, Global};
 
-/// Which file of which job.
+/// A file of a job.
 pub(crate) type FileOf = (JobId, FileIndex);
 
-/// The files of the entries as these come.
+/// Returns the files of the entries in the order of these.
 fn each_file(alloc: Global, entries: &[Shown<'_>]) -> Result<Vec<FileOf>, AllocError>
     ensures { IfOk result (λ files. files.items ≡ map (λ p. file_of (shown_pair p)) entries.now) }
 {
@@ -21,7 +21,7 @@ fn each_file(alloc: Global, entries: &[Shown<'_>]) -> Result<Vec<FileOf>, AllocE
         .collect(alloc)
 }
 
-/// The files of the entries in order of job and index, each once.
+/// Returns the files of the entries in order of job and index, each once.
 pub(crate) fn files_of(alloc: Global, entries: &[Shown<'_>]) -> Result<Vec<FileOf>, AllocError>
     ensures { IfOk result (λ files. AreFiles (map shown_pair entries.now) files.items) }
 {
@@ -43,7 +43,7 @@ fn reaches_to(file: FileOf, job: JobId, last: u32) -> bool
     file.0 < job || file.0 == job && file.1.get() <= last
 }
 
-/// The files from the job's file with this index on.
+/// Returns the files from the job's file with this index on.
 fn from_first(files: &[FileOf], job: JobId, first: u32) -> &[FileOf]
     requires { Rise files.now }
     ensures { result.now ≡ filter (λ f. not (is_before job first f)) files.now }
@@ -51,7 +51,7 @@ fn from_first(files: &[FileOf], job: JobId, first: u32) -> &[FileOf]
     &files[files.partition_point(|file| precedes(*file, job, first))..]
 }
 
-/// The files up to the job's file with this index.
+/// Returns the files up to the job's file with this index.
 fn up_to_last(files: &[FileOf], job: JobId, last: u32) -> &[FileOf]
     requires { Rise files.now }
     ensures { result.now ≡ filter (is_up_to job last) files.now }
@@ -59,7 +59,7 @@ fn up_to_last(files: &[FileOf], job: JobId, last: u32) -> &[FileOf]
     &files[..files.partition_point(|file| reaches_to(*file, job, last))]
 }
 
-/// The files of the job that have a part in the span.
+/// Returns the files of the job that have a part in the span.
 pub(crate) fn part_of<'f>(files: &'f [FileOf], job: JobId, span: &Span) -> &'f [FileOf]
     requires { Rise files.now }
     ensures { result.now ≡ filter (is_within job span.now) files.now }

@@ -3,8 +3,7 @@ ghost use Rattle.br_model.specs.Answer.{Answers};
 ghost use Rattle.br_model.specs.Plan as model;
 ghost use Rattle.br_model.specs.Restored.{planned_in};
 ghost use Rattle.br_plan.specs.Fault.{cause};
-ghost use Rattle.br_plan.specs.Means.{MeansSelection, IsViewOfChosen, plan_with, plan_unless_empty};
-ghost use Rattle.br_plan.specs.Selected.{selected_by};
+ghost use Rattle.br_plan.specs.Means.{MeansSelection, IsViewOfChosen, plan_by, plan_with};
 ghost use Rattle.br_view.specs.Shown.{shown_pair};
 
 use crate::fault::PlanFault;
@@ -43,7 +42,7 @@ impl Model for Plan {
     ghost view = { λ p. record { groups = p.bootstrap; names = planned_in p.names } };
 }
 
-/// The plan for selected entries of the jobs. 2^32 groups are want of memory.
+/// Makes the plan for selected entries of the jobs. 2^32 groups count as out of memory.
 fn plan_for(alloc: Global, entries: &[Shown<'_>], jobs: &[&JobRows]) -> Result<Plan, AllocError>
     ensures { IfOk result (λ plan. plan ≡ plan_with (map shown_pair entries.now) (map (λ j. j.now) jobs.now)) }
 {
@@ -68,7 +67,7 @@ fn plan_from(
     jobs: &[&JobRows],
 ) -> Result<Plan, PlanFault>
     requires { length flags.now ≡ length entries.now }
-    ensures { Answers (λ plan. plan) cause result (plan_unless_empty (map shown_pair (selected_by entries.now flags.now)) (map (λ j. j.now) jobs.now)) }
+    ensures { Answers (λ plan. plan) cause result (plan_by entries.now flags.now (map (λ j. j.now) jobs.now)) }
 {
     let selected = selected(alloc, entries, flags)?;
     if selected.is_empty() {
@@ -136,21 +135,21 @@ impl Plan {
         plan_from(alloc, tree.entries(), tree.flags(), &jobs)
     }
 
-    /// What of which volumes is read.
+    /// Returns what of which volumes is read.
     pub fn bootstrap(&self) -> &Bootstrap
         ensures { result.now ≡ self.now.groups }
     {
         &self.bootstrap
     }
 
-    /// Under which path each file is expected.
+    /// Returns under which path each file is expected.
     pub fn names(&self) -> &Names
         ensures { planned_in result.now ≡ self.now.names }
     {
         &self.names
     }
 
-    /// What of which volumes is read, and under which path each file is expected.
+    /// Returns what of which volumes is read, and under which path each file is expected.
     pub fn into_parts(self) -> (Bootstrap, Names)
         ensures bootstrap { result.0 ≡ self.groups }
         ensures names { planned_in result.1 ≡ self.names }
