@@ -181,82 +181,6 @@ fn a_full_and_an_incremental_are_restored(rt: HostRuntime) -> Result<(), Fail> {
 }
 
 #[test]
-fn the_bootstrap_beside_a_job_is_run(rt: HostRuntime) -> Result<(), Fail> {
-    let case = Case {
-        volume: ORDER,
-        bootstrap: b"# 21-Nov-2026 23:15:34 - A.2026-11-21_23.15.31_04 - Full\n\
-        Volume=\"Vol-0001\"\n\
-        MediaType=\"File\"\n\
-        VolSessionId=1\n\
-        VolSessionTime=1795302931\n\
-        VolAddr=206-1172\n\
-        FileIndex=1-5\n\
-        # 21-Nov-2026 23:15:38 - A.2026-11-21_23.15.37_06 - Differential, since=2026-11-21 23:15:33\n\
-        Volume=\"Vol-0001\"\n\
-        MediaType=\"File\"\n\
-        VolSessionId=2\n\
-        VolSessionTime=1795302931\n\
-        VolAddr=1173-1655\n\
-        FileIndex=1-1\n\
-        # 21-Nov-2026 23:15:45 - A.2026-11-21_23.15.43_08 - Incremental, since=2026-11-21 23:15:38\n\
-        Volume=\"Vol-0001\"\n\
-        MediaType=\"File\"\n\
-        VolSessionId=1\n\
-        VolSessionTime=1795302940\n\
-        VolAddr=1656-2149\n\
-        FileIndex=1-1\n",
-        status: 0,
-        manifest: b"F 1 1795302931 1 3 /tmp/peerlab/src/sub/f1 65024,11190367,33188,1,0,0,0,7,4096,8,1795302930,1795302930,1795302\
-        930,0 = 7 ca23c22f158adc665de9e160e0145b10\n\
-        F 1 1795302931 2 3 /tmp/peerlab/src/sub/f3 65024,11190381,33188,1,0,0,0,7,4096,8,1795302930,1795302930,1795302\
-        930,0 = 7 0350f71aca2c0cb3cf400c0df5fb5cc8\n\
-        F 1 1795302931 3 3 /tmp/peerlab/src/sub/f2 65024,11190368,33188,1,0,0,0,7,4096,8,1795302930,1795302930,1795302\
-        930,0 = 7 d597fe8e2dd0e48e709aad2397c66c7d\n\
-        F 1 1795302931 4 5 /tmp/peerlab/src/sub/ 65024,11190366,16877,2,0,0,0,4096,4096,8,1795302930,1795302930,179530\
-        2930,0 = 0 d41d8cd98f00b204e9800998ecf8427e\n\
-        F 1 1795302931 5 5 /tmp/peerlab/src/ 65024,11190365,16877,3,0,0,0,4096,4096,8,1795302930,1795302930,1795302930\
-        ,0 = 0 d41d8cd98f00b204e9800998ecf8427e\n\
-        F 1 1795302940 1 3 /tmp/peerlab/src/sub/f2 65024,11190368,33188,1,0,0,0,24,4096,8,1795302938,1795302941,179530\
-        2941,0 = 24 3e17bc1b2ed08c3055eeafa12d5c4b53\n\
-        F 2 1795302931 1 3 /tmp/peerlab/src/sub/f2 65024,11190368,33188,1,0,0,0,13,4096,8,1795302934,1795302936,179530\
-        2936,0 = 13 7926fce19c904cbc2c82ceddc13e90ab\n\
-        total 7 0 0\n",
-        refusal: b"",
-    };
-    runs(&rt, case)
-}
-
-#[test]
-fn a_file_is_there_before_it_becomes_a_folder(rt: HostRuntime) -> Result<(), Fail> {
-    let case = Case {
-        volume: SWAP,
-        bootstrap: b"Storage=\"File1\"\n\
-        Volume=\"Vol-0001\"\n\
-        MediaType=\"File\"\n\
-        Device=\"FileDev\"\n\
-        VolSessionId=1\n\
-        VolSessionTime=1795302717\n\
-        VolAddr=206-1192\n\
-        FileIndex=1-5\n\
-        Count=5\n",
-        status: 0,
-        manifest: b"F 1 1795302717 1 3 /tmp/peerlab/src/tiny.txt 65024,11190485,33188,1,0,0,0,6,4096,8,1795302717,1795302717,17953\
-        02717,0 = 6 b1946ac92492d2347c6235b4d2611184\n\
-        F 1 1795302717 2 3 /tmp/peerlab/src/stays 65024,11190487,33188,1,0,0,0,6,4096,8,1795302717,1795302717,17953027\
-        17,0 = 6 30cc24fbed9e6ba5e484e2a7b99ae374\n\
-        F 1 1795302717 3 3 /tmp/peerlab/src/name\\x20with\\x20spaces/in 65024,11190417,33188,1,0,0,0,2,4096,8,17953027\
-        17,1795302717,1795302717,0 = 2 60b725f10c9c85c70d97880dfe8191b3\n\
-        F 1 1795302717 4 5 /tmp/peerlab/src/name\\x20with\\x20spaces/ 65024,11190401,16877,2,0,0,0,4096,4096,8,1795302\
-        717,1795302717,1795302717,0 = 0 d41d8cd98f00b204e9800998ecf8427e\n\
-        F 1 1795302717 5 5 /tmp/peerlab/src/ 65024,11190389,16877,3,0,0,0,4096,4096,8,1795302717,1795302717,1795302717\
-        ,0 = 0 d41d8cd98f00b204e9800998ecf8427e\n\
-        total 5 0 0\n",
-        refusal: b"",
-    };
-    runs(&rt, case)
-}
-
-#[test]
 fn a_folder_is_there_where_a_file_was(rt: HostRuntime) -> Result<(), Fail> {
     let case = Case {
         volume: SWAP,
@@ -290,53 +214,6 @@ fn a_folder_is_there_where_a_file_was(rt: HostRuntime) -> Result<(), Fail> {
         F 2 1795302717 4 5 /tmp/peerlab/src/ 65024,11190389,16877,3,0,0,0,4096,4096,8,1795302719,1795302722,1795302722\
         ,0 = 0 d41d8cd98f00b204e9800998ecf8427e\n\
         total 5 0 0\n",
-        refusal: b"",
-    };
-    runs(&rt, case)
-}
-
-#[test]
-fn whole_sessions_are_restored(rt: HostRuntime) -> Result<(), Fail> {
-    let case = Case {
-        volume: PRUNED,
-        bootstrap: b"Storage=\"File1\"\n\
-        Volume=\"Vol-0001\"\n\
-        MediaType=\"File\"\n\
-        Device=\"FileDev\"\n\
-        VolSessionId=1\n\
-        VolSessionTime=1795302699\n\
-        VolAddr=206-1613\n\
-        FileIndex=1-8\n\
-        Count=8\n\
-        Storage=\"File1\"\n\
-        Volume=\"Vol-0001\"\n\
-        MediaType=\"File\"\n\
-        Device=\"FileDev\"\n\
-        VolSessionId=2\n\
-        VolSessionTime=1795302699\n\
-        VolAddr=1614-2095\n\
-        FileIndex=1\n\
-        Count=1\n",
-        status: 0,
-        manifest: b"F 1 1795302699 1 3 /tmp/peerlab/src/tiny.txt 65024,11190501,33188,1,0,0,0,5,4096,8,1795302698,1795302698,17953\
-        02698,0 = 5 d4a244c8da895b528beb95fb4a6d76a8\n\
-        F 1 1795302699 2 3 /tmp/peerlab/src/sub/f1 65024,11190470,33188,1,0,0,0,7,4096,8,1795302698,1795302698,1795302\
-        698,0 = 7 e243bb39c844b3543a7726576c869caf\n\
-        F 1 1795302699 3 3 /tmp/peerlab/src/sub/f3 65024,11190487,33188,1,0,0,0,7,4096,8,1795302698,1795302698,1795302\
-        698,0 = 7 9c38e8324dbf031557c89d53a39f0b26\n\
-        F 1 1795302699 4 3 /tmp/peerlab/src/sub/f2 65024,11190485,33188,1,0,0,0,7,4096,8,1795302698,1795302698,1795302\
-        698,0 = 7 4349cfeff8e2eb74dffc369bb5fd084e\n\
-        F 1 1795302699 5 3 /tmp/peerlab/src/sub/f5 65024,11190492,33188,1,0,0,0,7,4096,8,1795302698,1795302698,1795302\
-        698,0 = 7 0998a09014c94a7bdb6bb894495ed335\n\
-        F 1 1795302699 6 3 /tmp/peerlab/src/sub/f4 65024,11190488,33188,1,0,0,0,7,4096,8,1795302698,1795302698,1795302\
-        698,0 = 7 fb8b37442ead70d36d54d241a0c7e069\n\
-        F 1 1795302699 7 5 /tmp/peerlab/src/sub/ 65024,11190469,16877,2,0,0,0,4096,4096,8,1795302698,1795302698,179530\
-        2698,0 = 0 d41d8cd98f00b204e9800998ecf8427e\n\
-        F 1 1795302699 8 5 /tmp/peerlab/src/ 65024,11190460,16877,3,0,0,0,4096,4096,8,1795302698,1795302698,1795302698\
-        ,0 = 0 d41d8cd98f00b204e9800998ecf8427e\n\
-        F 2 1795302699 1 3 /tmp/peerlab/src/sub/f3 65024,11190487,33188,1,0,0,0,12,4096,8,1795302701,1795302704,179530\
-        2704,0 = 12 10008f1a3bb1859cfbefa3bc38d97bf0\n\
-        total 9 0 0\n",
         refusal: b"",
     };
     runs(&rt, case)
