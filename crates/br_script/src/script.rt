@@ -1,4 +1,5 @@
 ghost use Rattle.std.specs.Prelude.{◌≡◌, bytes_eq, position, OnOk, OnErr};
+ghost use Rattle.br_pool.specs.Pool.{AreDrives};
 ghost use Rattle.br_volume.specs.Memory.{volumes_of};
 ghost use Rattle.br_script.specs.Store.{with_bytes};
 
@@ -102,6 +103,23 @@ fn append(
     }
 }
 
+/// Runs a bootstrap over drives, and writes the manifest.
+fn restore<W: Write>(
+    rt: &(impl Threads + Sync),
+    alloc: Global,
+    bootstrap: &Bootstrap,
+    drives: &mut Vec<MemDrive>,
+    writer: &mut W,
+) -> Result<RestoreEnd, ExtractFault>
+    requires drives { AreDrives drives.old.items }
+{
+    let mut out = Outputs {
+        writer,
+        sink: None::<MemSink>,
+    };
+    extract(rt, alloc, bootstrap, drives, &mut out)
+}
+
 impl Script {
     fn new(alloc: Global) -> Script {
         Script {
@@ -194,11 +212,7 @@ impl Script {
         };
         let volumes = mem::replace(&mut self.volumes, Vec::new(self.alloc));
         drives.push_reserved(MemDrive::new(volumes));
-        let mut out = Outputs {
-            writer: &mut *writer,
-            sink: None::<MemSink>,
-        };
-        let run = extract(rt, self.alloc, bootstrap, &mut drives, &mut out);
+        let run = restore(rt, self.alloc, bootstrap, &mut drives, writer);
         if let Some(drive) = drives.pop() {
             self.volumes = drive.into_volumes();
         }
