@@ -1,5 +1,6 @@
 -- The numbers of refusals.
 use Rattle.std.specs.Prelude.{ℕ}
+use Rattle.br_model.specs.File as model
 use Rattle.br_sink.specs.declared.fault.SinkFault.{SinkFault}
 use Rattle.br_sink.specs.declared.fault.SinkFault.TheVariants as sink
 use Rattle.br_sink.specs.declared.fault.FolderFault.{FolderFault}
@@ -21,4 +22,8 @@ folder_fault_number folder.NotEmpty = 81
 abbrev pub cause_number : StopCause → ℕ
 cause_number stop.Memory = 1
 cause_number stop.Fault = 80
-cause_number stop.InTheWay = 81
+cause_number stop.Conflict = 81
+
+-- the fault of a file, with the stream that it is about
+abbrev pub fault_of : ℕ → ℕ → model.Fault
+fault_of n s = record { number = n; stream = s }

@@ -1,13 +1,17 @@
 -- A sink over a folder.
-use Rattle.std.specs.Prelude.{◌≡◌, ℕ, Bool, true, false, ◌||◌, ◌==◌, List, Option, None}
+use Rattle.std.specs.Prelude.{◌≡◌, ℕ, ◌+◌, Bool, true, false, ◌||◌, ◌==◌, List, Option, None}
 use Rattle.std.specs.Str.{IsUtf8}
 use Rattle.br_model.specs.File.{Item, has_bytes}
 use Rattle.br_model.specs.Name.{is_directory}
 
--- the folder's path, and how often the sink has failed
+-- the folder's path, and the number of times that the sink has failed
 pub record InFolder : Type 0 where
   pub path : List ℕ
   pub failures : ℕ
+
+-- the sink after one more failure
+abbrev pub one_more_failure : InFolder → InFolder
+one_more_failure sink = record { path = sink.path; failures = sink.failures + 1 }
 
 -- it tells no files
 abbrev pub told : Option (List Item)

@@ -1,11 +1,10 @@
-ghost use Rattle.std.specs.Prelude.{◌≡◌, ℕ, ◌<◌, ◌≤◌, true, not, List, ◌∷◌, length, map, IfOk, OnErr, IfErr};
-ghost use Rattle.std.specs.List.{list_any};
+ghost use Rattle.std.specs.Prelude.{◌≡◌, ◌<◌, ◌≤◌, true, length, map, IfOk, OnErr, IfErr};
 ghost use Rattle.br_model.specs.Answer.{Answers};
-ghost use Rattle.br_model.specs.Delivery.{delivery, in_the_way};
+ghost use Rattle.br_model.specs.Delivery.{delivery};
 ghost use Rattle.br_join.specs.Outcome.{restored};
 ghost use Rattle.br_sink.specs.Delivery.{IsStopIn, StandApart, items_in, items_put, stop_cause};
 ghost use Rattle.br_sink.specs.Sink.{HasMore};
-ghost use Rattle.br_sink.specs.Ways.{Noted};
+ghost use Rattle.br_sink.specs.Ways.{IsFreeIn, Notes};
 
 use crate::fault::{SinkStop, StopCause};
 use crate::report::{Report, totals};
@@ -16,10 +15,10 @@ use br_types::FileKey;
 use std::alloc::{AllocError, Global};
 use std::thread::Threads;
 
-/// Whether no path noted before is in the way of this one, which is then noted.
+/// Returns if the path conflicts with none noted before, and then notes it.
 fn is_next<'p>(ways: &mut Ways<'p>, path: &'p [u8]) -> Result<bool, AllocError>
-    ensures way { IfOk result (λ free. (paths : List (List ℕ)) → Noted ways.old paths → free ≡ not (list_any (in_the_way path.now) paths)) }
-    ensures noted { IfOk result (λ free. free ≡ true → (paths : List (List ℕ)) → Noted ways.old paths → Noted ways.new (path.now ∷ paths)) }
+    ensures way { IfOk result (IsFreeIn ways.old path.now) }
+    ensures noted { IfOk result (λ free. free ≡ true → Notes ways.old ways.new path.now) }
 {
     if !ways.is_free(path) {
         return Ok(false);
@@ -28,8 +27,8 @@ fn is_next<'p>(ways: &mut Ways<'p>, path: &'p [u8]) -> Result<bool, AllocError>
     Ok(true)
 }
 
-/// How many of the outcomes stand before the first file of which the path and an earlier one are in each other's way, and how
-/// many files are among them.
+/// Returns the number of outcomes before the first file whose path conflicts with an earlier one, and the
+/// number of files among them.
 fn stand_apart(alloc: Global, outcomes: &[(FileKey, Outcome)]) -> Result<(usize, u64), AllocError>
     ensures apart { IfOk result (λ r. StandApart outcomes.now r.0 r.1) }
     ensures memory { OnErr result (0 < length (items_in outcomes.now)) }
@@ -49,12 +48,18 @@ fn stand_apart(alloc: Global, outcomes: &[(FileKey, Outcome)]) -> Result<(usize,
     Ok((place, files))
 }
 
-/// Puts the files among the outcomes into a sink, in their order, and passes over the faults. A file whose path was put before
-/// is put again.
+/// Puts the files among the outcomes into a sink, in their order, and passes over the faults. A file whose
+/// path was put before is put again.
 ///
-/// It stops at the first file of which the path and one put before are in each other's way (81): one of the two has no `/` at
-/// its end and is, with `/` behind it, a prefix of the other. It stops as well where the sink fails (80), and for want of memory (1).
-/// What was put before stays in the sink, and the stop says how many files these are.
+/// # Errors
+///
+/// The delivery stops at the first file that can't be put. The files before it stay in the sink, and the
+/// stop contains their number.
+///
+/// - `Conflict` (81) if its path conflicts with one put before: one of the two does not end in `/` and is,
+///   with a `/` appended, a prefix of the other.
+/// - `Fault` (80) if the sink failed.
+/// - `Memory` (1) if memory ran out.
 pub fn deliver<S: Sink, R: Threads + Sync>(
     threads: &R,
     alloc: Global,
@@ -72,7 +77,7 @@ pub fn deliver<S: Sink, R: Threads + Sync>(
     };
     sink.put_all(threads, &outcomes[..place])?;
     if place < outcomes.len() {
-        return Err(SinkStop::new(StopCause::InTheWay, files));
+        return Err(SinkStop::new(StopCause::Conflict, files));
     }
     Ok(totals(outcomes))
 }

@@ -14,7 +14,7 @@ pub(crate) fn fault_of(error: io::Error) -> SinkFault {
     }
 }
 
-/// Makes the folder where nothing stands there; `Fault` where anything but a folder does.
+/// Creates the folder unless it exists. `Fault` if something else has its name.
 pub(crate) fn make_folder(files: &impl Files, path: &str) -> Result<(), SinkFault> {
     match fs::symlink_metadata(files, path) {
         Ok(metadata) if metadata.is_dir() => Ok(()),
@@ -26,7 +26,7 @@ pub(crate) fn make_folder(files: &impl Files, path: &str) -> Result<(), SinkFaul
     }
 }
 
-/// Takes an earlier file away; `Fault` where anything but a file stands there.
+/// Removes an earlier file, if there is one. `Fault` if something else has its name.
 fn remove_earlier(files: &impl Files, path: &str) -> Result<(), SinkFault> {
     match fs::symlink_metadata(files, path) {
         Ok(metadata) if metadata.is_file() => fs::remove_file(files, path).map_err(fault_of),
@@ -36,7 +36,7 @@ fn remove_earlier(files: &impl Files, path: &str) -> Result<(), SinkFault> {
     }
 }
 
-/// Makes a new file; `Fault` where anything stands there.
+/// Creates a new file. `Fault` if anything has its name.
 pub(crate) fn make_file<F: Files>(files: &F, path: &str) -> Result<F::File, SinkFault> {
     let mut how = OpenOptions::new();
     how.write(true).create_new(true);

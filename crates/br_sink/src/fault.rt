@@ -8,7 +8,7 @@ use std::alloc::AllocError;
 use std::marker::Model;
 use thiserror::Error;
 
-/// Why a sink put no file.
+/// Why a sink did not take a file.
 #[derive(Clone, Copy, Debug, PartialEq, Eq, Error)]
 pub enum SinkFault {
     #[error("out of memory")]
@@ -18,7 +18,7 @@ pub enum SinkFault {
 }
 
 impl SinkFault {
-    /// The number of the refusal: 1 want of memory, 80 a sink that failed.
+    /// Returns the number of the refusal: 1 out of memory, 80 a sink that failed.
     pub fn number(self) -> u32
         ensures { result ≡ fault_number self }
     {
@@ -47,7 +47,7 @@ pub enum FolderFault {
 }
 
 impl FolderFault {
-    /// The number of the refusal: 1 want of memory, 81 a folder that is not there or not empty.
+    /// Returns the number of the refusal: 1 out of memory, 81 a folder that is not there or not empty.
     pub fn number(self) -> u32
         ensures { result ≡ folder_fault_number self }
     {
@@ -68,13 +68,14 @@ impl From<AllocError> for FolderFault {
 
 /// Why a delivery stopped at a file.
 #[derive(Clone, Copy, Debug, PartialEq, Eq, Error)]
-pub(crate) enum StopCause {
+pub enum StopCause {
     #[error("out of memory")]
     Memory,
     #[error("the sink failed to put a file")]
     Fault,
-    #[error("the paths of two files are in each other's way")]
-    InTheWay,
+    /// Its path conflicts with one put before.
+    #[error("the path conflicts with one put before")]
+    Conflict,
 }
 
 impl From<AllocError> for StopCause {
@@ -85,9 +86,9 @@ impl From<AllocError> for StopCause {
     }
 }
 
-/// Where a delivery stopped, and why.
+/// After how many files a delivery stopped, and why.
 #[derive(Debug, Drop, Error)]
-#[error("stopped behind {done} files: {cause}")]
+#[error("stopped after {done} files: {cause}")]
 pub struct SinkStop {
     cause: StopCause,
     done: u64,
@@ -109,7 +110,7 @@ impl SinkStop {
         SinkStop { cause, done }
     }
 
-    /// A stop behind so many files, for what a sink answered at the next one.
+    /// Creates the stop after `done` files for a fault of the sink at the next one.
     pub fn of_sink(fault: SinkFault, done: u64) -> SinkStop
         ensures { result ≡ record { number = fault_number fault; done = done } }
     {
@@ -119,19 +120,26 @@ impl SinkStop {
         }
     }
 
-    /// The number of the refusal: 1 want of memory, 80 a sink that failed, 81 a path that is in the way of one put before, or
-    /// in whose way one put before is.
+    /// Returns why the delivery stopped.
+    pub fn cause(&self) -> StopCause
+        ensures { cause_number result ≡ self.now.number }
+    {
+        self.cause
+    }
+
+    /// Returns the number of the refusal: 1 out of memory, 80 a sink that failed, 81 a path that conflicts
+    /// with one put before.
     pub fn number(&self) -> u32
         ensures { result ≡ self.now.number }
     {
         match self.cause {
             StopCause::Memory => 1,
             StopCause::Fault => 80,
-            StopCause::InTheWay => 81,
+            StopCause::Conflict => 81,
         }
     }
 
-    /// How many files were put before.
+    /// Returns the number of files that were put before.
     pub fn done(&self) -> u64
         ensures { result ≡ self.now.done }
     {

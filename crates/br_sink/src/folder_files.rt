@@ -20,7 +20,7 @@ use std::rt::Files;
 use std::thread::Threads;
 
 impl<F: Files<File = File> + Drop> FolderSink<F> {
-    /// Makes the file where nothing stands there, and the folders on its way.
+    /// Creates the file and the folders on its way, if nothing has its name.
     fn make<'i>(&self, item: &'i Item, place: u64) -> Result<Made<'i, File>, SinkFault>
         ensures place { IfOk result (λ made. made.place ≡ place) }
         ensures text { OnOk result (IsUtf8 item.now.path) }
@@ -53,9 +53,9 @@ impl<F: Files<File = File> + Drop> FolderSink<F> {
         Ok(())
     }
 
-    /// Takes the files of a window that stand behind this place away again, as far as that works. What stands at the names on
-    /// their ways is asked anew.
-    pub(crate) fn remove_behind<W: Write + Drop>(&self, window: &Window<'_, W>, place: u64) {
+    /// Removes the files of a window after this place again, as far as that works. The names on their ways are
+    /// tested anew.
+    pub(crate) fn remove_after<W: Write + Drop>(&self, window: &Window<'_, W>, place: u64) {
         for one in window.made() {
             if place < one.place {
                 self.remove(one.item);
@@ -63,7 +63,8 @@ impl<F: Files<File = File> + Drop> FolderSink<F> {
         }
     }
 
-    /// Writes the files of the window and closes them. Where one could not be written, those behind it are taken away again.
+    /// Writes the files of the window and closes them. If one could not be written, those after it are
+    /// removed again.
     fn write_window<'i>(
         &self,
         threads: &(impl Threads + Sync),
@@ -74,7 +75,7 @@ impl<F: Files<File = File> + Drop> FolderSink<F> {
     {
         let answer = window.write(threads);
         if let Err(stop) = &answer {
-            self.remove_behind(window, stop.done());
+            self.remove_after(window, stop.done());
         }
         window.clear();
         answer
@@ -100,7 +101,7 @@ impl<F: Files<File = File> + Drop> FolderSink<F> {
         }
     }
 
-    /// Holds a new file in the window, and writes the window where it is full. Anything else is put alone.
+    /// Holds a new file in the window, and writes the window if it is full. Anything else is put alone.
     fn put_file<'i>(
         &self,
         threads: &(impl Threads + Sync),

@@ -22,7 +22,7 @@ fn new_folder(rt: &HostRuntime, name: &str) -> Result<String, Fail> {
     Ok(folder)
 }
 
-/// Delivers into a folder, and tells the number at which it stopped with how many it put, or none.
+/// Delivers into a folder. Returns number and count of the stop, if it stopped.
 fn into_folder(
     rt: &HostRuntime,
     threads: &(impl Threads + Sync),
@@ -36,13 +36,13 @@ fn into_folder(
     }
 }
 
-/// Whether a file in a folder has these bytes.
+/// Returns if a file in a folder has these bytes.
 fn has_bytes(rt: &HostRuntime, folder: &str, name: &str, wanted: &[u8]) -> Result<bool, Fail> {
     let path = format!(in rt.alloc(); "{folder}/{name}")?;
     Ok(fs::read(rt, path.as_str())?.as_slice() == wanted)
 }
 
-/// Whether these files are all delivered into a folder.
+/// Returns if these files are all delivered into a folder.
 fn puts_all(
     rt: &HostRuntime,
     threads: &(impl Threads + Sync),
@@ -53,13 +53,13 @@ fn puts_all(
     Ok(into_folder(rt, threads, folder, &outcomes)?.is_none())
 }
 
-/// Whether there is a folder of this name in a folder.
+/// Returns if there is a folder of this name in a folder.
 fn has_folder(rt: &HostRuntime, folder: &str, name: &str) -> Result<bool, Fail> {
     let path = format!(in rt.alloc(); "{folder}/{name}")?;
     Ok(fs::metadata(rt, path.as_str())?.is_dir())
 }
 
-/// Whether there is nothing of this name in a folder.
+/// Returns if there is nothing of this name in a folder.
 fn has_nothing(rt: &HostRuntime, folder: &str, name: &str) -> Result<bool, Fail> {
     let path = format!(in rt.alloc(); "{folder}/{name}")?;
     Ok(fs::symlink_metadata(rt, path.as_str()).is_err())
@@ -87,7 +87,7 @@ fn a_folder_gets_files_and_folders_and_no_links(rt: HostRuntime) -> Result<(), F
     Ok(())
 }
 
-/// The number at which there is no sink over this path, 0 where there is one.
+/// Returns the number of the refusal of a sink over this path, 0 if there is none.
 fn refused(rt: &HostRuntime, path: &str) -> u32 {
     match FolderSink::new(rt.alloc(), rt, path) {
         Ok(_) => 0,
@@ -174,7 +174,7 @@ fn puts_at_links(
     Ok([below, file, folder])
 }
 
-/// Whether a sink over a folder refuses what would go through its links to a folder beside and to a file there.
+/// Returns if a sink over a folder refuses what would go through its links to a folder beside and to a file there.
 fn refuses_links(rt: &HostRuntime, beside: &str, folder: &str) -> Result<bool, Fail> {
     let mut sink = FolderSink::new(rt.alloc(), rt, folder)?;
     make_links(rt, beside, folder)?;
@@ -200,7 +200,7 @@ fn a_link_in_the_folder_is_refused(rt: HostRuntime) -> Result<(), Fail> {
     Ok(())
 }
 
-/// How many files a folder gets in the test of many.
+/// The number of files that a folder gets in the test of many.
 const MANY: u32 = 40;
 
 /// The path of one of many files, in one of four folders.
@@ -235,14 +235,14 @@ fn many_files(rt: &HostRuntime) -> Result<Vec<(FileKey, Outcome)>, Fail> {
     Ok(all)
 }
 
-/// Whether one of many files stands in a folder.
+/// Returns if one of many files is in a folder.
 fn has_one_of_many(rt: &HostRuntime, folder: &str, number: u32) -> Result<bool, Fail> {
     let path = path_of_many(rt, number)?;
     let bytes = bytes_of_many(rt, number)?;
     has_bytes(rt, folder, path.as_str(), &bytes)
 }
 
-/// The first of many files that does not stand in a folder.
+/// Returns the first of many files that is not in a folder.
 fn first_missing(rt: &HostRuntime, folder: &str) -> Result<Option<u32>, Fail> {
     for number in 0..MANY {
         if !has_one_of_many(rt, folder, number)? {
@@ -286,7 +286,7 @@ fn stop_of_paths(
     Ok(stop_of_all(threads, &mut sink, &outcomes))
 }
 
-/// Whether of these names in a folder the first two are whole files, and nothing of the others is there.
+/// Returns if of these names in a folder the first two are whole files, and nothing of the others is there.
 fn has_two_of(rt: &HostRuntime, folder: &str, names: [&str; 4]) -> Result<bool, Fail> {
     let [a, b, c, d] = names;
     Ok(
@@ -298,7 +298,7 @@ fn has_two_of(rt: &HostRuntime, folder: &str, names: [&str; 4]) -> Result<bool, 
 }
 
 #[test]
-fn files_before_a_stop_are_whole_and_none_is_behind(rt: HostRuntime) -> Result<(), Fail> {
+fn files_before_a_stop_are_whole_and_none_is_after(rt: HostRuntime) -> Result<(), Fail> {
     let folder = new_folder(&rt, "third")?;
     let text = stop_of_paths(
         &rt,
@@ -323,7 +323,7 @@ fn a_name_that_a_folder_has_stops(rt: HostRuntime) -> Result<(), Fail> {
 }
 
 #[test]
-fn files_before_one_in_the_way_are_whole(rt: HostRuntime) -> Result<(), Fail> {
+fn files_before_one_that_conflicts_are_whole(rt: HostRuntime) -> Result<(), Fail> {
     let folder = new_folder(&rt, "way")?;
     let outcomes = outcomes(&rt, &[b"/x", b"/a/b", b"/a", b"/c"])?;
     assert_eq!(rt;

@@ -1,8 +1,8 @@
-//! What a restore hands out: its files, put into a sink, the manifest of them, and their totals.
+//! What a restore gives: its files, put into a sink, the manifest of them, and their totals.
 //!
-//! `Sink` is the trait of what takes files, `MemSink` a sink over memory and `FolderSink` one over a folder. `deliver` puts the
-//! files of a restore into a sink in their order, and stops at the first of which the path and one put before are in each
-//! other's way.
+//! `Sink` is the trait of what takes files, `MemSink` a sink over memory and `FolderSink` one over a folder.
+//! `deliver` puts the files of a restore into a sink in their order, and stops at the first path that
+//! conflicts with one already put.
 #![tactic(auto)]
 
 mod delivery;
@@ -29,7 +29,7 @@ mod writing;
 
 pub use br_join::Item;
 pub use delivery::deliver;
-pub use fault::{FolderFault, SinkFault, SinkStop};
+pub use fault::{FolderFault, SinkFault, SinkStop, StopCause};
 pub use folder_sink::FolderSink;
 pub use mem_sink::MemSink;
 pub use report::{Report, totals};

@@ -4,6 +4,7 @@ ghost use Rattle.br_model.specs.Attribute.{stat_numbers};
 ghost use Rattle.br_model.specs.Manifest.{fault_fields, file_line, item_fields, key_fields};
 ghost use Rattle.br_model.specs.Text.{escaped, hexadecimal, signed_decimal};
 ghost use Rattle.br_join.specs.Outcome.{restored};
+ghost use Rattle.br_sink.specs.Fault.{fault_of};
 ghost use Rattle.md5.specs.Md5.{md5};
 
 use crate::text::{push_digest, push_field, push_signed};
@@ -12,10 +13,10 @@ use br_join::{FileBytes, Item, Outcome};
 use br_types::{FileKey, push_escaped};
 use std::alloc::AllocError;
 
-/// How many numbers a file has.
+/// The number of numbers that a file has.
 const COUNT: usize = 14;
 
-/// Writes session and index.
+/// Appends session and index.
 fn push_key(text: &mut Vec<u8>, key: FileKey) -> Result<(), AllocError>
     ensures { OnOk result (text.new.items ≡ text.old.items ++ 32 ∷ join_with_byte 32 (key_fields key)) }
 {
@@ -46,7 +47,7 @@ fn numbers_of(stat: &Stat) -> [i64; COUNT]
     ]
 }
 
-/// Writes numbers with a comma in front of each.
+/// Appends numbers with a comma in front of each.
 fn push_more_numbers(text: &mut Vec<u8>, numbers: &[i64]) -> Result<(), AllocError>
     ensures { OnOk result (text.new.items ≡ text.old.items ++ flat_map (λ n. 44 ∷ signed_decimal n) numbers.now) }
 {
@@ -57,7 +58,7 @@ fn push_more_numbers(text: &mut Vec<u8>, numbers: &[i64]) -> Result<(), AllocErr
     Ok(())
 }
 
-/// Writes the numbers of a file with a comma between two.
+/// Appends the numbers of a file with a comma between two.
 fn push_stat(text: &mut Vec<u8>, stat: &Stat) -> Result<(), AllocError>
     ensures { OnOk result (text.new.items ≡ text.old.items ++ join_with_byte 44 (map signed_decimal (stat_numbers stat.now))) }
 {
@@ -66,7 +67,7 @@ fn push_stat(text: &mut Vec<u8>, stat: &Stat) -> Result<(), AllocError>
     push_more_numbers(text, &numbers[1..])
 }
 
-/// Writes a space and the path, as it is printed.
+/// Appends a space and the path, as it is printed.
 fn push_path(text: &mut Vec<u8>, path: &[u8]) -> Result<(), AllocError>
     ensures { OnOk result (text.new.items ≡ text.old.items ++ 32 ∷ escaped path.now) }
 {
@@ -74,7 +75,7 @@ fn push_path(text: &mut Vec<u8>, path: &[u8]) -> Result<(), AllocError>
     push_escaped(text, path)
 }
 
-/// Writes a space, an equals sign and the link text.
+/// Appends a space, an equals sign and the link text.
 fn push_link(text: &mut Vec<u8>, link: &[u8]) -> Result<(), AllocError>
     ensures { OnOk result (text.new.items ≡ text.old.items ++ 32 ∷ 61 ∷ escaped link.now) }
 {
@@ -82,7 +83,7 @@ fn push_link(text: &mut Vec<u8>, link: &[u8]) -> Result<(), AllocError>
     push_escaped(text, link)
 }
 
-/// Writes a space, the length of the bytes, a space and their digest.
+/// Appends a space, the length of the bytes, a space and their digest.
 fn push_bytes(text: &mut Vec<u8>, bytes: &FileBytes) -> Result<(), AllocError>
     ensures { OnOk result (text.new.items ≡ text.old.items ++ (32 ∷ decimal (length bytes.now) ++ 32 ∷ hexadecimal (md5 bytes.now))) }
 {
@@ -91,7 +92,7 @@ fn push_bytes(text: &mut Vec<u8>, bytes: &FileBytes) -> Result<(), AllocError>
     push_digest(text, &bytes.digest())
 }
 
-/// Writes type, path, numbers, link text, length and digest of a file.
+/// Appends type, path, numbers, link text, length and digest of a file.
 fn push_item(text: &mut Vec<u8>, item: &Item) -> Result<(), AllocError>
     ensures { OnOk result (text.new.items ≡ text.old.items ++ 32 ∷ join_with_byte 32 (item_fields item.now)) }
 {
@@ -103,9 +104,9 @@ fn push_item(text: &mut Vec<u8>, item: &Item) -> Result<(), AllocError>
     push_bytes(text, &item.bytes)
 }
 
-/// Writes the number of a fault, and behind 65 the stream.
+/// Appends the number of a fault, and after 65 the stream.
 fn push_cause(text: &mut Vec<u8>, number: u32, stream: u32) -> Result<(), AllocError>
-    ensures { OnOk result (text.new.items ≡ text.old.items ++ 32 ∷ join_with_byte 32 (fault_fields (record { number = number; stream = stream }))) }
+    ensures { OnOk result (text.new.items ≡ text.old.items ++ 32 ∷ join_with_byte 32 (fault_fields (fault_of number stream))) }
 {
     push_field(text, u64::from(number))?;
     if number == 65 {
@@ -114,7 +115,7 @@ fn push_cause(text: &mut Vec<u8>, number: u32, stream: u32) -> Result<(), AllocE
     Ok(())
 }
 
-/// Writes the line of a file that is there.
+/// Appends the line of a file that is there.
 fn push_file(text: &mut Vec<u8>, key: FileKey, item: &Item) -> Result<(), AllocError>
     ensures { OnOk result (text.new.items ≡ text.old.items ++ file_line (record { key = key; outcome = Ok item.now })) }
 {
@@ -125,9 +126,9 @@ fn push_file(text: &mut Vec<u8>, key: FileKey, item: &Item) -> Result<(), AllocE
     Ok(())
 }
 
-/// Writes the line of a fault.
+/// Appends the line of a fault.
 fn push_fault(text: &mut Vec<u8>, key: FileKey, number: u32, stream: u32) -> Result<(), AllocError>
-    ensures { OnOk result (text.new.items ≡ text.old.items ++ file_line (record { key = key; outcome = Err (record { number = number; stream = stream }) })) }
+    ensures { OnOk result (text.new.items ≡ text.old.items ++ file_line (record { key = key; outcome = Err (fault_of number stream) })) }
 {
     text.push(b'X')?;
     push_key(text, key)?;
@@ -136,7 +137,7 @@ fn push_fault(text: &mut Vec<u8>, key: FileKey, number: u32, stream: u32) -> Res
     Ok(())
 }
 
-/// Writes the line of an outcome: `F` or `X`, its key, and what there is to say of it.
+/// Appends the line of an outcome: `F` or `X`, its key, and what there is to say of it.
 pub(crate) fn push_line(
     text: &mut Vec<u8>,
     key: FileKey,

@@ -69,7 +69,7 @@ fn copy_of(alloc: Global, item: &Item) -> Result<Item, AllocError>
     })
 }
 
-/// Puts a copy of the file behind the others. What is refused changes nothing.
+/// Adds a copy of the file at the end. What is refused changes nothing.
 fn push_copy(alloc: Global, items: &mut Vec<Item>, item: &Item) -> Result<(), AllocError>
     ensures ok { OnOk result (items.new.items ≡ items.old.items ++ item.now ∷ []) }
     ensures err { OnErr result (items.new.items ≡ items.old.items) }

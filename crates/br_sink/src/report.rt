@@ -9,11 +9,11 @@ use std::marker::Model;
 /// How a restore ended.
 #[derive(Clone, Copy, Debug, PartialEq, Eq)]
 pub struct Report {
-    /// How many files there are.
+    /// The number of files.
     pub files: u64,
-    /// How many files have a fault in their place.
+    /// The number of faults in place of files.
     pub faults: u64,
-    /// How many records were passed over in the files.
+    /// The number of records that were passed over in the files.
     pub skipped: u128,
 }
 

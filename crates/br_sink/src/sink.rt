@@ -12,29 +12,31 @@ use std::thread::Threads;
 
 /// What takes the files of a restore, one after another.
 pub trait Sink {
-    /// The files that were put so far, in their order, where it tells them: a sink over memory does, and one over a folder
-    /// does not.
+    /// The files that were put so far, in their order, if the sink tells them: a sink over memory does, and
+    /// one over a folder does not.
     ghost has: { Self → Option (List model.Item) };
 
-    /// How often it has failed.
+    /// The number of times that it has failed.
     ghost failures: { Self → ℕ };
 
-    /// Puts a file behind those that it has.
+    /// Adds a file to those that the sink has.
     ///
-    /// `Fault` where the sink failed, and `Memory` where memory is short, which is no failure and is not counted. Then it has
-    /// what it had; what it does not tell, as a folder, may hold a part of the file.
+    /// `Fault` if the sink failed, and `Memory` if memory ran out, which is no failure and is not counted. Then
+    /// the sink has what it had; one that does not tell its files, as a folder, may hold a part of the file.
     fn put(&mut self, item: &Item) -> Result<(), SinkFault>
         ensures put { OnOk result (HasMore (item.now ∷ []) (has self.old) (has self.new)) }
         ensures refused { OnErr result (has self.new ≡ has self.old) }
         ensures counted { failures self.old ≤ failures self.new }
         ensures failed { result ≡ Err Fault → failures self.old < failures self.new };
 
-    /// Puts the files among the outcomes behind those that it has, in their order, and passes over the faults.
+    /// Adds the files among the outcomes to those that the sink has, in their order, and passes over the
+    /// faults.
     ///
     /// The handle is for a sink that writes several at once.
     ///
-    /// It stops at the first that it can't put: where the sink failed (80), and for want of memory (1). The stop says how many of
-    /// them were put before, and then it has these; what it does not tell, as a folder, may hold a part of the next.
+    /// Stops at the first file that can't be put: if the sink failed (80), or memory ran out (1). The stop
+    /// contains the number of files that were put before, and the sink has these; one that does not tell
+    /// its files, as a folder, may hold a part of the next.
     fn put_all<R: Threads + Sync>(
         &mut self,
         _threads: &R,

@@ -45,7 +45,7 @@ pub(crate) fn files(
     Ok(all)
 }
 
-/// The number at which a delivery stopped, with how many files it put.
+/// Returns number and count of the stop of a delivery.
 fn stop_of(
     threads: &(impl Threads + Sync),
     alloc: Global,
@@ -58,7 +58,7 @@ fn stop_of(
     }
 }
 
-/// Whether files have these paths, as far as both go.
+/// Returns if files have these paths, as far as both go.
 fn have_paths(items: &[Item], paths: &[&[u8]]) -> bool {
     items
         .iter()
@@ -66,7 +66,7 @@ fn have_paths(items: &[Item], paths: &[&[u8]]) -> bool {
         .all(|(item, path)| item.path.bytes() == *path)
 }
 
-/// How many files a sink over memory got, and the number at which the delivery stopped with how many it put, or none.
+/// Returns the number of files that a sink over memory got, and number and count of the stop, if any.
 fn delivered(
     rt: &HostRuntime,
     threads: &(impl Threads + Sync),
@@ -139,7 +139,7 @@ fn puts(sink: &mut MemSink, item: &Item) -> [Result<(), SinkFault>; 3] {
     [first, second, third]
 }
 
-/// Whether a sink that fails at its second put gets the other two of three.
+/// Returns if a sink that fails at its second put gets the other two of three.
 fn goes_on(rt: &HostRuntime) -> Result<bool, Fail> {
     let item = item(rt, b"/a", 2, ZEROS)?;
     let mut sink = MemSink::failing_at(rt.alloc(), 2);
@@ -166,7 +166,7 @@ fn with_fault(rt: &HostRuntime) -> Result<Vec<(FileKey, Outcome)>, Fail> {
     Ok(all)
 }
 
-/// Whether a delivery says that there were two files and a fault.
+/// Returns if a delivery says that there were two files and a fault.
 fn reports_two(
     threads: &(impl Threads + Sync),
     alloc: Global,
@@ -184,7 +184,7 @@ fn reports_two(
     }
 }
 
-/// Whether there are two files, the last of them with these bytes.
+/// Returns if there are two files, the last of them with these bytes.
 fn are_two(alloc: Global, items: &[Item], bytes: &[u8]) -> Result<bool, Fail> {
     match items {
         [_, last] => Ok(last.bytes.to_vec(alloc)?.as_slice() == bytes),
@@ -210,13 +210,14 @@ fn five(rt: &HostRuntime) -> Result<Vec<(FileKey, Outcome)>, Fail> {
     Ok(all)
 }
 
-/// Whether a sink has the first of the four files, so many as it should.
+/// Returns if a sink has the first of the four files, as many as it should.
 fn has_first(sink: &MemSink, count: u64) -> bool {
     sink.items().len() as u64 == count && have_paths(sink.items(), &[b"/a", b"/b", b"/c", b"/d"])
 }
 
-/// Whether a sink that fails at its put behind so many, given all outcomes at once, stops there and has the files before.
-fn stops_behind(
+/// Returns if a sink that fails at its put after this number, given all outcomes at once, stops there and
+/// has the files before.
+fn stops_after(
     rt: &HostRuntime,
     threads: &(impl Threads + Sync),
     before: u64,
@@ -230,7 +231,7 @@ fn stops_behind(
     Ok(stops && has_first(&sink, before))
 }
 
-/// Whether a sink that does not fail has all files of all outcomes.
+/// Returns if a sink that does not fail has all files of all outcomes.
 fn has_all(rt: &HostRuntime, threads: &(impl Threads + Sync)) -> Result<bool, Fail> {
     let outcomes = five(rt)?;
     let mut sink = MemSink::failing_at(rt.alloc(), 5);
@@ -240,10 +241,10 @@ fn has_all(rt: &HostRuntime, threads: &(impl Threads + Sync)) -> Result<bool, Fa
 
 #[test]
 fn all_at_once_stop_at_each_put(rt: HostRuntime) -> Result<(), Fail> {
-    assert!(rt; stops_behind(&rt, &rt, 0)?);
-    assert!(rt; stops_behind(&rt, &rt, 1)?);
-    assert!(rt; stops_behind(&rt, &rt, 2)?);
-    assert!(rt; stops_behind(&rt, &rt, 3)?);
+    assert!(rt; stops_after(&rt, &rt, 0)?);
+    assert!(rt; stops_after(&rt, &rt, 1)?);
+    assert!(rt; stops_after(&rt, &rt, 2)?);
+    assert!(rt; stops_after(&rt, &rt, 3)?);
     assert!(rt; has_all(&rt, &rt)?);
     Ok(())
 }

@@ -47,7 +47,7 @@ fn manifest_of(rt: &HostRuntime, outcome: (FileKey, Outcome)) -> Result<Vec<u8>,
     Ok(manifest(rt.alloc(), &[outcome])?)
 }
 
-/// Whether the manifest of a file with this index is this text.
+/// Returns if the manifest of a file with this index is this text.
 fn is_line(rt: &HostRuntime, index: u32, item: Item, wanted: &[u8]) -> Result<bool, Fail> {
     let text = manifest_of(rt, with_key(index, Outcome::File(item))?)?;
     Ok(text.as_slice() == wanted)
@@ -59,7 +59,7 @@ fn with_key(index: u32, outcome: Outcome) -> Result<(FileKey, Outcome), Fail> {
     Ok((key, outcome))
 }
 
-/// Whether a file with bytes has its line.
+/// Returns if a file with bytes has its line.
 fn writes_hello(rt: &HostRuntime) -> Result<bool, Fail> {
     let head = (3, b"A A IGk B A A A F A A A A A A".as_slice());
     let hello = whole_item(rt, b"/a", head, b"", b"hello")?;
@@ -71,7 +71,7 @@ fn writes_hello(rt: &HostRuntime) -> Result<bool, Fail> {
     )
 }
 
-/// Whether a hard link has its line, which names its file.
+/// Returns if a hard link has its line, which names its file.
 fn writes_link(rt: &HostRuntime) -> Result<bool, Fail> {
     let head = (1, b"A A IGk B A A A D A A A A A B".as_slice());
     let link = whole_item(rt, b"/y", head, b"/x", b"")?;
@@ -83,7 +83,7 @@ fn writes_link(rt: &HostRuntime) -> Result<bool, Fail> {
     )
 }
 
-/// Whether the line of a link has its names escaped and its numbers with signs.
+/// Returns if the line of a link has its names escaped and its numbers with signs.
 fn writes_escaped(rt: &HostRuntime) -> Result<bool, Fail> {
     let stat = b"-B A -IAAAAAAAAAA H////////// A A A A A A A A -BA A".as_slice();
     let link = whole_item(rt, b"/a b\\c\xff", (4, stat), b"d e", b"")?;
@@ -95,7 +95,7 @@ fn writes_escaped(rt: &HostRuntime) -> Result<bool, Fail> {
     )
 }
 
-/// Whether the manifest of a fault of the file with index 1 is this text.
+/// Returns if the manifest of a fault of the file with index 1 is this text.
 fn is_fault_line(rt: &HostRuntime, number: u32, stream: u32, wanted: &[u8]) -> Result<bool, Fail> {
     let text = manifest_of(rt, with_key(1, fault(number, stream))?)?;
     Ok(text.as_slice() == wanted)
@@ -111,7 +111,7 @@ fn files_and_faults_have_lines(rt: HostRuntime) -> Result<(), Fail> {
     Ok(())
 }
 
-/// A file of this path and this index, of which so many records were passed over.
+/// A file of this path and this index, with this number of records that were passed over.
 fn skipping(
     rt: &HostRuntime,
     path: &[u8],
@@ -133,7 +133,7 @@ fn three_outcomes(rt: &HostRuntime) -> Result<Vec<(FileKey, Outcome)>, Fail> {
     Ok(all)
 }
 
-/// Whether the manifest of these outcomes ends with this text.
+/// Returns if the manifest of these outcomes ends with this text.
 fn ends_with(
     rt: &HostRuntime,
     outcomes: &[(FileKey, Outcome)],

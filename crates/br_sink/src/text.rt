@@ -21,7 +21,7 @@ pub(crate) fn push_wide(text: &mut Vec<u8>, number: u128) -> Result<(), AllocErr
     text.extend_from_slice(buffer.format(number).as_bytes())
 }
 
-/// Writes an integer in decimal, with a minus where it is negative.
+/// Appends an integer in decimal, with a minus if it is negative.
 pub(crate) fn push_signed(text: &mut Vec<u8>, number: i64) -> Result<(), AllocError>
     ensures { OnOk result (text.new.items ≡ text.old.items ++ signed_decimal number) }
 {

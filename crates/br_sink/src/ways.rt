@@ -1,9 +1,7 @@
-//! The paths that were put, by which it is found in time n log n whether a path is in the way of one of them.
-ghost use Rattle.std.specs.Prelude.{◌≡◌, ℕ, ◌<◌, true, false, not, ◌||◌, List, ◌∷◌, [], length, take, slice_index, bytes_eq, OnOk, IfOk};
-ghost use Rattle.std.specs.List.{list_any};
-ghost use Rattle.br_model.specs.Delivery.{in_the_way};
+//! The paths that were put, by which a conflict of a path with one of them is found in time n log n.
+ghost use Rattle.std.specs.Prelude.{◌≡◌, true, false, [], bytes_eq, OnOk};
 ghost use Rattle.br_model.specs.Name.{is_directory};
-ghost use Rattle.br_sink.specs.Ways.{HasNoFront, Noted, goes_on_behind, has_path};
+ghost use Rattle.br_sink.specs.Ways.{AddsPaths, HasFront, HasNoFront, IsFreeIn, Noted, Notes, goes_on_behind, has_path};
 
 use std::alloc::{AllocError, Global};
 use std::collections::BTreeSet;
@@ -15,17 +13,17 @@ pub(crate) struct Ways<'p> {
     folders: BTreeSet<&'p [u8]>,
 }
 
-/// Whether the path ends in a slash.
+/// Returns if the path ends in a slash.
 pub(crate) fn is_folder(path: &[u8]) -> bool
     ensures { result ≡ is_directory path.now }
 {
     path.ends_with(b"/")
 }
 
-/// Whether a file stands in front of a slash of the path.
+/// Returns if a file's path is followed by a slash in the path.
 fn is_in_file(files: &BTreeSet<&[u8]>, path: &[u8]) -> bool
     ensures none { result ≡ false → HasNoFront (has_path (λ k. k.now) files.now) path.now }
-    ensures one { result ≡ true → (i : ℕ) × (i < length path.now) × (slice_index path.now i ≡ 47) × (has_path (λ k. k.now) files.now (take i path.now) ≡ true) }
+    ensures one { result ≡ true → HasFront (has_path (λ k. k.now) files.now) path.now }
 {
     for (i, byte) in path.iter().enumerate() {
         if *byte == b'/' && files.contains(&path[..i]) {
@@ -37,7 +35,7 @@ fn is_in_file(files: &BTreeSet<&[u8]>, path: &[u8]) -> bool
 
 /// Adds one path to a set.
 fn add<'p>(set: &mut BTreeSet<&'p [u8]>, path: &'p [u8]) -> Result<(), AllocError>
-    ensures { OnOk result ((q : List ℕ) → has_path (λ k. k.now) set.new q ≡ (bytes_eq path.now q || has_path (λ k. k.now) set.old q)) }
+    ensures { OnOk result (AddsPaths (bytes_eq path.now) (has_path (λ k. k.now) set.old) (has_path (λ k. k.now) set.new)) }
 {
     match set.insert(path) {
         Ok(_) => Ok(()),
@@ -45,9 +43,9 @@ fn add<'p>(set: &mut BTreeSet<&'p [u8]>, path: &'p [u8]) -> Result<(), AllocErro
     }
 }
 
-/// Adds what stands in front of each slash of the path.
+/// Adds what comes before each slash of the path.
 fn add_folders<'p>(folders: &mut BTreeSet<&'p [u8]>, path: &'p [u8]) -> Result<(), AllocError>
-    ensures { OnOk result ((q : List ℕ) → has_path (λ k. k.now) folders.new q ≡ (goes_on_behind q path.now || has_path (λ k. k.now) folders.old q)) }
+    ensures { OnOk result (AddsPaths (λ q. goes_on_behind q path.now) (has_path (λ k. k.now) folders.old) (has_path (λ k. k.now) folders.new)) }
 {
     for (i, byte) in path.iter().enumerate() {
         if *byte == b'/' {
@@ -58,7 +56,7 @@ fn add_folders<'p>(folders: &mut BTreeSet<&'p [u8]>, path: &'p [u8]) -> Result<(
 }
 
 impl<'p> Ways<'p> {
-    /// No paths.
+    /// Creates a collection of no paths.
     pub(crate) fn new(alloc: Global) -> Ways<'p>
         ensures { Noted result [] }
     {
@@ -68,16 +66,16 @@ impl<'p> Ways<'p> {
         }
     }
 
-    /// Whether no path is in the way of this one, nor this one in the way of a path.
+    /// Returns if the path conflicts with none of the paths.
     pub(crate) fn is_free(&self, path: &[u8]) -> bool
-        ensures { (paths : List (List ℕ)) → Noted self.now paths → result ≡ not (list_any (in_the_way path.now) paths) }
+        ensures { IsFreeIn self.now path.now result }
     {
         !is_in_file(&self.files, path) && (is_folder(path) || !self.folders.contains(path))
     }
 
     /// Adds a path.
     pub(crate) fn note(&mut self, path: &'p [u8]) -> Result<(), AllocError>
-        ensures { OnOk result ((paths : List (List ℕ)) → Noted self.old paths → Noted self.new (path.now ∷ paths)) }
+        ensures { OnOk result (Notes self.old self.new path.now) }
     {
         add_folders(&mut self.folders, path)?;
         if is_folder(path) {

@@ -11,13 +11,13 @@ use std::io::Write;
 use std::thread;
 use std::thread::Threads;
 
-/// How many files are held open at most.
+/// The largest number of files that are held open.
 const MOST: usize = 16;
 
-/// From how many bytes on it is worth to start threads.
+/// The number of bytes from which on threads are worth their start.
 const MANY_BYTES: u64 = 1 << 20;
 
-/// A new file on disk, the item whose bytes it is to contain, and how many files stand before it.
+/// A new file on disk, the item whose bytes it is to contain, and the number of files before it.
 #[derive(Drop)]
 pub(crate) struct Made<'i, W: Write + Drop> {
     pub(crate) file: W,
@@ -36,14 +36,14 @@ impl<'i, W: Write + Drop> Made<'i, W> {
     }
 }
 
-/// In how many threads so many bytes are written.
+/// Returns the number of threads in which this number of bytes is written.
 fn thread_count(bytes: u64) -> usize
     ensures { 0 < result }
 {
     if bytes < MANY_BYTES { 1 } else { MOST }
 }
 
-/// Writes the files in so many threads.
+/// Writes the files in this number of threads.
 fn write_each<W: Write + Drop + Send, T: Threads + Sync>(
     threads: &T,
     made: &mut [Made<'_, W>],
@@ -85,7 +85,7 @@ impl<'i, W: Write + Drop> Window<'i, W> {
         }
     }
 
-    /// Whether it holds as many as it may.
+    /// Returns if it holds as many as it may.
     pub(crate) fn is_full(&self) -> bool {
         self.made.len() >= MOST
     }

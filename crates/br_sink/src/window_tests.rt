@@ -48,7 +48,7 @@ fn items(rt: &HostRuntime) -> Result<Vec<Item>, Fail> {
     Ok(items)
 }
 
-/// Whether a sink puts each of the items.
+/// Returns if a sink puts each of the items.
 fn puts_each(sink: &mut impl Sink, items: &[Item]) -> bool {
     items.iter().all(|item| sink.put(item).is_ok())
 }
@@ -95,7 +95,7 @@ fn new_folder(rt: &HostRuntime, name: &str) -> Result<String, Fail> {
 }
 
 #[test]
-fn the_first_fault_counts_and_files_behind_go(rt: HostRuntime) -> Result<(), Fail> {
+fn the_first_fault_counts_and_files_after_it_go(rt: HostRuntime) -> Result<(), Fail> {
     let folder = new_folder(&rt, "window")?;
     let inside = format!(in rt.alloc(); "{folder}/d")?;
     let mut sink = FolderSink::new(rt.alloc(), &rt, folder.as_str())?;
@@ -103,7 +103,7 @@ fn the_first_fault_counts_and_files_behind_go(rt: HostRuntime) -> Result<(), Fai
     assert!(rt; puts_each(&mut sink, &items));
     let mut window = held(rt.alloc(), &items)?;
     assert_eq!(rt; stop_of(&rt, &mut window), Some((80, 7)));
-    sink.remove_behind(&window, 7);
+    sink.remove_after(&window, 7);
     assert!(rt;
         are_there(&rt, inside.as_str())?.as_slice() == [true, true, false, false].as_slice()
     );
@@ -127,7 +127,7 @@ fn nothing_is_taken_away_through_a_link(rt: HostRuntime) -> Result<(), Fail> {
     let items = items(&rt)?;
     assert!(rt; puts_each(&mut sink, &items));
     put_link(&rt, folder.as_str(), beside.as_str())?;
-    sink.remove_behind(&held(rt.alloc(), &items)?, 0);
+    sink.remove_after(&held(rt.alloc(), &items)?, 0);
     assert!(rt; are_there(&rt, beside.as_str())?.as_slice() == [true; 4].as_slice());
     fs::remove_dir_all(&rt, folder.as_str())?;
     fs::remove_dir_all(&rt, beside.as_str())?;
