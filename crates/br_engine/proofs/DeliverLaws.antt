@@ -12,7 +12,7 @@ use Rattle.br_model.specs.Delivery.{Stop, delivery, item_of, put_behind}
 use Rattle.br_bsr.specs.Fault as bootstrap
 use Rattle.br_bsr.specs.declared.fault.BsrFault.{BsrFault}
 use Rattle.br_join.specs.Outcome.{restored}
-use Rattle.br_engine.specs.Fault.{IsFree}
+use Rattle.br_engine.specs.Fault.{IsDriveFault, IsFree, IsNoLine}
 use Rattle.br_engine.specs.Restoring.{Told, Outcomes}
 use Rattle.br_engine.specs.Outputs.{InSink, are_files, end_of_files}
 use Rattle.br_engine.specs.Extracting.{GivesOver, OverText, OverVolumes, Extracts, Said, WritesNothing}
@@ -62,6 +62,18 @@ gives_free earlier later groups names Memory free = λ volumes stands. tt
 gives_free earlier later groups names (Io fault) free = λ volumes stands. tt
 gives_free earlier later groups names (Bootstrap fault) free = absurd free
 gives_free earlier later groups names (Piece fault) free = absurd free
+
+pub free_is_no_line : (fault : ExtractFault) → IsFree fault → IsNoLine fault
+free_is_no_line Memory free = tt
+free_is_no_line (Bootstrap fault) free = absurd free
+free_is_no_line (Piece fault) free = tt
+free_is_no_line (Io fault) free = tt
+
+pub free_is_no_drive : (fault : ExtractFault) → IsFree fault → IsDriveFault fault → ⊥
+free_is_no_drive Memory free e = absurd cc
+free_is_no_drive (Bootstrap fault) free e = free
+free_is_no_drive (Piece fault) free e = free
+free_is_no_drive (Io fault) free e = absurd cc
 
 -- so the manifest is the expected one over all volumes
 pub extracts_over : (earlier later : Told) (groups : List Group) (names : Option (List Planned)) (before after : Option (List ℕ)) (had has : InSink) (result : Result RestoreEnd ExtractFault)

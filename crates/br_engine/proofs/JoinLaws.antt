@@ -3,6 +3,7 @@ use Rattle.std.proofs.Common.{◌≡◌, ℕ, Bool, true, false, cond, List, [],
 use Rattle.std.proofs.lemmas.List.{append-nil}
 use Rattle.std.proofs.lemmas.List.Concat.{flat_map-cons}
 use Rattle.std.proofs.lemmas.List.Elements.{Contains-append_right}
+use Rattle.std.specs.Prelude.{IfErr, IfOk}
 use Rattle.std.specs.Global.{Global}
 use Rattle.std.specs.Cmp.{nat_cmp_total}
 use Rattle.std.specs.Ordering.{nat_cmp, eq_by_cmp}
@@ -16,13 +17,14 @@ use Rattle.br_model.specs.Restored.{Planned, files}
 use Rattle.br_match.specs.Fault.{cause}
 use Rattle.br_match.specs.declared.hit.Found.{Found}
 use Rattle.br_match.specs.declared.fault.PieceFault.{PieceFault}
+use Rattle.br_match.specs.declared.fault.PieceFault.TheVariants.{Memory}
 use Rattle.br_pool.specs.Fault as pool
 use Rattle.br_pool.specs.Pool.{PoolOver, hits_lists}
 use Rattle.br_pool.specs.declared.fault.PoolFault.{PoolFault}
 use Rattle.br_join.specs.Joining.{Joining, taken}
 use Rattle.br_join.specs.Outcome.{restored}
 use Rattle.br_join.proofs.TakingLaws.{taken_together}
-use Rattle.br_engine.specs.Restoring.{Told, AllStand, AreKnown, JoinedOver, Outcomes, RestoredOver, all_taken, restored_files, set_of_each}
+use Rattle.br_engine.specs.Restoring.{Told, AllStand, AreKnown, Outcomes, RestoredOver, all_taken, hits_found, restored_files, set_of_each}
 use Rattle.br_engine.proofs.ReadyLaws.{all_pieces, closed, piece_is_known}
 
 -- ---- taking what was found
@@ -87,36 +89,35 @@ each_is volumes (p ∷ ps) = rw (each_is volumes ps) (go (hits_on volumes p) (hi
     go (Ok found) (Err e) = refl
     go (Err e) s = refl
 
-pub joined_found : (earlier later : Told) (ps : List Piece) (j : Joining) (founds : Vec Found Global) → PoolOver earlier later ps (Ok founds)
-    → j.hits ≡ hits_of (flat_map (λ (hits : List Hit). hits) (map (λ (f : Found). f.hits.items) founds.items)) → JoinedOver earlier later ps (Ok j)
-joined_found earlier later ps j founds given e = λ volumes stands. rw (each_is volumes ps, given volumes stands) (ap Ok (sym e))
+-- ---- the files of what was found
 
-pub joined_refused : (earlier later : Told) (ps : List Piece) (fault : PoolFault) (why : PieceFault) → PoolOver earlier later ps (Err fault) → cause why ≡ pool.cause fault
-    → JoinedOver earlier later ps (Err why)
-joined_refused earlier later ps fault why given same = λ volumes stands.
-    subst (λ (r : Option model.PieceFault). IsRefusal r (set_of_each volumes ps)) (sym same) (go volumes (pool.cause fault) (given volumes stands))
-  where
-    go : (volumes : List Volume) (r : Option model.PieceFault) → IsRefusal r (hits_lists volumes ps) → IsRefusal r (set_of_each volumes ps)
-    go volumes None h = tt
-    go volumes (Some e) h = rw (each_is volumes ps, h) refl
-
--- ---- the files of what is joined
-
-pub restored_from : (earlier later : Told) (groups : List Group) (names : Option (List Planned)) (pieces : List Piece) (j : Joining) (os : Outcomes) → pieces ≡ pieces_of groups
-    → JoinedOver earlier later pieces (Ok j) → map restored os.items ≡ files j.hits names → RestoredOver earlier later groups names (Ok os)
+-- the pieces of a bootstrap were read
+restored_found : (earlier later : Told) (groups : List Group) (names : Option (List Planned)) (pieces : List Piece) (founds : Vec Found Global) (os : Outcomes)
+    → pieces ≡ pieces_of groups → PoolOver earlier later pieces (Ok founds) → map restored os.items ≡ files (hits_found founds.items) names
+    → RestoredOver earlier later groups names (Ok os)
 unfolding meaning restored_files
-restored_from earlier later groups names pieces j os are joined e = λ volumes stands.
-    let set : set_of_each volumes (pieces_of groups) ≡ Ok j.hits =
-    subst (λ (ps : List Piece). set_of_each volumes ps ≡ Ok j.hits) are (joined volumes (subst (λ (ps : List Piece). AllStand earlier later ps volumes) (sym are) stands)) in
+restored_found earlier later groups names pieces founds os are given e = λ volumes stands.
+    let set : set_of_each volumes (pieces_of groups) ≡ Ok (hits_found founds.items) =
+    subst (λ (ps : List Piece). set_of_each volumes ps ≡ Ok (hits_found founds.items)) are
+    (rw (each_is volumes pieces, given volumes (subst (λ (ps : List Piece). AllStand earlier later ps volumes) (sym are) stands)) refl) in
     rw set (ap Ok (sym e))
 
-pub restored_refused : (earlier later : Told) (groups : List Group) (names : Option (List Planned)) (pieces : List Piece) (fault : PieceFault) → pieces ≡ pieces_of groups
-    → JoinedOver earlier later pieces (Err fault) → RestoredOver earlier later groups names (Err fault)
+-- one of them has a fault
+pub restored_refused : (earlier later : Told) (groups : List Group) (names : Option (List Planned)) (pieces : List Piece) (fault : PoolFault) (why : PieceFault)
+    → pieces ≡ pieces_of groups → PoolOver earlier later pieces (Err fault) → cause why ≡ pool.cause fault → RestoredOver earlier later groups names (Err why)
 unfolding meaning restored_files
-restored_refused earlier later groups names pieces fault are joined = λ volumes stands.
-    is_refused volumes (cause fault)
-    (subst (λ (ps : List Piece). IsRefusal (cause fault) (set_of_each volumes ps)) are (joined volumes (subst (λ (ps : List Piece). AllStand earlier later ps volumes) (sym are) stands)))
+restored_refused earlier later groups names pieces fault why are given same = λ volumes stands.
+    subst (λ (r : Option model.PieceFault). IsRefusal r (restored_files groups names volumes)) (sym same)
+    (go volumes (pool.cause fault)
+    (subst (λ (ps : List Piece). IsRefusal (pool.cause fault) (hits_lists volumes ps)) are (given volumes (subst (λ (ps : List Piece). AllStand earlier later ps volumes) (sym are) stands))))
   where
-    is_refused : (volumes : List Volume) (r : Option model.PieceFault) → IsRefusal r (set_of_each volumes (pieces_of groups)) → IsRefusal r (restored_files groups names volumes)
-    is_refused volumes None h = tt
-    is_refused volumes (Some r) h = rw h refl
+    go : (volumes : List Volume) (r : Option model.PieceFault) → IsRefusal r (hits_lists volumes (pieces_of groups)) → IsRefusal r (restored_files groups names volumes)
+    go volumes None h = tt
+    go volumes (Some e) h = rw (each_is volumes (pieces_of groups), h) refl
+
+-- the files are made, or memory runs out
+pub restored_of : (earlier later : Told) (groups : List Group) (names : Option (List Planned)) (pieces : List Piece) (founds : Vec Found Global) (result : Result Outcomes PieceFault)
+    → pieces ≡ pieces_of groups → PoolOver earlier later pieces (Ok founds) → IfOk result (λ os. map restored os.items ≡ files (hits_found founds.items) names)
+    → IfErr result (λ why. why ≡ Memory) → RestoredOver earlier later groups names result
+restored_of earlier later groups names pieces founds (Ok os) are given made short = restored_found earlier later groups names pieces founds os are given made
+restored_of earlier later groups names pieces founds (Err why) are given made short = rw short (λ volumes stands. tt)

@@ -1,12 +1,12 @@
 -- From the text of a bootstrap and volumes to the files, and to their manifest at the end of what a writer held.
-use Rattle.std.specs.Prelude.{◌≡◌, ℕ, List, map, Option, Some, None, option_map, Result, Ok, Err, ⊤}
+use Rattle.std.specs.Prelude.{◌≡◌, ℕ, List, map, Option, Some, None, Result, Ok, Err, ⊤}
 use Rattle.std.specs.Io.KnownBytes.{Appends, Keeps}
 use Rattle.br_model.specs.Answer.{◌>>=◌, refused_as, Answers, IsRefusal}
 use Rattle.br_model.specs.Volume.{Volume}
 use Rattle.br_model.specs.Bootstrap.{Group}
 use Rattle.br_model.specs.BootstrapText.{read_bootstrap}
 use Rattle.br_model.specs.Meaning.{pieces_of}
-use Rattle.br_model.specs.Restored.{Names, Planned, Restored, planned_in}
+use Rattle.br_model.specs.Restored.{Planned, Restored}
 use Rattle.br_model.specs.Manifest.{manifest}
 use Rattle.br_join.specs.Outcome.{restored}
 use Rattle.br_engine.specs.Fault.{Refusal, OfLine, OfPiece, cause}
@@ -62,7 +62,3 @@ WritesNothing before after (Io fault) = ⊤
 abbrev pub GivesOver : Told → Told → List Group → Option (List Planned) → Result Outcomes ExtractFault → Type 0
 GivesOver earlier later groups names result =
     OverVolumes earlier later groups names (Answers (λ (os : Outcomes). map restored os.items) cause result)
-
--- the same, as a contract states it
-abbrev pub FilesOver : {D : Type 0} → (D → Option (List Volume)) → List D → List D → List Group → Option Names → Result Outcomes ExtractFault → Type 0
-FilesOver shows before after groups names result = GivesOver (map shows before) (map shows after) groups (option_map planned_in names) result

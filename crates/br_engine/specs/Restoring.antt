@@ -1,5 +1,5 @@
 -- What a bootstrap gives over the volumes of some drives, whatever these do meanwhile.
-use Rattle.std.specs.Prelude.{◌≡◌, List, [], ◌∷◌, map, Vec, Option, None, option_map, Result, Ok}
+use Rattle.std.specs.Prelude.{◌≡◌, List, [], ◌∷◌, map, flat_map, Vec, Option, None, option_map, Result, Ok}
 use Rattle.std.specs.Global.{Global}
 use Rattle.std.specs.List.{AllByRecursion, AllZip}
 use Rattle.std.specs.FinMap.{get}
@@ -8,7 +8,7 @@ use Rattle.br_model.specs.Name.{FileKey}
 use Rattle.br_model.specs.Volume.{Volume}
 use Rattle.br_model.specs.Bootstrap.{Group}
 use Rattle.br_model.specs.Meaning as model
-use Rattle.br_model.specs.Meaning.{Piece, Hits, hits_on_each, hits_of, pieces_of, meaning}
+use Rattle.br_model.specs.Meaning.{Piece, Hit, Hits, hits_on_each, hits_of, pieces_of, meaning}
 use Rattle.br_model.specs.Restored.{Names, Planned, Restored, files, planned_in}
 use Rattle.br_match.specs.Fault.{cause, fault_number}
 use Rattle.br_match.specs.declared.hit.Found.{Found}
@@ -32,11 +32,9 @@ set_of_each volumes pieces = do
   found ← hits_on_each volumes pieces
   Ok (hits_of found)
 
--- over all volumes that each of the drives may be taken to show, the hits of what was joined are those of the pieces, or the refusal
--- is their first fault; a drive may fail, and memory run out, at any time
-abbrev pub JoinedOver : Told → Told → List Piece → Result Joining PieceFault → Type 0
-JoinedOver earlier later pieces result =
-    (volumes : List Volume) → AllStand earlier later pieces volumes → Answers (λ (j : Joining). j.hits) cause result (set_of_each volumes pieces)
+-- the set of the hits of what was found
+abbrev pub hits_found : List Found → Hits
+hits_found founds = hits_of (flat_map (λ (hits : List Hit). hits) (map (λ (f : Found). f.hits.items) founds))
 
 -- a joiner has the pieces of what was found
 abbrev pub AreKnown : Joining → List Found → Type 0

@@ -6,9 +6,10 @@ ghost use Rattle.br_engine.specs.Outputs.{SinkCounts, StopsByFailure, end_of_fil
 ghost use Rattle.br_engine.specs.Delivering.{DeliversOver, DeliversText, EndsWith, ExtractsOver, RunsOver};
 ghost use Rattle.br_engine.specs.Delivering.{CountsFailures, RefusalWritesNothing, StopIsCounted};
 
-use crate::extracting::{all_files, read_text, write_restored};
+use crate::extracting::{all_files, read_text, write_manifest};
 use crate::fault::ExtractFault;
 use crate::outputs::{Outputs, RestoreEnd};
+use crate::restoring::restore;
 use br_bsr::{Bootstrap, read_bootstrap};
 use br_join::Outcome;
 use br_sink::{Sink, deliver};
@@ -92,7 +93,8 @@ pub fn restore_into<D: Drive + Send, W: Write, S: Sink>(
     ensures sink_counted { CountsFailures S.failures out.old out.new }
     ensures sink_failed { StopIsCounted S.failures out.old out.new result }
 {
-    let outcomes = write_restored(rt, alloc, bootstrap, names, drives, &mut out.writer)?;
+    let outcomes = restore(rt, alloc, bootstrap, names, drives)?;
+    write_manifest(alloc, &outcomes, &mut out.writer)?;
     out.writer.flush()?;
     Ok(finish(rt, alloc, &outcomes, &mut out.sink))
 }
@@ -139,7 +141,7 @@ pub fn extract_text<D: Drive + Send, W: Write, S: Sink>(
     ensures sink_failed { StopIsCounted S.failures out.old out.new result }
 {
     let bootstrap = read_bootstrap(alloc, text)?;
-    extract(rt, alloc, &bootstrap, drives, out)
+    restore_into(rt, alloc, &bootstrap, None, drives, out)
 }
 
 /// Reads the text of a bootstrap to the end of a reader and restores by it, as `extract_text`.

@@ -1,23 +1,18 @@
-ghost use Rattle.std.specs.Prelude.{◌≡◌, is_ok, map, IfOk, IfErr, IfSome};
+ghost use Rattle.std.specs.Prelude.{◌≡◌, is_ok, map, IfOk, IfErr, IfSome, OnOk};
 ghost use Rattle.std.specs.List.{list_all};
 ghost use Rattle.std.specs.Io.KnownBytes.{Appends};
 ghost use Rattle.br_model.specs.Manifest as model;
-ghost use Rattle.br_pool.specs.Pool.{AreDrives, FailsByDrive, StayInPlace};
 ghost use Rattle.br_join.specs.Outcome.{restored, shown};
-ghost use Rattle.br_engine.specs.Fault.{IsDriveFault, IsFree, IsNoLine};
+ghost use Rattle.br_engine.specs.Fault.{IsFree};
 ghost use Rattle.br_engine.specs.Outputs.{are_files};
-ghost use Rattle.br_engine.specs.Extracting.{FilesOver, WritesNothing};
+ghost use Rattle.br_engine.specs.Extracting.{WritesNothing};
 
 use crate::fault::ExtractFault;
-use crate::restoring::restore;
-use br_bsr::Bootstrap;
 use br_join::Outcome;
 use br_sink::manifest;
-use br_types::{FileKey, Names};
-use br_volume::Drive;
+use br_types::FileKey;
 use std::alloc::Global;
 use std::io::{Error, ErrorKind, Read, Write};
-use std::thread::Threads;
 
 /// The number of reads after which the input must have ended.
 const MAX_TURNS: u64 = 1 << 40;
@@ -64,25 +59,17 @@ pub(crate) fn read_text<R: Read>(alloc: Global, reader: &mut R) -> Result<Vec<u8
     Err(ExtractFault::Io(Error::new(ErrorKind::TimedOut, "the input has no end")))
 }
 
-/// Restores as `restore`, writes the manifest and returns the outcomes.
-pub(crate) fn write_restored<D: Drive + Send, W: Write>(
-    rt: &(impl Threads + Sync),
+/// Writes the manifest of the outcomes.
+pub(crate) fn write_manifest<W: Write>(
     alloc: Global,
-    bootstrap: &Bootstrap,
-    names: Option<Names>,
-    drives: &mut Vec<D>,
+    outcomes: &[(FileKey, Outcome)],
     writer: &mut W,
-) -> Result<Vec<(FileKey, Outcome)>, ExtractFault>
-    requires drives { AreDrives drives.old.items }
-    ensures gives { FilesOver D.shows drives.old.items drives.new.items bootstrap.now names result }
-    ensures written { IfOk result (λ os. Appends (W.contents writer.old) (W.contents writer.new) (model.manifest (map restored os.items))) }
+) -> Result<(), ExtractFault>
+    ensures written { OnOk result (Appends (W.contents writer.old) (W.contents writer.new) (model.manifest (map restored outcomes.now))) }
     ensures nothing { IfErr result (WritesNothing (W.contents writer.old) (W.contents writer.new)) }
-    ensures driven { IfErr result IsNoLine }
-    ensures places { StayInPlace D.shows D.failures drives.old.items drives.new.items }
-    ensures failed { FailsByDrive D.failures drives.old.items drives.new.items IsDriveFault result }
+    ensures free { IfErr result IsFree }
 {
-    let outcomes = restore(rt, alloc, bootstrap, names, drives)?;
-    let text = manifest(alloc, &outcomes)?;
+    let text = manifest(alloc, outcomes)?;
     writer.write_all(&text)?;
-    Ok(outcomes)
+    Ok(())
 }

@@ -1,11 +1,12 @@
-ghost use Rattle.std.specs.Prelude.{◌≡◌, true, map, IfOk, IfErr, OnOk};
+ghost use Rattle.std.specs.Prelude.{◌≡◌, map, option_map, IfOk, IfErr, OnOk};
+ghost use Rattle.br_model.specs.Restored.{files, planned_in};
 ghost use Rattle.br_match.specs.Fault as piece;
 ghost use Rattle.br_match.specs.declared.fault.PieceFault.TheVariants.{Memory};
 ghost use Rattle.br_join.specs.declared.fault.JoinFault.TheVariants.{StrangerPiece};
-ghost use Rattle.br_join.specs.Joining.{is_ready};
+ghost use Rattle.br_join.specs.Outcome.{restored};
 ghost use Rattle.br_pool.specs.Fault as pool;
-ghost use Rattle.br_pool.specs.Pool.{AreDrives, AreNumbered, FailsByDrive, StayInPlace};
-ghost use Rattle.br_engine.specs.Restoring.{AreKnown, IsDriveFault, JoinedOver, RestoresOver, all_taken};
+ghost use Rattle.br_pool.specs.Pool.{AreDrives, FailsByDrive, StayInPlace};
+ghost use Rattle.br_engine.specs.Restoring.{AreKnown, IsDriveFault, RestoresOver, all_taken, hits_found};
 
 use br_bsr::Bootstrap;
 use br_join::{JoinFault, Joiner, Outcome};
@@ -53,34 +54,26 @@ fn take_all(joiner: &mut Joiner, founds: Vec<Found>) -> Result<(), PieceFault>
     Ok(())
 }
 
-/// Joins what the drives find of each piece.
-///
-/// # Errors
-///
-/// The refusal of the first piece that has one.
-fn joined<D: Drive + Send>(
+/// Makes the files of what was found of each piece.
+fn files_of(
     rt: &(impl Threads + Sync),
     alloc: Global,
     pieces: &[Piece],
     names: Option<Names>,
-    drives: &mut Vec<D>,
-) -> Result<Joiner, PieceFault>
-    requires drives { AreDrives drives.old.items }
-    requires numbered { AreNumbered pieces.now }
-    ensures ready { IfOk result (λ joiner. is_ready joiner ≡ true) }
-    ensures planned { IfOk result (λ joiner. joiner.names ≡ names) }
-    ensures hits { JoinedOver (map D.shows drives.old.items) (map D.shows drives.new.items) pieces.now result }
-    ensures places { StayInPlace D.shows D.failures drives.old.items drives.new.items }
-    ensures failed { FailsByDrive D.failures drives.old.items drives.new.items IsDriveFault result }
+    founds: Vec<Found>,
+) -> Result<Vec<(FileKey, Outcome)>, PieceFault>
+    requires found { map (λ f. f.piece) founds.items ≡ map (λ p. p.number) pieces.now }
+    ensures files { IfOk result (λ os. map restored os.items ≡ files (hits_found founds.items) (option_map planned_in names)) }
+    ensures memory { IfErr result (λ fault. fault ≡ Memory) }
 {
     let Ok(mut joiner) = Joiner::new(alloc, pieces, names) else {
         return Err(PieceFault::Memory);
     };
-    match run_pool(rt, alloc, pieces, drives, &OpenGate) {
-        Ok(founds) => take_all(&mut joiner, founds)?,
-        Err(fault) => return Err(piece_fault(fault)),
+    take_all(&mut joiner, founds)?;
+    match joiner.finish(rt) {
+        Ok(outcomes) => Ok(outcomes),
+        Err(_) => Err(PieceFault::Memory),
     }
-    Ok(joiner)
 }
 
 /// Returns the files that a bootstrap selects, each with its outcome, in order of their keys.
@@ -112,9 +105,8 @@ pub fn restore<D: Drive + Send>(
     let Ok(pieces) = split(alloc, bootstrap) else {
         return Err(PieceFault::Memory);
     };
-    let mut joiner = joined(rt, alloc, &pieces, names, drives)?;
-    match joiner.finish(rt) {
-        Ok(outcomes) => Ok(outcomes),
-        Err(_) => Err(PieceFault::Memory),
+    match run_pool(rt, alloc, &pieces, drives, &OpenGate) {
+        Ok(founds) => files_of(rt, alloc, &pieces, names, founds),
+        Err(fault) => Err(piece_fault(fault)),
     }
 }

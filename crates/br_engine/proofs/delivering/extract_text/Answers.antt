@@ -32,12 +32,12 @@ returns-in_err-bootstrap-clause-places g c = all_kept g.D.Drive.shows g.D.Drive.
 pub returns-clause-delivers : goal.returns-clause-delivers
 returns-clause-delivers g c =
     let text = c.args.text.now in
-    text_delivers (Some text) (map g.D.Drive.shows c.args.drives.now.items) (map g.D.Drive.shows c.extract.new.drives.items)
-    (g.W.Write.contents c.args.out.now.writer) (g.W.Write.contents c.extract.new.out.writer) (in_sink g.S.Sink.has c.args.out.now) (in_sink g.S.Sink.has c.extract.new.out)
-    text c.in_ok-bootstrap.bootstrap c.extract.result refl c.in_ok-bootstrap.ensures.exact c.extract.ensures.delivers
+    text_delivers (Some text) (map g.D.Drive.shows c.args.drives.now.items) (map g.D.Drive.shows c.restore_into.new.drives.items)
+    (g.W.Write.contents c.args.out.now.writer) (g.W.Write.contents c.restore_into.new.out.writer) (in_sink g.S.Sink.has c.args.out.now) (in_sink g.S.Sink.has c.restore_into.new.out)
+    text c.in_ok-bootstrap.bootstrap c.restore_into.result refl c.in_ok-bootstrap.ensures.exact c.restore_into.ensures.delivers
 
 pub returns-clause-runs : goal.returns-clause-runs
 returns-clause-runs g c =
-    runs_over (Some c.args.text.now) (map g.D.Drive.shows c.args.drives.now.items) (map g.D.Drive.shows c.extract.new.drives.items)
-    (g.W.Write.contents c.args.out.now.writer) (g.W.Write.contents c.extract.new.out.writer) (in_sink g.S.Sink.has c.args.out.now) (in_sink g.S.Sink.has c.extract.new.out)
-    c.extract.result (returns-clause-delivers g c)
+    runs_over (Some c.args.text.now) (map g.D.Drive.shows c.args.drives.now.items) (map g.D.Drive.shows c.restore_into.new.drives.items)
+    (g.W.Write.contents c.args.out.now.writer) (g.W.Write.contents c.restore_into.new.out.writer) (in_sink g.S.Sink.has c.args.out.now) (in_sink g.S.Sink.has c.restore_into.new.out)
+    c.restore_into.result (returns-clause-delivers g c)
