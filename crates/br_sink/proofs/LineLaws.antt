@@ -1,10 +1,8 @@
--- Fields with a byte between two, and hexadecimal digits.
-use Rattle.std.proofs.Common.{◌≡◌, ℕ, zero, suc, ◌<◌, ◌/◌, ◌%◌, Bool, true, ◌&&◌, eqb, slice_index, List, [], ◌∷◌, ◌++◌, refl, ap, subst, sym, ◌∙◌, arith, inl, inr, append_assoc, get_or, length, decimal, Ok}
+-- Fields with a byte between two.
+use Rattle.std.proofs.Common.{◌≡◌, ℕ, List, [], ◌∷◌, ◌++◌, refl, ap, sym, ◌∙◌, append_assoc, get_or, length, decimal, Ok}
 use Rattle.std.specs.Prelude.{ℤ, pos, map, take, drop, fold, flat_map}
 use Rattle.std.specs.List.{join_with_byte}
-use Rattle.std.proofs.lemmas.Bool.{and_parts, cases_lt, eqb-true}
-use Rattle.hex.specs.Hex.{encode_lower, encode_with, lower_digits}
-use Rattle.br_model.specs.Text.{AreBytes, escaped, hex_digit, hexadecimal, line, signed_decimal}
+use Rattle.br_model.specs.Text.{escaped, hexadecimal, line, signed_decimal}
 use Rattle.md5.specs.Md5.{md5}
 use Rattle.br_model.specs.Name.{FileKey}
 use Rattle.br_model.specs.File.{Item}
@@ -67,35 +65,3 @@ file_chain key item text t1 t2 t3 t4 mark is more end =
     end ∙ ap (λ t. t ++ 10 ∷ []) (more ∙ ap (λ t. t ++ 32 ∷ join_with_byte 32 (item_fields item)) (is ∙ ap (λ t. t ++ 32 ∷ join_with_byte 32 (key_fields key)) mark))
     ∙ line_chain 70 text (decimal key.session.id) (decimal key.session.time) (decimal key.index) (decimal item.kind)
     (escaped item.path ∷ join_with_byte 44 (map signed_decimal (stat_numbers item.stat)) ∷ (61 ∷ escaped item.link) ∷ decimal (length item.bytes) ∷ hexadecimal (md5 item.bytes) ∷ [])
-
--- ---- hexadecimal digits
-
-abbrev agrees : ℕ → Bool
-agrees d = eqb (slice_index lower_digits d) (hex_digit d)
-
-abbrev agrees_below : ℕ → Bool
-agrees_below zero = true
-agrees_below (suc n) = agrees n && agrees_below n
-
-agrees_at : (n d : ℕ) → agrees_below n ≡ true → d < n → agrees d ≡ true
-agrees_at zero d all less = absurd (omega arith)
-agrees_at (suc n) d all less =
-    elim (cases_lt d n) [
-      | inl below ↦ agrees_at n d (and_parts (agrees n) (agrees_below n) all).1 below
-      | inr above ↦ let equal : n ≡ d = omega arith in subst (λ i. agrees i ≡ true) equal (and_parts (agrees n) (agrees_below n) all).0
-    ]
-
-digit_is : (d : ℕ) → d < 16 → slice_index lower_digits d ≡ hex_digit d
-digit_is d less = eqb-true (slice_index lower_digits d) (hex_digit d) (agrees_at 16 d refl less)
-
--- what the kit's encoder writes are our digits
-pub hexadecimal_is : (bytes : List ℕ) → AreBytes bytes → encode_lower bytes ≡ hexadecimal bytes
-unfolding encode_with hexadecimal
-hexadecimal_is [] fits = refl
-hexadecimal_is (b ∷ bytes) fits =
-    let byte : b < 256 = fits 0 in
-    let high : slice_index lower_digits (b / 16) ≡ hex_digit (b / 16) = digit_is (b / 16) (omega arith) in
-    let low : slice_index lower_digits (b % 16) ≡ hex_digit (b % 16) = digit_is (b % 16) (omega arith) in
-    ap (λ d. d ∷ slice_index lower_digits (b % 16) ∷ encode_lower bytes) high
-    ∙ ap (λ d. hex_digit (b / 16) ∷ d ∷ encode_lower bytes) low
-    ∙ ap (λ t. hex_digit (b / 16) ∷ hex_digit (b % 16) ∷ t) (hexadecimal_is bytes (λ i. fits (suc i)))

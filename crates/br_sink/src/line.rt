@@ -7,10 +7,10 @@ ghost use Rattle.br_join.specs.Outcome.{restored};
 ghost use Rattle.br_sink.specs.Fault.{fault_of};
 ghost use Rattle.md5.specs.Md5.{md5};
 
-use crate::text::{push_digest, push_field, push_signed};
+use crate::text::{push_field, push_signed};
 use br_attr::Stat;
 use br_join::{FileBytes, Item, Outcome};
-use br_types::{FileKey, push_escaped};
+use br_types::{FileKey, push_escaped, push_hexadecimal};
 use std::alloc::AllocError;
 
 /// The number of numbers that a file has.
@@ -89,7 +89,7 @@ fn push_bytes(text: &mut Vec<u8>, bytes: &FileBytes) -> Result<(), AllocError>
 {
     push_field(text, bytes.len())?;
     text.push(b' ')?;
-    push_digest(text, &bytes.digest())
+    push_hexadecimal(text, &bytes.digest())
 }
 
 /// Appends type, path, numbers, link text, length and digest of a file.

@@ -1,8 +1,8 @@
 //! The paths that were put, by which a conflict of a path with one of them is found in time n log n.
 ghost use Rattle.std.specs.Prelude.{◌≡◌, true, false, [], bytes_eq, OnOk};
-ghost use Rattle.br_model.specs.Name.{is_directory};
 ghost use Rattle.br_sink.specs.Ways.{AddsPaths, HasFront, HasNoFront, IsFreeIn, Noted, Notes, goes_on_behind, has_path};
 
+use br_types::is_directory_path;
 use std::alloc::{AllocError, Global};
 use std::collections::BTreeSet;
 
@@ -11,13 +11,6 @@ use std::collections::BTreeSet;
 pub(crate) struct Ways<'p> {
     files: BTreeSet<&'p [u8]>,
     folders: BTreeSet<&'p [u8]>,
-}
-
-/// Returns if the path ends in a slash.
-pub(crate) fn is_folder(path: &[u8]) -> bool
-    ensures { result ≡ is_directory path.now }
-{
-    path.ends_with(b"/")
 }
 
 /// Returns if a file's path is followed by a slash in the path.
@@ -70,7 +63,7 @@ impl<'p> Ways<'p> {
     pub(crate) fn is_free(&self, path: &[u8]) -> bool
         ensures { IsFreeIn self.now path.now result }
     {
-        !is_in_file(&self.files, path) && (is_folder(path) || !self.folders.contains(path))
+        !is_in_file(&self.files, path) && (is_directory_path(path) || !self.folders.contains(path))
     }
 
     /// Adds a path.
@@ -78,7 +71,7 @@ impl<'p> Ways<'p> {
         ensures { OnOk result (Notes self.old self.new path.now) }
     {
         add_folders(&mut self.folders, path)?;
-        if is_folder(path) {
+        if is_directory_path(path) {
             Ok(())
         } else {
             add(&mut self.files, path)

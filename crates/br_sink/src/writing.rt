@@ -4,9 +4,9 @@ ghost use Rattle.br_join.specs.Outcome.{restored};
 
 use crate::line::push_line;
 use crate::report::{Report, totals};
-use crate::text::{push_field, push_wide};
+use crate::text::push_field;
 use br_join::Outcome;
-use br_types::FileKey;
+use br_types::{FileKey, push_wide};
 use std::alloc::{AllocError, Global};
 
 /// Writes a line for each file.
