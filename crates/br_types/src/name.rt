@@ -5,7 +5,9 @@ ghost use Rattle.br_model.specs.Name.{is_name_byte, is_name, is_volume_name, che
 ghost use Rattle.br_types.specs.Fault.{cause};
 
 use crate::fault::NameFault;
+use bstr::BStr;
 use std::alloc::{AllocError, Global};
+use std::fmt;
 use std::marker::Model;
 
 /// The greatest number of bytes of a name.
@@ -31,7 +33,7 @@ fn is_name_of(bytes: &[u8]) -> bool
 }
 
 /// The name of a client or a file set: 1 to 127 ASCII letters, digits, spaces or bytes of `-_.:`.
-#[derive(Debug, Drop)]
+#[derive(Drop)]
 pub struct Name {
     bytes: Vec<u8>,
 }
@@ -45,6 +47,16 @@ impl Model for Name {
     ghost view = { λ n. n.bytes.items };
 
     ghost invariant = { λ n. is_name n.bytes.items ≡ true };
+}
+
+impl fmt::Debug for Name {
+    ghost use Rattle.bstr.specs.Show.{debug_text};
+
+    ghost debug_output = { λ name. debug_text name };
+
+    fn fmt<W: fmt::Write>(&self, f: &mut fmt::Formatter<W>) -> fmt::Result {
+        fmt::Debug::fmt(&BStr::new(self.bytes()), f)
+    }
 }
 
 impl Name {

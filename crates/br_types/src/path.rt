@@ -6,7 +6,9 @@ ghost use Rattle.br_types.specs.Fault.{cause};
 
 use crate::bytes::has_no_nul;
 use crate::fault::NameFault;
+use bstr::BStr;
 use std::alloc::{AllocError, Global};
+use std::fmt;
 use std::marker::Model;
 
 /// The greatest number of bytes of a path.
@@ -54,7 +56,7 @@ fn is_path_of(bytes: &[u8]) -> bool
 /// An absolute path: it begins with `/`, has at most 4,096 bytes, no NUL, and no component that is
 /// empty, `.` or `..`. One `/` at the end marks a directory, so `/a` and `/a/` are two paths. `/`
 /// is a path, too.
-#[derive(Debug, Drop)]
+#[derive(Drop)]
 pub struct Path {
     bytes: Vec<u8>,
 }
@@ -68,6 +70,16 @@ impl Model for Path {
     ghost view = { λ p. p.bytes.items };
 
     ghost invariant = { λ p. is_path p.bytes.items ≡ true };
+}
+
+impl fmt::Debug for Path {
+    ghost use Rattle.bstr.specs.Show.{debug_text};
+
+    ghost debug_output = { λ path. debug_text path };
+
+    fn fmt<W: fmt::Write>(&self, f: &mut fmt::Formatter<W>) -> fmt::Result {
+        fmt::Debug::fmt(&BStr::new(self.bytes()), f)
+    }
 }
 
 impl Path {
