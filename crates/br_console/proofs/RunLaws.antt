@@ -1,7 +1,6 @@
 -- A run of the console step by step: what each step says of the whole.
 use Rattle.std.proofs.Common.{◌≡◌, ℕ, Bool, true, false, cond, List, map, Option, Some, None, Result, Ok, Err, refl, ap, sym, subst, ◌∙◌}
-use Rattle.std.specs.Prelude.{Vec, option_map, IfSome}
-use Rattle.std.specs.Global.{Global}
+use Rattle.std.specs.Prelude.{option_map, IfSome, ⊤}
 use Rattle.std.specs.Io.KnownBytes.{Appends, Keeps}
 use Rattle.std.proofs.KnownBytes.{Appends-nil, Appends-trans, Appends-kept}
 use Rattle.br_model.specs.Answer.{IsRefusal, refused_as}
@@ -13,12 +12,13 @@ use Rattle.br_model.specs.Manifest.{manifest}
 use Rattle.br_model.specs.Job.{JobRows}
 use Rattle.br_model.specs.Choice.{Request, choose}
 use Rattle.br_model.specs.View.{Entry, view_of}
-use Rattle.br_model.specs.Console.{root, at_start, console_lines, dialogue}
+use Rattle.br_model.specs.Console.{root, at_start, console_lines, dialogue, marks_at_done}
 use Rattle.br_model.specs.Plan.{Plan, plan_of}
 use Rattle.br_choose.specs.Fault as choice
 use Rattle.br_choose.specs.declared.fault.ChooseFault.{ChooseFault}
 use Rattle.br_choose.specs.declared.fault.ChooseFault.TheVariants as choosing
 use Rattle.br_plan.specs.Fault as plan
+use Rattle.br_plan.specs.Means.{IsViewOfChosen}
 use Rattle.br_plan.specs.declared.fault.PlanFault.{PlanFault}
 use Rattle.br_plan.specs.declared.fault.PlanFault.TheVariants as planning
 use Rattle.br_match.specs.Fault as piece
@@ -36,8 +36,8 @@ use Rattle.br_engine.specs.declared.fault.ExtractFault.{ExtractFault}
 use Rattle.br_engine.specs.declared.fault.ExtractFault.TheVariants as extract
 use Rattle.br_console.specs.Fault.{Refusal, OfPlan, OfPiece, IsFree, IsNoPiece, cause, fault_number}
 use Rattle.br_console.specs.Ending.{EndIs, are_accepted, is_done}
-use Rattle.br_console.specs.Talking.{SessionOver, LeavesOver}
-use Rattle.br_console.specs.Running.{opening, begun, with_files, run_from, console_run, Answer, BecomesFault, Begins, BeginsOver, MarksOver, OverPlan, RefusesRun, RestoresOver, RestoresPlan, RunsOver, StopsAt, TellsOver, WritesPlan}
+use Rattle.br_console.specs.Talking.{are_answered, SessionOver, LeavesOver}
+use Rattle.br_console.specs.Running.{opening, begun, with_files, run_from, console_run, Answer, BecomesFault, Begins, BeginsOver, OverPlan, RefusesRun, RestoresOver, RestoresPlan, RunsOver, StopsAt, TellsOver, WritesPlan}
 use Rattle.br_console.specs.declared.console_fault.ConsoleFault.{ConsoleFault}
 use Rattle.br_console.specs.declared.console_fault.ConsoleFault.TheVariants as fault
 use Rattle.br_console.specs.declared.ending.Lines.{Lines}
@@ -71,9 +71,29 @@ was_chosen history q s opened n refused = clash (sym opened ∙ rw refused refl)
     clash : ◌≡◌ {A = Result Situation ℕ} (Ok s) (Err n) → ⊥
     clash h = cc
 
+-- and its entries are the view of the chosen jobs
+pub opening_views : (history : List JobRows) (q : Request) (s : Situation) → opening history q ≡ Ok s → IsViewOfChosen history q s.view
+unfolding opening
+opening_views history q s opened = λ jobs chosen.
+    ap (λ (t : Situation). t.view) (same (record { view = view_of jobs; state = at_start }) (sym opened ∙ rw chosen refl))
+  where
+    same : (t : Situation) → ◌≡◌ {A = Result Situation ℕ} (Ok s) (Ok t) → s ≡ t
+    same t h = cc
+
+-- the dialogue of the lines was written; none was refused, or some were; and these are the marks at its `done`, if there is one
+pub record IsDialogue (lines : List (List ℕ)) (before after : Option (List ℕ)) (s : Situation) (clean : Bool) (marks : Option (List (List ℕ))) : Type 0 where
+  pub written : Appends before after (dialogue s.view s.state lines)
+  pub clean_is : clean ≡ are_answered s.view s.state lines
+  pub marks_are : marks ≡ marks_at_done s.view s.state lines
+
+-- if the reader tells its bytes, the dialogue of their lines with the console was written
+abbrev pub MarksOver : Option (List ℕ) → Option (List ℕ) → Option (List ℕ) → Situation → Lines → Option (List (List ℕ)) → Type 0
+MarksOver (Some text) before after s lines marks = IsDialogue (console_lines text) before after s (are_accepted lines) marks
+MarksOver None before after s lines marks = ⊤
+
 -- a session that ended by `done`, and the marks of its console
-pub marked_done : (known left before after : Option (List ℕ)) (s t : Situation) (session : Session) (paths : Vec (List ℕ) Global) → SessionOver known left before after s (Ok session)
-    → LeavesOver known s t (Ok session) → is_done session.end ≡ true → paths.items ≡ t.state.marked → MarksOver known before after s (Ok (session.lines, Some paths))
+pub marked_done : (known left before after : Option (List ℕ)) (s t : Situation) (session : Session) (paths : List (List ℕ)) → SessionOver known left before after s (Ok session)
+    → LeavesOver known s t (Ok session) → is_done session.end ≡ true → paths ≡ t.state.marked → MarksOver known before after s session.lines (Some paths)
 marked_done None left before after s t session paths talked leaves done are = tt
 marked_done (Some text) left before after s t session paths talked leaves done are = record {
   written = talked.written;
@@ -83,7 +103,7 @@ marked_done (Some text) left before after s t session paths talked leaves done a
 
 -- a session that ended otherwise
 pub marked_undone : (known left before after : Option (List ℕ)) (s t : Situation) (session : Session) → SessionOver known left before after s (Ok session)
-    → LeavesOver known s t (Ok session) → is_done session.end ≡ false → MarksOver known before after s (Ok (session.lines, None))
+    → LeavesOver known s t (Ok session) → is_done session.end ≡ false → MarksOver known before after s session.lines None
 marked_undone None left before after s t session talked leaves undone = tt
 marked_undone (Some text) left before after s t session talked leaves undone = record {
   written = talked.written;
@@ -114,14 +134,14 @@ begins_free (Some text) before after history q (fault.Io why) free = tt
 
 -- the dialogue did not end by `done`
 pub begins_undone : (known before after : Option (List ℕ)) (history : List JobRows) (q : Request) (s : Situation) (lines : Lines) → opening history q ≡ Ok s
-    → MarksOver known before after s (Ok (lines, None)) → BeginsOver known before after history q (Ok (lines, None))
+    → MarksOver known before after s lines None → BeginsOver known before after history q (Ok (lines, None))
 unfolding begun
 begins_undone None before after history q s lines opened talked = tt
 begins_undone (Some text) before after history q s lines opened talked = rw (opened, ← talked.marks_are) (sym talked.clean_is, refl, talked.written)
 
 -- it did, and the plan was not made
-pub begins_unplanned : (known before now after : Option (List ℕ)) (history : List JobRows) (q : Request) (s : Situation) (lines : Lines) (marks : Vec (List ℕ) Global) (why : ConsoleFault)
-    → opening history q ≡ Ok s → MarksOver known before now s (Ok (lines, Some marks)) → WritesPlan now after (plan_of history q marks.items) (Err why)
+pub begins_unplanned : (known before now after : Option (List ℕ)) (history : List JobRows) (q : Request) (s : Situation) (lines : Lines) (marks : List (List ℕ)) (why : ConsoleFault)
+    → opening history q ≡ Ok s → MarksOver known before now s lines (Some marks) → WritesPlan now after (plan_of history q marks) (Err why)
     → BeginsOver known before after history q (Err why)
 unfolding begun
 begins_unplanned None before now after history q s lines marks why opened talked refused = tt
@@ -130,13 +150,13 @@ begins_unplanned (Some text) before now after history q s lines marks (fault.Pie
 begins_unplanned (Some text) before now after history q s lines marks (fault.Io why) opened talked refused = tt
 begins_unplanned (Some text) before now after history q s lines marks (fault.Plan why) opened talked refused = go (plan.cause why) refused.0
   where
-    go : (r : Option ℕ) → IsRefusal r (plan_of history q marks.items) → IfSome r (λ n. ((begun history q text).plan ≡ Err n) × Appends before after (begun history q text).text)
+    go : (r : Option ℕ) → IsRefusal r (plan_of history q marks) → IfSome r (λ n. ((begun history q text).plan ≡ Err n) × Appends before after (begun history q text).text)
     go None h = tt
     go (Some n) h = rw (opened, ← talked.marks_are, h) (refl, Appends-kept before now after (dialogue s.view s.state (console_lines text)) talked.written refused.1)
 
 -- it was made, and its bootstrap written
-pub begins_planned : (known before now after : Option (List ℕ)) (history : List JobRows) (q : Request) (s : Situation) (lines : Lines) (marks : Vec (List ℕ) Global) (plan : Plan)
-    → opening history q ≡ Ok s → MarksOver known before now s (Ok (lines, Some marks)) → WritesPlan now after (plan_of history q marks.items) (Ok plan)
+pub begins_planned : (known before now after : Option (List ℕ)) (history : List JobRows) (q : Request) (s : Situation) (lines : Lines) (marks : List (List ℕ)) (plan : Plan)
+    → opening history q ≡ Ok s → MarksOver known before now s lines (Some marks) → WritesPlan now after (plan_of history q marks) (Ok plan)
     → BeginsOver known before after history q (Ok (lines, Some plan))
 unfolding begun
 begins_planned None before now after history q s lines marks plan opened talked made = tt

@@ -6,7 +6,9 @@ use Rattle.br_model.specs.File.{Item}
 use Rattle.br_model.specs.Restored.{Restored}
 use Rattle.br_model.specs.Job.{JobRows}
 use Rattle.br_model.specs.Choice.{Request, choose}
+use Rattle.br_model.specs.View.{Entry}
 use Rattle.br_model.specs.Plan.{Plan, plan_of}
+use Rattle.br_plan.specs.Means.{IsViewOfChosen}
 use Rattle.br_engine.specs.Restoring.{Told}
 use Rattle.br_engine.specs.Outputs.{InSink, StopsByFailure}
 use Rattle.br_engine.specs.Delivering.{in_sink, sink_failures}
@@ -55,6 +57,10 @@ BeginsInto known before after asked result = BeginsOver known before after asked
 -- the plan for some marked paths
 abbrev pub plan_for : JobSelection → List (List ℕ) → Result Plan ℕ
 plan_for asked marks = plan_of asked.history.now asked.request.now marks
+
+-- if the jobs are chosen, these entries are their view
+abbrev pub IsViewOfAsked : JobSelection → List Entry → Type 0
+IsViewOfAsked asked view = IsViewOfChosen asked.history.now asked.request.now view
 
 -- if the choice of jobs is refused, this holds
 abbrev pub IfUnchosen : JobSelection → Type 0 → Type 0

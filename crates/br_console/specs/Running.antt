@@ -1,7 +1,6 @@
 -- A run of the console: from a history and the lines of a dialogue to a bootstrap, and over volumes to a manifest; what is appended to
 -- what the writer held, and what is returned or refused.
-use Rattle.std.specs.Prelude.{◌≡◌, ℕ, Bool, true, List, [], ◌++◌, map, Vec, Option, Some, None, option_map, IfSome, Result, Ok, Err, ⊤}
-use Rattle.std.specs.Global.{Global}
+use Rattle.std.specs.Prelude.{◌≡◌, ℕ, Bool, true, List, [], ◌++◌, map, Option, Some, None, IfSome, Result, Ok, Err, ⊤}
 use Rattle.std.specs.Io.KnownBytes.{Appends, Keeps}
 use Rattle.br_model.specs.Answer.{◌>>=◌, refused_as, IsRefusal}
 use Rattle.br_model.specs.Volume.{Volume}
@@ -149,26 +148,6 @@ TellsOver (Some text) before after history q result = Tells before after (begun 
 TellsOver None before after history q result = ⊤
 
 -- ---- the steps of a run
-
--- the marks with which a session ended, if it ended by `done`
-abbrev pub Marks : Type 0
-Marks = Option (Vec (List ℕ) Global)
-
--- the marks as a list
-abbrev pub marks_in : Marks → Option (List (List ℕ))
-marks_in marks = option_map (λ (paths : Vec (List ℕ) Global). paths.items) marks
-
--- the dialogue of the lines was written; none was refused, or some were; and these are the marks at its `done`, if there is one
-pub record IsDialogue (lines : List (List ℕ)) (before after : Option (List ℕ)) (s : Situation) (clean : Bool) (marks : Option (List (List ℕ))) : Type 0 where
-  pub written : Appends before after (dialogue s.view s.state lines)
-  pub clean_is : clean ≡ are_answered s.view s.state lines
-  pub marks_are : marks ≡ marks_at_done s.view s.state lines
-
--- if the reader tells its bytes, the dialogue of their lines with the console was written
-abbrev pub MarksOver : Option (List ℕ) → Option (List ℕ) → Option (List ℕ) → Situation → Result (Lines × Marks) ConsoleFault → Type 0
-MarksOver (Some text) before after s (Ok made) = IsDialogue (console_lines text) before after s (are_accepted made.0) (marks_in made.1)
-MarksOver (Some text) before after s (Err why) = ⊤
-MarksOver None before after s result = ⊤
 
 -- the plan for the marks was made and its bootstrap written; or it is refused, and nothing was written
 abbrev pub WritesPlan : Option (List ℕ) → Option (List ℕ) → Result Plan ℕ → Result Plan ConsoleFault → Type 0

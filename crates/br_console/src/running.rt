@@ -4,9 +4,9 @@ ghost use Rattle.br_plan.specs.Fault.{cause};
 ghost use Rattle.br_pool.specs.Pool.{AreDrives, FailsByDrive, StayInPlace};
 ghost use Rattle.br_engine.specs.Fault.{IsNoLine};
 ghost use Rattle.br_engine.specs.Delivering.{CountsFailures};
-ghost use Rattle.br_console.specs.Fault.{IsFree, IsNoPiece};
-ghost use Rattle.br_console.specs.Running.{BecomesFault, IsDriveFault, MarksOver, WritesPlan, opening};
-ghost use Rattle.br_console.specs.Delivering.{BeginsInto, DeliversInto, IfUnchosen, RunStopIsCounted, RunsInto, TellsInto, plan_for};
+ghost use Rattle.br_console.specs.Fault.{IsNoPiece};
+ghost use Rattle.br_console.specs.Running.{BecomesFault, IsDriveFault, WritesPlan, opening};
+ghost use Rattle.br_console.specs.Delivering.{BeginsInto, DeliversInto, IfUnchosen, IsViewOfAsked, RunStopIsCounted, RunsInto, TellsInto, plan_for};
 
 use crate::console_fault::ConsoleFault;
 use crate::ending::{ConsoleRun, End, Lines, SessionEnd};
@@ -19,7 +19,6 @@ use br_mark::Console;
 use br_plan::{Plan, PlanFault, Request};
 use br_sink::Sink;
 use br_tree::Tree;
-use br_types::Path;
 use br_view::View;
 use br_volume::Drive;
 use std::alloc::Global;
@@ -56,36 +55,17 @@ fn console_for<'h>(
     Ok(Console::new(alloc, tree)?)
 }
 
-/// Runs a session to its end. Returns the marked paths if it ended by `done`.
-fn marked_by<R: BufRead + Drop, W: Write + Drop>(
-    alloc: Global,
-    mut console: Console<'_>,
-    reader: &mut R,
-    writer: &mut W,
-) -> Result<(Lines, Option<Vec<Path>>), ConsoleFault>
-    ensures marked { MarksOver (R.remaining reader.old) (W.contents writer.old) (W.contents writer.new) console.entry result }
-    ensures free { IfErr result IsFree }
-{
-    let session = converse(alloc, &mut console, reader, writer)?;
-    match session.end {
-        SessionEnd::Quit => Ok((session.lines, None)),
-        SessionEnd::Done => {
-            let marks = console.marked(alloc)?;
-            Ok((session.lines, Some(marks)))
-        }
-    }
-}
-
-/// Makes the plan for the marked paths and writes its bootstrap.
+/// Makes the plan for the marked paths of the chosen jobs' tree and writes its bootstrap.
 fn write_plan<W: Write + Drop>(
     alloc: Global,
     asked: &JobSelection<'_>,
-    marks: &[Path],
+    tree: &Tree<'_>,
     writer: &mut W,
 ) -> Result<Plan, ConsoleFault>
-    ensures { WritesPlan (W.contents writer.old) (W.contents writer.new) (plan_for asked.now marks.now) result }
+    requires { IsViewOfAsked asked.now tree.now.view }
+    ensures { WritesPlan (W.contents writer.old) (W.contents writer.new) (plan_for asked.now tree.now.marked) result }
 {
-    let plan = Plan::make(alloc, asked.history, asked.request, marks)?;
+    let plan = Plan::for_marked(alloc, asked.history, asked.request, tree)?;
     let text = write_bootstrap(alloc, plan.bootstrap())?;
     show(writer, &text)?;
     Ok(plan)
@@ -103,13 +83,15 @@ fn prepare<R: BufRead + Drop, W: Write + Drop>(
     ensures chosen { IfOk result (λ _. IfUnchosen asked.now ⊥) }
     ensures untouched { IfUnchosen asked.now ((reader.new ≡ reader.old) × (writer.new ≡ writer.old)) }
 {
-    let console = console_for(alloc, asked.history, asked.request)?;
-    let (lines, marks) = marked_by(alloc, console, reader, writer)?;
-    let Some(marks) = marks else {
-        return Ok((lines, None));
-    };
-    let plan = write_plan(alloc, asked, &marks, writer)?;
-    Ok((lines, Some(plan)))
+    let mut console = console_for(alloc, asked.history, asked.request)?;
+    let session = converse(alloc, &mut console, reader, writer)?;
+    match session.end {
+        SessionEnd::Quit => Ok((session.lines, None)),
+        SessionEnd::Done => {
+            let plan = write_plan(alloc, asked, console.tree(), writer)?;
+            Ok((session.lines, Some(plan)))
+        }
+    }
 }
 
 /// Returns the fault of a restore by a plan as one of the console.
