@@ -27,7 +27,7 @@ sys.path.insert(0, os.path.join(os.path.dirname(os.path.dirname(os.path.abspath(
 from common import BENCH_PROGRAM as PROGRAM, run_measured
 
 STAGES = ("history", "view", "tree", "list", "mark", "plan")
-STEPS = ("history", "view", "tree", "/", "/home", "/home/user0/project1", "mark", "marked", "plan")
+STEPS = ("history", "view", "tree", "/", "/home", "/home/user0/project1", "mark", "plan")
 SUMMED = ("view", "tree", "mark", "plan")
 DEEP = "/home/user0/project1/"
 MOST_GROWTH = 13.0
@@ -134,7 +134,7 @@ class Measured:
         self.memory[stage].append(memory)
         for line in err.splitlines():
             step, _, spent = line.rpartition(" ")
-            self.seconds[step].append(int(spent) / 1_000_000)
+            self.seconds.setdefault(step, []).append(int(spent) / 1_000_000)
 
     def second(self, step):
         return statistics.median(self.seconds[step])

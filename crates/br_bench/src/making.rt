@@ -1,6 +1,6 @@
 //! A history of backups that is the same each time: a Full, and Incrementals that change, add and delete files.
 
-use anyhow::{Context, Result};
+use crate::fault::BenchFault;
 use br_history::{FileRow, History, JobRow, JobRows};
 use br_session::Span;
 use br_types::{JobId, Letter, Name, Path, SessionKey, VolName};
@@ -15,19 +15,19 @@ pub(crate) const FILESET: &[u8] = b"home";
 /// Numbers of a file of 184 bytes that is no hard link, as long as Bacula writes them.
 const NUMBERS: &str = "P0A Cat6a IGk B Po Po A C4 BAA I BfV5Ch BfV5Ch BfV5Ch A A C";
 
-/// Of what size a history is. What a number of rows stands for holds where `rows` is a multiple of 10, `paths` one of 1,000, and
-/// `jobs` less than `paths / rows` and than 97.
+/// The size of a history. The shares of rows are exact if `rows` is a multiple of 10, `paths` of 1,000, and `jobs` less than
+/// `paths / rows` and than 97.
 #[derive(Clone, Copy, Debug, PartialEq, Eq)]
 pub(crate) struct Size {
-    /// How many rows of files the Full has.
+    /// The number of file rows of the Full.
     pub(crate) paths: u32,
-    /// How many Incrementals there are.
+    /// The number of Incrementals.
     pub(crate) jobs: u32,
-    /// How many rows of files each Incremental has: a tenth are deletions, two tenths new files.
+    /// The number of file rows of each Incremental: a tenth are deletions, two tenths new files.
     pub(crate) rows: u32,
 }
 
-/// The path with this number: a file, or the directory of the files whose numbers come before. A project has a hundred paths,
+/// Returns the path with this number: a file, or the directory of the files whose numbers come before. A project has a hundred paths,
 /// a user ten projects.
 fn path_text(alloc: Global, number: u32) -> Result<String, AllocError> {
     let (user, project) = (number / 1000, number / 100 % 10);
@@ -42,14 +42,14 @@ fn path_text(alloc: Global, number: u32) -> Result<String, AllocError> {
     }
 }
 
-/// The path of a file that an Incremental adds, in the directory of the path with this number.
+/// Returns the path of a file that an Incremental adds, in the directory of the path with this number.
 fn added_text(alloc: Global, number: u32, job: u32) -> Result<String, AllocError> {
     let (user, project) = (number / 1000, number / 100 % 10);
     format!(in alloc; "/home/user{user}/project{project}/added{job:02}-{number:06}")
 }
 
-/// The row of a file, or of a deletion where the index is 0.
-fn file_row(alloc: Global, path: &str, index: u32) -> Result<FileRow> {
+/// Returns the row of a file, or of a deletion if the index is 0.
+fn file_row(alloc: Global, path: &str, index: u32) -> Result<FileRow, BenchFault> {
     Ok(FileRow {
         path: Path::new(alloc, path.as_bytes())?,
         index,
@@ -58,16 +58,16 @@ fn file_row(alloc: Global, path: &str, index: u32) -> Result<FileRow> {
     })
 }
 
-/// The row of the Full at a place. The files of a directory come in no order.
-fn full_row(alloc: Global, place: u32) -> Result<FileRow> {
+/// Returns the row of the Full at a place. The files of a directory come in no order.
+fn full_row(alloc: Global, place: u32) -> Result<FileRow, BenchFault> {
     let number = (place / 100 * 100).saturating_add(place % 100 * 37 % 100);
     let path = path_text(alloc, number)?;
     file_row(alloc, path.as_str(), place.saturating_add(1))
 }
 
-/// The row of an Incremental at a place, counted from 1 as the Incrementals are. Of ten rows one is a deletion, two are of new
+/// Returns the row of an Incremental at a place. Incrementals are counted from 1. Of ten rows one is a deletion, two are of new
 /// files, three of files that each Incremental has, and four of files that it alone has.
-fn changed_row(alloc: Global, size: Size, job: u32, place: u32) -> Result<FileRow> {
+fn changed_row(alloc: Global, size: Size, job: u32, place: u32) -> Result<FileRow, BenchFault> {
     let apart = size.paths.checked_div(size.rows).unwrap_or(1);
     let first = place.saturating_mul(apart);
     let own = first.saturating_add(job);
@@ -84,28 +84,29 @@ fn changed_row(alloc: Global, size: Size, job: u32, place: u32) -> Result<FileRo
     file_row(alloc, path.as_str(), index)
 }
 
-/// The rows of a job: of the Full where its number is 0, else of that Incremental.
-fn rows_of(alloc: Global, size: Size, job: u32) -> Result<Vec<FileRow>> {
+/// Returns the file rows of a job: of the Full if its number is 0, else of that Incremental.
+fn rows_of(alloc: Global, size: Size, job: u32) -> Result<Vec<FileRow>, BenchFault> {
     let count = if job == 0 { size.paths } else { size.rows };
     let mut rows = Vec::with_capacity(alloc, count as usize)?;
     for place in 0..count {
-        rows.push(if job == 0 {
+        let row = if job == 0 {
             full_row(alloc, place)?
         } else {
             changed_row(alloc, size, job, place)?
-        })?;
+        };
+        rows.push(row).map_err(AllocError::from)?;
     }
     Ok(rows)
 }
 
-fn letter(byte: u8) -> Result<Letter> {
-    Letter::new(byte).context("no letter")
+fn letter(byte: u8) -> Result<Letter, BenchFault> {
+    Letter::new(byte).ok_or(BenchFault::History)
 }
 
-/// The own row of a job, which starts as many seconds after the beginning of 1970 as its number says.
-fn job_row(alloc: Global, number: u32, level: u8) -> Result<JobRow> {
+/// Returns the row of a job, which starts `number` seconds after the beginning of 1970.
+fn job_row(alloc: Global, number: u32, level: u8) -> Result<JobRow, BenchFault> {
     Ok(JobRow {
-        id: JobId::new(number).context("no number of a job")?,
+        id: JobId::new(number).ok_or(BenchFault::History)?,
         kind: letter(b'B')?,
         level: letter(level)?,
         status: letter(b'T')?,
@@ -119,8 +120,8 @@ fn job_row(alloc: Global, number: u32, level: u8) -> Result<JobRow> {
     })
 }
 
-/// The one span of a job, in which all its files have a part.
-fn span_of(alloc: Global, number: u32, count: u32) -> Result<Span> {
+/// Returns the one span of a job, which has all its files.
+fn span_of(alloc: Global, number: u32, count: u32) -> Result<Span, BenchFault> {
     let vol = format!(in alloc; "Vol-{number:04}")?;
     Ok(Span {
         vol: VolName::new(alloc, vol.as_bytes())?,
@@ -132,17 +133,19 @@ fn span_of(alloc: Global, number: u32, count: u32) -> Result<Span> {
     })
 }
 
-/// All rows of a job: of the Full where its number is 0, else of that Incremental.
-fn job_of(alloc: Global, size: Size, job: u32) -> Result<JobRows> {
+/// Returns all rows of a job: of the Full if its number is 0, else of that Incremental.
+fn job_of(alloc: Global, size: Size, job: u32) -> Result<JobRows, BenchFault> {
     let files = rows_of(alloc, size, job)?;
     let number = job.saturating_add(1);
     let row = job_row(alloc, number, if job == 0 { b'F' } else { b'I' })?;
-    let spans = vec![in alloc; span_of(alloc, number, size.paths.max(size.rows))?]?;
+    let span = span_of(alloc, number, size.paths.max(size.rows))?;
+    let mut spans = Vec::new(alloc);
+    spans.push(span).map_err(AllocError::from)?;
     Ok(JobRows::new(row, files, spans)?)
 }
 
-/// The history.
-pub(crate) fn history_of(alloc: Global, size: Size) -> Result<History> {
+/// Makes the history of this size.
+pub(crate) fn history_of(alloc: Global, size: Size) -> Result<History, BenchFault> {
     let mut history = History::new(alloc);
     for job in 0..=size.jobs {
         history.push(job_of(alloc, size, job)?)?;
