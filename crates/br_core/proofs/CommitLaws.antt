@@ -5,7 +5,7 @@ use Rattle.std.proofs.lemmas.Bool.{and_parts, or_from}
 use Rattle.std.proofs.lemmas.List.Elements.{Contains-append_cases}
 use Rattle.std.specs.Prelude.{Contains, ◌==◌}
 use Rattle.std.specs.List.{AllByRecursion, list_all, list_any}
-use Rattle.br_model.specs.Volume.{Volume}
+use Rattle.br_model.specs.Volume.{Volume, Extends}
 use Rattle.br_model.specs.Name.{same_session}
 use Rattle.br_model.specs.Job.{JobRows, Job, IsJob, are_rows, no_pair, clash, pushed, is_history}
 use Rattle.br_model.specs.PlanMeaning.{rows_of_jobs}
@@ -14,9 +14,9 @@ use Rattle.br_model.proofs.AnswerLaws.{ok_is, refuse_ok}
 use Rattle.br_model.proofs.ListLaws.{all_append, all_pass, first_or_later, holds_of_all, none_in, none_pass, of_each, to_each}
 use Rattle.br_model.proofs.PairLaws.{no_pair_clashes, no_pair_from, pairs_append}
 use Rattle.br_model.proofs.SpanLaws.{job_stays}
-use Rattle.br_match.proofs.GrowthLaws.{extends_more}
+use Rattle.br_match.proofs.GrowthLaws.{extends_itself, extends_more}
 use Rattle.br_core.specs.Machine.{World, ToCommit, Event, Reply, IsCommitted, Goes, IsStart, IsStep, IsRun, job_of}
-use Rattle.br_core.specs.Machine.Event.{Commit, Plan, Claim, Read, Fail, Finish, Take, Deliver}
+use Rattle.br_core.specs.Machine.Event.{Commit, Plan, Claim, Read, Fail, Finish, Take, Deliver, CommitFinds, ReadFinds, FinishFinds}
 use Rattle.br_core.specs.Machine.Reply.{Done, Planned, Refused, Delivered}
 use Rattle.br_core.specs.Laws.{JobsHold}
 
@@ -34,67 +34,113 @@ run_keeps P each w after (e ∷ es) (r ∷ rs) run p = run_keeps P each run.0 af
 pub record IsLeft (before after : World) : Type 0 where
   pub jobs_are : after.jobs ≡ before.jobs
   pub volumes_are : after.volumes ≡ before.volumes
+  pub earlier_are : after.earlier ≡ before.earlier
 
 -- a state that is the one before has its jobs and volumes
 unchanged : (w after : World) → after ≡ w → IsLeft w after
-unchanged w after e = record { jobs_are = λ t. (e t).jobs; volumes_are = λ t. (e t).volumes }
+unchanged w after e = record { jobs_are = λ t. (e t).jobs; volumes_are = λ t. (e t).volumes; earlier_are = λ t. (e t).earlier }
+
+-- a job was committed, to volumes that only grew
+pub record IsGrown (before after : World) : Type 0 where
+  pub c : ToCommit
+  pub found : List Volume
+  pub committed : IsCommitted before c found after
+  pub extend : Extends after.volumes before.volumes
+
+-- a commit to found volumes
+pub grown : (w after : World) (c : ToCommit) (found : List Volume) → Extends found w.volumes → IsCommitted w c found after → IsGrown w after
+grown w after c found extends is = record { c = c; found = found; committed = is; extend = extends_more w.volumes found after.volumes is.extend extends }
 
 -- an event of one restore leaves the jobs and the volumes
 going_leaves : (w after : World) (number : ℕ) (event : Event) (reply : Reply) → Goes w number event reply after → IsLeft w after
-going_leaves w after number event Done h = record { jobs_are = λ t. (h.4 t).jobs; volumes_are = λ t. (h.4 t).volumes }
+going_leaves w after number event Done h = record { jobs_are = λ t. (h.4 t).jobs; volumes_are = λ t. (h.4 t).volumes; earlier_are = λ t. (h.4 t).earlier }
 going_leaves w after number event (Planned n) h = absurd h
 going_leaves w after number event (Refused n) h = unchanged w after h.1
 going_leaves w after number event (Delivered rs) h = absurd h
 
 -- a step commits a job, or leaves the jobs and the volumes
-pub step_commits : (w after : World) (event : Event) (reply : Reply) → IsStep w event reply after → IsLeft w after ⊎ ((c : ToCommit) × IsCommitted w c after)
-step_commits w after (Commit c) Done h = inr (c, h)
+pub step_commits : (w after : World) (event : Event) (reply : Reply) → IsStep w event reply after → IsLeft w after ⊎ IsGrown w after
+step_commits w after (Commit c) Done h = inr (grown w after c w.volumes (extends_itself w.volumes) h)
 step_commits w after (Commit c) (Planned n) h = absurd h
 step_commits w after (Commit c) (Refused n) h = inl (unchanged w after h.0)
 step_commits w after (Commit c) (Delivered rs) h = absurd h
+step_commits w after (CommitFinds c found) Done h = inr (grown w after c found h.0 h.1)
+step_commits w after (CommitFinds c found) (Planned n) h = absurd h
+step_commits w after (CommitFinds c found) (Refused n) h = inl (unchanged w after h.0)
+step_commits w after (CommitFinds c found) (Delivered rs) h = absurd h
 step_commits w after (Plan q script) Done h = absurd h
-step_commits w after (Plan q script) (Planned n) h = inl (record { jobs_are = λ t. (h.4 t).jobs; volumes_are = λ t. (h.4 t).volumes })
+step_commits w after (Plan q script) (Planned n) h = inl (record { jobs_are = λ t. (h.4 t).jobs; volumes_are = λ t. (h.4 t).volumes; earlier_are = λ t. (h.4 t).earlier })
 step_commits w after (Plan q script) (Refused n) h = inl (unchanged w after h.0)
 step_commits w after (Plan q script) (Delivered rs) h = absurd h
 step_commits w after (Claim number piece) reply h = inl (going_leaves w after number (Claim number piece) reply h)
-step_commits w after (Read number piece) reply h = inl (going_leaves w after number (Read number piece) reply h)
+step_commits w after (Read number piece commits) reply h = inl (going_leaves w after number (Read number piece commits) reply h)
+step_commits w after (ReadFinds number piece volumes) reply h = inl (going_leaves w after number (ReadFinds number piece volumes) reply h)
 step_commits w after (Fail number piece) reply h = inl (going_leaves w after number (Fail number piece) reply h)
 step_commits w after (Finish number piece) reply h = inl (going_leaves w after number (Finish number piece) reply h)
+step_commits w after (FinishFinds number piece volumes) reply h = inl (going_leaves w after number (FinishFinds number piece volumes) reply h)
 step_commits w after (Take number place) reply h = inl (going_leaves w after number (Take number place) reply h)
 step_commits w after (Deliver number) Done h = absurd h
 step_commits w after (Deliver number) (Planned n) h = absurd h
 step_commits w after (Deliver number) (Refused n) h = inl (unchanged w after h.1)
-step_commits w after (Deliver number) (Delivered rs) h = inl (record { jobs_are = λ t. (h.4 t).jobs; volumes_are = λ t. (h.4 t).volumes })
+step_commits w after (Deliver number) (Delivered rs) h = inl (record { jobs_are = λ t. (h.4 t).jobs; volumes_are = λ t. (h.4 t).volumes; earlier_are = λ t. (h.4 t).earlier })
 
 -- ---- volumes that hold jobs
 
--- the volumes of a state hold its jobs
-abbrev pub AllHold : World → Type 0
-AllHold w = (j : Job) → Contains w.jobs j → Holds w.volumes j
+-- the volumes extend those of an earlier state, and its jobs were there or are held
+record IsLater (first w : World) : Type 0 where
+  extend : Extends w.volumes first.volumes
+  each : (j : Job) → Contains w.jobs j → Contains first.jobs j ⊎ Holds w.volumes j
 
--- after a commit the volumes hold the jobs
-commit_holds : (w after : World) (c : ToCommit) → IsCommitted w c after → AllHold w → AllHold after
-commit_holds w after c is hold j among =
-    elim (Contains-append_cases w.jobs (job_of c is.written.spans ∷ []) j (subst (λ (js : List Job). Contains js j) is.jobs_are among)) [
-      | inl earlier ↦ job_stays w.volumes after.volumes j (extends_more w.volumes is.found after.volumes is.extend is.found_extend) (hold j earlier)
-      | inr new ↦
-          elim (first_or_later (job_of c is.written.spans) [] j new) [
-            | inl same ↦ subst (λ (k : Job). Holds after.volumes k) same is.holds
-            | inr later ↦ absurd (none_in j later)
-          ]
-    ]
+-- each state is later than itself
+later_itself : (w : World) → IsLater w w
+later_itself w = record { extend = extends_itself w.volumes; each = λ j among. inl among }
 
--- after each step they do
-step_holds : (w after : World) (event : Event) (reply : Reply) → IsStep w event reply after → AllHold w → AllHold after
-step_holds w after event reply step hold =
+-- where nothing was committed the later state is still later
+left_later : (first w after : World) → IsLeft w after → IsLater first w → IsLater first after
+left_later first w after left is = record {
+  extend = subst (λ (vs : List Volume). Extends vs first.volumes) (sym left.volumes_are) is.extend;
+  each = λ j among.
+      elim (is.each j (subst (λ (js : List Job). Contains js j) left.jobs_are among)) [
+        | inl old ↦ inl old
+        | inr holds ↦ inr (subst (λ (vs : List Volume). Holds vs j) (sym left.volumes_are) holds)
+      ];
+}
+
+-- after a commit it is
+grown_later : (first w after : World) → IsGrown w after → IsLater first w → IsLater first after
+grown_later first w after it is = record { extend = extends_more first.volumes w.volumes after.volumes it.extend is.extend; each = each }
+  where
+    new : Job
+    new = job_of it.c it.committed.written.spans
+
+    each : (j : Job) → Contains after.jobs j → Contains first.jobs j ⊎ Holds after.volumes j
+    each j among =
+        elim (Contains-append_cases w.jobs (new ∷ []) j (subst (λ (js : List Job). Contains js j) it.committed.jobs_are among)) [
+          | inl earlier ↦
+              elim (is.each j earlier) [
+                | inl old ↦ inl old
+                | inr holds ↦ inr (job_stays w.volumes after.volumes j it.extend holds)
+              ]
+          | inr last ↦
+              elim (first_or_later new [] j last) [
+                | inl same ↦ inr (subst (λ (k : Job). Holds after.volumes k) same it.committed.holds)
+                | inr none ↦ absurd (none_in j none)
+              ]
+        ]
+
+-- after each step it is
+step_later : (first w after : World) (event : Event) (reply : Reply) → IsStep w event reply after → IsLater first w → IsLater first after
+step_later first w after event reply step is =
     elim (step_commits w after event reply step) [
-      | inl left ↦ λ j among. subst (λ (vs : List Volume). Holds vs j) (sym left.volumes_are) (hold j (subst (λ (js : List Job). Contains js j) left.jobs_are among))
-      | inr it ↦ commit_holds w after it.0 it.1 hold
+      | inl left ↦ left_later first w after left is
+      | inr it ↦ grown_later first w after it is
     ]
 
--- if the volumes of the start hold its jobs, those of every state hold the jobs of that state
+-- volumes only grow, and each job is held for itself
 pub jobs_hold_lem : JobsHold
-jobs_hold_lem start last events replies begins hold run = run_keeps AllHold step_holds start last events replies run hold
+jobs_hold_lem first last events replies run =
+    let is = run_keeps (IsLater first) (step_later first) first last events replies run (later_itself first) in
+    (is.extend, is.each, λ j holds. job_stays first.volumes last.volumes j is.extend holds)
 
 -- ---- histories
 
@@ -132,10 +178,10 @@ step_records w after event reply step is =
         are_jobs = subst (λ (js : List Job). AllByRecursion IsJob js) (sym left.jobs_are) is.are_jobs;
       }
       | inr it ↦ record {
-        history = pushed_is_history (rows_of_jobs w.jobs) (rows_of_jobs after.jobs) (job_of it.0 it.1.written.spans).rows is.history it.1.is_job.fit it.1.fits;
+        history = pushed_is_history (rows_of_jobs w.jobs) (rows_of_jobs after.jobs) (job_of it.c it.committed.written.spans).rows is.history it.committed.is_job.fit it.committed.fits;
         are_jobs =
-            subst (λ (js : List Job). AllByRecursion IsJob js) (sym it.1.jobs_are)
-            (all_append IsJob w.jobs (job_of it.0 it.1.written.spans ∷ []) is.are_jobs (it.1.is_job, tt));
+            subst (λ (js : List Job). AllByRecursion IsJob js) (sym it.committed.jobs_are)
+            (all_append IsJob w.jobs (job_of it.c it.committed.written.spans ∷ []) is.are_jobs (it.committed.is_job, tt));
       }
     ]
 

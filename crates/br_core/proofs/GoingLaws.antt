@@ -1,5 +1,5 @@
 -- What holds of a restore that is under way, and stays at each of its moves.
-use Rattle.std.proofs.Common.{◌≡◌, ℕ, List, [], ◌∷◌, ◌++◌, Some, None, Ok, refl, sym, ap, subst, ◌∙◌, inl, inr}
+use Rattle.std.proofs.Common.{◌≡◌, ℕ, ◌<◌, ◌≤◌, arith, length, List, [], ◌∷◌, ◌++◌, Some, None, Ok, refl, sym, ap, subst, ◌∙◌, inl, inr}
 use Rattle.std.proofs.lemmas.List.Elements.{Contains-append_left, Contains-append_right, Contains-append_cases}
 use Rattle.std.proofs.lemmas.Option.{same_Some, slice_get-map}
 use Rattle.std.specs.Prelude.{Contains, option_map, slice_get}
@@ -12,19 +12,21 @@ use Rattle.br_model.proofs.AnswerLaws.{bind_ok, ok_is}
 use Rattle.br_model.proofs.ListLaws.{all_at, first_or_later, has_at, none_in}
 use Rattle.br_match.specs.Walk.{step_on, rest_on, IsWalked}
 use Rattle.br_match.proofs.FoundLaws.{walk_begins, walk_ends, walk_follows, walk_goes_on}
-use Rattle.br_core.specs.Machine.{World, Restore, Status, Event, IsRead, IsAtEnd, IsTaken, IsWhole, Moves, goes, planned}
+use Rattle.br_core.specs.Machine.{World, Restore, Status, Event, AreAfter, stages_of, IsRead, IsAtEnd, IsTaken, IsWhole, Moves, goes, planned}
 use Rattle.br_core.specs.Machine.Status.{Waiting, Claimed, Finished}
-use Rattle.br_core.specs.Machine.Event.{Commit, Plan, Claim, Read, Fail, Finish, Take, Deliver}
+use Rattle.br_core.specs.Machine.Event.{Commit, Plan, Claim, Read, Fail, Finish, Take, Deliver, CommitFinds, ReadFinds, FinishFinds}
+use Rattle.br_match.proofs.GrowthLaws.{extends_itself}
 use Rattle.br_core.proofs.AlikeLaws.{step_alike}
 use Rattle.br_core.proofs.PlanPieceLaws.{IsPieceOf, IsReadable}
 use Rattle.br_core.proofs.PlaceLaws.{was_there, without}
 use Rattle.br_core.proofs.HeldLaws.{IsHeld, batch_is_held, held_where_taken, held_with_batch, one_set, was_taken}
 use Rattle.br_core.proofs.StatusLaws.{IsAt, AreAt, at_weaker, are_at_new, claimed_at}
 
--- The restore is one of the plan over the volumes, what is on its way and what was taken are hits
--- of the set, and each piece stands somewhere.
-pub record IsGoing (volumes : List Volume) (plan : model.Plan) (set : Hits) (r : Restore) : Type 0 where
+-- The restore is one of the plan over the volumes that so many commits left, what is on its way and
+-- what was taken are hits of the set, and each piece stands somewhere.
+pub record IsGoing (volumes : List Volume) (commits : ℕ) (plan : model.Plan) (set : Hits) (r : Restore) : Type 0 where
   pub volumes_are : r.volumes ≡ volumes
+  pub commits_are : r.commits ≡ commits
   pub plan_is : r.plan ≡ plan
   pub on_their_way : (batch : List Hit) (h : Hit) → Contains r.transit batch → Contains batch h → HasHit set h
   pub taken_are : AreAmong r.taken set
@@ -33,11 +35,12 @@ pub record IsGoing (volumes : List Volume) (plan : model.Plan) (set : Hits) (r :
 -- ---- moves
 
 -- a claim, a failure: the piece goes where nothing is asked of it, or its walk begins
-going_to : (volumes : List Volume) (plan : model.Plan) (set : Hits) (r : Restore) (n : ℕ) (status : Status) → IsGoing volumes plan set r
+going_to : (volumes : List Volume) (commits : ℕ) (plan : model.Plan) (set : Hits) (r : Restore) (n : ℕ) (status : Status) → IsGoing volumes commits plan set r
     → ((piece : Piece) → slice_get (pieces_of plan.groups) n ≡ Some piece → IsAt volumes (IsHeld r.transit r.taken) piece status)
-    → IsGoing volumes plan set (goes r n status)
-going_to volumes plan set r n status is here = record {
+    → IsGoing volumes commits plan set (goes r n status)
+going_to volumes commits plan set r n status is here = record {
   volumes_are = is.volumes_are;
+  commits_are = is.commits_are;
   plan_is = is.plan_is;
   on_their_way = is.on_their_way;
   taken_are = is.taken_are;
@@ -51,9 +54,9 @@ walked_are_hits volumes piece a found hits h walked defined inside =
     subst (λ (hs : List Hit). Contains hs h) (ok_is (found ++ p.0) hits p.2) (Contains-append_left found p.0 h inside)
 
 -- a read
-going_read : (volumes : List Volume) (plan : model.Plan) (set : Hits) (r after : Restore) (n : ℕ) → IsReadable volumes plan.groups set → IsGoing volumes plan set r → IsRead r n after
-    → IsGoing volumes plan set after
-going_read volumes plan set r after n readable is read = subst (IsGoing volumes plan set) (sym read.after_is) going
+going_read : (volumes : List Volume) (commits : ℕ) (plan : model.Plan) (set : Hits) (r after : Restore) (n : ℕ) (seen : List Volume) → IsReadable volumes plan.groups set → IsGoing volumes commits plan set r
+    → Extends seen r.volumes → IsRead r n seen after → IsGoing volumes commits plan set after
+going_read volumes commits plan set r after n seen readable is extend read = subst (IsGoing volumes commits plan set) (sym read.after_is) going
   where
     the_piece : Piece
     the_piece = read.the_piece
@@ -67,11 +70,11 @@ going_read volumes plan set r after n readable is read = subst (IsGoing volumes 
     was : IsAt volumes (IsHeld r.transit r.taken) the_piece (Claimed read.address)
     was = claimed_at volumes (pieces_of plan.groups) (IsHeld r.transit r.taken) r.statuses n read.address the_piece is.pieces at_n read.claimed
 
-    extends : Extends read.volumes volumes
-    extends = subst (Extends read.volumes) is.volumes_are read.extend
+    extends : Extends seen volumes
+    extends = subst (Extends seen) is.volumes_are extend
 
     step : step_on volumes the_piece read.address ≡ Ok (Some (read.batch, read.next))
-    step = sym (step_alike volumes read.volumes the_piece read.address own.bounded (walk_follows volumes the_piece read.address was.0 was.1) extends) ∙ read.step
+    step = sym (step_alike volumes seen the_piece read.address own.bounded (walk_follows volumes the_piece read.address was.0 was.1) extends) ∙ read.step
 
     walked : IsWalked volumes the_piece read.next (was.0 ++ read.batch)
     walked = walk_goes_on volumes the_piece read.address read.next was.0 (was.0 ++ read.batch) was.1 (record { batch = read.batch; step = step; pushed = refl })
@@ -101,9 +104,10 @@ going_read volumes plan set r after n readable is read = subst (IsGoing volumes 
               ]
         ]
 
-    going : IsGoing volumes plan set (record (goes r n (Claimed read.next)) { transit = r.transit ++ read.batch ∷ [] })
+    going : IsGoing volumes commits plan set (record (goes r n (Claimed read.next)) { transit = r.transit ++ read.batch ∷ [] })
     going = record {
       volumes_are = is.volumes_are;
+      commits_are = is.commits_are;
       plan_is = is.plan_is;
       on_their_way = on_their_way;
       taken_are = is.taken_are;
@@ -112,9 +116,9 @@ going_read volumes plan set r after n readable is read = subst (IsGoing volumes 
     }
 
 -- the end of a walk
-going_ended : (volumes : List Volume) (plan : model.Plan) (set : Hits) (r : Restore) (n : ℕ) → IsReadable volumes plan.groups set → IsGoing volumes plan set r → IsAtEnd r n
-    → IsGoing volumes plan set (goes r n Finished)
-going_ended volumes plan set r n readable is end = going_to volumes plan set r n Finished is here
+going_ended : (volumes : List Volume) (commits : ℕ) (plan : model.Plan) (set : Hits) (r : Restore) (n : ℕ) (seen : List Volume) → IsReadable volumes plan.groups set → IsGoing volumes commits plan set r
+    → Extends seen r.volumes → IsAtEnd r n seen → IsGoing volumes commits plan set (goes r n Finished)
+going_ended volumes commits plan set r n seen readable is extend end = going_to volumes commits plan set r n Finished is here
   where
     at_n : slice_get (pieces_of plan.groups) n ≡ Some end.the_piece
     at_n = ap (λ (p : model.Plan). slice_get (pieces_of p.groups) n) (sym is.plan_is) ∙ end.piece_is
@@ -124,8 +128,8 @@ going_ended volumes plan set r n readable is end = going_to volumes plan set r n
 
     step : step_on volumes end.the_piece end.address ≡ Ok None
     step =
-        sym (step_alike volumes end.volumes end.the_piece end.address (readable.each n end.the_piece at_n).bounded (walk_follows volumes end.the_piece end.address was.0 was.1)
-        (subst (Extends end.volumes) is.volumes_are end.extend)) ∙ end.ends
+        sym (step_alike volumes seen end.the_piece end.address (readable.each n end.the_piece at_n).bounded (walk_follows volumes end.the_piece end.address was.0 was.1)
+        (subst (Extends seen) is.volumes_are extend)) ∙ end.ends
 
     here : (piece : Piece) → slice_get (pieces_of plan.groups) n ≡ Some piece → IsAt volumes (IsHeld r.transit r.taken) piece Finished
     here piece e =
@@ -133,8 +137,8 @@ going_ended volumes plan set r n readable is end = going_to volumes plan set r n
         (was.0, walk_ends volumes end.the_piece end.address was.0 was.0 was.1 step refl, was.2)
 
 -- a taking
-going_taken : (volumes : List Volume) (plan : model.Plan) (set : Hits) (r after : Restore) (place : ℕ) → IsGoing volumes plan set r → IsTaken r place after → IsGoing volumes plan set after
-going_taken volumes plan set r after place is take = subst (IsGoing volumes plan set) (sym take.after_is) going
+going_taken : (volumes : List Volume) (commits : ℕ) (plan : model.Plan) (set : Hits) (r after : Restore) (place : ℕ) → IsGoing volumes commits plan set r → IsTaken r place after → IsGoing volumes commits plan set after
+going_taken volumes commits plan set r after place is take = subst (IsGoing volumes commits plan set) (sym take.after_is) going
   where
     each : (h : Hit) → Contains take.batch h → HasHit set h
     each h inside = is.on_their_way take.batch h (has_at r.transit place take.batch take.under_way) inside
@@ -146,9 +150,10 @@ going_taken volumes plan set r after place is take = subst (IsGoing volumes plan
           | inr new ↦ each h new
         ]
 
-    going : IsGoing volumes plan set (record r { transit = without place r.transit; taken = with_hits r.taken take.batch })
+    going : IsGoing volumes commits plan set (record r { transit = without place r.transit; taken = with_hits r.taken take.batch })
     going = record {
       volumes_are = is.volumes_are;
+      commits_are = is.commits_are;
       plan_is = is.plan_is;
       on_their_way = λ batch h among inside. is.on_their_way batch h (was_there r.transit place batch among) inside;
       taken_are = taken;
@@ -161,26 +166,45 @@ going_taken volumes plan set r after place is take = subst (IsGoing volumes plan
           );
     }
 
+-- The volumes after that many commits, and those after each greater number of them, extend these.
+pub record AreGrown (volumes : List Volume) (commits : ℕ) (stages : List (List Volume)) : Type 0 where
+  pub since : commits < length stages
+  pub extend : (n : ℕ) (later : List Volume) → commits ≤ n → slice_get stages n ≡ Some later → Extends later volumes
+
+-- the volumes that a read goes over extend those of the plan
+seen_extend : (volumes : List Volume) (commits n : ℕ) (plan : model.Plan) (set : Hits) (w : World) (r : Restore) (seen : List Volume) → AreGrown volumes commits (stages_of w)
+    → IsGoing volumes commits plan set r → AreAfter w r n seen → Extends seen r.volumes
+seen_extend volumes commits n plan set w r seen grown is after =
+    subst (Extends seen) (sym is.volumes_are) (grown.extend n seen (omega (arith, is.commits_are, after.since)) after.are)
+
 -- each move of a restore that is under way
-pub going_moves : (volumes : List Volume) (plan : model.Plan) (set : Hits) (event : Event) (r after : Restore) → IsReadable volumes plan.groups set → IsGoing volumes plan set r → Moves event r after
-    → IsGoing volumes plan set after
-going_moves volumes plan set (Claim number n) r after readable is move =
-    subst (IsGoing volumes plan set) (sym move.1)
-    (going_to volumes plan set r n (Claimed 0) is (λ piece e. ([], walk_begins volumes piece 0 [] refl refl, λ h inside. absurd (none_in h inside))))
-going_moves volumes plan set (Read number n) r after readable is move = going_read volumes plan set r after n readable is move
-going_moves volumes plan set (Fail number n) r after readable is move = subst (IsGoing volumes plan set) (sym move.1) (going_to volumes plan set r n Waiting is (λ piece e. tt))
-going_moves volumes plan set (Finish number n) r after readable is move = subst (IsGoing volumes plan set) (sym move.1) (going_ended volumes plan set r n readable is move.0)
-going_moves volumes plan set (Take number place) r after readable is move = going_taken volumes plan set r after place is move
-going_moves volumes plan set (Commit c) r after readable is move = absurd move
-going_moves volumes plan set (Plan q script) r after readable is move = absurd move
-going_moves volumes plan set (Deliver number) r after readable is move = absurd move
+pub going_moves : (volumes : List Volume) (commits : ℕ) (plan : model.Plan) (set : Hits) (w : World) (event : Event) (r after : Restore) → IsReadable volumes plan.groups set
+    → AreGrown volumes commits (stages_of w) → IsGoing volumes commits plan set r → Moves w event r after → IsGoing volumes commits plan set after
+going_moves volumes commits plan set w (Claim number n) r after readable grown is move =
+    subst (IsGoing volumes commits plan set) (sym move.1)
+    (going_to volumes commits plan set r n (Claimed 0) is (λ piece e. ([], walk_begins volumes piece 0 [] refl refl, λ h inside. absurd (none_in h inside))))
+going_moves volumes commits plan set w (Read number n c) r after readable grown is move =
+    going_read volumes commits plan set r after n move.0 readable is (seen_extend volumes commits c plan set w r move.0 grown is move.1) move.2
+going_moves volumes commits plan set w (ReadFinds number n found) r after readable grown is move = going_read volumes commits plan set r after n found readable is move.0 move.1
+going_moves volumes commits plan set w (Fail number n) r after readable grown is move =
+    subst (IsGoing volumes commits plan set) (sym move.1) (going_to volumes commits plan set r n Waiting is (λ piece e. tt))
+going_moves volumes commits plan set w (Finish number n) r after readable grown is move =
+    subst (IsGoing volumes commits plan set) (sym move.1) (going_ended volumes commits plan set r n r.volumes readable is (extends_itself r.volumes) move.0)
+going_moves volumes commits plan set w (FinishFinds number n found) r after readable grown is move =
+    subst (IsGoing volumes commits plan set) (sym move.2) (going_ended volumes commits plan set r n found readable is move.0 move.1)
+going_moves volumes commits plan set w (Take number place) r after readable grown is move = going_taken volumes commits plan set r after place is move
+going_moves volumes commits plan set w (Commit c) r after readable grown is move = absurd move
+going_moves volumes commits plan set w (CommitFinds c found) r after readable grown is move = absurd move
+going_moves volumes commits plan set w (Plan q script) r after readable grown is move = absurd move
+going_moves volumes commits plan set w (Deliver number) r after readable grown is move = absurd move
 
 -- ---- a restore at its beginning, and one that is whole
 
 -- a restore that was planned just now is under way
-pub going_begins : (w : World) (q : Request) (marks : List (List ℕ)) (plan : model.Plan) (set : Hits) → IsGoing w.volumes plan set (planned w q marks plan)
+pub going_begins : (w : World) (q : Request) (marks : List (List ℕ)) (plan : model.Plan) (set : Hits) → IsGoing w.volumes (length w.earlier) plan set (planned w q marks plan)
 going_begins w q marks plan set = record {
   volumes_are = refl;
+  commits_are = refl;
   plan_is = refl;
   on_their_way = λ batch h among inside. absurd (none_in batch among);
   taken_are = λ h has. absurd (nothing h has);
@@ -191,8 +215,8 @@ going_begins w q marks plan set = record {
     nothing h has = let none = sym (get-empty hit_cmp (h.key, h.spot)) ∙ has in absurd cc
 
 -- if all pieces are finished and nothing is on its way, the taken hits are the set
-pub whole_is_set : (volumes : List Volume) (plan : model.Plan) (set : Hits) (r : Restore) → IsReadable volumes plan.groups set → IsGoing volumes plan set r → IsWhole r → r.taken ≡ set
-whole_is_set volumes plan set r readable is whole = one_set r.taken set is.taken_are back
+pub whole_is_set : (volumes : List Volume) (commits : ℕ) (plan : model.Plan) (set : Hits) (r : Restore) → IsReadable volumes plan.groups set → IsGoing volumes commits plan set r → IsWhole r → r.taken ≡ set
+whole_is_set volumes commits plan set r readable is whole = one_set r.taken set is.taken_are back
   where
     back : (h : Hit) → HasHit set h → HasHit r.taken h
     back h has =

@@ -175,10 +175,10 @@ holds = record {
 -- ---- the commit
 
 unfoldable pub nothing : World
-nothing = record { jobs = []; volumes = []; restores = [] }
+nothing = record { jobs = []; volumes = []; earlier = []; restores = [] }
 
 unfoldable pub committed : World
-committed = record { jobs = job ∷ []; volumes = volumes; restores = [] }
+committed = record { jobs = job ∷ []; volumes = volumes; earlier = [] ∷ []; restores = [] }
 
 unfoldable pub begins : IsStart nothing
 unfolding nothing committing
@@ -191,14 +191,13 @@ more_than_nothing vs name bytes found = absurd cc
 unfoldable pub commits : IsStep nothing (Commit to_commit) Done committed
 unfolding nothing committed committing
 commits = record {
-  found = [];
   written = written;
-  found_extend = more_than_nothing [];
   is_written = is_written;
   fits = refl;
   is_job = is_job;
   jobs_are = refl;
   extend = more_than_nothing volumes;
   holds = holds;
+  earlier_are = refl;
   restores_are = refl;
 }

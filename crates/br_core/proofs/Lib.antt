@@ -5,9 +5,11 @@ pub mod PlaceLaws
 pub mod HeldLaws
 pub mod StatusLaws
 pub mod GoingLaws
+pub mod PlannedLaws
 pub mod RunLaws
 mod Computing
 mod JobExamples
 mod PlanExamples
 mod ReadExamples
+mod StageExamples
 mod MachineExamples

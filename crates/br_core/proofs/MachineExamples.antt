@@ -1,28 +1,23 @@
 -- A run by example: what was read is taken from the last batch to the first, and delivered; and the
--- headline applies to the run.
-use Rattle.std.proofs.Common.{◌≡◌, List, [], ◌∷◌, ◌++◌, map, Some, None, Ok, refl, sym, ap, subst, ◌∙◌, inl, inr}
+-- headline applies to the run, with nothing asked of the volumes.
+use Rattle.std.proofs.Common.{◌≡◌, List, [], ◌∷◌, ◌++◌, map, Some, None, Ok, refl, sym, ap, ◌∙◌}
 use Rattle.std.specs.Prelude.{codes}
-use Rattle.std.specs.List.{AllZip}
 use Rattle.std.specs.FinMap.{empty, entries}
 use Rattle.br_model.specs.Order.{put_all}
 use Rattle.br_model.specs.Block.{Fragment}
 use Rattle.br_model.specs.Meaning.{Hit, Hits, hit_cmp, hit_entry, with_hits}
 use Rattle.br_model.specs.Restored.{Restored, HitList, files, files_listed}
-use Rattle.br_model.specs.View.{view_of}
-use Rattle.br_model.specs.Plan.{selection}
-use Rattle.br_model.specs.PlanMeaning.{IsCopy, by_key}
-use Rattle.br_model.specs.Stored.{Holds}
 use Rattle.br_model.proofs.HitLaws.{hit_cmp_total}
 use Rattle.br_model.proofs.OrderLaws.{put_all-entries}
-use Rattle.br_model.proofs.ListLaws.{first_or_later, none_in}
-use Rattle.br_core.specs.Machine.{World, Event, Reply, IsStep, IsRun, marks_of}
+use Rattle.br_model.proofs.ListLaws.{none_in}
+use Rattle.br_core.specs.Machine.{World, Event, Reply, IsStep, IsRun}
 use Rattle.br_core.specs.Machine.Status.{Waiting, Finished}
-use Rattle.br_core.specs.Machine.Event.{Commit, Claim, Read, Fail, Finish, Take, Deliver}
-use Rattle.br_core.specs.Machine.Reply.{Done, Refused, Delivered}
-use Rattle.br_core.specs.Laws.{IsPlanned}
+use Rattle.br_core.specs.Machine.Event.{Commit, Plan, Claim, Read, Fail, Finish, Take, Deliver, ReadFinds, FinishFinds}
+use Rattle.br_core.specs.Machine.Reply.{Done, Planned, Refused, Delivered}
+use Rattle.br_core.specs.Laws.{WasPlanned, OldOnesHold, IsRestored}
 use Rattle.br_core.proofs.RunLaws.{headline_lem}
-use Rattle.br_core.proofs.JobExamples.{key, saved, to_commit, volumes, job, committing, holds, nothing, committed, begins, commits}
-use Rattle.br_core.proofs.PlanExamples.{request, script, plan, restore, going, is_chosen, is_plan, plans}
+use Rattle.br_core.proofs.JobExamples.{key, saved, to_commit, volumes, job, nothing, committed, begins, commits}
+use Rattle.br_core.proofs.PlanExamples.{request, script, plan, restore, going, plans, later}
 use Rattle.br_core.proofs.ReadExamples.{in_0, in_1, in_2, stepping, refuses, claims, reads, fails, claims_again, reads_again, finishes, claims_other, reads_other, reads_on, finishes_other}
 
 -- ---- the takes, from the last batch to the first
@@ -90,7 +85,7 @@ unfolding the_file taking
 files_are = sym (ap (λ (es : HitList). files_listed es (Some plan.names)) lists_all)
 
 over : World
-over = record { jobs = job ∷ []; volumes = volumes; restores = None ∷ [] }
+over = record { jobs = job ∷ []; volumes = volumes; earlier = [] ∷ []; restores = None ∷ [] }
 
 delivers : IsStep (read_whole [] taken_4) (Deliver 0) (Delivered (the_file ∷ [])) over
 unfolding over taking
@@ -98,48 +93,35 @@ delivers = (restore (Finished ∷ Finished ∷ []) [] taken_4, refl, record { fi
 
 -- ---- the whole run, to which the laws apply
 
-before : List Event
-before = Commit to_commit ∷ []
-
 between : List Event
 between =
-    Deliver 0 ∷ Claim 0 0 ∷ Read 0 0 ∷ Fail 0 0 ∷ Claim 0 0 ∷ Read 0 0 ∷ Finish 0 0 ∷ Claim 0 1 ∷ Read 0 1 ∷ Read 0 1 ∷ Finish 0 1
-    ∷ Take 0 3 ∷ Take 0 2 ∷ Take 0 1 ∷ Take 0 0 ∷ []
+    Deliver 0 ∷ Claim 0 0 ∷ Read 0 0 1 ∷ Fail 0 0 ∷ Claim 0 0 ∷ ReadFinds 0 0 later ∷ Finish 0 0 ∷ Claim 0 1 ∷ Read 0 1 1 ∷ ReadFinds 0 1 later
+    ∷ FinishFinds 0 1 later ∷ Take 0 3 ∷ Take 0 2 ∷ Take 0 1 ∷ Take 0 0 ∷ []
+
+events : List Event
+events = Commit to_commit ∷ Plan request script ∷ between
 
 replies : List Reply
 replies = Refused 59 ∷ Done ∷ Done ∷ Done ∷ Done ∷ Done ∷ Done ∷ Done ∷ Done ∷ Done ∷ Done ∷ Done ∷ Done ∷ Done ∷ Done ∷ []
-
-runs_before : IsRun nothing before (Done ∷ []) committed
-unfolding before
-runs_before = (committed, commits, refl)
 
 runs_between : IsRun (going (Waiting ∷ Waiting ∷ []) [] empty) between replies (read_whole [] taken_4)
 unfolding between replies read_whole
 runs_between = (_, refuses, (_, claims, (_, reads, (_, fails, (_, claims_again, (_, reads_again, (_, finishes, (_, claims_other, (_, reads_other, (_, reads_on, (_, finishes_other, (_, takes_3, (_, takes_2, (_, takes_1, (_, takes_0, refl)))))))))))))))
 
--- the premises of the laws hold of the run
-is_planned : IsPlanned request script 0 committed (read_whole [] taken_4) (job.rows ∷ []) plan
-unfolding committed committing
-is_planned = record {
-  start = nothing;
-  begun = going (Waiting ∷ Waiting ∷ []) [] empty;
-  before = before;
-  between = between;
-  replies_before = Done ∷ [];
-  replies_between = replies;
-  is_start = begins;
-  run_before = runs_before;
-  plan_step = plans;
-  run_between = runs_between;
-  chosen_are = is_chosen;
-  plan_is = is_plan;
-  hold = λ j among chosen.
-      elim (first_or_later job [] j among) [
-        | inl same ↦ subst (Holds volumes) same holds
-        | inr none ↦ absurd (none_in j none)
-      ];
-}
+runs : IsRun nothing events (Done ∷ Planned 0 ∷ replies) (read_whole [] taken_4)
+unfolding events
+runs = (committed, commits, (going (Waiting ∷ Waiting ∷ []) [] empty, plans, runs_between))
 
--- by the headline the file is the copy of the selected entry
-is_copy : AllZip (IsCopy committed.jobs) (by_key (selection (view_of (job.rows ∷ [])) (marks_of (job.rows ∷ []) script))) (the_file ∷ [])
-is_copy = (headline_lem request script 0 committed (read_whole [] taken_4) over (job.rows ∷ []) plan (the_file ∷ []) is_planned delivers).0
+-- by the headline the restore was planned, and since its job was committed in the run, nothing is
+-- asked of the volumes: the file is the copy of the selected entry
+was_planned : WasPlanned nothing (read_whole [] taken_4) events (Done ∷ Planned 0 ∷ replies) 0
+was_planned = (headline_lem nothing (read_whole [] taken_4) over events (Done ∷ Planned 0 ∷ replies) 0 (the_file ∷ []) begins runs delivers).0
+
+-- no job was there before the first step
+none_before : OldOnesHold nothing was_planned.moment was_planned.chosen
+unfolding nothing
+none_before j among is_chosen = absurd (none_in j among)
+
+is_restored : IsRestored was_planned.moment was_planned.chosen was_planned.script was_planned.plan (the_file ∷ [])
+is_restored =
+    (headline_lem nothing (read_whole [] taken_4) over events (Done ∷ Planned 0 ∷ replies) 0 (the_file ∷ []) begins runs delivers).1 was_planned none_before

@@ -48,6 +48,7 @@ unfoldable pub restore : List Status → List (List Hit) → Hits → Restore
 restore statuses transit taken = record {
   jobs = job ∷ [];
   volumes = volumes;
+  commits = 1;
   request = request;
   marks = codes "/a" ∷ [];
   plan = plan;
@@ -57,7 +58,7 @@ restore statuses transit taken = record {
 }
 
 unfoldable pub going : List Status → List (List Hit) → Hits → World
-going statuses transit taken = record { jobs = job ∷ []; volumes = volumes; restores = Some (restore statuses transit taken) ∷ [] }
+going statuses transit taken = record { jobs = job ∷ []; volumes = volumes; earlier = [] ∷ []; restores = Some (restore statuses transit taken) ∷ [] }
 
 unfoldable pub planning : Unit {0}
 unfolding nothing committed request script group plan restore going committing

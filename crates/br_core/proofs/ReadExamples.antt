@@ -1,16 +1,15 @@
 -- A delivery that is refused, and reads with a failure and a repeat while the volumes grow, by
 -- example.
-use Rattle.std.proofs.Common.{◌≡◌, ℕ, List, [], ◌∷◌, refl, sym, subst}
+use Rattle.std.proofs.Common.{◌≡◌, ℕ, List, [], ◌∷◌, refl, sym, subst, lit≤}
 use Rattle.std.proofs.lemmas.Option.{same_Some}
 use Rattle.std.specs.Prelude.{codes}
 use Rattle.std.specs.List.{AllByRecursion}
 use Rattle.std.specs.FinMap.{empty}
 use Rattle.br_model.specs.Block.{Fragment}
 use Rattle.br_model.specs.Meaning.{Piece, Hit}
-use Rattle.br_match.proofs.GrowthLaws.{extends_itself}
 use Rattle.br_core.specs.Machine.{Restore, IsStep, IsWhole}
 use Rattle.br_core.specs.Machine.Status.{Waiting, Claimed, Finished}
-use Rattle.br_core.specs.Machine.Event.{Claim, Read, Fail, Finish, Deliver}
+use Rattle.br_core.specs.Machine.Event.{Claim, Read, Fail, Finish, Deliver, ReadFinds, FinishFinds}
 use Rattle.br_core.specs.Machine.Reply.{Done, Refused}
 use Rattle.br_core.proofs.JobExamples.{key, first, second, third, fourth, volumes}
 use Rattle.br_core.proofs.PlanExamples.{group, restore, going, planning, later, go_on}
@@ -52,24 +51,26 @@ unfoldable pub claims : IsStep (going (Waiting ∷ Waiting ∷ []) [] empty) (Cl
 unfolding stepping
 claims = (restore (Waiting ∷ Waiting ∷ []) [] empty, restore (Claimed 0 ∷ Waiting ∷ []) [] empty, refl, (refl, refl), refl)
 
-unfoldable pub reads : IsStep (going (Claimed 0 ∷ Waiting ∷ []) [] empty) (Read 0 0) Done (going (Claimed 64 ∷ Waiting ∷ []) (in_0 ∷ []) empty)
+unfoldable pub reads : IsStep (going (Claimed 0 ∷ Waiting ∷ []) [] empty) (Read 0 0 1) Done (going (Claimed 64 ∷ Waiting ∷ []) (in_0 ∷ []) empty)
 unfolding stepping
 reads = (
   restore (Claimed 0 ∷ Waiting ∷ []) [] empty,
   restore (Claimed 64 ∷ Waiting ∷ []) (in_0 ∷ []) empty,
   refl,
-  record {
-    address = 0;
-    next = 64;
-    batch = in_0;
-    the_piece = piece 0 (codes "A") 63;
-    volumes = volumes;
-    claimed = refl;
-    piece_is = refl;
-    extend = extends_itself volumes;
-    step = refl;
-    after_is = refl;
-  },
+  (
+    volumes,
+    record { since = lit≤ tt; are = refl },
+    record {
+      address = 0;
+      next = 64;
+      batch = in_0;
+      the_piece = piece 0 (codes "A") 63;
+      claimed = refl;
+      piece_is = refl;
+      step = refl;
+      after_is = refl;
+    },
+  ),
   refl,
 )
 
@@ -81,24 +82,25 @@ unfoldable pub claims_again : IsStep (going (Waiting ∷ Waiting ∷ []) (in_0 �
 unfolding stepping
 claims_again = (restore (Waiting ∷ Waiting ∷ []) (in_0 ∷ []) empty, restore (Claimed 0 ∷ Waiting ∷ []) (in_0 ∷ []) empty, refl, (refl, refl), refl)
 
-unfoldable pub reads_again : IsStep (going (Claimed 0 ∷ Waiting ∷ []) (in_0 ∷ []) empty) (Read 0 0) Done (going (Claimed 64 ∷ Waiting ∷ []) (in_0 ∷ in_0 ∷ []) empty)
+unfoldable pub reads_again : IsStep (going (Claimed 0 ∷ Waiting ∷ []) (in_0 ∷ []) empty) (ReadFinds 0 0 later) Done (going (Claimed 64 ∷ Waiting ∷ []) (in_0 ∷ in_0 ∷ []) empty)
 unfolding stepping
 reads_again = (
   restore (Claimed 0 ∷ Waiting ∷ []) (in_0 ∷ []) empty,
   restore (Claimed 64 ∷ Waiting ∷ []) (in_0 ∷ in_0 ∷ []) empty,
   refl,
-  record {
-    address = 0;
-    next = 64;
-    batch = in_0;
-    the_piece = piece 0 (codes "A") 63;
-    volumes = later;
-    claimed = refl;
-    piece_is = refl;
-    extend = go_on volumes;
-    step = refl;
-    after_is = refl;
-  },
+  (
+    go_on volumes,
+    record {
+      address = 0;
+      next = 64;
+      batch = in_0;
+      the_piece = piece 0 (codes "A") 63;
+      claimed = refl;
+      piece_is = refl;
+      step = refl;
+      after_is = refl;
+    },
+  ),
   refl,
 )
 
@@ -108,7 +110,7 @@ finishes = (
   restore (Claimed 64 ∷ Waiting ∷ []) (in_0 ∷ in_0 ∷ []) empty,
   restore (Finished ∷ Waiting ∷ []) (in_0 ∷ in_0 ∷ []) empty,
   refl,
-  (record { address = 64; the_piece = piece 0 (codes "A") 63; volumes = later; claimed = refl; piece_is = refl; extend = go_on volumes; ends = refl }, refl),
+  (record { address = 64; the_piece = piece 0 (codes "A") 63; claimed = refl; piece_is = refl; ends = refl }, refl),
   refl,
 )
 
@@ -116,54 +118,57 @@ unfoldable pub claims_other : IsStep (going (Finished ∷ Waiting ∷ []) (in_0 
 unfolding stepping
 claims_other = (restore (Finished ∷ Waiting ∷ []) (in_0 ∷ in_0 ∷ []) empty, restore (Finished ∷ Claimed 0 ∷ []) (in_0 ∷ in_0 ∷ []) empty, refl, (refl, refl), refl)
 
-unfoldable pub reads_other : IsStep (going (Finished ∷ Claimed 0 ∷ []) (in_0 ∷ in_0 ∷ []) empty) (Read 0 1) Done (going (Finished ∷ Claimed 64 ∷ []) (in_0 ∷ in_0 ∷ in_1 ∷ []) empty)
+unfoldable pub reads_other : IsStep (going (Finished ∷ Claimed 0 ∷ []) (in_0 ∷ in_0 ∷ []) empty) (Read 0 1 1) Done (going (Finished ∷ Claimed 64 ∷ []) (in_0 ∷ in_0 ∷ in_1 ∷ []) empty)
 unfolding stepping
 reads_other = (
   restore (Finished ∷ Claimed 0 ∷ []) (in_0 ∷ in_0 ∷ []) empty,
   restore (Finished ∷ Claimed 64 ∷ []) (in_0 ∷ in_0 ∷ in_1 ∷ []) empty,
   refl,
-  record {
-    address = 0;
-    next = 64;
-    batch = in_1;
-    the_piece = piece 1 (codes "B") 107;
-    volumes = volumes;
-    claimed = refl;
-    piece_is = refl;
-    extend = extends_itself volumes;
-    step = refl;
-    after_is = refl;
-  },
+  (
+    volumes,
+    record { since = lit≤ tt; are = refl },
+    record {
+      address = 0;
+      next = 64;
+      batch = in_1;
+      the_piece = piece 1 (codes "B") 107;
+      claimed = refl;
+      piece_is = refl;
+      step = refl;
+      after_is = refl;
+    },
+  ),
   refl,
 )
 
-unfoldable pub reads_on : IsStep (going (Finished ∷ Claimed 64 ∷ []) (in_0 ∷ in_0 ∷ in_1 ∷ []) empty) (Read 0 1) Done (going (Finished ∷ Claimed 108 ∷ []) (in_0 ∷ in_0 ∷ in_1 ∷ in_2 ∷ []) empty)
+unfoldable pub reads_on : IsStep (going (Finished ∷ Claimed 64 ∷ []) (in_0 ∷ in_0 ∷ in_1 ∷ []) empty) (ReadFinds 0 1 later) Done (going (Finished ∷ Claimed 108 ∷ []) (in_0 ∷ in_0 ∷ in_1 ∷ in_2 ∷ []) empty)
 unfolding stepping
 reads_on = (
   restore (Finished ∷ Claimed 64 ∷ []) (in_0 ∷ in_0 ∷ in_1 ∷ []) empty,
   restore (Finished ∷ Claimed 108 ∷ []) (in_0 ∷ in_0 ∷ in_1 ∷ in_2 ∷ []) empty,
   refl,
-  record {
-    address = 64;
-    next = 108;
-    batch = in_2;
-    the_piece = piece 1 (codes "B") 107;
-    volumes = later;
-    claimed = refl;
-    piece_is = refl;
-    extend = go_on volumes;
-    step = refl;
-    after_is = refl;
-  },
+  (
+    go_on volumes,
+    record {
+      address = 64;
+      next = 108;
+      batch = in_2;
+      the_piece = piece 1 (codes "B") 107;
+      claimed = refl;
+      piece_is = refl;
+      step = refl;
+      after_is = refl;
+    },
+  ),
   refl,
 )
 
-unfoldable pub finishes_other : IsStep (going (Finished ∷ Claimed 108 ∷ []) (in_0 ∷ in_0 ∷ in_1 ∷ in_2 ∷ []) empty) (Finish 0 1) Done (going (Finished ∷ Finished ∷ []) (in_0 ∷ in_0 ∷ in_1 ∷ in_2 ∷ []) empty)
+unfoldable pub finishes_other : IsStep (going (Finished ∷ Claimed 108 ∷ []) (in_0 ∷ in_0 ∷ in_1 ∷ in_2 ∷ []) empty) (FinishFinds 0 1 later) Done (going (Finished ∷ Finished ∷ []) (in_0 ∷ in_0 ∷ in_1 ∷ in_2 ∷ []) empty)
 unfolding stepping
 finishes_other = (
   restore (Finished ∷ Claimed 108 ∷ []) (in_0 ∷ in_0 ∷ in_1 ∷ in_2 ∷ []) empty,
   restore (Finished ∷ Finished ∷ []) (in_0 ∷ in_0 ∷ in_1 ∷ in_2 ∷ []) empty,
   refl,
-  (record { address = 108; the_piece = piece 1 (codes "B") 107; volumes = later; claimed = refl; piece_is = refl; extend = go_on volumes; ends = refl }, refl),
+  (go_on volumes, record { address = 108; the_piece = piece 1 (codes "B") 107; claimed = refl; piece_is = refl; ends = refl }, refl),
   refl,
 )

@@ -1,5 +1,5 @@
 -- What holds of every run of the machine.
-use Rattle.std.specs.Prelude.{◌≡◌, ℕ, List, Some, Ok, Contains}
+use Rattle.std.specs.Prelude.{◌≡◌, ◌⊎◌, ◌∷◌, ◌++◌, ℕ, List, Some, Ok, Contains}
 use Rattle.std.specs.List.{AllZip}
 use Rattle.std.specs.List.Sorted.{IsPermutation}
 use Rattle.br_model.specs.Volume.{Volume, Extends}
@@ -7,7 +7,7 @@ use Rattle.br_model.specs.Meaning.{Hit, Hits, HasHit, AreAmong, meaning}
 use Rattle.br_model.specs.Restored.{Restored, files}
 use Rattle.br_model.specs.Job.{JobRows, Job}
 use Rattle.br_model.specs.Choice.{Request, choose}
-use Rattle.br_model.specs.View.{view_of}
+use Rattle.br_model.specs.View.{Entry, view_of}
 use Rattle.br_model.specs.Console.{Command}
 use Rattle.br_model.specs.Plan as model
 use Rattle.br_model.specs.Plan.{selection}
@@ -17,50 +17,78 @@ use Rattle.br_core.specs.Machine.{World, Restore, Event, Reply, IsStart, IsStep,
 use Rattle.br_core.specs.Machine.Event.{Plan, Deliver}
 use Rattle.br_core.specs.Machine.Reply.{Planned, Delivered}
 
--- A restore in a run: some steps, then its plan, then other steps. The volumes of that moment hold
--- the jobs that were chosen for it.
-pub record IsPlanned (q : Request) (script : List Command) (number : ℕ) (moment last : World) (chosen : List JobRows) (plan : model.Plan) : Type 0 where
-  pub start : World
+-- The restore of this number was planned in the run: some steps, then its plan, then other steps.
+pub record WasPlanned (first last : World) (events : List Event) (replies : List Reply) (number : ℕ) : Type 0 where
+  pub request : Request
+  pub script : List Command
+  pub moment : World
   pub begun : World
+  pub chosen : List JobRows
+  pub plan : model.Plan
   pub before : List Event
   pub between : List Event
   pub replies_before : List Reply
   pub replies_between : List Reply
-  pub is_start : IsStart start
-  pub run_before : IsRun start before replies_before moment
-  pub plan_step : IsStep moment (Plan q script) (Planned number) begun
+  pub events_are : events ≡ before ++ Plan request script ∷ between
+  pub replies_are : replies ≡ replies_before ++ Planned number ∷ replies_between
+  pub run_before : IsRun first before replies_before moment
+  pub plan_step : IsStep moment (Plan request script) (Planned number) begun
   pub run_between : IsRun begun between replies_between last
-  pub chosen_are : choose (rows_of_jobs moment.jobs) q ≡ Ok chosen
-  pub plan_is : plan_for (rows_of_jobs moment.jobs) q script ≡ Ok (marks_of chosen script, plan)
-  pub hold : (j : Job) → Contains moment.jobs j → Contains chosen j.rows → Holds moment.volumes j
+  pub chosen_are : choose (rows_of_jobs moment.jobs) request ≡ Ok chosen
+  pub plan_is : plan_for (rows_of_jobs moment.jobs) request script ≡ Ok (marks_of chosen script, plan)
 
--- At every point of a run the hits of a restore, on their way or taken, are among those of its
--- bootstrap over the volumes of its moment. If all of its pieces are read and nothing is on its
--- way, the hits that were taken are all of them.
+-- The chosen jobs that were there before the first step stand on the volumes of this moment.
+-- Nothing is asked of those that were committed since.
+abbrev pub OldOnesHold : World → World → List JobRows → Type 0
+OldOnesHold first moment chosen = (j : Job) → Contains first.jobs j → Contains chosen j.rows → Holds moment.volumes j
+
+-- The hits of the restore, on their way or taken, are among those of the bootstrap over the
+-- volumes. If all of its pieces are read and nothing is on its way, the hits that were taken are
+-- all of them.
+pub record HasHitsOf (plan : model.Plan) (volumes : List Volume) (r : Restore) : Type 0 where
+  pub set : Hits
+  pub means : meaning plan.groups volumes ≡ Ok set
+  pub on_their_way : (batch : List Hit) (hit : Hit) → Contains r.transit batch → Contains batch hit → HasHit set hit
+  pub taken_are : AreAmong r.taken set
+  pub whole : IsWhole r → r.taken ≡ set
+
+-- At every point of every run from a start each restore has a plan before it, and has hits of its
+-- bootstrap.
 abbrev pub HitsOfARun : Type 0
 HitsOfARun =
-    (q : Request) (script : List Command) (number : ℕ) (moment last : World) (chosen : List JobRows) (plan : model.Plan) (r : Restore)
-    → IsPlanned q script number moment last chosen plan → restore_at last number ≡ Some r
-    → (set : Hits) × (meaning plan.groups moment.volumes ≡ Ok set)
-    × ((batch : List Hit) (hit : Hit) → Contains r.transit batch → Contains batch hit → HasHit set hit)
-    × AreAmong r.taken set
-    × (IsWhole r → r.taken ≡ set)
+    (first last : World) (events : List Event) (replies : List Reply) (number : ℕ) (r : Restore)
+    → IsStart first → IsRun first events replies last → restore_at last number ≡ Some r
+    → WasPlanned first last events replies number
+    × ((p : WasPlanned first last events replies number) → OldOnesHold first p.moment p.chosen → HasHitsOf p.plan p.moment.volumes r)
 
--- A restore is planned after any commits and delivered after any steps, in any order, with any
--- failures and repeats. It has exactly the selected entries of that moment's view, each once, as
--- the copy that its newest job saved. These are the files that the bootstrap means over all volumes
--- that extend those of that moment.
+-- the entries that a script selects of the view of the chosen jobs
+abbrev pub selected_by : List JobRows → List Command → List Entry
+selected_by chosen script = selection (view_of chosen) (marks_of chosen script)
+
+-- These are exactly the selected entries, each once, as the copy that its newest job saved. They
+-- are the files that the bootstrap means over all volumes that extend those of the moment.
+pub record IsRestored (moment : World) (chosen : List JobRows) (script : List Command) (plan : model.Plan) (delivered : List Restored) : Type 0 where
+  pub copies : AllZip (IsCopy moment.jobs) (by_key (selected_by chosen script)) delivered
+  pub each_once : IsPermutation (selected_by chosen script) (by_key (selected_by chosen script))
+  pub means : (later : List Volume) → Extends later moment.volumes
+      → (hits : Hits) × (meaning plan.groups later ≡ Ok hits) × (files hits (Some plan.names) ≡ delivered)
+
+-- Of every run from a start, with any commits, plans, failures and repeats in any order: each
+-- delivery that gives files has a plan before it, and gives what that plan's script selected of the
+-- jobs of that moment.
 abbrev pub Headline : Type 0
 Headline =
-    (q : Request) (script : List Command) (number : ℕ) (moment last after : World) (chosen : List JobRows) (plan : model.Plan) (delivered : List Restored)
-    → IsPlanned q script number moment last chosen plan → IsStep last (Deliver number) (Delivered delivered) after
-    → AllZip (IsCopy moment.jobs) (by_key (selection (view_of chosen) (marks_of chosen script))) delivered
-    × IsPermutation (selection (view_of chosen) (marks_of chosen script)) (by_key (selection (view_of chosen) (marks_of chosen script)))
-    × ((later : List Volume) → Extends later moment.volumes
-    → (hits : Hits) × (meaning plan.groups later ≡ Ok hits) × (files hits (Some plan.names) ≡ delivered))
+    (first last after : World) (events : List Event) (replies : List Reply) (number : ℕ) (delivered : List Restored)
+    → IsStart first → IsRun first events replies last → IsStep last (Deliver number) (Delivered delivered) after
+    → WasPlanned first last events replies number
+    × ((p : WasPlanned first last events replies number) → OldOnesHold first p.moment p.chosen
+    → IsRestored p.moment p.chosen p.script p.plan delivered)
 
--- if the volumes of the start hold its jobs, the volumes of every state hold the jobs of that state
+-- Volumes only grow. A job of a later state was there in the first, or the later volumes hold it.
+-- Each job by itself that the first volumes hold the later ones hold too.
 abbrev pub JobsHold : Type 0
 JobsHold =
-    (start last : World) (events : List Event) (replies : List Reply) → IsStart start → ((j : Job) → Contains start.jobs j → Holds start.volumes j)
-    → IsRun start events replies last → (j : Job) → Contains last.jobs j → Holds last.volumes j
+    (first last : World) (events : List Event) (replies : List Reply) → IsRun first events replies last
+    → Extends last.volumes first.volumes
+    × ((j : Job) → Contains last.jobs j → Contains first.jobs j ⊎ Holds last.volumes j)
+    × ((j : Job) → Holds first.volumes j → Holds last.volumes j)

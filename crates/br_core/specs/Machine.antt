@@ -1,6 +1,6 @@
 -- A machine of atomic steps: backups commit, restores are planned, and their pieces are read and
 -- delivered meanwhile, in any order.
-use Rattle.std.specs.Prelude.{◌≡◌, ℕ, ◌+◌, ◌⊎◌, true, List, [], ◌∷◌, ◌++◌, length, map, take, drop, set, Option, Some, None, Result, Ok, Err, slice_get, ⊤}
+use Rattle.std.specs.Prelude.{◌≡◌, ℕ, ◌+◌, ◌⊎◌, ◌≤◌, true, List, [], ◌∷◌, ◌++◌, length, map, take, drop, set, Option, Some, None, Result, Ok, Err, slice_get, ⊤}
 use Rattle.std.specs.List.{AllByRecursion}
 use Rattle.std.specs.FinMap.{empty}
 use Rattle.br_model.specs.Answer.{◌>>=◌}
@@ -27,12 +27,13 @@ pub data Status : Type 0 where
   Claimed : ℕ → Status
   Finished : Status
 
--- A restore that is not over: the jobs and the volumes of the moment in which it was planned, the
--- request, the marks, the plan, the status of each piece, the hits that are on their way, block by
--- block, and the set of the hits that were taken.
+-- A restore that is not over: the jobs, the volumes and the number of commits of the moment in
+-- which it was planned, the request, the marks, the plan, the status of each piece, the hits that
+-- are on their way, block by block, and the set of the hits that were taken.
 pub record Restore : Type 0 where
   pub jobs : List Job
   pub volumes : List Volume
+  pub commits : ℕ
   pub request : Request
   pub marks : List (List ℕ)
   pub plan : model.Plan
@@ -40,11 +41,12 @@ pub record Restore : Type 0 where
   pub transit : List (List Hit)
   pub taken : Hits
 
--- the jobs in the order of their commits, the volumes, and the restores under their numbers, from
--- 0; none for a restore that is over
+-- The jobs in the order of their commits, the volumes, what the volumes were before each commit,
+-- and the restores under their numbers, from 0; none for a restore that is over.
 pub record World : Type 0 where
   pub jobs : List Job
   pub volumes : List Volume
+  pub earlier : List (List Volume)
   pub restores : List (Option Restore)
 
 -- ---- events and replies
@@ -58,17 +60,24 @@ pub record ToCommit : Type 0 where
   pub limit : ℕ
   pub places : List Place
 
--- What can happen. All events but the first two are of the restore with the first number. The
+-- What can happen. All events but commits and plans are of the restore with the first number. The
 -- second number is that of a piece, or for `Take` the place of a batch among those on their way.
+-- The third number of a `Read` is a number of commits: the walk reads the volumes that these left.
+--
+-- The last three happen to volumes that other programs write too: they find these volumes, which
+-- extend those of the state, or those of the plan.
 pub data Event : Type 0 where
   Commit : ToCommit → Event
   Plan : Request → List Command → Event
   Claim : ℕ → ℕ → Event
-  Read : ℕ → ℕ → Event
+  Read : ℕ → ℕ → ℕ → Event
   Fail : ℕ → ℕ → Event
   Finish : ℕ → ℕ → Event
   Take : ℕ → ℕ → Event
   Deliver : ℕ → Event
+  CommitFinds : ToCommit → List Volume → Event
+  ReadFinds : ℕ → ℕ → List Volume → Event
+  FinishFinds : ℕ → ℕ → List Volume → Event
 
 -- the reply: done; the number of the restore that was planned; the number of a refusal; the files
 -- of a restore
@@ -92,30 +101,33 @@ job_rows c spans = rows_of c.row c.files c.deleted spans
 abbrev pub job_of : ToCommit → List Span → Job
 job_of c spans = record { rows = job_rows c spans; saved = map (λ (f : ToSave). f.file) c.files }
 
--- The job is there, and the volumes hold it. Its session was written to volumes that extend those
--- before, since other commits may have left bytes. The volumes after it extend those.
-pub record IsCommitted (before : World) (c : ToCommit) (after : World) : Type 0 where
-  pub found : List Volume
+-- The job is there, and the volumes hold it. Its session was written to the volumes that the commit
+-- finds. The volumes after it extend those.
+pub record IsCommitted (before : World) (c : ToCommit) (found : List Volume) (after : World) : Type 0 where
   pub written : Written
-  pub found_extend : Extends found before.volumes
   pub is_written : IsWritten c.files c.row.session c.limit c.places (lengths_of found) written
   pub fits : pushed (rows_of_jobs before.jobs) (job_rows c written.spans) ≡ Ok (rows_of_jobs after.jobs)
   pub is_job : IsJob (job_of c written.spans)
   pub jobs_are : after.jobs ≡ before.jobs ++ job_of c written.spans ∷ []
   pub extend : Extends after.volumes found
   pub holds : Holds after.volumes (job_of c written.spans)
+  pub earlier_are : after.earlier ≡ before.earlier ++ before.volumes ∷ []
   pub restores_are : after.restores ≡ before.restores
 
--- the job can be among the others, but a span would end past the greatest address, or there would
--- be too many of them
-pub record IsTooLong (before : World) (c : ToCommit) : Type 0 where
-  pub found : List Volume
+-- the job can be among the others, but on the volumes that the commit finds a span would end past
+-- the greatest address, or there would be too many of them
+pub record IsTooLong (before : World) (c : ToCommit) (found : List Volume) : Type 0 where
   pub blocks : List (List ℕ)
   pub accepted : List JobRows
-  pub found_extend : Extends found before.volumes
   pub fits : pushed (rows_of_jobs before.jobs) (job_rows c []) ≡ Ok accepted
   pub packed : ArePacked c.limit c.row.session (session_records c.files) blocks
   pub refused : checked_spans (lengths_of found) (visits c.places blocks) ≡ Err 42
+
+-- the number for which a commit is refused: 40 or 41 for what the other jobs are, or 42 for what it
+-- finds
+abbrev pub IsRefusedFor : World → ToCommit → List Volume → ℕ → Type 0
+IsRefusedFor before c found n =
+    (pushed (rows_of_jobs before.jobs) (job_rows c []) ≡ Err n) ⊎ ((n ≡ 42) × IsTooLong before c found)
 
 -- ---- plans
 
@@ -135,6 +147,7 @@ abbrev pub planned : World → Request → List (List ℕ) → model.Plan → Re
 planned w q marks plan = record {
   jobs = w.jobs;
   volumes = w.volumes;
+  commits = length w.earlier;
   request = q;
   marks = marks;
   plan = plan;
@@ -165,28 +178,33 @@ stands r piece status = slice_get r.statuses piece ≡ Some status
 abbrev pub goes : Restore → ℕ → Status → Restore
 goes r piece status = record r { statuses = set r.statuses piece status }
 
--- A walk reads the block at its address, over volumes that extend those of the restore. The block's
--- hits, as one batch, are then on their way.
-pub record IsRead (r : Restore) (piece : ℕ) (after : Restore) : Type 0 where
+-- the volumes after each number of commits, from none to those of now
+abbrev pub stages_of : World → List (List Volume)
+stages_of w = w.earlier ++ w.volumes ∷ []
+
+-- These are the volumes after that many commits, at least as many as at the restore's plan.
+pub record AreAfter (w : World) (r : Restore) (commits : ℕ) (volumes : List Volume) : Type 0 where
+  pub since : r.commits ≤ commits
+  pub are : slice_get (stages_of w) commits ≡ Some volumes
+
+-- A walk reads the block at its address, over these volumes. The block's hits, as one batch, are
+-- then on their way.
+pub record IsRead (r : Restore) (piece : ℕ) (volumes : List Volume) (after : Restore) : Type 0 where
   pub address : ℕ
   pub next : ℕ
   pub batch : List Hit
   pub the_piece : Piece
-  pub volumes : List Volume
   pub claimed : stands r piece (Claimed address)
   pub piece_is : slice_get (pieces_of r.plan.groups) piece ≡ Some the_piece
-  pub extend : Extends volumes r.volumes
   pub step : step_on volumes the_piece address ≡ Ok (Some (batch, next))
   pub after_is : after ≡ record (goes r piece (Claimed next)) { transit = r.transit ++ batch ∷ [] }
 
--- the walk of a piece is at its end
-pub record IsAtEnd (r : Restore) (piece : ℕ) : Type 0 where
+-- the walk of a piece is at its end, over these volumes
+pub record IsAtEnd (r : Restore) (piece : ℕ) (volumes : List Volume) : Type 0 where
   pub address : ℕ
   pub the_piece : Piece
-  pub volumes : List Volume
   pub claimed : stands r piece (Claimed address)
   pub piece_is : slice_get (pieces_of r.plan.groups) piece ≡ Some the_piece
-  pub extend : Extends volumes r.volumes
   pub ends : step_on volumes the_piece address ≡ Ok None
 
 -- a batch that is on its way is taken
@@ -200,41 +218,59 @@ pub record IsWhole (r : Restore) : Type 0 where
   pub finished : AllByRecursion (λ status. status ≡ Finished) r.statuses
   pub none : r.transit ≡ []
 
--- what an event makes of a restore that is not over
-abbrev pub Moves : Event → Restore → Restore → Type 0
-Moves (Claim number piece) r after = stands r piece Waiting × (after ≡ goes r piece (Claimed 0))
-Moves (Read number piece) r after = IsRead r piece after
-Moves (Fail number piece) r after = ((address : ℕ) × stands r piece (Claimed address)) × (after ≡ goes r piece Waiting)
-Moves (Finish number piece) r after = IsAtEnd r piece × (after ≡ goes r piece Finished)
-Moves (Take number place) r after = IsTaken r place after
-Moves (Commit c) r after = ⊥
-Moves (Plan q script) r after = ⊥
-Moves (Deliver number) r after = ⊥
+-- what an event makes of a restore that is not over, in this state
+abbrev pub Moves : World → Event → Restore → Restore → Type 0
+Moves w (Claim number piece) r after = stands r piece Waiting × (after ≡ goes r piece (Claimed 0))
+Moves w (Read number piece commits) r after = (volumes : List Volume) × AreAfter w r commits volumes × IsRead r piece volumes after
+Moves w (Fail number piece) r after = ((address : ℕ) × stands r piece (Claimed address)) × (after ≡ goes r piece Waiting)
+Moves w (Finish number piece) r after = IsAtEnd r piece r.volumes × (after ≡ goes r piece Finished)
+Moves w (Take number place) r after = IsTaken r place after
+Moves w (ReadFinds number piece volumes) r after = Extends volumes r.volumes × IsRead r piece volumes after
+Moves w (FinishFinds number piece volumes) r after =
+    Extends volumes r.volumes × IsAtEnd r piece volumes × (after ≡ goes r piece Finished)
+Moves w (Commit c) r after = ⊥
+Moves w (CommitFinds c found) r after = ⊥
+Moves w (Plan q script) r after = ⊥
+Moves w (Deliver number) r after = ⊥
 
 -- ---- steps
 
 -- the restore is there and not over, and the event makes something of it
 abbrev pub Can : World → ℕ → Event → Type 0
-Can w number event = (r : Restore) × (after : Restore) × (restore_at w number ≡ Some r) × Moves event r after
+Can w number event = (r : Restore) × (after : Restore) × (restore_at w number ≡ Some r) × Moves w event r after
 
--- The event can happen: a commit and a plan always, every other if its restore is there and not
--- over, and is as the event asks.
+-- The event can happen: a commit and a plan always, a commit that finds other volumes if these
+-- extend those of the state, every other if its restore is there and not over, and is as the event
+-- asks.
 abbrev pub IsEnabled : World → Event → Type 0
 IsEnabled w (Commit c) = ⊤
 IsEnabled w (Plan q script) = ⊤
 IsEnabled w (Claim number piece) = Can w number (Claim number piece)
-IsEnabled w (Read number piece) = Can w number (Read number piece)
+IsEnabled w (Read number piece commits) = Can w number (Read number piece commits)
 IsEnabled w (Fail number piece) = Can w number (Fail number piece)
 IsEnabled w (Finish number piece) = Can w number (Finish number piece)
 IsEnabled w (Take number place) = Can w number (Take number place)
 IsEnabled w (Deliver number) = (r : Restore) × (restore_at w number ≡ Some r) × IsWhole r
+IsEnabled w (CommitFinds c found) = Extends found w.volumes
+IsEnabled w (ReadFinds number piece volumes) = Can w number (ReadFinds number piece volumes)
+IsEnabled w (FinishFinds number piece volumes) = Can w number (FinishFinds number piece volumes)
 
--- what becomes of a commit: 40, 41 or 42 and no change, or the job is there
+-- what becomes of a commit: 40, 41 or 42 and no change, or the job is there. It finds the volumes
+-- of the state.
 abbrev pub Commits : World → ToCommit → Reply → World → Type 0
-Commits w c Done after = IsCommitted w c after
-Commits w c (Refused n) after = (after ≡ w) × ((pushed (rows_of_jobs w.jobs) (job_rows c []) ≡ Err n) ⊎ ((n ≡ 42) × IsTooLong w c))
+Commits w c Done after = IsCommitted w c w.volumes after
+Commits w c (Refused n) after = (after ≡ w) × IsRefusedFor w c w.volumes n
 Commits w c (Planned n) after = ⊥
 Commits w c (Delivered rs) after = ⊥
+
+-- what becomes of a commit that finds these volumes: the same over these; 59 and no change if they
+-- do not extend those of the state
+abbrev pub CommitsOn : World → ToCommit → List Volume → Reply → World → Type 0
+CommitsOn w c found Done after = Extends found w.volumes × IsCommitted w c found after
+CommitsOn w c found (Refused n) after =
+    (after ≡ w) × ((Extends found w.volumes × IsRefusedFor w c found n) ⊎ ((n ≡ 59) × (Extends found w.volumes → ⊥)))
+CommitsOn w c found (Planned n) after = ⊥
+CommitsOn w c found (Delivered rs) after = ⊥
 
 -- what becomes of a plan: 50, 51, 53 or 54 and no change, or one more restore, under the next
 -- number
@@ -249,7 +285,8 @@ Plans w q script (Delivered rs) after = ⊥
 -- what becomes of an event of one restore: it changes that restore alone; 59 and no change if it is
 -- not enabled
 abbrev pub Goes : World → ℕ → Event → Reply → World → Type 0
-Goes w number event Done after = (r : Restore) × (r' : Restore) × (restore_at w number ≡ Some r) × Moves event r r' × (after ≡ becomes w number (Some r'))
+Goes w number event Done after =
+    (r : Restore) × (r' : Restore) × (restore_at w number ≡ Some r) × Moves w event r r' × (after ≡ becomes w number (Some r'))
 Goes w number event (Refused n) after = (n ≡ 59) × (after ≡ w) × (IsEnabled w event → ⊥)
 Goes w number event (Planned n) after = ⊥
 Goes w number event (Delivered rs) after = ⊥
@@ -268,11 +305,14 @@ abbrev pub IsStep : World → Event → Reply → World → Type 0
 IsStep w (Commit c) reply after = Commits w c reply after
 IsStep w (Plan q script) reply after = Plans w q script reply after
 IsStep w (Claim number piece) reply after = Goes w number (Claim number piece) reply after
-IsStep w (Read number piece) reply after = Goes w number (Read number piece) reply after
+IsStep w (Read number piece commits) reply after = Goes w number (Read number piece commits) reply after
 IsStep w (Fail number piece) reply after = Goes w number (Fail number piece) reply after
 IsStep w (Finish number piece) reply after = Goes w number (Finish number piece) reply after
 IsStep w (Take number place) reply after = Goes w number (Take number place) reply after
 IsStep w (Deliver number) reply after = Delivers w number reply after
+IsStep w (CommitFinds c found) reply after = CommitsOn w c found reply after
+IsStep w (ReadFinds number piece volumes) reply after = Goes w number (ReadFinds number piece volumes) reply after
+IsStep w (FinishFinds number piece volumes) reply after = Goes w number (FinishFinds number piece volumes) reply after
 
 -- a run: some events one after the other, with their replies
 abbrev pub IsRun : World → List Event → List Reply → World → Type 0

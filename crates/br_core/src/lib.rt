@@ -3,18 +3,19 @@
 
 ghost use Rattle.br_core.specs.Laws.{Headline, HitsOfARun, JobsHold};
 
-/// States that the hits of a restore are those that its bootstrap means, at every point of every
-/// run.
+/// States that at every point of every run the hits of a restore are those that its bootstrap
+/// means.
 pub fn hits_of_a_run()
     ensures { HitsOfARun }
 {}
 
-/// States that a restore delivers what was selected when it was planned, after any run.
+/// States that each delivery of a run has a plan before it and gives what that plan selected.
 pub fn headline()
     ensures { Headline }
 {}
 
-/// States that the volumes of every state hold its jobs.
+/// States that volumes only grow, and that those of every state hold the jobs of the first state
+/// that they held, and all jobs that were committed since.
 pub fn jobs_hold()
     ensures { JobsHold }
 {}
