@@ -101,6 +101,16 @@ const READS: [(u64, u32, u32, (u8, u8)); 6] = [
     (1, 4_194_304, 171, (1, 171)),
 ];
 
+/// Reads of V that give no bytes, and their results: no bytes asked for, and the end and past it.
+const EMPTY_READS: [(u64, u32, Got); 6] = [
+    (171, 0, Got::Block(0)),
+    (172, 0, Got::End),
+    (172, 24, Got::End),
+    (173, 24, Got::End),
+    (9_223_372_036_854_775_807, 24, Got::End),
+    (u64::MAX, 24, Got::End),
+];
+
 /// Returns the address of the first of these reads that is not as wanted.
 fn wrong_read(reader: &mut OpenDrive) -> Result<Option<u64>, DriveFault> {
     for (addr, size, len, ends) in READS {
@@ -111,96 +121,34 @@ fn wrong_read(reader: &mut OpenDrive) -> Result<Option<u64>, DriveFault> {
     Ok(None)
 }
 
-#[test]
-fn a_block_has_the_size_asked_for_or_all_that_is_left(rt: HostRuntime) -> Result<(), Fail> {
-    let mut reader = reader(rt.alloc(), b"V")?;
-    assert_eq!(rt; wrong_read(&mut reader)?, None);
-    Ok(())
+/// Returns the address of the first read of no bytes that is not as wanted. Fills the buffer before
+/// each.
+fn wrong_empty_read(reader: &mut OpenDrive) -> Result<Option<u64>, DriveFault> {
+    for (addr, size, wanted) in EMPTY_READS {
+        reader.read(0, 24)?;
+        if reader.read(addr, size)? != wanted || !reader.buf.is_empty() {
+            return Ok(Some(addr));
+        }
+    }
+    Ok(None)
 }
 
-#[test]
-fn no_bytes_are_asked_for(rt: HostRuntime) -> Result<(), Fail> {
-    let mut reader = reader(rt.alloc(), b"V")?;
-    assert_eq!(rt; reader.read(171, 0)?, Got::Block(0));
-    assert!(rt; reader.buf.is_empty());
-    assert_eq!(rt; reader.read(172, 0)?, Got::End);
-    Ok(())
+/// Returns the first wrong read of V with bytes, and the first without.
+fn wrong_reads(alloc: Global) -> Result<[Option<u64>; 2], Fail> {
+    let mut reader = reader(alloc, b"V")?;
+    Ok([wrong_read(&mut reader)?, wrong_empty_read(&mut reader)?])
 }
 
-#[test]
-fn the_end_is_at_the_volumes_length(rt: HostRuntime) -> Result<(), Fail> {
-    let mut reader = reader(rt.alloc(), b"V")?;
-    assert_eq!(rt; reader.read(172, 24)?, Got::End);
-    assert!(rt; reader.buf.is_empty());
-    assert_eq!(rt; reader.read(173, 24)?, Got::End);
-    assert!(rt; reader.buf.is_empty());
-    Ok(())
+/// Returns the result of the first read of a volume, and the number of bytes read.
+fn first_read(alloc: Global, name: &[u8]) -> Result<(Got, usize), Fail> {
+    let mut reader = reader(alloc, name)?;
+    Ok((reader.read(0, 24)?, reader.buf.len()))
 }
 
-#[test]
-fn far_past_the_end_is_the_end(rt: HostRuntime) -> Result<(), Fail> {
-    let mut reader = reader(rt.alloc(), b"V")?;
-    assert_eq!(rt; reader.read(9_223_372_036_854_775_807, 24)?, Got::End);
-    assert!(rt; reader.buf.is_empty());
-    assert_eq!(rt; reader.read(u64::MAX, 24)?, Got::End);
-    assert!(rt; reader.buf.is_empty());
-    Ok(())
-}
-
-#[test]
-fn a_volume_without_bytes_ends_at_once(rt: HostRuntime) -> Result<(), Fail> {
-    let mut reader = reader(rt.alloc(), b"E")?;
-    assert_eq!(rt; reader.read(0, 24)?, Got::End);
-    assert!(rt; reader.buf.is_empty());
-    Ok(())
-}
-
-#[test]
-fn a_volume_that_does_not_exist_is_refused(rt: HostRuntime) -> Result<(), Fail> {
-    let mut reader = reader(rt.alloc(), b"v")?;
-    let fault = reader.read(0, 24).err().ok_or("a fault")?;
-    assert_eq!(rt; fault, DriveFault::UnknownVolume);
-    assert_eq!(rt; fault.number(), 14);
-    assert_eq!(rt; DriveFault::Memory.number(), 1);
-    Ok(())
-}
-
-/// Reads a volume that does not exist.
-fn unknown(alloc: Global, reader: &mut OpenDrive) -> Result<Result<Got, DriveFault>, Fail> {
-    let vol = VolName::new(alloc, b"v")?;
-    Ok(read(&mut reader.drive, &vol, 0, 24, &mut reader.buf))
-}
-
-/// Returns whether a drive fails three times.
-fn fails_on(reader: &mut OpenDrive) -> bool {
-    let first = reader.read(0, 24);
-    let second = reader.read(0, 24);
-    let third = reader.read(0, 24);
-    [first, second, third] == [Err(DriveFault::Fault); 3]
-}
-
-#[test]
-fn a_failing_drive_fails_from_its_kth_call_for_ever(rt: HostRuntime) -> Result<(), Fail> {
-    let mut reader = failing(rt.alloc(), 3)?;
-    assert_eq!(rt; reader.read(0, 24), Ok(Got::Block(24)));
-    let unknown = unknown(rt.alloc(), &mut reader)?;
-    assert_eq!(rt; unknown, Err(DriveFault::UnknownVolume));
-    assert!(rt; fails_on(&mut reader));
-    Ok(())
-}
-
-/// Returns the first result of a drive that fails from its `k`-th call on.
-fn first_of_failing(alloc: Global, k: u64) -> Result<Result<Got, DriveFault>, Fail> {
-    let mut reader = failing(alloc, k)?;
-    Ok(reader.read(0, 24))
-}
-
-#[test]
-fn a_failing_drive_may_fail_from_its_first_call(rt: HostRuntime) -> Result<(), Fail> {
-    assert_eq!(rt; first_of_failing(rt.alloc(), 0)?, Err(DriveFault::Fault));
-    assert_eq!(rt; first_of_failing(rt.alloc(), 1)?, Err(DriveFault::Fault));
-    assert_eq!(rt; DriveFault::Fault.number(), 13);
-    Ok(())
+/// Returns why a volume that does not exist is not read.
+fn fault_of_unknown(alloc: Global) -> Result<Option<DriveFault>, Fail> {
+    let mut reader = reader(alloc, b"v")?;
+    Ok(reader.read(0, 24).err())
 }
 
 /// Returns whether a volume has this name and `len` bytes.
@@ -216,10 +164,71 @@ fn are_volumes(volumes: &[(VolName, Vec<u8>)]) -> bool {
     }
 }
 
+/// Returns whether a drive gives its volumes back.
+fn gives_volumes_back(alloc: Global) -> Result<bool, Fail> {
+    let volumes = MemDrive::new(volumes(alloc)?).into_volumes();
+    Ok(are_volumes(&volumes))
+}
+
 #[test]
-fn a_drive_gives_its_volumes_back(rt: HostRuntime) -> Result<(), Fail> {
-    let volumes = MemDrive::new(volumes(rt.alloc())?).into_volumes();
-    assert!(rt; are_volumes(&volumes));
+fn a_drive_over_memory_reads(rt: HostRuntime) -> Result<(), Fail> {
+    assert_eq!(rt; wrong_reads(rt.alloc())?, [None, None]);
+    assert_eq!(rt; first_read(rt.alloc(), b"E")?, (Got::End, 0));
+    assert_eq!(rt;
+        fault_of_unknown(rt.alloc())?,
+        Some(DriveFault::UnknownVolume)
+    );
+    assert!(rt; gives_volumes_back(rt.alloc())?);
+    Ok(())
+}
+
+/// Reads a volume that does not exist.
+fn unknown(alloc: Global, reader: &mut OpenDrive) -> Result<Result<Got, DriveFault>, Fail> {
+    let vol = VolName::new(alloc, b"v")?;
+    Ok(read(&mut reader.drive, &vol, 0, 24, &mut reader.buf))
+}
+
+/// Returns the results of a drive that fails from its `k`-th call on: of a read of V, one of a
+/// volume that does not exist, and three more of V.
+fn results_of_failing(alloc: Global, k: u64) -> Result<[Result<Got, DriveFault>; 5], Fail> {
+    let mut reader = failing(alloc, k)?;
+    let first = reader.read(0, 24);
+    let unknown = unknown(alloc, &mut reader)?;
+    Ok([
+        first,
+        unknown,
+        reader.read(0, 24),
+        reader.read(0, 24),
+        reader.read(0, 24),
+    ])
+}
+
+/// The result of each call of a drive that fails from its third call on.
+const FROM_THIRD: [Result<Got, DriveFault>; 5] = [
+    Ok(Got::Block(24)),
+    Err(DriveFault::UnknownVolume),
+    Err(DriveFault::Fault),
+    Err(DriveFault::Fault),
+    Err(DriveFault::Fault),
+];
+
+/// Returns the numbers of all faults.
+fn numbers() -> [u32; 4] {
+    [
+        DriveFault::Memory.number(),
+        DriveFault::Fault.number(),
+        DriveFault::UnknownVolume.number(),
+        VolumeFault::Failed.number(),
+    ]
+}
+
+#[test]
+fn a_failing_drive_fails_from_its_kth_call_for_ever(rt: HostRuntime) -> Result<(), Fail> {
+    let always = [Err(DriveFault::Fault); 5];
+    assert_eq!(rt; results_of_failing(rt.alloc(), 0)?, always);
+    assert_eq!(rt; results_of_failing(rt.alloc(), 1)?, always);
+    assert_eq!(rt; results_of_failing(rt.alloc(), 3)?, FROM_THIRD);
+    assert_eq!(rt; numbers(), [1, 13, 14, 44]);
     Ok(())
 }
 
@@ -280,14 +289,19 @@ fn are_filled(volumes: &[(VolName, Vec<u8>)]) -> bool {
     }
 }
 
-#[test]
-fn a_store_over_memory_appends(rt: HostRuntime) -> Result<(), Fail> {
-    let mut store = MemStore::new(rt.alloc());
-    assert!(rt; store.volumes().is_empty());
-    fill(rt.alloc(), &mut store)?;
-    assert_eq!(rt; lengths(rt.alloc(), &mut store)?, [5, 0, 1, 0]);
-    assert!(rt; are_filled(store.volumes()));
-    Ok(())
+/// Returns whether a store is empty at first, and then has the volumes that were filled.
+fn store_is_filled(alloc: Global) -> Result<bool, Fail> {
+    let mut store = MemStore::new(alloc);
+    let is_empty = store.volumes().is_empty();
+    fill(alloc, &mut store)?;
+    Ok(is_empty && are_filled(store.volumes()))
+}
+
+/// Returns the lengths of V, E, W and v in a filled store.
+fn lengths_in_store(alloc: Global) -> Result<[u64; 4], Fail> {
+    let mut store = MemStore::new(alloc);
+    fill(alloc, &mut store)?;
+    lengths(alloc, &mut store)
 }
 
 /// Returns a drive over the volumes that `fill` makes, and V.
@@ -297,27 +311,25 @@ fn reader_of_store(alloc: Global) -> Result<OpenDrive, Fail> {
     reader_of(alloc, MemDrive::new(store.into_volumes()), b"V")
 }
 
+/// Returns whether a drive reads the end of V from a filled store.
+fn drive_reads_store(alloc: Global) -> Result<bool, Fail> {
+    let mut reader = reader_of_store(alloc)?;
+    Ok(reader.read(2, 24)? == Got::Block(3) && reader.buf.as_slice() == b"cde".as_slice())
+}
+
 #[test]
-fn a_store_gives_its_volumes_to_a_drive(rt: HostRuntime) -> Result<(), Fail> {
-    let mut reader = reader_of_store(rt.alloc())?;
-    assert_eq!(rt; reader.read(2, 24)?, Got::Block(3));
-    assert_eq!(rt; reader.buf.as_slice(), b"cde".as_slice());
-    assert_eq!(rt; VolumeFault::Failed.number(), 44);
+fn a_store_over_memory_appends(rt: HostRuntime) -> Result<(), Fail> {
+    assert!(rt; store_is_filled(rt.alloc())?);
+    assert_eq!(rt; lengths_in_store(rt.alloc())?, [5, 0, 1, 0]);
+    assert!(rt; drive_reads_store(rt.alloc())?);
     Ok(())
 }
 
-/// Returns the path of a folder for one test.
-fn path_of_folder(rt: &HostRuntime, name: &str) -> Result<String, Fail> {
+/// Returns the path of the folder of the tests.
+fn path_of_folder(rt: &HostRuntime) -> Result<String, Fail> {
     let temporary = env::temp_dir(rt)?;
     let id = process::id(rt.process());
-    Ok(format!(in rt.alloc(); "{}/br_volume_{name}_{id}", temporary.display())?)
-}
-
-/// Makes a folder for one test.
-fn new_folder(rt: &HostRuntime, name: &str) -> Result<String, Fail> {
-    let folder = path_of_folder(rt, name)?;
-    fs::create_dir(rt, folder.as_str())?;
-    Ok(folder)
+    Ok(format!(in rt.alloc(); "{}/br_volume_{id}", temporary.display())?)
 }
 
 /// Appends to V, E and W, and to V again, in a folder.
@@ -326,11 +338,20 @@ fn fill_folder(rt: &HostRuntime, folder: &str) -> Result<(), Fail> {
     fill(rt.alloc(), &mut store)
 }
 
-/// Makes a folder with the volumes that `fill` makes.
-fn filled_folder(rt: &HostRuntime, name: &str) -> Result<String, Fail> {
-    let folder = new_folder(rt, name)?;
+/// Makes a folder with the volumes that `fill` makes, and a folder D.
+fn filled_folder(rt: &HostRuntime) -> Result<String, Fail> {
+    let folder = path_of_folder(rt)?;
+    fs::create_dir(rt, folder.as_str())?;
     fill_folder(rt, folder.as_str())?;
+    make_d(rt, folder.as_str())?;
     Ok(folder)
+}
+
+/// Makes a folder D in a folder.
+fn make_d(rt: &HostRuntime, folder: &str) -> Result<(), Fail> {
+    let path = format!(in rt.alloc(); "{folder}/D")?;
+    fs::create_dir(rt, path.as_str())?;
+    Ok(())
 }
 
 /// Returns whether the file of a volume has these bytes.
@@ -354,29 +375,11 @@ fn length_after_f(rt: &HostRuntime, folder: &str) -> Result<u64, Fail> {
     length_of(rt.alloc(), &mut again, b"V")
 }
 
-#[test]
-fn a_store_over_a_folder_appends(rt: HostRuntime) -> Result<(), Fail> {
-    let folder = filled_folder(&rt, "store")?;
-    assert_eq!(rt; length_after_f(&rt, folder.as_str())?, 6);
-    assert_eq!(rt; holds_files(&rt, folder.as_str())?, [true; 3]);
-    fs::remove_dir_all(&rt, folder.as_str())?;
-    Ok(())
-}
-
 /// Appends by a store over this folder.
 fn answer_over(rt: &HostRuntime, folder: &str) -> Result<Result<(), VolumeFault>, Fail> {
     let vol = VolName::new(rt.alloc(), b"V")?;
     let mut store = FolderStore::new(rt.alloc(), rt, folder)?;
     Ok(append(&mut store, &vol, b"g"))
-}
-
-#[test]
-fn a_store_without_its_folder_refuses(rt: HostRuntime) -> Result<(), Fail> {
-    let folder = new_folder(&rt, "nowhere")?;
-    fs::remove_dir_all(&rt, folder.as_str())?;
-    let answer = answer_over(&rt, folder.as_str())?;
-    assert_eq!(rt; answer, Err(VolumeFault::Failed));
-    Ok(())
 }
 
 /// Reads a block of the volume with this name.
@@ -442,14 +445,6 @@ fn wrong_in_folder(rt: &HostRuntime, folder: &str) -> Result<[Option<u64>; 2], F
     Ok([block, end])
 }
 
-#[test]
-fn a_drive_over_a_folder_reads(rt: HostRuntime) -> Result<(), Fail> {
-    let folder = filled_folder(&rt, "drive")?;
-    assert_eq!(rt; wrong_in_folder(&rt, folder.as_str())?, [None, None]);
-    fs::remove_dir_all(&rt, folder.as_str())?;
-    Ok(())
-}
-
 /// Returns whether a drive reads these bytes as the first of a volume.
 fn gives_first(
     alloc: Global,
@@ -478,14 +473,6 @@ fn goes_through_folder(rt: &HostRuntime, folder: &str) -> Result<bool, Fail> {
     gives_each(rt.alloc(), &mut drive, &mut buf)
 }
 
-#[test]
-fn a_drive_over_a_folder_goes_from_volume_to_volume(rt: HostRuntime) -> Result<(), Fail> {
-    let folder = filled_folder(&rt, "volumes")?;
-    assert!(rt; goes_through_folder(&rt, folder.as_str())?);
-    fs::remove_dir_all(&rt, folder.as_str())?;
-    Ok(())
-}
-
 /// Returns the refusal of the first bytes of a volume.
 fn fault_of(
     alloc: Global,
@@ -497,31 +484,30 @@ fn fault_of(
     Ok(read(drive, &vol, 0, 24, &mut buf).err())
 }
 
-/// Returns the refusals of V and of D by one drive over a folder.
+/// Returns the refusals of U and of D by one drive over a folder.
 fn faults_of(rt: &HostRuntime, folder: &str) -> Result<[Option<DriveFault>; 2], Fail> {
     let mut drive = FolderDrive::new(rt.alloc(), rt, folder)?;
-    let unknown = fault_of(rt.alloc(), &mut drive, b"V")?;
+    let unknown = fault_of(rt.alloc(), &mut drive, b"U")?;
     let inside = fault_of(rt.alloc(), &mut drive, b"D")?;
     Ok([unknown, inside])
 }
 
-/// Makes a folder D in a folder.
-fn make_d(rt: &HostRuntime, folder: &str) -> Result<(), Fail> {
-    let path = format!(in rt.alloc(); "{folder}/D")?;
-    fs::create_dir(rt, path.as_str())?;
-    Ok(())
-}
+/// The refusals of a volume without a file, and of one whose path is a folder.
+const FAULTS: [Option<DriveFault>; 2] = [Some(DriveFault::UnknownVolume), Some(DriveFault::Fault)];
 
 #[test]
-fn a_drive_over_a_folder_refuses(rt: HostRuntime) -> Result<(), Fail> {
-    let folder = new_folder(&rt, "refuses")?;
-    make_d(&rt, folder.as_str())?;
-    let faults = faults_of(&rt, folder.as_str())?;
-    assert_eq!(rt;
-        faults,
-        [Some(DriveFault::UnknownVolume), Some(DriveFault::Fault)]
-    );
+fn volumes_in_a_folder_are_read_and_written(rt: HostRuntime) -> Result<(), Fail> {
+    let folder = filled_folder(&rt)?;
+    assert_eq!(rt; wrong_in_folder(&rt, folder.as_str())?, [None, None]);
+    assert!(rt; goes_through_folder(&rt, folder.as_str())?);
+    assert_eq!(rt; faults_of(&rt, folder.as_str())?, FAULTS);
+    assert_eq!(rt; length_after_f(&rt, folder.as_str())?, 6);
+    assert_eq!(rt; holds_files(&rt, folder.as_str())?, [true; 3]);
     fs::remove_dir_all(&rt, folder.as_str())?;
+    assert_eq!(rt;
+        answer_over(&rt, folder.as_str())?,
+        Err(VolumeFault::Failed)
+    );
     Ok(())
 }
 
@@ -580,29 +566,17 @@ fn are_from_10(bytes: &[u8]) -> bool {
     same
 }
 
-#[test]
-fn short_and_interrupted_reads_are_tried_again(rt: HostRuntime) -> Result<(), Fail> {
-    let mut buf = Vec::new(rt.alloc());
-    let got = read_block(&slow_file(u64::MAX), 10, 100_000, &mut buf)?;
-    assert_eq!(rt; got, Got::Block(100_000));
-    assert!(rt; are_from_10(&buf));
-    Ok(())
+/// Returns whether a read of 100,000 bytes by short and interrupted reads gives them.
+fn reads_all(file: &Slow, buf: &mut Vec<u8>) -> Result<bool, DriveFault> {
+    let got = read_block(file, 10, 100_000, buf)?;
+    Ok(got == Got::Block(100_000) && are_from_10(buf))
 }
 
-/// Reads the file near its end and at its end, after a long read.
-fn at_the_end(file: &Slow, buf: &mut Vec<u8>) -> Result<[Got; 3], DriveFault> {
-    let long = read_block(file, 10, 100_000, buf)?;
+/// Reads the file near its end and at its end.
+fn at_the_end(file: &Slow, buf: &mut Vec<u8>) -> Result<[Got; 2], DriveFault> {
     let near = read_block(file, 199_990, 24, buf)?;
     let end = read_block(file, 200_000, 24, buf)?;
-    Ok([long, near, end])
-}
-
-#[test]
-fn the_end_of_a_file_is_found_by_short_reads(rt: HostRuntime) -> Result<(), Fail> {
-    let mut buf = Vec::new(rt.alloc());
-    let got = at_the_end(&slow_file(u64::MAX), &mut buf)?;
-    assert_eq!(rt; got, [Got::Block(100_000), Got::Block(10), Got::End]);
-    Ok(())
+    Ok([near, end])
 }
 
 /// Reads a file that fails past address 70,000, up to there and then farther.
@@ -614,9 +588,15 @@ fn up_to_a_fault(alloc: Global) -> [Result<Got, DriveFault>; 2] {
     [good, bad]
 }
 
+/// The results of these two reads.
+const UP_TO_FAULT: [Result<Got, DriveFault>; 2] = [Ok(Got::Block(70_000)), Err(DriveFault::Fault)];
+
 #[test]
-fn a_read_that_fails_in_the_middle_is_a_fault(rt: HostRuntime) -> Result<(), Fail> {
-    let answers = up_to_a_fault(rt.alloc());
-    assert_eq!(rt; answers, [Ok(Got::Block(70_000)), Err(DriveFault::Fault)]);
+fn short_and_interrupted_reads_are_tried_again(rt: HostRuntime) -> Result<(), Fail> {
+    let file = slow_file(u64::MAX);
+    let mut buf = Vec::new(rt.alloc());
+    assert!(rt; reads_all(&file, &mut buf)?);
+    assert_eq!(rt; at_the_end(&file, &mut buf)?, [Got::Block(10), Got::End]);
+    assert_eq!(rt; up_to_a_fault(rt.alloc()), UP_TO_FAULT);
     Ok(())
 }
