@@ -5,6 +5,7 @@ use Rattle.std.specs.Prelude.{IfSome, find, is_some}
 use Rattle.std.specs.List.{list_any}
 use Rattle.std.proofs.lemmas.Bool.{eqb-true}
 use Rattle.br_explain.specs.declared.refusal.Refusal.{Refusal}
+use Rattle.br_explain.specs.Rows.{Row, row_of}
 
 or_step : (b : Bool) (row : Refusal) (found : Option Refusal) (rest : Bool) → is_some found ≡ rest → is_some (cond b (Some row) found) ≡ (b || rest)
 or_step true row found rest e = refl
@@ -40,3 +41,22 @@ known r rows number is = is_some_seen r ∙ ap is_some is ∙ is_found number ro
 pub right : (r : Option (Bor Refusal)) (rows : List Refusal) (number : ℕ) → option_map (λ row. row.now) r ≡ find (λ row. row.number == number) rows
     → IfSome r (λ row. row.now.number ≡ number)
 right r rows number is = seen r (λ (row : Refusal). row.number ≡ number) (rw is (has_number number rows))
+
+row_step : (b : Bool) (row : Refusal) (found : Option Refusal) (rest : Option Row) → option_map row_of found ≡ rest
+    → option_map row_of (cond b (Some row) found) ≡ cond b (Some (row_of row)) rest
+row_step true row found rest e = refl
+row_step false row found rest e = e
+
+is_found_row : (number : ℕ) (rows : List Refusal)
+    → option_map row_of (find (λ row. row.number == number) rows) ≡ find (λ row. row.number == number) (map row_of rows)
+is_found_row number [] = refl
+is_found_row number (row ∷ more) = row_step (row.number == number) row _ _ (is_found_row number more)
+
+row_seen : (r : Option (Bor Refusal)) → option_map (λ row. row_of row.now) r ≡ option_map row_of (option_map (λ row. row.now) r)
+row_seen None = refl
+row_seen (Some row) = refl
+
+-- the row that is found has the words of the list's row
+pub found_row : (r : Option (Bor Refusal)) (rows : List Refusal) (number : ℕ) → option_map (λ row. row.now) r ≡ find (λ row. row.number == number) rows
+    → option_map (λ row. row_of row.now) r ≡ find (λ row. row.number == number) (map row_of rows)
+found_row r rows number is = row_seen r ∙ ap (option_map row_of) is ∙ is_found_row number rows

@@ -1,7 +1,7 @@
 //! The refusal numbers and the numbers of outcomes: for each its name, what it means and what to do next.
 //!
-//! `REFUSALS` is the table, in order of number, `explain` looks up a number, and `push_refusals` writes rows as text. The table of
-//! docs/RESTORING.md has the same words.
+//! `REFUSALS` is the table, in order of number, `explain` looks up a number, and `push_refusals`
+//! writes rows as text. `specs/Rows.antt` and the table of docs/RESTORING.md have the same words.
 #![tactic(auto)]
 
 mod refusal;

@@ -1,5 +1,6 @@
 ghost use Rattle.std.specs.Prelude.{◌≡◌, ◌==◌, ◌≤◌, ◌&&◌, IfSome, find, map, is_some, nat_le, option_map};
 ghost use Rattle.std.specs.List.{list_any};
+ghost use Rattle.br_explain.specs.Rows.{all_rows, row_of};
 ghost use Rattle.br_explain.specs.Table.{explained, is_outcome};
 
 use crate::table::REFUSALS;
@@ -32,6 +33,7 @@ fn find_in(refusals: &'static [Refusal], number: u32) -> Option<&'static Refusal
 
 /// Returns the same row, which has the number.
 fn row_in(refusals: &'static [Refusal], number: u32) -> Option<&'static Refusal>
+    ensures row { option_map (λ r. row_of r.now) result ≡ find (λ r. r.number == number) (map row_of refusals.now) }
     ensures known { is_some result ≡ list_any (λ n. n == number) (map (λ row. row.number) refusals.now) }
     ensures number { IfSome result (λ row. row.now.number ≡ number) }
 {
@@ -40,6 +42,7 @@ fn row_in(refusals: &'static [Refusal], number: u32) -> Option<&'static Refusal>
 
 /// Returns the row of the table with this number, or `None` if no refusal and no outcome has it.
 pub fn explain(number: u32) -> Option<&'static Refusal>
+    ensures row { option_map (λ r. row_of r.now) result ≡ find (λ r. r.number == number) all_rows }
     ensures known { is_some result ≡ list_any (λ n. n == number) explained }
     ensures number { IfSome result (λ row. row.now.number ≡ number) }
 {

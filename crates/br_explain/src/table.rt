@@ -35,7 +35,7 @@ pub const REFUSALS: [Refusal; 53] = [
     Refusal {
         number: 12,
         name: "Truncated",
-        meaning: "The volume ends inside a block that the restore needs.",
+        meaning: "The volume ends inside a block header, or inside a block that the restore needs.",
         next: "Copy the volume again, since the copy is probably incomplete; without a whole one, choose an earlier moment.",
     },
     Refusal {

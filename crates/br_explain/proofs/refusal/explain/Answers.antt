@@ -1,5 +1,8 @@
 use Rattle.br_explain.proofs.refusal.explain.Goals as goal
 
+pub returns-clause-row : goal.returns-clause-row
+returns-clause-row c = c.row_in.ensures.row
+
 pub returns-clause-known : goal.returns-clause-known
 returns-clause-known c = c.row_in.ensures.known
 
