@@ -1,5 +1,5 @@
 use super::*;
-use crate::sink_tests::{Shape, ZEROS, file, files, outcomes};
+use crate::sink_tests::{Shape, Stop, ZEROS, file, files, refusal, stop_of};
 use crate::tests::item;
 use br_join::Outcome;
 use br_types::FileKey;
@@ -8,82 +8,175 @@ use std::test::Fail;
 use std::thread::Threads;
 use std::{env, fs, process};
 
-/// The path of a folder for one test.
-fn path_of_folder(rt: &HostRuntime, name: &str) -> Result<String, Fail> {
+/// The path of a new folder for one test.
+pub(crate) fn new_folder(rt: &HostRuntime, name: &str) -> Result<String, Fail> {
     let temporary = env::temp_dir(rt)?;
     let id = process::id(rt.process());
-    Ok(format!(in rt.alloc(); "{}/br_sink_{name}_{id}", temporary.display())?)
-}
-
-/// A new folder for one test.
-fn new_folder(rt: &HostRuntime, name: &str) -> Result<String, Fail> {
-    let folder = path_of_folder(rt, name)?;
+    let folder = format!(in rt.alloc(); "{}/br_sink_{name}_{id}", temporary.display())?;
     fs::create_dir(rt, folder.as_str())?;
     Ok(folder)
 }
 
-/// Delivers into a folder. Returns number and count of the stop, if it stopped.
-fn into_folder(
+/// Delivers into a folder, and returns the stop.
+fn stop_in(
     rt: &HostRuntime,
     threads: &(impl Threads + Sync),
     folder: &str,
     outcomes: &[(FileKey, Outcome)],
-) -> Result<Option<(u32, u64)>, Fail> {
+) -> Result<Stop, Fail> {
     let mut sink = FolderSink::new(rt.alloc(), rt, folder)?;
-    match deliver(threads, rt.alloc(), outcomes, &mut sink) {
-        Ok(_) => Ok(None),
-        Err(stop) => Ok(Some((stop.number(), stop.done()))),
-    }
+    Ok(stop_of(&deliver(threads, rt.alloc(), outcomes, &mut sink)))
 }
 
-/// Returns if a file in a folder has these bytes.
-fn has_bytes(rt: &HostRuntime, folder: &str, name: &str, wanted: &[u8]) -> Result<bool, Fail> {
-    let path = format!(in rt.alloc(); "{folder}/{name}")?;
-    Ok(fs::read(rt, path.as_str())?.as_slice() == wanted)
-}
-
-/// Returns if these files are all delivered into a folder.
-fn puts_all(
+/// Delivers files into a folder, and returns the stop.
+fn stop_of_files(
     rt: &HostRuntime,
     threads: &(impl Threads + Sync),
     folder: &str,
     shapes: &[Shape<'_>],
-) -> Result<bool, Fail> {
+) -> Result<Stop, Fail> {
     let outcomes = files(rt, shapes)?;
-    Ok(into_folder(rt, threads, folder, &outcomes)?.is_none())
+    stop_in(rt, threads, folder, &outcomes)
 }
 
-/// Returns if there is a folder of this name in a folder.
-fn has_folder(rt: &HostRuntime, folder: &str, name: &str) -> Result<bool, Fail> {
+/// What there is under a name.
+#[derive(Clone, Copy)]
+enum Left<'s> {
+    Bytes(&'s [u8]),
+    Folder,
+    Nothing,
+}
+
+/// Returns if this is there under a name in a folder.
+fn is_there(rt: &HostRuntime, folder: &str, name: &str, left: Left<'_>) -> Result<bool, Fail> {
     let path = format!(in rt.alloc(); "{folder}/{name}")?;
-    Ok(fs::metadata(rt, path.as_str())?.is_dir())
+    match left {
+        Left::Bytes(wanted) => Ok(fs::read(rt, path.as_str())?.as_slice() == wanted),
+        Left::Folder => Ok(fs::metadata(rt, path.as_str())?.is_dir()),
+        Left::Nothing => Ok(fs::symlink_metadata(rt, path.as_str()).is_err()),
+    }
 }
 
-/// Returns if there is nothing of this name in a folder.
-fn has_nothing(rt: &HostRuntime, folder: &str, name: &str) -> Result<bool, Fail> {
-    let path = format!(in rt.alloc(); "{folder}/{name}")?;
-    Ok(fs::symlink_metadata(rt, path.as_str()).is_err())
+/// Names in a folder, and what there is under each.
+type Names = &'static [(&'static str, Left<'static>)];
+
+/// Returns the first of the names under which something else is there.
+fn wrong_name(rt: &HostRuntime, folder: &str, names: Names) -> Result<Option<&'static str>, Fail> {
+    for (name, left) in names {
+        if !is_there(rt, folder, name, *left)? {
+            return Ok(Some(*name));
+        }
+    }
+    Ok(None)
 }
 
-/// A file that is put twice, one without bytes, folders and a link.
-const ALL_KINDS: &[Shape<'static>] = &[
-    (b"/a/b", 3, b"hello"),
-    (b"/x", 2, b""),
-    (b"/a/b", 3, b"hi"),
-    (b"/d/e/", 5, b""),
-    (b"/", 5, b""),
-    (b"/l", 4, b""),
+/// A name for the folder, the files that are delivered into it, the stop, and what is there then.
+type Case = (&'static str, &'static [Shape<'static>], Stop, Names);
+
+const CASES: &[Case] = &[
+    // Files and folders but no links, and the later of two equal paths.
+    (
+        "kinds",
+        &[
+            (b"/a/b", 3, b"hello"),
+            (b"/x", 2, b""),
+            (b"/a/b", 3, b"hi"),
+            (b"/d/e/", 5, b""),
+            (b"/", 5, b""),
+            (b"/l", 4, b""),
+        ],
+        None,
+        &[
+            ("a/b", Left::Bytes(b"hi")),
+            ("x", Left::Bytes(b"")),
+            ("d/e", Left::Folder),
+            ("l", Left::Nothing),
+        ],
+    ),
+    // Two equal paths in one window.
+    (
+        "twice",
+        &[
+            (b"/x", 3, b"one"),
+            (b"/s/y", 3, b"two"),
+            (b"/x", 3, b"three"),
+            (b"/z", 3, b"four"),
+        ],
+        None,
+        &[
+            ("x", Left::Bytes(b"three")),
+            ("s/y", Left::Bytes(b"two")),
+            ("z", Left::Bytes(b"four")),
+        ],
+    ),
+    // A name that is no text.
+    (
+        "text",
+        &[
+            (b"/a", 3, b"hello"),
+            (b"/s/b", 3, b"more"),
+            (b"/\xff", 3, b"hello"),
+            (b"/d", 3, b"hello"),
+            (b"/e", 3, b"hello"),
+        ],
+        Some((80, 2)),
+        &[
+            ("a", Left::Bytes(b"hello")),
+            ("s/b", Left::Bytes(b"more")),
+            ("d", Left::Nothing),
+            ("e", Left::Nothing),
+        ],
+    ),
+    // A file with a slash at its end.
+    ("slash", &[(b"/a/", 2, b"")], Some((80, 0)), &[]),
+    // A path that conflicts with one before.
+    (
+        "way",
+        &[
+            (b"/x", 3, b"hello"),
+            (b"/a/b", 3, b"more"),
+            (b"/a", 3, b"hello"),
+            (b"/c", 3, b"hello"),
+        ],
+        Some((81, 2)),
+        &[
+            ("x", Left::Bytes(b"hello")),
+            ("a/b", Left::Bytes(b"more")),
+            ("c", Left::Nothing),
+        ],
+    ),
 ];
 
+/// Returns the stop of a case, and the first name under which something else is there.
+fn end_of(
+    rt: &HostRuntime,
+    threads: &(impl Threads + Sync),
+    case: &Case,
+) -> Result<(Stop, Option<&'static str>), Fail> {
+    let folder = new_folder(rt, case.0)?;
+    let stop = stop_of_files(rt, threads, folder.as_str(), case.1)?;
+    let wrong = wrong_name(rt, folder.as_str(), case.3)?;
+    fs::remove_dir_all(rt, folder.as_str())?;
+    Ok((stop, wrong))
+}
+
+/// How a case ended: its name, its stop, and the first name under which something else is there.
+type End = (&'static str, Stop, Option<&'static str>);
+
+/// Returns how the first of the cases ended that ended otherwise.
+fn wrong_case(rt: &HostRuntime, threads: &(impl Threads + Sync)) -> Result<Option<End>, Fail> {
+    for case in CASES {
+        let (stop, wrong) = end_of(rt, threads, case)?;
+        if stop != case.2 || wrong.is_some() {
+            return Ok(Some((case.0, stop, wrong)));
+        }
+    }
+    Ok(None)
+}
+
 #[test]
-fn a_folder_gets_files_and_folders_and_no_links(rt: HostRuntime) -> Result<(), Fail> {
-    let folder = new_folder(&rt, "kinds")?;
-    assert!(rt; puts_all(&rt, &rt, folder.as_str(), ALL_KINDS)?);
-    assert!(rt; has_bytes(&rt, folder.as_str(), "a/b", b"hi")?);
-    assert!(rt; has_bytes(&rt, folder.as_str(), "x", b"")?);
-    assert!(rt; has_folder(&rt, folder.as_str(), "d/e")?);
-    assert!(rt; has_nothing(&rt, folder.as_str(), "l")?);
-    fs::remove_dir_all(&rt, folder.as_str())?;
+fn a_folder_has_the_files_before_a_stop_whole(rt: HostRuntime) -> Result<(), Fail> {
+    assert_eq!(rt; wrong_case(&rt, &rt)?, None);
     Ok(())
 }
 
@@ -113,73 +206,11 @@ fn a_folder_must_be_there_and_empty(rt: HostRuntime) -> Result<(), Fail> {
     Ok(())
 }
 
-/// The stop of a delivery of three files, of which the second has a name that is no text.
-fn stop_at_no_text(
-    rt: &HostRuntime,
-    threads: &(impl Threads + Sync),
-    folder: &str,
-) -> Result<Option<(u32, u64)>, Fail> {
-    let outcomes = outcomes(rt, &[b"/a", b"/\xff", b"/c"])?;
-    into_folder(rt, threads, folder, &outcomes)
-}
-
-/// The stop of a delivery of a file with a slash at its end into a new folder.
-fn stop_at_slash(
-    rt: &HostRuntime,
-    threads: &(impl Threads + Sync),
-) -> Result<Option<(u32, u64)>, Fail> {
-    let folder = new_folder(rt, "slash")?;
-    let outcomes = files(rt, &[(b"/a/", 2, b"")])?;
-    let stop = into_folder(rt, threads, folder.as_str(), &outcomes)?;
-    fs::remove_dir_all(rt, folder.as_str())?;
-    Ok(stop)
-}
-
-#[test]
-fn a_name_that_is_no_text_and_a_slash_at_the_end_stop(rt: HostRuntime) -> Result<(), Fail> {
-    let folder = new_folder(&rt, "text")?;
-    assert_eq!(rt; stop_at_no_text(&rt, &rt, folder.as_str())?, Some((80, 1)));
-    assert!(rt; has_bytes(&rt, folder.as_str(), "a", b"hello")?);
-    fs::remove_dir_all(&rt, folder.as_str())?;
-    assert_eq!(rt; stop_at_slash(&rt, &rt)?, Some((80, 0)));
-    Ok(())
-}
-
 /// Makes a link in a folder.
 fn link_to(rt: &HostRuntime, target: &str, folder: &str, name: &str) -> Result<(), Fail> {
     let path = format!(in rt.alloc(); "{folder}/{name}")?;
     symlink(rt, target, path.as_str())?;
     Ok(())
-}
-
-/// What a sink answers for a file of this path and this type.
-fn put_of(
-    rt: &HostRuntime,
-    sink: &mut impl Sink,
-    path: &[u8],
-    kind: u32,
-) -> Result<Result<(), SinkFault>, Fail> {
-    let item = item(rt, path, kind, ZEROS)?;
-    Ok(sink.put(&item))
-}
-
-/// What a sink answers for files below and at a link, and for a folder at one.
-fn puts_at_links(
-    rt: &HostRuntime,
-    sink: &mut impl Sink,
-) -> Result<[Result<(), SinkFault>; 3], Fail> {
-    let below = put_of(rt, sink, b"/a/b", 2)?;
-    let file = put_of(rt, sink, b"/f", 2)?;
-    let folder = put_of(rt, sink, b"/a/", 5)?;
-    Ok([below, file, folder])
-}
-
-/// Returns if a sink over a folder refuses what would go through its links to a folder beside and to a file there.
-fn refuses_links(rt: &HostRuntime, beside: &str, folder: &str) -> Result<bool, Fail> {
-    let mut sink = FolderSink::new(rt.alloc(), rt, folder)?;
-    make_links(rt, beside, folder)?;
-    let answers = puts_at_links(rt, &mut sink)?;
-    Ok(answers == [Err(SinkFault::Fault); 3])
 }
 
 /// Makes the link a to a folder, and f to the file b that is not there.
@@ -189,14 +220,120 @@ fn make_links(rt: &HostRuntime, beside: &str, folder: &str) -> Result<(), Fail> 
     link_to(rt, target.as_str(), folder, "f")
 }
 
+/// Returns the refusal of a file of this path and this type.
+fn refused_at(rt: &HostRuntime, sink: &mut impl Sink, path: &[u8], kind: u32) -> Result<u32, Fail> {
+    let item = item(rt, path, kind, ZEROS)?;
+    Ok(refusal(sink.put(&item)))
+}
+
+/// Returns the stop of a sink that is given files at once.
+fn stop_at_once(
+    rt: &HostRuntime,
+    threads: &(impl Threads + Sync),
+    sink: &mut impl Sink,
+    shapes: &[Shape<'_>],
+) -> Result<Stop, Fail> {
+    let outcomes = files(rt, shapes)?;
+    Ok(stop_of(&sink.put_all(threads, &outcomes)))
+}
+
+/// A file below a link, and one in the place of a link, each with files around it.
+const BELOW: &[Shape<'static>] = &[
+    (b"/x", 3, b"hello"),
+    (b"/a/b", 3, b"hello"),
+    (b"/y", 3, b"hello"),
+];
+
+const IN_PLACE: &[Shape<'static>] = &[
+    (b"/z", 3, b"more"),
+    (b"/f", 3, b"hello"),
+    (b"/y", 3, b"hello"),
+];
+
+/// Returns the stops at a file below a link and at one in the place of a link.
+fn stops_at_links(
+    rt: &HostRuntime,
+    threads: &(impl Threads + Sync),
+    sink: &mut impl Sink,
+) -> Result<[Stop; 2], Fail> {
+    let below = stop_at_once(rt, threads, sink, BELOW)?;
+    let in_place = stop_at_once(rt, threads, sink, IN_PLACE)?;
+    Ok([below, in_place])
+}
+
+/// Returns the refusals of a file below a link, of one in its place, and of a folder in its place.
+fn refusals_at_links(rt: &HostRuntime, sink: &mut impl Sink) -> Result<[u32; 3], Fail> {
+    let below = refused_at(rt, sink, b"/a/b", 2)?;
+    let file = refused_at(rt, sink, b"/f", 2)?;
+    let folder = refused_at(rt, sink, b"/a/", 5)?;
+    Ok([below, file, folder])
+}
+
+/// Returns what a sink over a folder refuses at its links to a folder beside and to a file there.
+fn refused_over_links(
+    rt: &HostRuntime,
+    threads: &(impl Threads + Sync),
+    beside: &str,
+    folder: &str,
+) -> Result<([u32; 3], [Stop; 2]), Fail> {
+    let mut sink = FolderSink::new(rt.alloc(), rt, folder)?;
+    make_links(rt, beside, folder)?;
+    let refusals = refusals_at_links(rt, &mut sink)?;
+    let stops = stops_at_links(rt, threads, &mut sink)?;
+    Ok((refusals, stops))
+}
+
+/// What is there after the stops at links.
+const BESIDE_LINKS: Names = &[
+    ("x", Left::Bytes(b"hello")),
+    ("z", Left::Bytes(b"more")),
+    ("y", Left::Nothing),
+];
+
 #[test]
 fn a_link_in_the_folder_is_refused(rt: HostRuntime) -> Result<(), Fail> {
     let beside = new_folder(&rt, "beside")?;
-    let folder = new_folder(&rt, "link")?;
-    assert!(rt; refuses_links(&rt, beside.as_str(), folder.as_str())?);
-    assert!(rt; has_nothing(&rt, beside.as_str(), "b")?);
+    let folder = new_folder(&rt, "links")?;
+    let refused = refused_over_links(&rt, &rt, beside.as_str(), folder.as_str())?;
+    assert_eq!(rt; refused, ([80; 3], [Some((80, 1)); 2]));
+    assert_eq!(rt; wrong_name(&rt, folder.as_str(), BESIDE_LINKS)?, None);
+    assert!(rt; is_there(&rt, beside.as_str(), "b", Left::Nothing)?);
     fs::remove_dir_all(&rt, folder.as_str())?;
     fs::remove_dir_all(&rt, beside.as_str())?;
+    Ok(())
+}
+
+/// Files of which the third has the name of a folder.
+const TAKEN: &[Shape<'static>] = &[
+    (b"/a", 3, b"hello"),
+    (b"/n/x", 3, b"more"),
+    (b"/n", 3, b"hello"),
+    (b"/z", 3, b"hello"),
+];
+
+/// What is there after the stop at that file.
+const BEFORE_TAKEN: Names = &[
+    ("a", Left::Bytes(b"hello")),
+    ("n/x", Left::Bytes(b"more")),
+    ("z", Left::Nothing),
+];
+
+/// Returns the stop of a sink over a folder at a name that it has.
+fn stop_at_taken(
+    rt: &HostRuntime,
+    threads: &(impl Threads + Sync),
+    folder: &str,
+) -> Result<Stop, Fail> {
+    let mut sink = FolderSink::new(rt.alloc(), rt, folder)?;
+    stop_at_once(rt, threads, &mut sink, TAKEN)
+}
+
+#[test]
+fn a_name_that_a_folder_has_stops(rt: HostRuntime) -> Result<(), Fail> {
+    let folder = new_folder(&rt, "taken")?;
+    assert_eq!(rt; stop_at_taken(&rt, &rt, folder.as_str())?, Some((80, 2)));
+    assert_eq!(rt; wrong_name(&rt, folder.as_str(), BEFORE_TAKEN)?, None);
+    fs::remove_dir_all(&rt, folder.as_str())?;
     Ok(())
 }
 
@@ -223,7 +360,7 @@ fn bytes_of_many(rt: &HostRuntime, number: u32) -> Result<Vec<u8>, Fail> {
 fn one_of_many(rt: &HostRuntime, number: u32) -> Result<(FileKey, Outcome), Fail> {
     let path = path_of_many(rt, number)?;
     let bytes = bytes_of_many(rt, number)?;
-    file(rt, path.as_bytes(), 3, &bytes)
+    file(rt, (path.as_bytes(), 3, bytes.as_slice()))
 }
 
 /// Many files.
@@ -239,7 +376,7 @@ fn many_files(rt: &HostRuntime) -> Result<Vec<(FileKey, Outcome)>, Fail> {
 fn has_one_of_many(rt: &HostRuntime, folder: &str, number: u32) -> Result<bool, Fail> {
     let path = path_of_many(rt, number)?;
     let bytes = bytes_of_many(rt, number)?;
-    has_bytes(rt, folder, path.as_str(), &bytes)
+    is_there(rt, folder, path.as_str(), Left::Bytes(bytes.as_slice()))
 }
 
 /// Returns the first of many files that is not in a folder.
@@ -256,129 +393,8 @@ fn first_missing(rt: &HostRuntime, folder: &str) -> Result<Option<u32>, Fail> {
 fn many_files_come_out_whole(rt: HostRuntime) -> Result<(), Fail> {
     let folder = new_folder(&rt, "many")?;
     let outcomes = many_files(&rt)?;
-    assert_eq!(rt; into_folder(&rt, &rt, folder.as_str(), &outcomes)?, None);
+    assert_eq!(rt; stop_in(&rt, &rt, folder.as_str(), &outcomes)?, None);
     assert_eq!(rt; first_missing(&rt, folder.as_str())?, None);
     fs::remove_dir_all(&rt, folder.as_str())?;
-    Ok(())
-}
-
-/// The stop of a sink that is given all outcomes at once, as number and files, or none.
-fn stop_of_all(
-    threads: &(impl Threads + Sync),
-    sink: &mut impl Sink,
-    outcomes: &[(FileKey, Outcome)],
-) -> Option<(u32, u64)> {
-    match sink.put_all(threads, outcomes) {
-        Ok(()) => None,
-        Err(stop) => Some((stop.number(), stop.done())),
-    }
-}
-
-/// The stop of a sink over a folder that is given files of these paths at once.
-fn stop_of_paths(
-    rt: &HostRuntime,
-    threads: &(impl Threads + Sync),
-    folder: &str,
-    paths: &[&[u8]],
-) -> Result<Option<(u32, u64)>, Fail> {
-    let outcomes = outcomes(rt, paths)?;
-    let mut sink = FolderSink::new(rt.alloc(), rt, folder)?;
-    Ok(stop_of_all(threads, &mut sink, &outcomes))
-}
-
-/// Returns if of these names in a folder the first two are whole files, and nothing of the others is there.
-fn has_two_of(rt: &HostRuntime, folder: &str, names: [&str; 4]) -> Result<bool, Fail> {
-    let [a, b, c, d] = names;
-    Ok(
-        has_bytes(rt, folder, a, b"hello")?
-            && has_bytes(rt, folder, b, b"hello")?
-            && has_nothing(rt, folder, c)?
-            && has_nothing(rt, folder, d)?,
-    )
-}
-
-#[test]
-fn files_before_a_stop_are_whole_and_none_is_after(rt: HostRuntime) -> Result<(), Fail> {
-    let folder = new_folder(&rt, "third")?;
-    let text = stop_of_paths(
-        &rt,
-        &rt,
-        folder.as_str(),
-        &[b"/a", b"/s/b", b"/\xff", b"/d", b"/e"],
-    )?;
-    assert_eq!(rt; text, Some((80, 2)));
-    assert!(rt; has_two_of(&rt, folder.as_str(), ["a", "s/b", "d", "e"])?);
-    fs::remove_dir_all(&rt, folder.as_str())?;
-    Ok(())
-}
-
-#[test]
-fn a_name_that_a_folder_has_stops(rt: HostRuntime) -> Result<(), Fail> {
-    let folder = new_folder(&rt, "taken")?;
-    let taken = stop_of_paths(&rt, &rt, folder.as_str(), &[b"/a", b"/n/x", b"/n", b"/z"])?;
-    assert_eq!(rt; taken, Some((80, 2)));
-    assert!(rt; has_two_of(&rt, folder.as_str(), ["a", "n/x", "z", "y"])?);
-    fs::remove_dir_all(&rt, folder.as_str())?;
-    Ok(())
-}
-
-#[test]
-fn files_before_one_that_conflicts_are_whole(rt: HostRuntime) -> Result<(), Fail> {
-    let folder = new_folder(&rt, "way")?;
-    let outcomes = outcomes(&rt, &[b"/x", b"/a/b", b"/a", b"/c"])?;
-    assert_eq!(rt;
-        into_folder(&rt, &rt, folder.as_str(), &outcomes)?,
-        Some((81, 2))
-    );
-    assert!(rt; has_two_of(&rt, folder.as_str(), ["x", "a/b", "c", "d"])?);
-    fs::remove_dir_all(&rt, folder.as_str())?;
-    Ok(())
-}
-
-/// Files of which two have one path, with others around them.
-const TWICE: &[Shape<'static>] = &[
-    (b"/x", 3, b"one"),
-    (b"/s/y", 3, b"two"),
-    (b"/x", 3, b"three"),
-    (b"/z", 3, b"four"),
-];
-
-#[test]
-fn the_later_of_two_equal_paths_stays(rt: HostRuntime) -> Result<(), Fail> {
-    let folder = new_folder(&rt, "twice")?;
-    assert!(rt; puts_all(&rt, &rt, folder.as_str(), TWICE)?);
-    assert!(rt; has_bytes(&rt, folder.as_str(), "x", b"three")?);
-    assert!(rt; has_bytes(&rt, folder.as_str(), "s/y", b"two")?);
-    assert!(rt; has_bytes(&rt, folder.as_str(), "z", b"four")?);
-    fs::remove_dir_all(&rt, folder.as_str())?;
-    Ok(())
-}
-
-/// The stops of a sink over a folder with links, at a file below one and at a file in the place of one.
-fn stops_at_links(
-    rt: &HostRuntime,
-    threads: &(impl Threads + Sync),
-    beside: &str,
-    folder: &str,
-) -> Result<[Option<(u32, u64)>; 2], Fail> {
-    let below = outcomes(rt, &[b"/x", b"/a/b", b"/y"])?;
-    let at = outcomes(rt, &[b"/z", b"/f", b"/y"])?;
-    let mut sink = FolderSink::new(rt.alloc(), rt, folder)?;
-    make_links(rt, beside, folder)?;
-    let first = stop_of_all(threads, &mut sink, &below);
-    let second = stop_of_all(threads, &mut sink, &at);
-    Ok([first, second])
-}
-
-#[test]
-fn a_link_in_the_folder_stops(rt: HostRuntime) -> Result<(), Fail> {
-    let beside = new_folder(&rt, "aside")?;
-    let folder = new_folder(&rt, "links")?;
-    let stops = stops_at_links(&rt, &rt, beside.as_str(), folder.as_str())?;
-    assert_eq!(rt; stops, [Some((80, 1)); 2]);
-    assert!(rt; has_two_of(&rt, folder.as_str(), ["x", "z", "y", "b"])?);
-    assert!(rt; has_nothing(&rt, beside.as_str(), "b")?);
-    fs::remove_dir_all(&rt, folder.as_str())?;
-    fs::remove_dir_all(&rt, beside.as_str())?;
     Ok(())
 }

@@ -11,31 +11,31 @@ pub(crate) fn key(index: u32) -> Result<FileKey, Fail> {
     Ok(FileKey { session, index })
 }
 
-/// A file of this path, type, numbers, link text and bytes.
-pub(crate) fn whole_item(
-    rt: &HostRuntime,
-    path: &[u8],
-    head: (u32, &[u8]),
-    link: &[u8],
-    bytes: &[u8],
-) -> Result<Item, Fail> {
-    let stat = Stat::read(head.1)?;
-    let path = Path::new(rt.alloc(), path)?;
-    let link = Vec::from_slice(rt.alloc(), link)?;
+/// The path, the type, the attributes, the link text and the bytes of a file.
+pub(crate) type Content<'s> = (&'s [u8], u32, &'s [u8], &'s [u8], &'s [u8]);
+
+/// Bytes of a file.
+fn bytes_of(rt: &HostRuntime, bytes: &[u8]) -> Result<FileBytes, Fail> {
     let bytes = Vec::from_slice(rt.alloc(), bytes)?;
+    Ok(FileBytes::new(rt.alloc(), bytes)?)
+}
+
+/// A file with this content.
+pub(crate) fn whole_item(rt: &HostRuntime, content: Content<'_>) -> Result<Item, Fail> {
+    let (path, kind, stat, link, bytes) = content;
     Ok(Item {
-        path,
-        kind: head.0,
-        stat,
-        link,
-        bytes: FileBytes::new(rt.alloc(), bytes)?,
+        path: Path::new(rt.alloc(), path)?,
+        kind,
+        stat: Stat::read(stat)?,
+        link: Vec::from_slice(rt.alloc(), link)?,
+        bytes: bytes_of(rt, bytes)?,
         skipped: 0,
     })
 }
 
 /// A file without link text and without bytes.
 pub(crate) fn item(rt: &HostRuntime, path: &[u8], kind: u32, stat: &[u8]) -> Result<Item, Fail> {
-    whole_item(rt, path, (kind, stat), b"", b"")
+    whole_item(rt, (path, kind, stat, b"", b""))
 }
 
 pub(crate) fn fault(number: u32, stream: u32) -> Outcome {
@@ -47,67 +47,63 @@ fn manifest_of(rt: &HostRuntime, outcome: (FileKey, Outcome)) -> Result<Vec<u8>,
     Ok(manifest(rt.alloc(), &[outcome])?)
 }
 
-/// Returns if the manifest of a file with this index is this text.
-fn is_line(rt: &HostRuntime, index: u32, item: Item, wanted: &[u8]) -> Result<bool, Fail> {
-    let text = manifest_of(rt, with_key(index, Outcome::File(item))?)?;
-    Ok(text.as_slice() == wanted)
-}
-
 /// An outcome of the file with this index.
 fn with_key(index: u32, outcome: Outcome) -> Result<(FileKey, Outcome), Fail> {
     let key = key(index)?;
     Ok((key, outcome))
 }
 
-/// Returns if a file with bytes has its line.
-fn writes_hello(rt: &HostRuntime) -> Result<bool, Fail> {
-    let head = (3, b"A A IGk B A A A F A A A A A A".as_slice());
-    let hello = whole_item(rt, b"/a", head, b"", b"hello")?;
-    is_line(
-        rt,
-        1,
-        hello,
-        b"F 1 100 1 3 /a 0,0,33188,1,0,0,0,5,0,0,0,0,0,0 = 5 5d41402abc4b2a76b9719d911017c592\ntotal 1 0 0\n",
-    )
+/// The manifest of a file with this index.
+fn line_of(rt: &HostRuntime, index: u32, content: Content<'_>) -> Result<Vec<u8>, Fail> {
+    let item = whole_item(rt, content)?;
+    manifest_of(rt, with_key(index, Outcome::File(item))?)
 }
 
-/// Returns if a hard link has its line, which names its file.
-fn writes_link(rt: &HostRuntime) -> Result<bool, Fail> {
-    let head = (1, b"A A IGk B A A A D A A A A A B".as_slice());
-    let link = whole_item(rt, b"/y", head, b"/x", b"")?;
-    is_line(
-        rt,
-        2,
-        link,
-        b"F 1 100 2 1 /y 0,0,33188,1,0,0,0,3,0,0,0,0,0,1 =/x 0 d41d8cd98f00b204e9800998ecf8427e\ntotal 1 0 0\n",
-    )
-}
+/// A file with bytes, and its manifest.
+const HELLO: Content<'static> = (b"/a", 3, b"A A IGk B A A A F A A A A A A", b"", b"hello");
 
-/// Returns if the line of a link has its names escaped and its numbers with signs.
-fn writes_escaped(rt: &HostRuntime) -> Result<bool, Fail> {
-    let stat = b"-B A -IAAAAAAAAAA H////////// A A A A A A A A -BA A".as_slice();
-    let link = whole_item(rt, b"/a b\\c\xff", (4, stat), b"d e", b"")?;
-    is_line(
-        rt,
-        2_147_483_647,
-        link,
-        b"F 1 100 2147483647 4 /a\\x20b\\x5cc\\xff -1,0,-9223372036854775808,9223372036854775807,0,0,0,0,0,0,0,0,-64,0 =d\\x20e 0 d41d8cd98f00b204e9800998ecf8427e\ntotal 1 0 0\n",
-    )
-}
+const HELLO_LINE: &[u8] =
+    b"F 1 100 1 3 /a 0,0,33188,1,0,0,0,5,0,0,0,0,0,0 = 5 5d41402abc4b2a76b9719d911017c592\ntotal 1 0 0\n";
 
-/// Returns if the manifest of a fault of the file with index 1 is this text.
-fn is_fault_line(rt: &HostRuntime, number: u32, stream: u32, wanted: &[u8]) -> Result<bool, Fail> {
-    let text = manifest_of(rt, with_key(1, fault(number, stream))?)?;
-    Ok(text.as_slice() == wanted)
+/// A hard link, the line of which names its file.
+const LINK: Content<'static> = (b"/y", 1, b"A A IGk B A A A D A A A A A B", b"/x", b"");
+
+const LINK_LINE: &[u8] =
+    b"F 1 100 2 1 /y 0,0,33188,1,0,0,0,3,0,0,0,0,0,1 =/x 0 d41d8cd98f00b204e9800998ecf8427e\ntotal 1 0 0\n";
+
+/// A link with names to escape and negative numbers.
+const ESCAPED: Content<'static> = (
+    b"/a b\\c\xff",
+    4,
+    b"-B A -IAAAAAAAAAA H////////// A A A A A A A A -BA A",
+    b"d e",
+    b"",
+);
+
+const ESCAPED_LINE: &[u8] =
+    b"F 1 100 2147483647 4 /a\\x20b\\x5cc\\xff -1,0,-9223372036854775808,9223372036854775807,0,0,0,0,0,0,0,0,-64,0 =d\\x20e 0 d41d8cd98f00b204e9800998ecf8427e\ntotal 1 0 0\n";
+
+/// The manifest of a fault of the file with index 1.
+fn fault_line(rt: &HostRuntime, number: u32, stream: u32) -> Result<Vec<u8>, Fail> {
+    manifest_of(rt, with_key(1, fault(number, stream))?)
 }
 
 #[test]
 fn files_and_faults_have_lines(rt: HostRuntime) -> Result<(), Fail> {
-    assert!(rt; writes_hello(&rt)?);
-    assert!(rt; writes_link(&rt)?);
-    assert!(rt; writes_escaped(&rt)?);
-    assert!(rt; is_fault_line(&rt, 60, 0, b"X 1 100 1 60\ntotal 0 1 0\n")?);
-    assert!(rt; is_fault_line(&rt, 65, 4, b"X 1 100 1 65 4\ntotal 0 1 0\n")?);
+    assert_eq!(rt; line_of(&rt, 1, HELLO)?.as_slice(), HELLO_LINE);
+    assert_eq!(rt; line_of(&rt, 2, LINK)?.as_slice(), LINK_LINE);
+    assert_eq!(rt;
+        line_of(&rt, 2_147_483_647, ESCAPED)?.as_slice(),
+        ESCAPED_LINE
+    );
+    assert_eq!(rt;
+        fault_line(&rt, 60, 0)?.as_slice(),
+        b"X 1 100 1 60\ntotal 0 1 0\n".as_slice()
+    );
+    assert_eq!(rt;
+        fault_line(&rt, 65, 4)?.as_slice(),
+        b"X 1 100 1 65 4\ntotal 0 1 0\n".as_slice()
+    );
     Ok(())
 }
 
@@ -156,7 +152,9 @@ fn totals_are_of_all_outcomes(rt: HostRuntime) -> Result<(), Fail> {
     };
     assert_eq!(rt; totals(&outcomes), wanted);
     assert!(rt; ends_with(&rt, &outcomes, END)?);
-    let none = manifest(rt.alloc(), &[])?;
-    assert_eq!(rt; none.as_slice(), b"total 0 0 0\n".as_slice());
+    assert_eq!(rt;
+        manifest(rt.alloc(), &[])?.as_slice(),
+        b"total 0 0 0\n".as_slice()
+    );
     Ok(())
 }

@@ -1,6 +1,7 @@
 use crate::folder_sink::FolderSink;
+use crate::folder_tests::new_folder;
 use crate::sink::Sink;
-use crate::sink_tests::ZEROS;
+use crate::sink_tests::{Stop, ZEROS, stop_of};
 use crate::tests::whole_item;
 use crate::window::{Made, Window};
 use br_join::Item;
@@ -9,7 +10,7 @@ use std::io::{Error, ErrorKind, Write};
 use std::os::unix::fs::symlink;
 use std::test::Fail;
 use std::thread::Threads;
-use std::{env, fs, io, process};
+use std::{fs, io};
 
 /// What takes bytes, or fails.
 #[derive(Drop)]
@@ -33,7 +34,7 @@ impl Write for Fake {
 /// A file of the name of its place, in the folder d.
 fn item_at(rt: &HostRuntime, place: u64) -> Result<Item, Fail> {
     let path = format!(in rt.alloc(); "/d/{place}")?;
-    whole_item(rt, path.as_bytes(), (3, ZEROS), b"", b"hello")
+    whole_item(rt, (path.as_bytes(), 3, ZEROS, b"", b"hello"))
 }
 
 /// Files at places with others between, of which the second and the third fail.
@@ -67,45 +68,52 @@ fn held<'i>(alloc: Global, items: &'i [Item]) -> Result<Window<'i, Fake>, Fail> 
     Ok(window)
 }
 
+/// Returns if the file of this place is there in a folder.
+fn is_there(rt: &HostRuntime, folder: &str, place: u64) -> Result<bool, Fail> {
+    let path = format!(in rt.alloc(); "{folder}/{place}")?;
+    Ok(fs::symlink_metadata(rt, path.as_str()).is_ok())
+}
+
 /// Which of the files are there in a folder.
-fn are_there(rt: &HostRuntime, folder: &str) -> Result<Vec<bool>, Fail> {
-    let mut there = Vec::new(rt.alloc());
-    for (place, _) in CASES {
-        let path = format!(in rt.alloc(); "{folder}/{place}")?;
-        there.push(fs::symlink_metadata(rt, path.as_str()).is_ok())?;
+fn are_there(rt: &HostRuntime, folder: &str) -> Result<[bool; 4], Fail> {
+    let mut there = [false; 4];
+    for (is_this, (place, _)) in there.iter_mut().zip(CASES) {
+        *is_this = is_there(rt, folder, place)?;
     }
     Ok(there)
 }
 
-/// The number and the place at which a window of the files stops, or none.
-fn stop_of(threads: &(impl Threads + Sync), window: &mut Window<'_, Fake>) -> Option<(u32, u64)> {
-    match window.write(threads) {
-        Ok(()) => None,
-        Err(stop) => Some((stop.number(), stop.done())),
-    }
+/// Returns where a window of the files stops. The sink takes away those after the second.
+fn stop_of_window(
+    alloc: Global,
+    threads: &(impl Threads + Sync),
+    sink: &FolderSink<&HostRuntime>,
+    items: &[Item],
+) -> Result<Stop, Fail> {
+    let mut window = held(alloc, items)?;
+    let stop = stop_of(&window.write(threads));
+    sink.remove_after(&window, 7);
+    Ok(stop)
 }
 
-/// A new folder for one test.
-fn new_folder(rt: &HostRuntime, name: &str) -> Result<String, Fail> {
-    let temporary = env::temp_dir(rt)?;
-    let id = process::id(rt.process());
-    let folder = format!(in rt.alloc(); "{}/br_sink_{name}_{id}", temporary.display())?;
-    fs::create_dir(rt, folder.as_str())?;
-    Ok(folder)
+/// Puts the files into a folder, and returns where a window of them stops.
+fn stop_in(rt: &HostRuntime, threads: &(impl Threads + Sync), folder: &str) -> Result<Stop, Fail> {
+    let items = items(rt)?;
+    let mut sink = FolderSink::new(rt.alloc(), rt, folder)?;
+    if !puts_each(&mut sink, &items) {
+        return Err(Fail::from("a put"));
+    }
+    stop_of_window(rt.alloc(), threads, &sink, &items)
 }
 
 #[test]
 fn the_first_fault_counts_and_files_after_it_go(rt: HostRuntime) -> Result<(), Fail> {
     let folder = new_folder(&rt, "window")?;
     let inside = format!(in rt.alloc(); "{folder}/d")?;
-    let mut sink = FolderSink::new(rt.alloc(), &rt, folder.as_str())?;
-    let items = items(&rt)?;
-    assert!(rt; puts_each(&mut sink, &items));
-    let mut window = held(rt.alloc(), &items)?;
-    assert_eq!(rt; stop_of(&rt, &mut window), Some((80, 7)));
-    sink.remove_after(&window, 7);
-    assert!(rt;
-        are_there(&rt, inside.as_str())?.as_slice() == [true, true, false, false].as_slice()
+    assert_eq!(rt; stop_in(&rt, &rt, folder.as_str())?, Some((80, 7)));
+    assert_eq!(rt;
+        are_there(&rt, inside.as_str())?,
+        [true, true, false, false]
     );
     fs::remove_dir_all(&rt, folder.as_str())?;
     Ok(())
@@ -119,16 +127,24 @@ fn put_link(rt: &HostRuntime, folder: &str, beside: &str) -> Result<(), Fail> {
     Ok(())
 }
 
+/// Puts the files into a folder, and takes them all away behind a link in the place of the folder d.
+fn remove_behind_link(rt: &HostRuntime, folder: &str, beside: &str) -> Result<(), Fail> {
+    let items = items(rt)?;
+    let mut sink = FolderSink::new(rt.alloc(), rt, folder)?;
+    if !puts_each(&mut sink, &items) {
+        return Err(Fail::from("a put"));
+    }
+    put_link(rt, folder, beside)?;
+    sink.remove_after(&held(rt.alloc(), &items)?, 0);
+    Ok(())
+}
+
 #[test]
 fn nothing_is_taken_away_through_a_link(rt: HostRuntime) -> Result<(), Fail> {
     let folder = new_folder(&rt, "moved")?;
     let beside = format!(in rt.alloc(); "{folder}_beside")?;
-    let mut sink = FolderSink::new(rt.alloc(), &rt, folder.as_str())?;
-    let items = items(&rt)?;
-    assert!(rt; puts_each(&mut sink, &items));
-    put_link(&rt, folder.as_str(), beside.as_str())?;
-    sink.remove_after(&held(rt.alloc(), &items)?, 0);
-    assert!(rt; are_there(&rt, beside.as_str())?.as_slice() == [true; 4].as_slice());
+    remove_behind_link(&rt, folder.as_str(), beside.as_str())?;
+    assert_eq!(rt; are_there(&rt, beside.as_str())?, [true; 4]);
     fs::remove_dir_all(&rt, folder.as_str())?;
     fs::remove_dir_all(&rt, beside.as_str())?;
     Ok(())
