@@ -1,5 +1,5 @@
 -- A store over memory.
-use Rattle.std.specs.Prelude.{ℕ, if◌then◌else◌, List, [], ◌∷◌, ◌++◌, bytes_eq}
+use Rattle.std.specs.Prelude.{ℕ, ◌+◌, if◌then◌else◌, List, [], ◌∷◌, ◌++◌, bytes_eq}
 use Rattle.br_model.specs.Volume.{Volume}
 
 -- its volumes, and the number of failed calls
@@ -16,3 +16,11 @@ longer bytes v = record { name = v.name; bytes = v.bytes ++ bytes }
 abbrev pub with_appended : List ℕ → List ℕ → List Volume → List Volume
 with_appended volume bytes [] = record { name = volume; bytes = bytes } ∷ []
 with_appended volume bytes (v ∷ vs) = if bytes_eq v.name volume then longer bytes v ∷ vs else v ∷ with_appended volume bytes vs
+
+-- the store after bytes were appended
+abbrev pub after_append : List ℕ → List ℕ → Stored → Stored
+after_append volume bytes store = record { volumes = with_appended volume bytes store.volumes; failures = store.failures }
+
+-- the store after an append failed
+abbrev pub after_failure : Stored → Stored
+after_failure store = record { volumes = store.volumes; failures = store.failures + 1 }

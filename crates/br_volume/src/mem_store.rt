@@ -2,7 +2,7 @@ ghost use Rattle.std.specs.Prelude.{◌≡◌, ℕ, ◌+◌, ◌<◌, ◌≤◌,
 ghost use Rattle.br_model.specs.Volume.{Volume, volume_bytes};
 ghost use Rattle.br_model.specs.SessionHolds.{bytes_of_volume};
 ghost use Rattle.br_volume.specs.Memory.{volumes_of};
-ghost use Rattle.br_volume.specs.MemStore.{Stored, with_appended};
+ghost use Rattle.br_volume.specs.MemStore.{Stored, after_append, after_failure, with_appended};
 ghost use Rattle.br_volume.specs.Store.{AppendsTo, AppendsInPartTo, IsLengthIn};
 
 use crate::count::Count;
@@ -97,8 +97,8 @@ impl VolumeStore for MemStore {
         ensures refused { OnErr result (AppendsInPartTo vol.now bytes.now (Some self.old.volumes) (Some self.new.volumes)) }
         ensures counted { self.old.failures ≤ self.new.failures }
         ensures failed { OnErr result (self.old.failures < self.new.failures) }
-        ensures exact { OnOk result (self.new ≡ record { volumes = with_appended vol.now bytes.now self.old.volumes; failures = self.old.failures }) }
-        ensures kept { OnErr result (self.new ≡ record { volumes = self.old.volumes; failures = self.old.failures + 1 }) }
+        ensures exact { OnOk result (self.new ≡ after_append vol.now bytes.now self.old) }
+        ensures kept { OnErr result (self.new ≡ after_failure self.old) }
     {
         match append_to(self.alloc, &mut self.volumes, vol, bytes) {
             Ok(()) => Ok(()),

@@ -133,16 +133,22 @@ fn wrong_empty_read(reader: &mut OpenDrive) -> Result<Option<u64>, DriveFault> {
     Ok(None)
 }
 
-/// Returns the first wrong read of V with bytes, and the first without.
-fn wrong_reads(alloc: Global) -> Result<[Option<u64>; 2], Fail> {
-    let mut reader = reader(alloc, b"V")?;
-    Ok([wrong_read(&mut reader)?, wrong_empty_read(&mut reader)?])
+/// Returns the first wrong read with bytes, and the first without.
+fn wrong_reads(reader: &mut OpenDrive) -> Result<[Option<u64>; 2], DriveFault> {
+    Ok([wrong_read(reader)?, wrong_empty_read(reader)?])
 }
 
-/// Returns the result of the first read of a volume, and the number of bytes read.
-fn first_read(alloc: Global, name: &[u8]) -> Result<(Got, usize), Fail> {
-    let mut reader = reader(alloc, name)?;
-    Ok((reader.read(0, 24)?, reader.buf.len()))
+/// Returns the first wrong reads of V.
+fn wrong_reads_of_v(alloc: Global) -> Result<[Option<u64>; 2], Fail> {
+    let mut reader = reader(alloc, b"V")?;
+    Ok(wrong_reads(&mut reader)?)
+}
+
+/// Returns whether a volume without bytes ends at once.
+fn empty_volume_ends(alloc: Global) -> Result<bool, Fail> {
+    let mut reader = reader(alloc, b"E")?;
+    let got = reader.read(0, 24);
+    Ok(got == Ok(Got::End) && reader.buf.is_empty())
 }
 
 /// Returns why a volume that does not exist is not read.
@@ -172,8 +178,8 @@ fn gives_volumes_back(alloc: Global) -> Result<bool, Fail> {
 
 #[test]
 fn a_drive_over_memory_reads(rt: HostRuntime) -> Result<(), Fail> {
-    assert_eq!(rt; wrong_reads(rt.alloc())?, [None, None]);
-    assert_eq!(rt; first_read(rt.alloc(), b"E")?, (Got::End, 0));
+    assert_eq!(rt; wrong_reads_of_v(rt.alloc())?, [None, None]);
+    assert!(rt; empty_volume_ends(rt.alloc())?);
     assert_eq!(rt;
         fault_of_unknown(rt.alloc())?,
         Some(DriveFault::UnknownVolume)
@@ -203,7 +209,10 @@ fn results_of_failing(alloc: Global, k: u64) -> Result<[Result<Got, DriveFault>;
     ])
 }
 
-/// The result of each call of a drive that fails from its third call on.
+/// The results of a drive that fails from its first call on.
+const ALWAYS: [Result<Got, DriveFault>; 5] = [Err(DriveFault::Fault); 5];
+
+/// The results of a drive that fails from its third call on.
 const FROM_THIRD: [Result<Got, DriveFault>; 5] = [
     Ok(Got::Block(24)),
     Err(DriveFault::UnknownVolume),
@@ -211,6 +220,23 @@ const FROM_THIRD: [Result<Got, DriveFault>; 5] = [
     Err(DriveFault::Fault),
     Err(DriveFault::Fault),
 ];
+
+/// From which call on drives fail, and their results.
+const FAILING: [(u64, [Result<Got, DriveFault>; 5]); 3] = [
+    (0, ALWAYS),
+    (1, ALWAYS),
+    (3, FROM_THIRD),
+];
+
+/// Returns the first of these numbers whose drive has other results.
+fn wrong_failing(alloc: Global) -> Result<Option<u64>, Fail> {
+    for (k, wanted) in FAILING {
+        if results_of_failing(alloc, k)? != wanted {
+            return Ok(Some(k));
+        }
+    }
+    Ok(None)
+}
 
 /// Returns the numbers of all faults.
 fn numbers() -> [u32; 4] {
@@ -224,10 +250,7 @@ fn numbers() -> [u32; 4] {
 
 #[test]
 fn a_failing_drive_fails_from_its_kth_call_for_ever(rt: HostRuntime) -> Result<(), Fail> {
-    let always = [Err(DriveFault::Fault); 5];
-    assert_eq!(rt; results_of_failing(rt.alloc(), 0)?, always);
-    assert_eq!(rt; results_of_failing(rt.alloc(), 1)?, always);
-    assert_eq!(rt; results_of_failing(rt.alloc(), 3)?, FROM_THIRD);
+    assert_eq!(rt; wrong_failing(rt.alloc())?, None);
     assert_eq!(rt; numbers(), [1, 13, 14, 44]);
     Ok(())
 }
@@ -368,18 +391,28 @@ fn holds_files(rt: &HostRuntime, folder: &str) -> Result<[bool; 3], Fail> {
     Ok([v, e, w])
 }
 
+/// Appends an `f` to V, and returns its length.
+fn append_f(alloc: Global, store: &mut impl VolumeStore) -> Result<u64, Fail> {
+    append_to(alloc, store, b"V", b"f")?;
+    length_of(alloc, store, b"V")
+}
+
 /// Returns the length of V after a new store appended an `f`.
 fn length_after_f(rt: &HostRuntime, folder: &str) -> Result<u64, Fail> {
     let mut again = FolderStore::new(rt.alloc(), rt, folder)?;
-    append_to(rt.alloc(), &mut again, b"V", b"f")?;
-    length_of(rt.alloc(), &mut again, b"V")
+    append_f(rt.alloc(), &mut again)
 }
 
-/// Appends by a store over this folder.
-fn answer_over(rt: &HostRuntime, folder: &str) -> Result<Result<(), VolumeFault>, Fail> {
-    let vol = VolName::new(rt.alloc(), b"V")?;
+/// Returns why a store does not append to V, if it does not.
+fn append_fault(alloc: Global, store: &mut impl VolumeStore) -> Result<Option<VolumeFault>, Fail> {
+    let vol = VolName::new(alloc, b"V")?;
+    Ok(append(store, &vol, b"g").err())
+}
+
+/// Returns why a store over this folder does not append to V, if it does not.
+fn append_fault_over(rt: &HostRuntime, folder: &str) -> Result<Option<VolumeFault>, Fail> {
     let mut store = FolderStore::new(rt.alloc(), rt, folder)?;
-    Ok(append(&mut store, &vol, b"g"))
+    append_fault(rt.alloc(), &mut store)
 }
 
 /// Reads a block of the volume with this name.
@@ -437,12 +470,15 @@ fn wrong_end(alloc: Global, drive: &mut impl Drive) -> Result<Option<u64>, Fail>
     Ok(None)
 }
 
+/// Returns the first wrong block and the first wrong end of V.
+fn wrong_of_v(alloc: Global, drive: &mut impl Drive) -> Result<[Option<u64>; 2], Fail> {
+    Ok([wrong_block(alloc, drive)?, wrong_end(alloc, drive)?])
+}
+
 /// Returns the first wrong block and the first wrong end of V, by one drive over a folder.
 fn wrong_in_folder(rt: &HostRuntime, folder: &str) -> Result<[Option<u64>; 2], Fail> {
     let mut drive = FolderDrive::new(rt.alloc(), rt, folder)?;
-    let block = wrong_block(rt.alloc(), &mut drive)?;
-    let end = wrong_end(rt.alloc(), &mut drive)?;
-    Ok([block, end])
+    wrong_of_v(rt.alloc(), &mut drive)
 }
 
 /// Returns whether a drive reads these bytes as the first of a volume.
@@ -484,30 +520,38 @@ fn fault_of(
     Ok(read(drive, &vol, 0, 24, &mut buf).err())
 }
 
-/// Returns the refusals of U and of D by one drive over a folder.
-fn faults_of(rt: &HostRuntime, folder: &str) -> Result<[Option<DriveFault>; 2], Fail> {
+/// Returns the refusals of U and of D.
+fn faults_of(alloc: Global, drive: &mut impl Drive) -> Result<[Option<DriveFault>; 2], Fail> {
+    Ok([fault_of(alloc, drive, b"U")?, fault_of(alloc, drive, b"D")?])
+}
+
+/// Returns whether one drive over a folder refuses U and D as `FAULTS` says.
+fn refuses_in_folder(rt: &HostRuntime, folder: &str) -> Result<bool, Fail> {
     let mut drive = FolderDrive::new(rt.alloc(), rt, folder)?;
-    let unknown = fault_of(rt.alloc(), &mut drive, b"U")?;
-    let inside = fault_of(rt.alloc(), &mut drive, b"D")?;
-    Ok([unknown, inside])
+    Ok(faults_of(rt.alloc(), &mut drive)? == FAULTS)
 }
 
 /// The refusals of a volume without a file, and of one whose path is a folder.
 const FAULTS: [Option<DriveFault>; 2] = [Some(DriveFault::UnknownVolume), Some(DriveFault::Fault)];
 
+/// Returns whether a drive over the filled folder goes through its volumes and refuses, a store
+/// appends to V, the files are those that were appended, and a store refuses without the folder.
+fn folder_is_kept(rt: &HostRuntime, folder: &str) -> Result<[bool; 5], Fail> {
+    let goes_through = goes_through_folder(rt, folder)?;
+    let refuses = refuses_in_folder(rt, folder)?;
+    let appends = length_after_f(rt, folder)? == 6;
+    let holds = holds_files(rt, folder)? == [true; 3];
+    fs::remove_dir_all(rt, folder)?;
+    let fault = append_fault_over(rt, folder)?;
+    let fails = fault == Some(VolumeFault::Failed);
+    Ok([goes_through, refuses, appends, holds, fails])
+}
+
 #[test]
 fn volumes_in_a_folder_are_read_and_written(rt: HostRuntime) -> Result<(), Fail> {
     let folder = filled_folder(&rt)?;
     assert_eq!(rt; wrong_in_folder(&rt, folder.as_str())?, [None, None]);
-    assert!(rt; goes_through_folder(&rt, folder.as_str())?);
-    assert_eq!(rt; faults_of(&rt, folder.as_str())?, FAULTS);
-    assert_eq!(rt; length_after_f(&rt, folder.as_str())?, 6);
-    assert_eq!(rt; holds_files(&rt, folder.as_str())?, [true; 3]);
-    fs::remove_dir_all(&rt, folder.as_str())?;
-    assert_eq!(rt;
-        answer_over(&rt, folder.as_str())?,
-        Err(VolumeFault::Failed)
-    );
+    assert_eq!(rt; folder_is_kept(&rt, folder.as_str())?, [true; 5]);
     Ok(())
 }
 
