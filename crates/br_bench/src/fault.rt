@@ -12,7 +12,7 @@ use thiserror::Error;
 pub(crate) enum BenchFault {
     #[error("out of memory")]
     Memory,
-    #[error("br_bench STAGE PATHS JOBS ROWS")]
+    #[error("usage: br_bench STAGE PATHS JOBS ROWS")]
     Words,
     #[error("there is no such history")]
     History,

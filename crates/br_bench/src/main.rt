@@ -24,6 +24,7 @@ use br_types::Name;
 use br_view::View;
 use std::alloc::Global;
 use std::io;
+use std::process::ExitCode;
 use std::time::{CpuClock, Duration};
 
 /// Reports the time of a step that began at `since`.
@@ -202,8 +203,19 @@ fn measure(rt: &HostRuntime, stage: Stage, size: Size) -> Result<(), BenchFault>
     select(rt, stage, &history)
 }
 
-fn main(rt: HostRuntime) -> Result<(), BenchFault> {
-    let words: Vec<String> = std::env::args(&rt)?.collect(rt.alloc())?;
+/// Does what the words of the command line ask for.
+fn run(rt: &HostRuntime) -> Result<(), BenchFault> {
+    let words: Vec<String> = std::env::args(rt)?.collect(rt.alloc())?;
     let (stage, size) = read_words(&words).ok_or(BenchFault::Words)?;
-    measure(&rt, stage, size)
+    measure(rt, stage, size)
+}
+
+fn main(rt: HostRuntime) -> ExitCode {
+    match run(&rt) {
+        Ok(()) => ExitCode::SUCCESS,
+        Err(fault) => {
+            let _ = eprintln!(rt; "br_bench: {fault}");
+            ExitCode::FAILURE
+        }
+    }
 }
