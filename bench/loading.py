@@ -1,10 +1,11 @@
 #!/usr/bin/env python3
 """Measures the catalogue: the jobs of a client loaded from an SQLite file by `brestore console`.
 
-The script makes a catalogue of a Full of 100,000 and of 1,000,000 paths by SQLite itself, by Python's module, and has the
-program read it twice. A request for a client that no job names is refused when all jobs are loaded: that run is the load.
-The other run answers `count` and ends by `quit`, so it also builds the view and its tree. Beside them SQLite itself reads the
-rows by the joined selects that the program uses. All are printed in seconds of the processor.
+The script makes a catalogue of a Full of 100,000 and of 1,000,000 paths by SQLite itself, by
+Python's module, and has the program read it twice. A request for a client that no job names is
+refused when all jobs are loaded: that run is the load. The other run answers `count` and ends by
+`quit`, so it also builds the view and its tree. Beside them SQLite itself reads the rows by the
+joined selects that the program uses. All are printed in seconds of the processor.
 
     bench/loading.py                    100,000 and 1,000,000 paths
     bench/loading.py --paths N ..       these

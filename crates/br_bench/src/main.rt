@@ -1,8 +1,10 @@
-//! Makes a history of backups in memory and goes through the steps of a selection over it, so that each can be measured.
+//! Makes a history of backups in memory and goes through the steps of a selection over it, so that
+//! each can be measured.
 //!
-//! `br_bench STAGE PATHS JOBS ROWS` prints what each step up to the stage found, and on standard error the microseconds of
-//! the processor that each step took. The steps are those of the restore console: the view of the chosen jobs, its tree, lines
-//! of a dialogue, and the plan for the marks of the tree.
+//! `br_bench STAGE PATHS JOBS ROWS` prints what each step up to the stage found, and on standard
+//! error the microseconds of the processor that each step took. The steps are those of the restore
+//! console: the view of the chosen jobs, its tree, lines of a dialogue, and the plan for the marks
+//! of the tree.
 #![tactic(auto)]
 
 ghost use Rattle.std.specs.Prelude.{◌≡◌, IfOk};

@@ -1,4 +1,5 @@
-//! A history of backups that is the same each time: a Full, and Incrementals that change, add and delete files.
+//! A history of backups that is the same each time: a Full, and Incrementals that change, add and
+//! delete files.
 
 use crate::fault::BenchFault;
 use br_history::{FileRow, History, JobRow, JobRows};
@@ -15,8 +16,8 @@ pub(crate) const FILESET: &[u8] = b"home";
 /// Numbers of a file of 184 bytes that is no hard link, as long as Bacula writes them.
 const NUMBERS: &str = "P0A Cat6a IGk B Po Po A C4 BAA I BfV5Ch BfV5Ch BfV5Ch A A C";
 
-/// The size of a history. The shares of rows are exact if `rows` is a multiple of 10, `paths` of 1,000, and `jobs` less than
-/// `paths / rows` and than 97.
+/// The size of a history. The shares of rows are exact if `rows` is a multiple of 10, `paths` of
+/// 1,000, and `jobs` less than `paths / rows` and than 97.
 #[derive(Clone, Copy, Debug, PartialEq, Eq)]
 pub(crate) struct Size {
     /// The number of file rows of the Full.
@@ -27,8 +28,8 @@ pub(crate) struct Size {
     pub(crate) rows: u32,
 }
 
-/// Returns the path with this number: a file, or the directory of the files whose numbers come before. A project has a hundred paths,
-/// a user ten projects.
+/// Returns the path with this number: a file, or the directory of the files whose numbers come
+/// before. A project has a hundred paths, a user ten projects.
 fn path_text(alloc: Global, number: u32) -> Result<String, AllocError> {
     let (user, project) = (number / 1000, number / 100 % 10);
     if number == 97 {
@@ -42,7 +43,8 @@ fn path_text(alloc: Global, number: u32) -> Result<String, AllocError> {
     }
 }
 
-/// Returns the path of a file that an Incremental adds, in the directory of the path with this number.
+/// Returns the path of a file that an Incremental adds, in the directory of the path with this
+/// number.
 fn added_text(alloc: Global, number: u32, job: u32) -> Result<String, AllocError> {
     let (user, project) = (number / 1000, number / 100 % 10);
     format!(in alloc; "/home/user{user}/project{project}/added{job:02}-{number:06}")
@@ -65,8 +67,9 @@ fn full_row(alloc: Global, place: u32) -> Result<FileRow, BenchFault> {
     file_row(alloc, path.as_str(), place.saturating_add(1))
 }
 
-/// Returns the row of an Incremental at a place. Incrementals are counted from 1. Of ten rows one is a deletion, two are of new
-/// files, three of files that each Incremental has, and four of files that it alone has.
+/// Returns the row of an Incremental at a place. Incrementals are counted from 1. Of ten rows one
+/// is a deletion, two are of new files, three of files that each Incremental has, and four of files
+/// that it alone has.
 fn changed_row(alloc: Global, size: Size, job: u32, place: u32) -> Result<FileRow, BenchFault> {
     let apart = size.paths.checked_div(size.rows).unwrap_or(1);
     let first = place.saturating_mul(apart);

@@ -25,8 +25,8 @@ fn stage_of(word: &str) -> Option<Stage> {
     }
 }
 
-/// Reads the words of the command line, the first of which is the program's name. Returns `None` if they are not
-/// `STAGE PATHS JOBS ROWS`.
+/// Reads the words of the command line, the first of which is the program's name. Returns `None` if
+/// they are not `STAGE PATHS JOBS ROWS`.
 pub(crate) fn read_words(words: &[String]) -> Option<(Stage, Size)> {
     let [_, stage, paths, jobs, rows] = words else {
         return None;
