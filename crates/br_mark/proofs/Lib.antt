@@ -1,3 +1,4 @@
+pub mod BlankLaws
 pub mod TrimLaws
 pub mod WayLaws
 pub mod MarkLaws

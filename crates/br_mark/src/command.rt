@@ -9,10 +9,15 @@ ghost use Rattle.br_mark.specs.Said.{said, text_of};
 ghost use Rattle.br_mark.specs.Trim.{trimmed_front, trimmed_end};
 
 use crate::fault::MarkFault;
+use br_types::is_blank_byte;
+use bstr::ByteSlice;
 use std::alloc::{AllocError, Global};
 
 /// The most bytes that a line has.
 const MAX_LEN: usize = 4096;
+
+/// The blanks: a space and a tab.
+const BLANKS: &[u8] = b" \t";
 
 /// What may be asked of a console. A pattern is matched with names, a way is a path of directories.
 #[derive(Debug, Drop)]
@@ -45,25 +50,14 @@ pub enum Command {
     Quit,
 }
 
-/// Returns whether a byte is a blank: a space or a tab.
-fn is_blank_byte(byte: u8) -> bool
-    ensures { result ≡ is_blank byte }
-{
-    byte == b' ' || byte == b'\t'
-}
-
 /// Returns the text without the blanks at its front.
 fn without_front(text: &[u8]) -> &[u8]
     ensures { result.now ≡ trimmed_front text.now }
 {
-    let mut left = text;
-    while let Some((first, rest)) = left.split_first() {
-        if !is_blank_byte(*first) {
-            return left;
-        }
-        left = rest;
+    match text.find_not_byteset(BLANKS) {
+        Some(first) => &text[first..],
+        None => &[],
     }
-    left
 }
 
 /// Returns the text without the blanks at its end.
@@ -88,10 +82,11 @@ fn trimmed(text: &[u8]) -> &[u8]
     without_end(without_front(text))
 }
 
+/// Returns the place of the first blank.
 fn blank_in(text: &[u8]) -> Option<usize>
     ensures { result ≡ position is_blank text.now }
 {
-    text.iter().position(|byte| is_blank_byte(*byte))
+    text.find_byteset(BLANKS)
 }
 
 /// Returns the text before the first blank, and what comes after it.

@@ -8,7 +8,7 @@ ghost use Rattle.br_mark.specs.Seen.{flagged_line, flag_sign};
 use crate::fault::MarkFault;
 use crate::line::{push_path, push_signed, totals_line};
 use br_tree::{Child, Tree, bare_name, matches};
-use br_types::Path;
+use br_types::{Path, is_directory_path};
 use br_view::Entry;
 use std::alloc::{AllocError, Global};
 
@@ -138,23 +138,13 @@ fn size_of(size: i64) -> u128
     if size < 0 { 0 } else { size as u128 }
 }
 
-/// Returns whether the path is of a directory.
-fn is_directory_path(path: &Path) -> bool
-    ensures { result ≡ is_directory path.now }
-{
-    match path.bytes().last() {
-        Some(last) => *last == b'/',
-        None => false,
-    }
-}
-
 /// Returns the sum of the sizes of the files among these, without directories.
 fn bytes_in(entries: &[(&Path, Entry)]) -> u128
     ensures { result ≡ sum_by (λ e. model.size_of e.1.size) (filter (λ e. not (is_directory e.0.now)) entries.now) }
 {
     let mut total: u128 = 0;
     for (path, entry) in entries {
-        if !is_directory_path(path) {
+        if !is_directory_path(path.bytes()) {
             total += size_of(entry.size);
         }
     }
