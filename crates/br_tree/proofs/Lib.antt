@@ -7,5 +7,6 @@ pub mod MeantLaws
 pub mod StepLaws
 pub mod PickLaws
 pub mod MarkLaws
+pub mod ChangeLaws
 pub mod ListsLaws
 pub mod ChildLaws

@@ -3,3 +3,4 @@ pub mod Seen
 pub mod Fronts
 pub mod Walk
 pub mod Lists
+pub mod Change

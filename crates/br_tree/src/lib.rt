@@ -3,6 +3,7 @@
 //! Contracts see a `Tree` as the view's entries and the marked paths in byte order.
 #![tactic(auto)]
 
+mod change;
 mod child;
 mod list;
 mod names;

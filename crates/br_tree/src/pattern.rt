@@ -1,24 +1,15 @@
 ghost use Rattle.std.specs.Prelude.{◌≡◌, ◌==◌, ◌||◌};
 ghost use Rattle.std.specs.List.{list_any};
 ghost use Rattle.br_model.specs.Console as model;
-ghost use Rattle.br_model.specs.Name.{is_directory};
 ghost use Rattle.br_tree.specs.Fronts.{IsFront};
 
-/// Returns whether a name ends in a `/`.
-pub(crate) fn is_directory_name(name: &[u8]) -> bool
-    ensures { result ≡ is_directory name.now }
-{
-    match name.last() {
-        Some(last) => *last == b'/',
-        None => false,
-    }
-}
+use br_types::is_directory_path;
 
 /// Returns a name without the `/` at its end.
 pub fn bare_name(name: &[u8]) -> &[u8]
     ensures { result.now ≡ model.bare name.now }
 {
-    if is_directory_name(name) {
+    if is_directory_path(name) {
         &name[..name.len() - 1]
     } else {
         name

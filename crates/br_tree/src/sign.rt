@@ -6,9 +6,9 @@ ghost use Rattle.br_tree.specs.Seen.{sign_byte};
 ghost use Rattle.br_tree.specs.Walk.{AreSorted, marked_in};
 
 use crate::child::Sign;
-use crate::pattern::is_directory_name;
 use crate::run::{Shown, not_before, run_of};
 use crate::walk::own_len;
+use br_types::is_directory_path;
 
 /// Returns whether a flag is set.
 fn any_set(flags: &[bool]) -> bool
@@ -55,7 +55,7 @@ pub(crate) fn sign_of(entries: &[Shown<'_>], flags: &[bool], path: &[u8]) -> Sig
 {
     if is_marked(entries, flags, path) {
         Sign::Marked
-    } else if is_directory_name(path) && begins_a_mark(entries, flags, path) {
+    } else if is_directory_path(path) && begins_a_mark(entries, flags, path) {
         Sign::Within
     } else {
         Sign::Plain

@@ -1,12 +1,14 @@
-ghost use Rattle.std.specs.Prelude.{◌≡◌, map, length, ◌<◌, ◌^◌, bytes_eq, replicate, false, IfOk};
+ghost use Rattle.std.specs.Prelude.{◌≡◌, map, length, ◌<◌, ◌^◌, replicate, false, IfOk};
 ghost use Rattle.std.specs.List.{list_any};
 ghost use Rattle.br_model.specs.Console as model;
-ghost use Rattle.br_tree.specs.Walk.{seen_paths, is_picked, set_where, changes, recount, IsRising, AreSorted, marked_in};
+ghost use Rattle.br_tree.specs.Change.{flag_of, is_chosen, chosen, after_change, newly_changed};
+ghost use Rattle.br_tree.specs.Walk.{seen_paths, set_where, changes, recount, IsRising, AreSorted, marked_in};
 ghost use Rattle.br_model.specs.View.{view_paths};
 ghost use Rattle.br_view.specs.Shown.{shown_pair};
 ghost use Rattle.br_tree.specs.Marking as marking;
 ghost use Rattle.br_tree.specs.Seen.{flagged, seen_child, seen_path};
 
+use crate::change::{Change, Meant};
 use crate::child::Child;
 use crate::list::{flagged_pairs, found_pairs, paths_of};
 use crate::names::names_in;
@@ -51,44 +53,48 @@ fn recount_by(marks: usize, changed: Option<usize>, value: bool) -> usize
     }
 }
 
-/// Sets the flags of the children of a directory that match a pattern, as `set_matching` does, and keeps the number of marks.
-fn change_matching(
+/// Sets the flags of the paths that are meant. Returns the number of those that had another value;
+/// `None` if no path is meant.
+fn set_meant(
     entries: &[(&Path, Entry)],
     flags: &mut [bool],
-    marks: &mut usize,
     directory: &[u8],
-    pattern: &[u8],
-    deep: bool,
+    meant: Meant<'_>,
     value: bool,
-) -> Option<u64>
+) -> Option<usize>
     requires sorted { AreSorted entries.now }
     requires as_long { length flags.old ≡ length entries.now }
-    requires counted { marks.old ≡ length (marked_in entries.now flags.old) }
-    ensures flags { flags.new ≡ set_where (is_picked deep directory.now pattern.now) value (seen_paths entries.now) flags.old }
-    ensures answer { result ≡ changes (is_picked deep directory.now pattern.now) value (seen_paths entries.now) flags.old }
-    ensures counted { marks.new ≡ length (marked_in entries.now flags.new) }
+    ensures flags { flags.new ≡ set_where (is_chosen meant.entry directory.now) value (seen_paths entries.now) flags.old }
+    ensures answer { result ≡ changes (is_chosen meant.entry directory.now) value (seen_paths entries.now) flags.old }
 {
-    let changed = set_matching(entries, flags, directory, pattern, deep, value);
-    *marks = recount_by(*marks, changed, value);
-    as_number(changed)
+    match meant {
+        Meant::Names(pattern) => set_matching(entries, flags, directory, pattern, true, value),
+        Meant::Directories(Some(pattern)) => {
+            set_matching(entries, flags, directory, pattern, false, value)
+        }
+        Meant::Directories(None) => set_own(entries, flags, directory, value),
+    }
 }
 
-/// Sets the flag of the path of the directory itself, as `set_own` does, and keeps the number of marks.
-fn change_own(
+/// Changes the flags of the paths that are meant and keeps the number of marks. Returns the number
+/// of flags that changed; `None` if no path is meant.
+fn change_meant(
     entries: &[(&Path, Entry)],
     flags: &mut [bool],
     marks: &mut usize,
     directory: &[u8],
-    value: bool,
+    meant: Meant<'_>,
+    change: Change,
 ) -> Option<u64>
     requires sorted { AreSorted entries.now }
     requires as_long { length flags.old ≡ length entries.now }
     requires counted { marks.old ≡ length (marked_in entries.now flags.old) }
-    ensures flags { flags.new ≡ set_where (bytes_eq directory.now) value (seen_paths entries.now) flags.old }
-    ensures answer { result ≡ changes (bytes_eq directory.now) value (seen_paths entries.now) flags.old }
+    ensures flags { flags.new ≡ set_where (is_chosen meant.entry directory.now) (flag_of change) (seen_paths entries.now) flags.old }
+    ensures answer { result ≡ changes (is_chosen meant.entry directory.now) (flag_of change) (seen_paths entries.now) flags.old }
     ensures counted { marks.new ≡ length (marked_in entries.now flags.new) }
 {
-    let changed = set_own(entries, flags, directory, value);
+    let value = change.flag();
+    let changed = set_meant(entries, flags, directory, meant, value);
     *marks = recount_by(*marks, changed, value);
     as_number(changed)
 }
@@ -129,7 +135,8 @@ impl<'h> Model for Tree<'h> {
 
     ghost view = { λ t. record { view = t.shown; marked = flagged (view_paths t.shown) t.is_marked.items } };
 
-    ghost invariant = { λ t. IsView t.shown × (length t.is_marked.items ≡ length t.shown) × (t.marks ≡ length (flagged (view_paths t.shown) t.is_marked.items)) };
+    ghost invariant = { λ t. IsView t.shown × (length t.is_marked.items ≡ length t.shown)
+        × (t.marks ≡ length (flagged (view_paths t.shown) t.is_marked.items)) };
 }
 
 impl<'h> Tree<'h> {
@@ -175,21 +182,29 @@ impl<'h> Tree<'h> {
         directory == b"/".as_slice() || begin_so(rows(&self.shown), directory)
     }
 
+    /// Sets or takes the marks of the paths that are meant in a directory. Returns the number of
+    /// marks that changed. If no path is meant, it returns `None`, and nothing changes.
+    fn change(&mut self, directory: &[u8], meant: Meant<'_>, change: Change) -> Option<u64>
+        ensures answer { result ≡ newly_changed change self.old (chosen (marking.paths_of self.old) directory.now meant.entry) }
+        ensures marks { self.new ≡ after_change change self.old (chosen (marking.paths_of self.old) directory.now meant.entry) }
+    {
+        change_meant(
+            rows(&self.shown),
+            &mut self.is_marked,
+            &mut self.marks,
+            directory,
+            meant,
+            change,
+        )
+    }
+
     /// Marks the children of a directory that match the pattern, and all below them. Returns the number of paths that were not
     /// marked before. If no child matches, it returns nothing, and nothing changes.
     pub fn mark(&mut self, directory: &[u8], pattern: &[u8]) -> Option<u64>
         ensures answer { result ≡ marking.newly_marked self.old (marking.meant self.old directory.now pattern.now) }
         ensures marks { self.new ≡ marking.after_mark self.old (marking.meant self.old directory.now pattern.now) }
     {
-        change_matching(
-            rows(&self.shown),
-            &mut self.is_marked,
-            &mut self.marks,
-            directory,
-            pattern,
-            true,
-            true,
-        )
+        self.change(directory, Meant::Names(pattern), Change::Mark)
     }
 
     /// Takes the marks from the children of a directory that match the pattern, and from all below them. Returns the number of
@@ -198,15 +213,7 @@ impl<'h> Tree<'h> {
         ensures answer { result ≡ marking.newly_unmarked self.old (marking.meant self.old directory.now pattern.now) }
         ensures marks { self.new ≡ marking.after_unmark self.old (marking.meant self.old directory.now pattern.now) }
     {
-        change_matching(
-            rows(&self.shown),
-            &mut self.is_marked,
-            &mut self.marks,
-            directory,
-            pattern,
-            true,
-            false,
-        )
+        self.change(directory, Meant::Names(pattern), Change::Unmark)
     }
 
     /// Marks the own paths of the directories in a directory that match the pattern, without a pattern the path of the
@@ -216,24 +223,7 @@ impl<'h> Tree<'h> {
         ensures answer { result ≡ marking.newly_marked self.old (marking.meant_directories self.old directory.now pattern.entry) }
         ensures marks { self.new ≡ marking.after_mark self.old (marking.meant_directories self.old directory.now pattern.entry) }
     {
-        match pattern {
-            Some(pattern) => change_matching(
-                rows(&self.shown),
-                &mut self.is_marked,
-                &mut self.marks,
-                directory,
-                pattern,
-                false,
-                true,
-            ),
-            None => change_own(
-                rows(&self.shown),
-                &mut self.is_marked,
-                &mut self.marks,
-                directory,
-                true,
-            ),
-        }
+        self.change(directory, Meant::Directories(pattern), Change::Mark)
     }
 
     /// Takes the marks from the own paths of the directories in a directory that match the pattern, without a pattern from the
@@ -243,24 +233,7 @@ impl<'h> Tree<'h> {
         ensures answer { result ≡ marking.newly_unmarked self.old (marking.meant_directories self.old directory.now pattern.entry) }
         ensures marks { self.new ≡ marking.after_unmark self.old (marking.meant_directories self.old directory.now pattern.entry) }
     {
-        match pattern {
-            Some(pattern) => change_matching(
-                rows(&self.shown),
-                &mut self.is_marked,
-                &mut self.marks,
-                directory,
-                pattern,
-                false,
-                false,
-            ),
-            None => change_own(
-                rows(&self.shown),
-                &mut self.is_marked,
-                &mut self.marks,
-                directory,
-                false,
-            ),
-        }
+        self.change(directory, Meant::Directories(pattern), Change::Unmark)
     }
 
     /// Returns the names in a directory in byte order, each with its sign.

@@ -2,10 +2,12 @@ ghost use Rattle.std.specs.Prelude.{◌≡◌, true, ◌<◌, ◌≤◌, ◌-◌
 ghost use Rattle.std.specs.Cmp.Lexicographic.{slice_cmp};
 ghost use Rattle.std.specs.Ordering.{nat_cmp, is_lt};
 ghost use Rattle.br_model.specs.Console.{begins_with, child_of};
-ghost use Rattle.br_tree.specs.Walk.{differs, seen_paths, is_picked, is_own, reach, set_where, changes, AllPassing, NonePassing, IsStep, AreSorted};
+ghost use Rattle.br_tree.specs.Walk.{differs, seen_paths, is_picked, is_own, reach};
+ghost use Rattle.br_tree.specs.Walk.{set_where, changes, AllPassing, NonePassing, IsStep, AreSorted};
 
-use crate::pattern::{bare_name, is_directory_name, matches as fits};
+use crate::pattern::{bare_name, matches as fits};
 use crate::run::{Shown, child_len, child_name, not_before, rest_of, run_of};
+use br_types::is_directory_path;
 
 /// Sets flags to a value and returns the number of those that had another one.
 fn set_flags(flags: &mut [bool], value: bool) -> usize
@@ -35,7 +37,7 @@ fn is_own_path(directory: &[u8], path: &[u8], name: &[u8]) -> bool
     requires named { name.now ≡ child_of directory.now path.now }
     ensures { result ≡ is_own directory.now path.now }
 {
-    is_directory_name(path) && rest_of(directory, path) == name
+    is_directory_path(path) && rest_of(directory, path) == name
 }
 
 /// Returns the number of paths of a child that are meant, from its first path on.

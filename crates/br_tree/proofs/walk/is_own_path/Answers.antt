@@ -4,9 +4,9 @@ use Rattle.br_model.specs.Console.{child_of}
 use Rattle.br_tree.proofs.PickLaws.{own_is}
 use Rattle.br_tree.proofs.walk.is_own_path.Goals as goal
 
-pub returns-then-is_directory_name : goal.returns-then-is_directory_name
-returns-then-is_directory_name c =
+pub returns-then-is_directory_path : goal.returns-then-is_directory_path
+returns-then-is_directory_path c =
     let d = c.args.directory.now in
     let p = c.args.path.now in
     c.eq.ensures ∙ ap (λ r. bytes_eq r c.args.name.now) c.rest_of.ensures ∙ ap (bytes_eq (drop (length d) p)) c.requires.named ∙ own_is d p c.requires.begins
-    ∙ ap (λ b. b && bytes_eq p (d ++ child_of d p)) (sym c.if-is_directory_name.true ∙ c.is_directory_name.ensures)
+    ∙ ap (λ b. b && bytes_eq p (d ++ child_of d p)) (sym c.if-is_directory_path.true ∙ c.is_directory_path.ensures)
