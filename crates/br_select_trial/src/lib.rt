@@ -1,0 +1,15 @@
+//! The selection, tried: from the rows of jobs to the chosen jobs, their view and the marks in it. There are only tests here.
+#![tactic(auto)]
+
+#[cfg(test)]
+mod choose_tests;
+#[cfg(test)]
+mod history_tests;
+#[cfg(test)]
+mod jobs;
+#[cfg(test)]
+mod mark_tests;
+#[cfg(test)]
+mod tree_tests;
+#[cfg(test)]
+mod view_tests;
