@@ -7,8 +7,6 @@
 mod choice;
 mod criteria;
 mod fault;
-#[cfg(test)]
-mod tests;
 
 pub use choice::choose;
 pub use fault::ChooseFault;

@@ -8,8 +8,6 @@ mod fault;
 mod history;
 mod row;
 mod rows;
-#[cfg(test)]
-mod tests;
 
 pub use fault::HistoryFault;
 pub use history::History;

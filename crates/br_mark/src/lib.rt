@@ -17,6 +17,3 @@ pub use answer::Answer;
 pub use command::Command;
 pub use console::Console;
 pub use fault::MarkFault;
-
-#[cfg(test)]
-mod tests;

@@ -10,8 +10,6 @@ mod names;
 mod pattern;
 mod run;
 mod sign;
-#[cfg(test)]
-mod tests;
 mod tree;
 mod walk;
 

@@ -26,7 +26,7 @@ enum Front<'t> {
     Star(&'t [u8], &'t [u8]),
 }
 
-/// Returns whether a byte of a pattern that is no `*` stands for a byte.
+/// Returns whether a byte of a pattern, other than `*`, matches a byte.
 fn takes(mark: u8, byte: u8) -> bool
     ensures { result ≡ (mark == 63 || mark == byte) }
 {
@@ -83,7 +83,7 @@ fn matches_somewhere(pattern: &[u8], name: &[u8]) -> bool
     }
 }
 
-/// Returns whether a pattern matches a whole name: `*` stands for any bytes, `?` for one byte, any other byte for itself. It
+/// Returns whether a pattern matches a whole name: `*` matches any bytes, `?` one byte, any other byte itself. It
 /// takes at most as many steps as the product of the lengths.
 pub fn matches(pattern: &[u8], name: &[u8]) -> bool
     ensures { result ≡ model.matches pattern.now name.now }

@@ -5,8 +5,6 @@
 
 mod entry;
 mod newest;
-#[cfg(test)]
-mod tests;
 mod view;
 
 pub use entry::Entry;
