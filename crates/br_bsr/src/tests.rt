@@ -3,8 +3,13 @@ use br_types::{SessionKey, VolName};
 use std::alloc::{AllocError, Global};
 use std::test::Fail;
 
+/// A text of Bacula's Director, for a restore by a regular expression.
+const WITH_REGEX: &str =
+    "Storage=\"File1\"\nVolume=\"Vol-0001\"\nMediaType=\"File\"\nFileRegex=tiny\nDevice=\"FileDev\"\nVolSessionId=1\n";
+
 /// Texts, and why they are refused.
-const REFUSED: [(&str, BsrFault); 13] = [
+const REFUSED: [(&str, BsrFault); 14] = [
+    (WITH_REGEX, BsrFault::UnsupportedKeyword { line: 4 }),
     ("FileIndex=1", BsrFault::VolumeFirst { line: 1 }),
     ("FileIndex", BsrFault::VolumeFirst { line: 1 }),
     ("FileIndex=x", BsrFault::VolumeFirst { line: 1 }),
@@ -93,10 +98,6 @@ const CANONICAL: [(&str, &str); 8] = [
 /// A text of Bacula's Director, for a full and an incremental job on one volume.
 const WRITTEN: &str =
     "Storage=\"File1\"\nVolume=\"Vol-0001\"\nMediaType=\"File\"\nDevice=\"FileDev\"\nVolSessionId=1\nVolSessionTime=1795302931\nVolAddr=206-1172\nFileIndex=1-2\nFileIndex=4-5\nCount=4\nStorage=\"File1\"\nVolume=\"Vol-0001\"\nMediaType=\"File\"\nDevice=\"FileDev\"\nVolSessionId=1\nVolSessionTime=1795302940\nVolAddr=1656-2149\nFileIndex=1\nCount=1\n";
-
-/// A text of Bacula's Director, for a restore by a regular expression.
-const WITH_REGEX: &str =
-    "Storage=\"File1\"\nVolume=\"Vol-0001\"\nMediaType=\"File\"\nFileRegex=tiny\nDevice=\"FileDev\"\nVolSessionId=1\n";
 
 /// The canonical text of `WRITTEN`.
 const OF_TWO_JOBS: &[u8] =
@@ -187,18 +188,15 @@ fn not_refused(alloc: Global, texts: &[&'static str], line: u64) -> Option<&'sta
     None
 }
 
-#[test]
-fn refuses_in_order(rt: HostRuntime) {
-    assert_eq!(rt; wrongly_refused(rt.alloc(), &REFUSED), None);
-    assert_eq!(rt; not_refused(rt.alloc(), &BAD_VOLUMES, 1), None);
-    assert_eq!(rt; not_refused(rt.alloc(), &BAD_NUMBERS, 2), None);
+/// Returns whether `canonical` is the canonical text of the text.
+fn is_canonical_of(alloc: Global, text: &[u8], canonical: &[u8]) -> Result<bool, BsrFault> {
+    let written = canonical_of(alloc, text)?;
+    Ok(written.as_slice() == canonical)
 }
 
 /// Returns whether `canonical` is the canonical text of the text, and of itself.
 fn has_canonical(alloc: Global, text: &[u8], canonical: &[u8]) -> Result<bool, BsrFault> {
-    let written = canonical_of(alloc, text)?;
-    let again = canonical_of(alloc, &written)?;
-    Ok(written.as_slice() == canonical && again.as_slice() == canonical)
+    Ok(is_canonical_of(alloc, text, canonical)? && is_canonical_of(alloc, canonical, canonical)?)
 }
 
 /// Returns the first text that has another canonical text.
@@ -246,24 +244,10 @@ fn many_groups(alloc: Global) -> Result<Vec<u8>, AllocError> {
     Ok(text)
 }
 
-/// Returns the number of groups of that text.
-fn count_of_groups(alloc: Global) -> Result<usize, BsrFault> {
-    let text = many_groups(alloc)?;
-    let bootstrap = read_bootstrap(alloc, &text)?;
+/// Returns the number of groups that a text has.
+fn count_of_groups(alloc: Global, text: &[u8]) -> Result<usize, BsrFault> {
+    let bootstrap = read_bootstrap(alloc, text)?;
     Ok(bootstrap.groups().len())
-}
-
-#[test]
-fn reads_and_writes(rt: HostRuntime) -> Result<(), Fail> {
-    assert_eq!(rt; wrongly_written(rt.alloc(), &CANONICAL)?, None);
-    assert!(rt; reads_two_jobs(rt.alloc())?);
-    assert!(rt; has_canonical(rt.alloc(), WRITTEN.as_bytes(), OF_TWO_JOBS)?);
-    assert_eq!(rt;
-        fault_of(rt.alloc(), WITH_REGEX.as_bytes()),
-        Some(BsrFault::UnsupportedKeyword { line: 4 })
-    );
-    assert_eq!(rt; count_of_groups(rt.alloc())?, 20_000);
-    Ok(())
 }
 
 /// Returns whether there is one group, and it hits the files that `FILES` says.
@@ -312,7 +296,14 @@ fn wrongly_hit(
 }
 
 #[test]
-fn hits_by_every_criterion(rt: HostRuntime) -> Result<(), Fail> {
+fn reads_and_writes(rt: HostRuntime) -> Result<(), Fail> {
+    assert_eq!(rt; wrongly_written(rt.alloc(), &CANONICAL)?, None);
+    assert!(rt; reads_two_jobs(rt.alloc())?);
+    assert!(rt; has_canonical(rt.alloc(), WRITTEN.as_bytes(), OF_TWO_JOBS)?);
+    assert_eq!(rt;
+        count_of_groups(rt.alloc(), &many_groups(rt.alloc())?)?,
+        20_000
+    );
     assert!(rt; reads_sessions_and_files(rt.alloc())?);
     assert_eq!(rt; wrongly_hit(rt.alloc(), &CRITERIA)?, None);
     Ok(())
@@ -340,21 +331,29 @@ fn faults_of_line(
     Ok([open, fault_of(alloc, &text)])
 }
 
+/// Keywords, lengths of lines that begin with them, and why the lines are refused, if they are.
+const LONG_LINES: [(&[u8], u32, Option<BsrFault>); 3] = [
+    (b"FileIndex=1", 4096, None),
+    (b"FileIndex=1", 4097, Some(BsrFault::TooLong { line: 2 })),
+    (b"Foo=1", 4097, Some(BsrFault::TooLong { line: 2 })),
+];
+
+/// Returns the first of these lines that is wrongly refused, or wrongly not.
+fn wrong_line(alloc: Global) -> Result<Option<(&'static [u8], u32)>, Fail> {
+    for (keyword, len, fault) in LONG_LINES {
+        if faults_of_line(alloc, keyword, len)? != [fault, fault] {
+            return Ok(Some((keyword, len)));
+        }
+    }
+    Ok(None)
+}
+
 #[test]
-fn bounds_lines(rt: HostRuntime) -> Result<(), Fail> {
-    let too_long = Some(BsrFault::TooLong { line: 2 });
-    assert_eq!(rt;
-        faults_of_line(rt.alloc(), b"FileIndex=1", 4096)?,
-        [None, None]
-    );
-    assert_eq!(rt;
-        faults_of_line(rt.alloc(), b"FileIndex=1", 4097)?,
-        [too_long, too_long]
-    );
-    assert_eq!(rt;
-        faults_of_line(rt.alloc(), b"Foo=1", 4097)?,
-        [too_long, too_long]
-    );
+fn refuses_in_order(rt: HostRuntime) -> Result<(), Fail> {
+    assert_eq!(rt; wrongly_refused(rt.alloc(), &REFUSED), None);
+    assert_eq!(rt; not_refused(rt.alloc(), &BAD_VOLUMES, 1), None);
+    assert_eq!(rt; not_refused(rt.alloc(), &BAD_NUMBERS, 2), None);
+    assert_eq!(rt; wrong_line(rt.alloc())?, None);
     Ok(())
 }
 
@@ -371,10 +370,15 @@ fn addresses(alloc: Global) -> Result<Group, Fail> {
     Ok(group)
 }
 
-/// Makes the same group with a stream that is out of range.
-fn bad_addresses(alloc: Global) -> Result<Group, Fail> {
+/// Makes a copy of that group.
+fn addresses_again(alloc: Global) -> Result<Group, Fail> {
     let group = addresses(alloc)?;
-    let mut bad = group.copy(alloc)?;
+    Ok(group.copy(alloc)?)
+}
+
+/// Makes that group with a stream that is out of range.
+fn bad_addresses(alloc: Global) -> Result<Group, Fail> {
+    let mut bad = addresses_again(alloc)?;
     bad.streams.push(Range { low: 0, high: 1 })?;
     Ok(bad)
 }
@@ -423,19 +427,13 @@ fn is_refused(alloc: Global) -> Result<bool, Fail> {
     Ok(!bad.is_valid() && bootstrap_of(alloc, bad)?.is_none())
 }
 
-#[test]
-fn makes_bootstraps(rt: HostRuntime) -> Result<(), Fail> {
-    assert!(rt; is_volume(&volume(rt.alloc())?));
-    assert!(rt; is_addresses(&addresses(rt.alloc())?));
-    assert!(rt; is_written(rt.alloc(), b"Volume=\"V1\"\nVolAddr=3-9\nVolAddr=1-4\n")?);
-    assert!(rt; is_refused(rt.alloc())?);
-    assert!(rt;
-        Bootstrap::from_valid(Vec::new(rt.alloc()))
-            .groups()
-            .is_empty()
-    );
-    Ok(())
+/// Returns whether the bootstrap of no groups has none.
+fn has_no_group(alloc: Global) -> bool {
+    Bootstrap::from_valid(Vec::new(alloc)).groups().is_empty()
 }
+
+/// The message of a line that is too long.
+const TOO_LONG: &str = "line 7: more than 4096 bytes; split the line";
 
 /// Returns the first fault that has another number or line.
 fn wrong_fault(faults: &[(BsrFault, u32, Option<u64>)]) -> Option<BsrFault> {
@@ -453,16 +451,21 @@ fn has_text(alloc: Global, fault: BsrFault, wanted: &str) -> Result<bool, Fail> 
     Ok(message.as_str() == wanted)
 }
 
+/// Returns whether groups and bootstraps that are made, and not read, are as wanted.
+fn are_made(alloc: Global) -> Result<[bool; 5], Fail> {
+    Ok([
+        is_volume(&volume(alloc)?),
+        is_addresses(&addresses_again(alloc)?),
+        is_written(alloc, b"Volume=\"V1\"\nVolAddr=3-9\nVolAddr=1-4\n")?,
+        is_refused(alloc)?,
+        has_no_group(alloc),
+    ])
+}
+
 #[test]
-fn names_faults(rt: HostRuntime) -> Result<(), Fail> {
+fn makes_bootstraps_and_names_faults(rt: HostRuntime) -> Result<(), Fail> {
+    assert_eq!(rt; are_made(rt.alloc())?, [true; 5]);
     assert_eq!(rt; wrong_fault(&FAULTS), None);
-    let too_long = BsrFault::TooLong { line: 7 };
-    assert!(rt;
-        has_text(
-            rt.alloc(),
-            too_long,
-            "line 7: more than 4096 bytes; split the line"
-        )?
-    );
+    assert!(rt; has_text(rt.alloc(), BsrFault::TooLong { line: 7 }, TOO_LONG)?);
     Ok(())
 }
