@@ -89,20 +89,187 @@ fn number_of(alloc: Global, parts: &[Part<'_>]) -> Result<(u32, u32), Fail> {
     Ok(number(&made(alloc, parts)?))
 }
 
-/// Returns the number of the outcome of sparse data after the records (0, `ab`) and (4, `c`).
-fn third(alloc: Global, size: u32, bytes: &[u8]) -> Result<(u32, u32), Fail> {
-    let parts = [
-        Part(1, 38, FILE),
-        Part(6, 10, b"\0\0\0\0\0\0\0\0ab"),
-        Part(6, 9, b"\0\0\0\0\0\0\0\x04c"),
-        Part(6, size, bytes),
-    ];
-    number_of(alloc, &parts)
+/// Fragments, and the number and the stream of the fault that they make.
+const FAULTS: &[(&[Part<'static>], (u32, u32))] = &[
+    // `hullo` with the digest of `hello`, and `hello` with two digests.
+    (
+        &[
+            Part(1, 38, FILE),
+            Part(2, 5, b"hullo"),
+            Part(3, 16, &DIGEST),
+        ],
+        (66, 0),
+    ),
+    (
+        &[
+            Part(1, 38, FILE),
+            Part(2, 5, b"hello"),
+            Part(3, 16, &DIGEST),
+            Part(3, 16, &DIGEST),
+        ],
+        (66, 0),
+    ),
+    // An address before the end of the data, one that is cut off, and two that are too high.
+    (
+        &[
+            Part(1, 38, FILE),
+            AB_AT_0,
+            C_AT_4,
+            Part(6, 9, b"\0\0\0\0\0\0\0\x03d"),
+        ],
+        (67, 0),
+    ),
+    (
+        &[
+            Part(1, 38, FILE),
+            AB_AT_0,
+            C_AT_4,
+            Part(6, 7, b"\0\0\0\0\0\0\0"),
+        ],
+        (67, 0),
+    ),
+    (
+        &[
+            Part(1, 38, FILE),
+            AB_AT_0,
+            C_AT_4,
+            Part(6, 9, b"\0\0\0\0\x40\0\0\0d"),
+        ],
+        (68, 0),
+    ),
+    (
+        &[
+            Part(1, 38, FILE),
+            AB_AT_0,
+            C_AT_4,
+            Part(6, 9, b"\xff\xff\xff\xff\xff\xff\xff\xffd"),
+        ],
+        (68, 0),
+    ),
+    // A continuation of another size.
+    (&[Part(2, 72, FRONT), Part(-2, 43, MIDDLE)], (62, 0)),
+    // Continuations of nothing.
+    (&[Part(-2, 5, b"hello")], (60, 0)),
+    (&[Part(i32::MIN, 5, b"hello")], (60, 0)),
+    // Records that are not whole.
+    (&[Part(2, 72, FRONT), Part(1, 38, FILE)], (61, 0)),
+    (&[Part(1, 38, FILE), Part(2, 72, FRONT)], (61, 0)),
+    (&[Part(0, 10, b"hello"), Part(0, 5, b"hello")], (61, 0)),
+    // No attributes, though a stream is not supported, two of them, and bad ones.
+    (&[Part(2, 5, b"hello"), Part(4, 1, b"x")], (63, 0)),
+    (&[Part(1, 38, FILE), Part(1, 38, FILE)], (64, 0)),
+    (&[Part(1, 1, b"x")], (64, 0)),
+    // A stream that is not supported.
+    (
+        &[Part(1, 38, FILE), Part(2, 5, b"hello"), Part(4, 1, b"x")],
+        (65, 4),
+    ),
+];
+
+/// The records of sparse data before the faults.
+const AB_AT_0: Part<'static> = Part(6, 10, b"\0\0\0\0\0\0\0\0ab");
+
+const C_AT_4: Part<'static> = Part(6, 9, b"\0\0\0\0\0\0\0\x04c");
+
+/// Returns the place and the fault of the first fragments that make another fault.
+fn wrong_fault(alloc: Global) -> Result<Option<(usize, (u32, u32))>, Fail> {
+    for (place, (parts, wanted)) in FAULTS.iter().enumerate() {
+        let got = number_of(alloc, parts)?;
+        if got != *wanted {
+            return Ok(Some((place, got)));
+        }
+    }
+    Ok(None)
 }
 
-/// Returns the data of the file that fragments make.
-fn data_of(alloc: Global, parts: &[Part<'_>]) -> Result<Vec<u8>, Fail> {
-    Ok(file_of(alloc, parts)?.bytes.to_vec(alloc)?)
+/// `hello` without a digest.
+const HELLO: &[Part<'static>] = &[Part(1, 38, FILE), Part(2, 5, b"hello")];
+
+/// The three parts, one after another.
+const WHOLE: &[u8] = b"abcdefghijklmnopqrstuvwxyzABCDEFGHIJKLMNOPQRSTUVWXYZ0123456789abcdefghij";
+
+/// The attributes in two fragments.
+const FILE_FRONT: &[u8] = b"1 3 /a\0";
+
+const FILE_BACK: &[u8] = b"A A IGk B A A A F A A A A A A\0\0";
+
+/// Fragments, and the data and the number of records passed over of the file that they make.
+const FILES: &[(&[Part<'static>], &[u8], u64)] = &[
+    (HELLO, b"hello", 0),
+    (
+        &[
+            Part(1, 38, FILE),
+            Part(2, 5, b"hello"),
+            Part(3, 16, &DIGEST),
+        ],
+        b"hello",
+        0,
+    ),
+    // Sparse data is at its address.
+    (&[Part(1, 38, FILE), AB_AT_0, C_AT_4], b"ab\0\0c", 0),
+    // Records in three and in two fragments.
+    (
+        &[
+            Part(1, 38, FILE),
+            Part(2, 72, FRONT),
+            Part(-2, 44, MIDDLE),
+            Part(-2, 16, BACK),
+        ],
+        WHOLE,
+        0,
+    ),
+    (&[Part(1, 38, FILE_FRONT), Part(-1, 31, FILE_BACK)], b"", 0),
+    // An address in two fragments and data without one: an address alone moves the end.
+    (
+        &[
+            Part(1, 38, FILE),
+            Part(6, 10, b"\0\0\0"),
+            Part(-6, 7, b"\0\0\0\0\0ab"),
+            Part(6, 8, b"\0\0\0\0\0\0\0\x04"),
+            Part(2, 1, b"c"),
+            Part(3, 16, &DIGEST),
+        ],
+        b"ab\0\0c",
+        1,
+    ),
+    // Streams that are passed over, and data and digest of a directory.
+    (
+        &[Part(1, 38, FILE), Part(10, 1, b"x"), Part(1000, 1, b"x")],
+        b"",
+        2,
+    ),
+    (
+        &[
+            Part(1, 39, DIRECTORY),
+            Part(2, 5, b"hello"),
+            Part(3, 16, &DIGEST),
+        ],
+        b"",
+        2,
+    ),
+];
+
+/// Returns whether fragments make a file with this data and this number of records passed over.
+fn makes(alloc: Global, parts: &[Part<'_>], data: &[u8], skipped: u64) -> Result<bool, Fail> {
+    let item = file_of(alloc, parts)?;
+    Ok(item.bytes.to_vec(alloc)?.as_slice() == data && item.skipped == skipped)
+}
+
+/// Returns the place of the first fragments that make another file.
+fn wrong_file(alloc: Global) -> Result<Option<usize>, Fail> {
+    for (place, (parts, data, skipped)) in FILES.iter().enumerate() {
+        if !makes(alloc, parts, data, *skipped)? {
+            return Ok(Some(place));
+        }
+    }
+    Ok(None)
+}
+
+#[test]
+fn fragments_make_files_and_faults(rt: HostRuntime) -> Result<(), Fail> {
+    assert_eq!(rt; wrong_file(rt.alloc())?, None);
+    assert_eq!(rt; wrong_fault(rt.alloc())?, None);
+    Ok(())
 }
 
 #[test]
@@ -113,166 +280,11 @@ fn a_file_has_its_attributes_and_data(rt: HostRuntime) -> Result<(), Fail> {
         (item.kind, item.stat.mode(), item.stat.size()),
         (3, 33188, 5)
     );
-    assert!(rt; item.link.is_empty());
-    assert_eq!(rt; item.bytes.len(), 5);
+    assert_eq!(rt;
+        (item.link.len(), item.bytes.len(), item.skipped),
+        (0, 5, 0)
+    );
     assert_eq!(rt; item.bytes.digest(), DIGEST);
-    assert_eq!(rt; item.skipped, 0);
-    assert_eq!(rt; data_of(rt.alloc(), HELLO)?.as_slice(), b"hello".as_slice());
-    Ok(())
-}
-
-/// Returns the number of records that are passed over, of the file that fragments make.
-fn skipped_of(alloc: Global, parts: &[Part<'_>]) -> Result<u64, Fail> {
-    Ok(file_of(alloc, parts)?.skipped)
-}
-
-/// `hello` without a digest.
-const HELLO: &[Part<'static>] = &[Part(1, 38, FILE), Part(2, 5, b"hello")];
-
-/// `hello` with its digest.
-const RIGHT: &[Part<'static>] = &[
-    Part(1, 38, FILE),
-    Part(2, 5, b"hello"),
-    Part(3, 16, &DIGEST),
-];
-
-/// `hullo` with the digest of `hello`.
-const WRONG: &[Part<'static>] = &[
-    Part(1, 38, FILE),
-    Part(2, 5, b"hullo"),
-    Part(3, 16, &DIGEST),
-];
-
-const TWO_DIGESTS: &[Part<'static>] = &[
-    Part(1, 38, FILE),
-    Part(2, 5, b"hello"),
-    Part(3, 16, &DIGEST),
-    Part(3, 16, &DIGEST),
-];
-
-#[test]
-fn the_digest_of_data_is_checked(rt: HostRuntime) -> Result<(), Fail> {
-    assert_eq!(rt; skipped_of(rt.alloc(), RIGHT)?, 0);
-    assert_eq!(rt; number_of(rt.alloc(), WRONG)?, (66, 0));
-    assert_eq!(rt; number_of(rt.alloc(), TWO_DIGESTS)?, (66, 0));
-    Ok(())
-}
-
-const SPARSE: &[Part<'static>] = &[
-    Part(1, 38, FILE),
-    Part(6, 10, b"\0\0\0\0\0\0\0\0ab"),
-    Part(6, 9, b"\0\0\0\0\0\0\0\x04c"),
-];
-
-#[test]
-fn sparse_data_is_at_its_address(rt: HostRuntime) -> Result<(), Fail> {
-    assert_eq!(rt;
-        data_of(rt.alloc(), SPARSE)?.as_slice(),
-        b"ab\0\0c".as_slice()
-    );
-    assert_eq!(rt; third(rt.alloc(), 9, b"\0\0\0\0\0\0\0\x03d")?, (67, 0));
-    assert_eq!(rt; third(rt.alloc(), 7, b"\0\0\0\0\0\0\0")?, (67, 0));
-    assert_eq!(rt; third(rt.alloc(), 9, b"\0\0\0\0\x40\0\0\0d")?, (68, 0));
-    assert_eq!(rt;
-        third(rt.alloc(), 9, b"\xff\xff\xff\xff\xff\xff\xff\xffd")?,
-        (68, 0)
-    );
-    Ok(())
-}
-
-/// An address in two fragments and data without one.
-const ADDRESS_ALONE: &[Part<'static>] = &[
-    Part(1, 38, FILE),
-    Part(6, 10, b"\0\0\0"),
-    Part(-6, 7, b"\0\0\0\0\0ab"),
-    Part(6, 8, b"\0\0\0\0\0\0\0\x04"),
-    Part(2, 1, b"c"),
-    Part(3, 16, &DIGEST),
-];
-
-/// A record in three fragments.
-const IN_THREE: &[Part<'static>] = &[
-    Part(1, 38, FILE),
-    Part(2, 72, FRONT),
-    Part(-2, 44, MIDDLE),
-    Part(-2, 16, BACK),
-];
-
-/// The three parts, one after another.
-const WHOLE: &[u8] = b"abcdefghijklmnopqrstuvwxyzABCDEFGHIJKLMNOPQRSTUVWXYZ0123456789abcdefghij";
-
-/// Returns the number of the outcome of attributes in two fragments.
-fn number_of_two(alloc: Global) -> Result<(u32, u32), Fail> {
-    let (front, back) = FILE.split_at(7);
-    number_of(alloc, &[Part(1, 38, front), Part(-1, 31, back)])
-}
-
-#[test]
-fn fragments_are_joined(rt: HostRuntime) -> Result<(), Fail> {
-    assert_eq!(rt; data_of(rt.alloc(), IN_THREE)?.as_slice(), WHOLE);
-    assert_eq!(rt; number_of_two(rt.alloc())?, (0, 0));
-    // An address alone moves the end.
-    assert_eq!(rt;
-        data_of(rt.alloc(), ADDRESS_ALONE)?.as_slice(),
-        b"ab\0\0c".as_slice()
-    );
-    assert_eq!(rt; skipped_of(rt.alloc(), ADDRESS_ALONE)?, 1);
-    Ok(())
-}
-
-const OTHER_SIZE: &[Part<'static>] = &[Part(2, 72, FRONT), Part(-2, 43, MIDDLE)];
-
-const NO_FIRST: &[Part<'static>] = &[Part(-2, 5, b"hello")];
-
-const NO_FIRST_OF_LEAST: &[Part<'static>] = &[Part(i32::MIN, 5, b"hello")];
-
-const TORN: &[Part<'static>] = &[Part(2, 72, FRONT), Part(1, 38, FILE)];
-
-const TORN_AT_END: &[Part<'static>] = &[Part(1, 38, FILE), Part(2, 72, FRONT)];
-
-const TORN_OF_STREAM_0: &[Part<'static>] = &[Part(0, 10, b"hello"), Part(0, 5, b"hello")];
-
-#[test]
-fn fragments_that_do_not_go_on_are_refused(rt: HostRuntime) -> Result<(), Fail> {
-    assert_eq!(rt; number_of(rt.alloc(), OTHER_SIZE)?, (62, 0));
-    assert_eq!(rt; number_of(rt.alloc(), NO_FIRST)?, (60, 0));
-    assert_eq!(rt; number_of(rt.alloc(), NO_FIRST_OF_LEAST)?, (60, 0));
-    assert_eq!(rt; number_of(rt.alloc(), TORN)?, (61, 0));
-    assert_eq!(rt; number_of(rt.alloc(), TORN_AT_END)?, (61, 0));
-    assert_eq!(rt; number_of(rt.alloc(), TORN_OF_STREAM_0)?, (61, 0));
-    Ok(())
-}
-
-const NO_ATTRIBUTES: &[Part<'static>] = &[Part(2, 5, b"hello"), Part(4, 1, b"x")];
-
-const TWO_ATTRIBUTES: &[Part<'static>] = &[Part(1, 38, FILE), Part(1, 38, FILE)];
-
-const BAD_ATTRIBUTES: &[Part<'static>] = &[Part(1, 1, b"x")];
-
-#[test]
-fn a_file_has_one_attribute_record(rt: HostRuntime) -> Result<(), Fail> {
-    assert_eq!(rt; number_of(rt.alloc(), NO_ATTRIBUTES)?, (63, 0));
-    assert_eq!(rt; number_of(rt.alloc(), TWO_ATTRIBUTES)?, (64, 0));
-    assert_eq!(rt; number_of(rt.alloc(), BAD_ATTRIBUTES)?, (64, 0));
-    Ok(())
-}
-
-const UNSUPPORTED: &[Part<'static>] = &[Part(1, 38, FILE), Part(2, 5, b"hello"), Part(4, 1, b"x")];
-
-const PASSED_OVER: &[Part<'static>] = &[Part(1, 38, FILE), Part(10, 1, b"x"), Part(1000, 1, b"x")];
-
-const WITH_DIRECTORY: &[Part<'static>] = &[
-    Part(1, 39, DIRECTORY),
-    Part(2, 5, b"hello"),
-    Part(3, 16, &DIGEST),
-];
-
-#[test]
-fn streams_are_skipped_or_refused(rt: HostRuntime) -> Result<(), Fail> {
-    assert_eq!(rt; number_of(rt.alloc(), UNSUPPORTED)?, (65, 4));
-    assert_eq!(rt; skipped_of(rt.alloc(), PASSED_OVER)?, 2);
-    assert!(rt; data_of(rt.alloc(), WITH_DIRECTORY)?.is_empty());
-    assert_eq!(rt; skipped_of(rt.alloc(), WITH_DIRECTORY)?, 2);
     Ok(())
 }
 

@@ -1,7 +1,5 @@
 use super::Joiner;
-use crate::fault::{JoinFault, Refused};
-use crate::file_bytes::FileBytes;
-use crate::item::Outcome;
+use crate::item::{Item, Outcome};
 use br_bsr::read_bootstrap;
 use br_match::{Found, Hit, Spot};
 use br_piece::{Piece, split};
@@ -51,17 +49,34 @@ fn hit(
     })
 }
 
-/// Returns the attributes of both files and `a` of the first for piece 0, `c` of the second and `b`
-/// of the first for piece 1.
-fn found(alloc: Global, piece: u32) -> Result<Found, Fail> {
+/// A fragment: the index of its file, its place, its stream and its bytes.
+type Row<'s> = (u32, (u32, u32), i32, &'s [u8]);
+
+/// A piece, and what is found of it.
+type Step<'s> = (u32, &'s [Row<'s>]);
+
+/// The attributes of both files and `a` of the first, for piece 0.
+const OF_A: &[Row<'static>] = &[
+    (2, (0, 0), 1, SECOND),
+    (1, (0, 1), 1, FIRST),
+    (1, (0, 2), 2, b"a"),
+];
+
+/// `c` of the second file and `b` of the first, for piece 1.
+const OF_B: &[Row<'static>] = &[(2, (1, 0), 2, b"c"), (1, (1, 1), 2, b"b")];
+
+/// Both pieces in order, and in the other order, and nothing of both.
+const STEPS: &[Step<'static>] = &[(0, OF_A), (1, OF_B)];
+
+const TURNED: &[Step<'static>] = &[(1, OF_B), (0, OF_A)];
+
+const NOTHING: &[Step<'static>] = &[(0, &[]), (1, &[])];
+
+/// Returns what was found of a piece.
+fn found(alloc: Global, piece: u32, rows: &[Row<'_>]) -> Result<Found, Fail> {
     let mut hits = Vec::new(alloc);
-    if piece == 0 {
-        hits.push(hit(alloc, 2, (0, 0), 1, SECOND)?)?;
-        hits.push(hit(alloc, 1, (0, 1), 1, FIRST)?)?;
-        hits.push(hit(alloc, 1, (0, 2), 2, b"a")?)?;
-    } else {
-        hits.push(hit(alloc, 2, (1, 0), 2, b"c")?)?;
-        hits.push(hit(alloc, 1, (1, 1), 2, b"b")?)?;
+    for (index, spot, stream, bytes) in rows {
+        hits.push(hit(alloc, *index, *spot, *stream, bytes)?)?;
     }
     Ok(Found { piece, hits })
 }
@@ -71,51 +86,24 @@ fn take(joiner: &mut Joiner, found: Found) -> Result<(), Fail> {
     Ok(joiner.take(found).map_err(|refused| refused.fault)?)
 }
 
-/// Returns whether a file has these bytes, and their digest.
-fn has_bytes(alloc: Global, file: &FileBytes, wanted: &[u8]) -> Result<bool, Fail> {
-    let bytes = file.to_vec(alloc)?;
-    Ok(bytes.as_slice() == wanted && file.digest() == Md5::digest(wanted))
-}
-
-/// Returns whether a file has this index, path and bytes.
-fn is_file(
-    alloc: Global,
-    file: &(FileKey, Outcome),
-    index: u32,
-    path: &[u8],
-    bytes: &[u8],
-) -> Result<bool, Fail> {
-    match &file.1 {
-        Outcome::File(item) => {
-            let is_named = file.0.index.get() == index
-                && item.path.bytes() == path
-                && item.skipped == 0;
-            Ok(has_bytes(alloc, &item.bytes, bytes)? && is_named)
-        }
-        Outcome::Fault { .. } => Ok(false),
+/// Returns one more than a number if the joiner is not ready, and else the number.
+fn more_if_open(open: u64, joiner: &Joiner) -> u64 {
+    if joiner.ready() {
+        open
+    } else {
+        open.saturating_add(1)
     }
 }
 
-/// Returns whether the files are /a with `ab` and /b with `c`.
-fn are_both(alloc: Global, files: &[(FileKey, Outcome)]) -> Result<bool, Fail> {
-    match files {
-        [a, b] => {
-            let first = is_file(alloc, a, 1, b"/a", b"ab")?;
-            Ok(is_file(alloc, b, 2, b"/b", b"c")? && first)
-        }
-        _ => Ok(false),
+/// Takes what was found of pieces, and returns the number of them before which the joiner was not
+/// ready.
+fn take_all(alloc: Global, joiner: &mut Joiner, steps: &[Step<'_>]) -> Result<u64, Fail> {
+    let mut open = 0;
+    for (piece, rows) in steps {
+        open = more_if_open(open, joiner);
+        take(joiner, found(alloc, *piece, rows)?)?;
     }
-}
-
-/// Returns a joiner of the two pieces, without names.
-fn new_joiner(alloc: Global) -> Result<Joiner, Fail> {
-    let pieces = two_pieces(alloc)?;
-    Ok(Joiner::new(alloc, pieces.as_slice(), None)?)
-}
-
-/// Takes what is found of a piece.
-fn take_piece(alloc: Global, joiner: &mut Joiner, piece: u32) -> Result<(), Fail> {
-    take(joiner, found(alloc, piece)?)
+    Ok(open)
 }
 
 /// Returns the files, none if a piece is open.
@@ -131,138 +119,113 @@ fn finished(
     }
 }
 
-/// Returns whether there are three hits, and `a` is the last.
-fn end_with_a(hits: &[Hit]) -> bool {
-    match hits {
-        [_, _, last] => last.bytes.as_slice() == b"a".as_slice(),
-        _ => false,
+/// A file that is wanted: its index, and its path and bytes unless nothing was found of it.
+type Wanted<'s> = (u32, Option<(&'s [u8], &'s [u8])>);
+
+/// Returns whether an item has this path, and these bytes with their digest.
+fn is_item(alloc: Global, item: &Item, path: &[u8], bytes: &[u8]) -> Result<bool, Fail> {
+    let is_named = item.path.bytes() == path && item.skipped == 0;
+    let is_digest = item.bytes.digest() == Md5::digest(bytes);
+    Ok(item.bytes.to_vec(alloc)?.as_slice() == bytes && is_named && is_digest)
+}
+
+/// Returns whether an outcome is that of the file that is wanted.
+fn is_wanted(
+    alloc: Global,
+    file: &(FileKey, Outcome),
+    (index, wanted): Wanted<'_>,
+) -> Result<bool, Fail> {
+    let is_key = file.0 == key(index)?;
+    match &file.1 {
+        Outcome::File(item) => match wanted {
+            Some((path, bytes)) => Ok(is_item(alloc, item, path, bytes)? && is_key),
+            None => Ok(false),
+        },
+        Outcome::Fault { number, stream } => {
+            Ok(is_key && wanted.is_none() && (*number, *stream) == (63, 0))
+        }
     }
 }
 
-/// Returns whether the returned value is of the piece 2, which is none of the two.
-fn is_of_stranger(refused: &Refused<Found>) -> bool {
-    refused.fault == JoinFault::StrangerPiece
-        && refused.fault.number() == 58
-        && refused.value.piece == 2
-        && end_with_a(&refused.value.hits)
-}
-
-/// Returns whether a joiner refuses and returns what is found of the piece 2.
-fn returns_stranger(alloc: Global, joiner: &mut Joiner) -> Result<bool, Fail> {
-    let hits = found(alloc, 0)?.hits;
-    match joiner.take(Found { piece: 2, hits }) {
-        Ok(()) => Ok(false),
-        Err(refused) => Ok(is_of_stranger(&refused)),
+/// Returns the place of the first file that is not as wanted, if there is one.
+fn wrong_file(
+    alloc: Global,
+    files: &[(FileKey, Outcome)],
+    wanted: &[Wanted<'_>],
+) -> Result<Option<usize>, Fail> {
+    for (place, (file, one)) in files.iter().zip(wanted).enumerate() {
+        if !is_wanted(alloc, file, *one)? {
+            return Ok(Some(place));
+        }
     }
+    if files.len() == wanted.len() {
+        return Ok(None);
+    }
+    Ok(Some(files.len().min(wanted.len())))
 }
 
-#[test]
-fn returns_what_is_of_another_piece(rt: HostRuntime) -> Result<(), Fail> {
-    let mut joiner = new_joiner(rt.alloc())?;
-    assert!(rt; returns_stranger(rt.alloc(), &mut joiner)?);
-    assert!(rt; !joiner.ready());
-    Ok(())
-}
+/// The number of pieces before which a joiner was not ready, whether it is ready after all, and the
+/// place of the first file that it makes otherwise than wanted.
+type Joined = (u64, bool, Option<usize>);
 
-/// Returns whether a joiner is ready before, between and after two pieces that it takes.
-fn readiness(
-    alloc: Global,
-    joiner: &mut Joiner,
-    first: u32,
-    second: u32,
-) -> Result<[bool; 3], Fail> {
-    let before = joiner.ready();
-    take_piece(alloc, joiner, first)?;
-    let between = joiner.ready();
-    take_piece(alloc, joiner, second)?;
-    Ok([before, between, joiner.ready()])
-}
-
-/// Returns whether a joiner is ready only after both pieces, and makes both files of them.
-fn joins(
+/// Takes what was found of pieces, and compares the files.
+fn joined(
     rt: &(impl Threads + Sync),
-    alloc: Global,
     joiner: &mut Joiner,
-    first: u32,
-    second: u32,
-) -> Result<bool, Fail> {
-    let ready = readiness(alloc, joiner, first, second)?;
+    alloc: Global,
+    steps: &[Step<'_>],
+    wanted: &[Wanted<'_>],
+) -> Result<Joined, Fail> {
+    let open = take_all(alloc, joiner, steps)?;
+    let is_ready = joiner.ready();
     let files = finished(rt, alloc, joiner)?;
-    Ok(are_both(alloc, &files)? && ready == [false, false, true])
+    Ok((open, is_ready, wrong_file(alloc, &files, wanted)?))
 }
 
-/// Returns the same of a new joiner.
-fn joins_anew(
+/// Returns a joiner of the two pieces.
+fn new_joiner(alloc: Global, names: Option<Names>) -> Result<Joiner, Fail> {
+    let pieces = two_pieces(alloc)?;
+    Ok(Joiner::new(alloc, pieces.as_slice(), names)?)
+}
+
+/// Takes what was found of pieces into a new joiner, and compares the files.
+fn joined_anew(
     rt: &(impl Threads + Sync),
     alloc: Global,
-    first: u32,
-    second: u32,
-) -> Result<bool, Fail> {
-    let mut joiner = new_joiner(alloc)?;
-    joins(rt, alloc, &mut joiner, first, second)
+    steps: &[Step<'_>],
+    wanted: &[Wanted<'_>],
+) -> Result<Joined, Fail> {
+    let mut joiner = new_joiner(alloc, None)?;
+    joined(rt, &mut joiner, alloc, steps, wanted)
 }
 
-/// Takes a piece of which nothing is found.
-fn take_nothing(alloc: Global, joiner: &mut Joiner, piece: u32) -> Result<(), Fail> {
-    let hits = Vec::new(alloc);
-    take(joiner, Found { piece, hits })
-}
-
-/// Returns whether a joiner is ready before, between and after both pieces, of which nothing is
-/// found.
-fn readiness_of_nothing(alloc: Global, joiner: &mut Joiner) -> Result<[bool; 3], Fail> {
-    let before = joiner.ready();
-    take_nothing(alloc, joiner, 0)?;
-    let between = joiner.ready();
-    take_nothing(alloc, joiner, 1)?;
-    Ok([before, between, joiner.ready()])
-}
-
-/// Returns whether a joiner is ready only after both pieces, of which nothing is found, and makes
-/// no file of them.
-fn joins_nothing(
-    rt: &(impl Threads + Sync),
-    alloc: Global,
-    joiner: &mut Joiner,
-) -> Result<bool, Fail> {
-    let ready = readiness_of_nothing(alloc, joiner)?;
-    let files = finished(rt, alloc, joiner)?;
-    Ok(ready == [false, false, true] && files.is_empty())
-}
+/// The files /a with `ab` and /b with `c`.
+const BOTH: &[Wanted<'static>] = &[(1, Some((b"/a", b"ab"))), (2, Some((b"/b", b"c")))];
 
 #[test]
 fn joins_in_any_order_and_is_then_empty_and_open(rt: HostRuntime) -> Result<(), Fail> {
-    let mut joiner = new_joiner(rt.alloc())?;
-    assert!(rt; joins(&rt, rt.alloc(), &mut joiner, 0, 1)?);
-    assert!(rt; joins_nothing(&rt, rt.alloc(), &mut joiner)?);
-    assert!(rt; joins_anew(&rt, rt.alloc(), 1, 0)?);
+    let alloc = rt.alloc();
+    let mut joiner = new_joiner(alloc, None)?;
+    assert_eq!(rt;
+        joined(&rt, &mut joiner, alloc, STEPS, BOTH)?,
+        (2, true, None)
+    );
+    assert_eq!(rt;
+        joined(&rt, &mut joiner, alloc, NOTHING, &[])?,
+        (2, true, None)
+    );
+    assert_eq!(rt; joined_anew(&rt, alloc, TURNED, BOTH)?, (2, true, None));
     Ok(())
 }
 
-/// Takes both pieces twice, and then another fragment at a place that is taken.
-fn take_repeats(alloc: Global, joiner: &mut Joiner) -> Result<(), Fail> {
-    take_piece(alloc, joiner, 0)?;
-    take_piece(alloc, joiner, 1)?;
-    take_piece(alloc, joiner, 1)?;
-    take_piece(alloc, joiner, 0)?;
-    take(joiner, found_at_taken_place(alloc)?)
-}
-
-/// Returns `z` of the second file for piece 1, at the place of `c`.
-fn found_at_taken_place(alloc: Global) -> Result<Found, Fail> {
-    let mut hits = Vec::new(alloc);
-    hits.push(hit(alloc, 2, (1, 0), 2, b"z")?)?;
-    Ok(Found { piece: 1, hits })
-}
-
-#[test]
-fn a_repeat_changes_nothing(rt: HostRuntime) -> Result<(), Fail> {
-    let mut joiner = new_joiner(rt.alloc())?;
-    take_repeats(rt.alloc(), &mut joiner)?;
-    let files = finished(&rt, rt.alloc(), &mut joiner)?;
-    assert!(rt; are_both(rt.alloc(), &files)?);
-    Ok(())
-}
+/// Both pieces twice, and then another fragment at a place that is taken.
+const REPEATS: &[Step<'static>] = &[
+    (0, OF_A),
+    (1, OF_B),
+    (1, OF_B),
+    (0, OF_A),
+    (1, &[(2, (1, 0), 2, b"z")]),
+];
 
 /// Plans a file.
 fn plan(alloc: Global, names: &mut Names, index: u32, path: &[u8]) -> Result<(), Fail> {
@@ -279,40 +242,49 @@ fn planned_names(alloc: Global) -> Result<Names, Fail> {
     Ok(names)
 }
 
-/// Returns a joiner of the two pieces that restores the files 3 and 1.
-fn planned_joiner(alloc: Global) -> Result<Joiner, Fail> {
-    let pieces = two_pieces(alloc)?;
+/// Takes what was found of pieces into a joiner that restores the files 3 and 1, and compares the
+/// files.
+fn joined_as_planned(
+    rt: &(impl Threads + Sync),
+    alloc: Global,
+    wanted: &[Wanted<'_>],
+) -> Result<Joined, Fail> {
     let names = planned_names(alloc)?;
-    Ok(Joiner::new(alloc, pieces.as_slice(), Some(names))?)
+    let mut joiner = new_joiner(alloc, Some(names))?;
+    joined(rt, &mut joiner, alloc, STEPS, wanted)
 }
 
-/// Returns whether this is the file with this key, of which nothing was found.
-fn is_missing(file: &(FileKey, Outcome), key: FileKey) -> bool {
-    file.0 == key
-        && matches!(
-            &file.1,
-            Outcome::Fault {
-                number: 63,
-                stream: 0
-            }
-        )
+/// The file /a with `ab`, and the file 3 of which nothing was found.
+const PLANNED: &[Wanted<'static>] = &[(1, Some((b"/a", b"ab"))), (3, None)];
+
+#[test]
+fn repeats_change_nothing_and_names_choose(rt: HostRuntime) -> Result<(), Fail> {
+    let alloc = rt.alloc();
+    assert_eq!(rt; joined_anew(&rt, alloc, REPEATS, BOTH)?, (2, true, None));
+    assert_eq!(rt; joined_as_planned(&rt, alloc, PLANNED)?, (2, true, None));
+    Ok(())
 }
 
-/// Returns whether the files are /a with `ab`, and one with this key of which nothing was found.
-fn are_planned(alloc: Global, files: &[(FileKey, Outcome)], key: FileKey) -> Result<bool, Fail> {
-    match files {
-        [a, c] => Ok(is_file(alloc, a, 1, b"/a", b"ab")? && is_missing(c, key)),
-        _ => Ok(false),
+/// Returns the number of the refusal, and the piece and the number of hits that are returned with
+/// it, `None` if it is not refused or the last hit is not `a`.
+fn refusal(joiner: &mut Joiner, found: Found) -> Option<(u32, u32, usize)> {
+    let refused = joiner.take(found).err()?;
+    let value = &refused.value;
+    if value.hits.last()?.bytes.as_slice() == b"a".as_slice() {
+        Some((refused.fault.number(), value.piece, value.hits.len()))
+    } else {
+        None
     }
 }
 
 #[test]
-fn restores_what_was_planned(rt: HostRuntime) -> Result<(), Fail> {
-    let mut joiner = planned_joiner(rt.alloc())?;
-    take_piece(rt.alloc(), &mut joiner, 0)?;
-    take_piece(rt.alloc(), &mut joiner, 1)?;
-    let files = finished(&rt, rt.alloc(), &mut joiner)?;
-    assert!(rt; are_planned(rt.alloc(), &files, key(3)?)?);
+fn returns_what_is_of_another_piece(rt: HostRuntime) -> Result<(), Fail> {
+    let mut joiner = new_joiner(rt.alloc(), None)?;
+    assert_eq!(rt;
+        refusal(&mut joiner, found(rt.alloc(), 2, OF_A)?),
+        Some((58, 2, 3))
+    );
+    assert!(rt; !joiner.ready());
     Ok(())
 }
 
@@ -347,7 +319,11 @@ fn found_many(alloc: Global) -> Result<Found, Fail> {
 fn is_one_of_many(alloc: Global, file: &(FileKey, Outcome), index: u32) -> Result<bool, Fail> {
     let path = format!(in alloc; "/{index}")?;
     let bytes = bytes_of_many(alloc, index)?;
-    is_file(alloc, file, index, path.as_bytes(), &bytes)
+    is_wanted(
+        alloc,
+        file,
+        (index, Some((path.as_bytes(), bytes.as_slice()))),
+    )
 }
 
 /// Returns the first of the files 1 to 100 that is not in its place with its own bytes and digest,
@@ -366,9 +342,9 @@ fn wrong_of_many(alloc: Global, files: &[(FileKey, Outcome)]) -> Result<Option<u
 
 /// Returns the files that a joiner makes of the many.
 fn many_files(rt: &(impl Threads + Sync), alloc: Global) -> Result<Vec<(FileKey, Outcome)>, Fail> {
-    let mut joiner = new_joiner(alloc)?;
+    let mut joiner = new_joiner(alloc, None)?;
     take(&mut joiner, found_many(alloc)?)?;
-    take_nothing(alloc, &mut joiner, 1)?;
+    take(&mut joiner, found(alloc, 1, &[])?)?;
     finished(rt, alloc, &mut joiner)
 }
 
