@@ -1,4 +1,4 @@
-//! Volumes and bootstraps that Bacula wrote: the small cases of bench/, whose README.md tells where they come from.
+//! Volumes and bootstraps that Bacula wrote: the small cases of acceptance/, whose README.md tells where they come from.
 use crate::extract::ending_of;
 use br_engine::{Outputs, extract_text};
 use br_sink::MemSink;
