@@ -85,7 +85,7 @@ impl Sink for MemSink {
 
     ghost failures = { λ s. s.failures };
 
-    /// Fails at the put for which it was told so, whatever the file.
+    /// Fails at the put that was chosen to fail, whatever the file.
     fn put(&mut self, item: &Item) -> Result<(), SinkFault>
         ensures put { OnOk result (HasMore (item.now ∷ []) (Some self.old.items) (Some self.new.items)) }
         ensures refused { OnErr result (Some self.new.items ≡ Some self.old.items) }

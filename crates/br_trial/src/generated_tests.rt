@@ -39,7 +39,7 @@ fn last_of(jobs: &[Job], from: usize, level: u8, wish: Wish) -> Option<usize> {
     last
 }
 
-/// The places of the Incrementals that are meant behind a place.
+/// Appends the places of the Incrementals that are meant, after a place.
 fn push_incrementals(
     chosen: &mut Vec<usize>,
     jobs: &[Job],
@@ -54,8 +54,8 @@ fn push_incrementals(
     Ok(())
 }
 
-/// The places of the jobs to be used: the last Full, the last Differential behind it, and the Incrementals behind these; none
-/// without a Full.
+/// Returns the places of the jobs to be used: the last Full, the last Differential after it, and
+/// the Incrementals after these; none without a Full.
 fn chosen(alloc: Global, jobs: &[Job], wish: Wish) -> Result<Vec<usize>, AllocError> {
     let mut chosen = Vec::new(alloc);
     let Some(full) = last_of(jobs, 0, b'F', wish) else {
@@ -268,7 +268,8 @@ fn push_bootstrap(
     Ok(())
 }
 
-/// The lines of the jobs. The later a job, the less its session's number, so the last one's stand first.
+/// Appends the lines of the jobs. The later a job, the less its session's number, so those of the
+/// last one come first.
 fn push_manifest(
     alloc: Global,
     text: &mut String,

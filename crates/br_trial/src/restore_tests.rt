@@ -159,7 +159,7 @@ fn holds_of_two(rt: &(impl Threads + Sync), alloc: Global, case: &Case) -> Resul
     holds(rt, alloc, two_jobs(alloc)?, case)
 }
 
-/// Puts a spoilt block behind both volumes, and behind it a sound one of a third session.
+/// Appends a spoilt block to both volumes, and a sound one of a third session after it.
 fn spoil(alloc: Global, world: &mut World) -> Result<(), Fail> {
     let spoilt = [b'x'; 40];
     world.store.append(&VolName::new(alloc, b"A")?, &spoilt)?;
@@ -175,7 +175,7 @@ fn spoil(alloc: Global, world: &mut World) -> Result<(), Fail> {
     Ok(())
 }
 
-/// Two jobs, and spoilt blocks behind theirs.
+/// Makes two jobs, and spoilt blocks after theirs.
 fn two_spoilt_jobs(alloc: Global) -> Result<World, Fail> {
     let mut world = two_jobs(alloc)?;
     spoil(alloc, &mut world)?;
@@ -274,14 +274,14 @@ const FAILED: Case = Case {
     ..NO_VOLUMES
 };
 
-/// Returns if a run without volumes is refused behind the bootstrap.
+/// Returns if a run without volumes is refused after the bootstrap.
 fn runs_without_volumes(rt: &(impl Threads + Sync), alloc: Global) -> Result<bool, Fail> {
     let World { history, .. } = two_jobs(alloc)?;
     let mut drives = drives_over(alloc, Vec::new(alloc))?;
     runs(rt, alloc, &history, &mut drives, &NO_VOLUMES)
 }
 
-/// Returns if a run with a drive that fails at its third call is refused behind the bootstrap.
+/// Returns if a run with a drive that fails at its third call is refused after the bootstrap.
 fn runs_with_a_failing_drive(rt: &(impl Threads + Sync), alloc: Global) -> Result<bool, Fail> {
     let World { store, history } = two_jobs(alloc)?;
     let mut drives = Vec::new(alloc);

@@ -102,7 +102,7 @@ fn file_rows(alloc: Global, files: &[Given<'_>]) -> Result<Vec<FileRow>, Fail> {
     Ok(rows)
 }
 
-/// The rows of saved files and behind them those of deletions.
+/// Makes the rows of saved files and after them those of deletions.
 fn all_rows(alloc: Global, files: &[Given<'_>], deleted: &[&str]) -> Result<Vec<FileRow>, Fail> {
     let mut rows = file_rows(alloc, files)?;
     for path in deleted {
@@ -174,7 +174,7 @@ fn session_of(
     Ok(write_session(alloc, files, shape.session, limit, places, starts)?)
 }
 
-/// Puts the blocks of a session behind those of the volumes.
+/// Appends the blocks of a session to the volumes.
 fn append_all(store: &mut MemStore, blocks: &[(VolName, Vec<u8>)]) -> Result<(), Fail> {
     for (vol, block) in blocks {
         store.append(vol, block)?;
@@ -182,7 +182,7 @@ fn append_all(store: &mut MemStore, blocks: &[(VolName, Vec<u8>)]) -> Result<(),
     Ok(())
 }
 
-/// What a session of these files is on volumes that end there.
+/// Makes the session of these files on volumes that end there.
 fn written_from(
     alloc: Global,
     shape: &Shape<'_>,
@@ -194,7 +194,7 @@ fn written_from(
     session_of(alloc, shape, files, &places, starts)
 }
 
-/// What a session of these files is behind what stands on the volumes.
+/// Makes the session of these files after what the volumes contain.
 fn written_behind(
     alloc: Global,
     store: &mut MemStore,
