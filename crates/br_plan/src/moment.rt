@@ -1,11 +1,10 @@
 ghost use Rattle.std.specs.Prelude.{◌≡◌, ◌-◌, ◌*◌, ◌+◌, ◌<◌, true, length, fold, Some, None, if◌then◌else◌};
-ghost use Rattle.std.specs.List.{list_all};
-ghost use Rattle.std.specs.Char.{is_ascii_digit};
 ghost use Rattle.br_model.specs.Answer.{AnswersAlways};
 ghost use Rattle.br_model.specs.Moment as model;
 ghost use Rattle.br_plan.specs.Fault.{moment_number};
 ghost use Rattle.br_plan.specs.Moment.{has_date, IsWritten};
 
+use br_types::are_digits;
 use jiff::civil::DateTime;
 use std::marker::Model;
 use thiserror::Error;
@@ -41,12 +40,6 @@ impl Model for Moment {
     ghost Value = { model.Moment };
 
     ghost view = { λ m. record { year = m.year; month = m.month; day = m.day; hour = m.hour; minute = m.minute; second = m.second } };
-}
-
-fn are_digits(bytes: &[u8]) -> bool
-    ensures { result ≡ list_all is_ascii_digit bytes.now }
-{
-    bytes.iter().all(|byte| byte.is_ascii_digit())
 }
 
 /// Returns whether the text has 19 bytes and begins with `YYYY-MM-DD`.
