@@ -89,7 +89,7 @@ pub fn byte_by(high: u8, low: u8) -> Option<u8>
 /// Reads the first byte of an escaped text. Returns it and the rest; `None` if the text is empty.
 #[tactic(auto, unfolding(crate::specs::Escape::unescaped, crate::specs::Escape::in_front))]
 fn first_byte(text: &[u8]) -> Result<Option<(u8, &[u8])>, EscapeFault>
-    ensures read { IfOk result (λ first. MatchOption first (text.now ≡ []) (λ p. unescaped text.now ≡ in_front (Some p.0) (unescaped p.1.now))) }
+    ensures read { IfOk result (λ f. MatchOption f (text.now ≡ []) (λ p. unescaped text.now ≡ in_front (Some p.0) (unescaped p.1.now))) }
     ensures shorter { IfOk result (λ first. IfSome first (λ p. length p.1.now < length text.now)) }
     ensures bad { IfErr result (λ e. (e ≡ BadEscape) × (unescaped text.now ≡ None)) }
 {
