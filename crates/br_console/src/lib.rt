@@ -3,14 +3,10 @@
 #![tactic(auto)]
 
 mod console_fault;
-#[cfg(test)]
-mod delivery_tests;
 mod ending;
 mod reply;
 mod running;
 mod selecting;
-#[cfg(test)]
-mod talk_tests;
 mod talking;
 
 pub use console_fault::ConsoleFault;

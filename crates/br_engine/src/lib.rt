@@ -7,10 +7,6 @@ mod extracting;
 mod fault;
 mod outputs;
 mod restoring;
-#[cfg(test)]
-mod session_tests;
-#[cfg(test)]
-mod tests;
 
 pub use delivering::{extract, extract_text, restore_into, run_extract};
 pub use fault::{ExtractFault, push_piece_line, push_refused_line};

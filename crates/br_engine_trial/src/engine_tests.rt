@@ -1,7 +1,8 @@
+//! Restores by a bootstrap, into memory.
 ghost use Rattle.std.specs.Prelude.{◌≡◌, length, IfOk};
 
-use super::*;
 use br_bsr::{Bootstrap, BsrFault, read_bootstrap};
+use br_engine::{ExtractFault, Outputs, RestoreEnd, extract, extract_text, restore, run_extract};
 use br_join::Outcome;
 use br_match::{PieceCause, PieceFault};
 use br_sink::{Item, MemSink};
@@ -19,7 +20,7 @@ const BLOCK: &[u8] = b"\0\0\0\0\0\0\0\x5b\0\0\0\0BB02\0\0\0\x01\0\0\0\x64\
 const MANIFEST: &[u8] =
     b"F 1 100 1 3 /a 0,0,33188,1,0,0,0,5,0,0,0,0,0,0 = 5 5d41402abc4b2a76b9719d911017c592\ntotal 1 0 0\n";
 
-/// A drive over a volume V1 of one block.
+/// Returns a drive over a volume V1 of one block.
 fn drive(rt: &HostRuntime) -> Result<MemDrive, Fail> {
     let mut volumes = Vec::new(rt.alloc());
     let block = Vec::from_slice(rt.alloc(), BLOCK)?;
@@ -27,7 +28,7 @@ fn drive(rt: &HostRuntime) -> Result<MemDrive, Fail> {
     Ok(MemDrive::new(volumes))
 }
 
-/// Two such drives.
+/// Returns two such drives.
 fn drives(rt: &HostRuntime) -> Result<Vec<MemDrive>, Fail>
     ensures { IfOk result (λ drives. length drives.items ≡ 2) }
 {
@@ -77,7 +78,7 @@ fn a_restore_stops_at_the_first_piece_that_is_refused(rt: HostRuntime) -> Result
 /// Outputs into memory.
 type Memory = Outputs<Vec<u8>, MemSink>;
 
-/// Outputs that hold nothing yet and have no sink.
+/// Returns outputs that hold nothing yet and have no sink.
 fn manifest_only(alloc: Global) -> Memory {
     Outputs {
         writer: Vec::new(alloc),
@@ -85,7 +86,7 @@ fn manifest_only(alloc: Global) -> Memory {
     }
 }
 
-/// Outputs with this sink.
+/// Returns outputs with this sink.
 fn with_sink(alloc: Global, sink: MemSink) -> Memory {
     Outputs {
         writer: Vec::new(alloc),
@@ -153,52 +154,58 @@ fn a_delivery_stops_after_the_manifest(rt: HostRuntime) -> Result<(), Fail> {
     Ok(())
 }
 
+/// Appends the number of a fault, 0 if it has none, and its line.
+fn push_told(text: &mut Vec<u8>, fault: &ExtractFault) -> Result<(), Fail> {
+    write!(text, "{} ", fault.number().unwrap_or(0))?;
+    fault.push_line(text)?;
+    Ok(())
+}
+
+/// Appends the number and the line of a block's fault.
+fn push_block_told(
+    alloc: Global,
+    text: &mut Vec<u8>,
+    cause: PieceCause,
+    (name, addr): (&[u8], u64),
+) -> Result<(), Fail> {
+    let vol = VolName::new(alloc, name)?;
+    push_told(
+        text,
+        &ExtractFault::Piece(PieceFault::Block { cause, vol, addr }),
+    )
+}
+
 #[test]
 fn each_fault_has_its_number_and_line(rt: HostRuntime) -> Result<(), Fail> {
-    let at = |cause: PieceCause, name: &[u8], addr: u64| -> Result<ExtractFault, Fail> {
-        let vol = VolName::new(rt.alloc(), name)?;
-        Ok(ExtractFault::Piece(PieceFault::Block { cause, vol, addr }))
-    };
+    let mut text = Vec::new(rt.alloc());
+    push_told(&mut text, &ExtractFault::Memory)?;
+    push_told(&mut text, &ExtractFault::Bootstrap(BsrFault::Memory))?;
+    push_told(
+        &mut text,
+        &ExtractFault::Bootstrap(BsrFault::BadValue { line: 7 }),
+    )?;
+    push_told(&mut text, &ExtractFault::Piece(PieceFault::Memory))?;
+    push_block_told(
+        rt.alloc(),
+        &mut text,
+        PieceCause::UnknownVolume,
+        (b"V 1", 0),
+    )?;
+    push_block_told(
+        rt.alloc(),
+        &mut text,
+        PieceCause::Truncated,
+        (b"V1", u64::MAX),
+    )?;
+    push_block_told(rt.alloc(), &mut text, PieceCause::DriveFault, (b"V1", 24))?;
     let error = Error::new(ErrorKind::BrokenPipe, "broken");
-    for (fault, number, line) in [
-        (ExtractFault::Memory, Some(1), b"refused 1\n".as_slice()),
-        (
-            ExtractFault::Bootstrap(BsrFault::Memory),
-            Some(1),
-            b"refused 1\n",
-        ),
-        (
-            ExtractFault::Bootstrap(BsrFault::BadValue { line: 7 }),
-            Some(33),
-            b"refused 33 line 7\n",
-        ),
-        (
-            ExtractFault::Piece(PieceFault::Memory),
-            Some(1),
-            b"refused 1\n",
-        ),
-        (
-            at(PieceCause::UnknownVolume, b"V 1", 0)?,
-            Some(14),
-            b"refused 14 V\\x201 0\n",
-        ),
-        (
-            at(PieceCause::Truncated, b"V1", u64::MAX)?,
-            Some(12),
-            b"refused 12 V1 18446744073709551615\n",
-        ),
-        (
-            at(PieceCause::DriveFault, b"V1", 24)?,
-            Some(13),
-            b"refused 13 V1 24\n",
-        ),
-        (ExtractFault::Io(error), None, b""),
-    ] {
-        assert_eq!(rt; fault.number(), number);
-        let mut text = Vec::new(rt.alloc());
-        fault.push_line(&mut text)?;
-        assert_eq!(rt; text.as_slice(), line);
-    }
+    push_told(&mut text, &ExtractFault::Io(error))?;
+    assert_eq!(rt;
+        text.as_slice(),
+        b"1 refused 1\n1 refused 1\n33 refused 33 line 7\n1 refused 1\n14 refused 14 V\\x201 0\n\
+        12 refused 12 V1 18446744073709551615\n13 refused 13 V1 24\n0 "
+            .as_slice()
+    );
     Ok(())
 }
 

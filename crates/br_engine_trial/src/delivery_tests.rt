@@ -1,5 +1,5 @@
-use super::*;
-use crate::talk_tests::{file_rows, job_row};
+use crate::session_tests::{file_rows, job_row};
+use br_console::{ConsoleFault, ConsoleRun, End, JobSelection, Lines, run_console};
 use br_engine::{Outputs, RestoreEnd};
 use br_history::{History, JobRows};
 use br_plan::Request;

@@ -1,7 +1,7 @@
 ghost use Rattle.std.specs.Prelude.{◌≡◌, true, ◌==◌, map};
 ghost use Rattle.br_model.specs.Job.{no_pair};
 
-use super::*;
+use br_console::{ConsoleFault, Lines, Session, SessionEnd, converse};
 use br_history::{FileRow, JobRow, JobRows};
 use br_mark::Console;
 use br_tree::Tree;

@@ -1,7 +1,7 @@
 //! Sessions that were written are restored, whatever the order in which their pieces are read.
-use crate::{Outputs, RestoreEnd, extract_text};
 use br_attr::Stat;
 use br_bsr::read_bootstrap;
+use br_engine::{Outputs, RestoreEnd, extract_text};
 use br_join::Joiner;
 use br_match::match_piece;
 use br_piece::{Piece, split};
@@ -140,7 +140,7 @@ fn has_saved(rt: &HostRuntime, folder: &str, name: &str) -> Result<bool, Fail> {
 fn what_was_saved_is_delivered_into_a_folder(rt: HostRuntime) -> Result<(), Fail> {
     let temporary = env::temp_dir(&rt)?;
     let id = process::id(rt.process());
-    let folder = format!(in rt.alloc(); "{}/br_engine_saved_{id}", temporary.display())?;
+    let folder = format!(in rt.alloc(); "{}/br_engine_trial_saved_{id}", temporary.display())?;
     let written = delivered(&rt, folder.as_str())?;
     assert_eq!(rt; written.as_slice(), MANIFEST);
     assert!(rt; has_saved(&rt, folder.as_str(), "a")?);
