@@ -1,4 +1,5 @@
 use crate::script::{ScriptEnd, run_script};
+use std::alloc::Global;
 use std::io::{self, BufReader, Error, ErrorKind, Read, Write};
 use std::process::Abort;
 use std::test::Fail;
@@ -10,32 +11,37 @@ const HELLO: &[u8] =
 
 const ALL_OF_V1: &[u8] = b"Volume=\"V1\"\nFileIndex=1\n";
 
-/// The hexadecimal digits of a block of 91 bytes, which has `hello` as file 1 of session 1, 100. The digits of its BlockSize, and of
-/// the stream and the DataSize of its second record, are given.
-fn block(rt: &HostRuntime, size: &[u8], stream: &[u8], data: &[u8]) -> Result<Vec<u8>, Fail> {
-    let mut digits = Vec::from_slice(rt.alloc(), b"00000000")?;
-    digits.extend_from_slice(size)?;
-    digits.extend_from_slice(b"00000000424230320000000100000064")?;
-    digits.extend_from_slice(b"000000010000000100000026312033202f6100")?;
-    digits.extend_from_slice(b"4120412049476b20422041204120412046204120412041204120412041")?;
-    digits.extend_from_slice(b"000000000001")?;
-    digits.extend_from_slice(stream)?;
-    digits.extend_from_slice(data)?;
-    digits.extend_from_slice(b"68656c6c6f")?;
+/// The digits of a block's BlockSize, and of the stream and the DataSize of its second record.
+type Numbers = [&'static [u8]; 3];
+
+const SOUND: Numbers = [b"0000005b", b"00000002", b"00000005"];
+
+/// The digits of a block of 91 bytes between its numbers. It has `hello` as file 1 of session 1, 100.
+const MIDDLE: &[u8] = b"00000000424230320000000100000064000000010000000100000026312033202f6100\
+    4120412049476b20422041204120412046204120412041204120412041000000000001";
+
+/// Returns the hexadecimal digits of this block with these numbers.
+fn block(alloc: Global, numbers: Numbers) -> Result<Vec<u8>, Fail> {
+    let [size, stream, data] = numbers;
+    let mut digits = Vec::from_slice(alloc, b"00000000")?;
+    for part in [size, MIDDLE, stream, data, b"68656c6c6f"] {
+        digits.extend_from_slice(part)?;
+    }
     Ok(digits)
 }
 
-fn hello(rt: &HostRuntime) -> Result<Vec<u8>, Fail> {
-    block(rt, b"0000005b", b"00000002", b"00000005")
-}
-
-/// A script that puts bytes on the volume V1 and runs a bootstrap.
-fn script_of(rt: &HostRuntime, digits: &[u8], bootstrap: &[u8]) -> Result<Vec<u8>, Fail> {
-    let mut script = Vec::from_slice(rt.alloc(), b"volume V1 ")?;
-    script.extend_from_slice(digits)?;
-    script.extend_from_slice(b"\nbsr\n")?;
-    script.extend_from_slice(bootstrap)?;
-    script.extend_from_slice(b".\nextract\n")?;
+/// Returns a script that appends bytes to the volume V1 and runs a bootstrap.
+fn script_of(alloc: Global, digits: &[u8], bootstrap: &[u8]) -> Result<Vec<u8>, Fail> {
+    let mut script = Vec::new(alloc);
+    for part in [
+        b"volume V1 ",
+        digits,
+        b"\nbsr\n",
+        bootstrap,
+        b".\nextract\n",
+    ] {
+        script.extend_from_slice(part)?;
+    }
     Ok(script)
 }
 
@@ -54,246 +60,320 @@ fn answers<R: Abort + AllocGlobal + Threads + Sync>(
     Ok(())
 }
 
-#[test]
-fn a_volume_is_restored(rt: HostRuntime) -> Result<(), Fail> {
-    let script = script_of(&rt, &hello(&rt)?, ALL_OF_V1)?;
-    answers(&rt, &script, HELLO, ScriptEnd::Clean)
-}
+/// A script, what it writes, and how it ends.
+type Case = (&'static [u8], &'static [u8], ScriptEnd);
 
-#[test]
-fn an_empty_volume_has_no_files(rt: HostRuntime) -> Result<(), Fail> {
-    let script = script_of(&rt, b"-", ALL_OF_V1)?;
-    answers(&rt, &script, b"total 0 0 0\n", ScriptEnd::Clean)
-}
-
-#[test]
-fn a_volume_has_to_be_there(rt: HostRuntime) -> Result<(), Fail> {
-    let script = script_of(&rt, &hello(&rt)?, b"Volume=\"Q\"\n")?;
-    answers(&rt, &script, b"refused 14 Q 0\n", ScriptEnd::Refused)
-}
-
-#[test]
-fn a_storage_filters_nothing(rt: HostRuntime) -> Result<(), Fail> {
-    let bootstrap = b"Storage=\"S\"\nVolume=\"V1\"\nFileIndex=1\n";
-    let script = script_of(&rt, &hello(&rt)?, bootstrap)?;
-    answers(&rt, &script, HELLO, ScriptEnd::Clean)
-}
-
-#[test]
-fn keywords_are_joined_by_and_their_values_by_or(rt: HostRuntime) -> Result<(), Fail> {
-    let mut digits = Vec::new(rt.alloc());
-    for (session, index) in [
-        (b"00000001", b"00000003"),
-        (b"00000002", b"00000005"),
-        (b"00000003", b"00000005"),
-        (b"00000004", b"00000002"),
-    ] {
-        digits.extend_from_slice(b"00000000000000240000000042423032")?;
-        digits.extend_from_slice(session)?;
-        digits.extend_from_slice(b"00000064")?;
-        digits.extend_from_slice(index)?;
-        digits.extend_from_slice(b"0000000a00000000")?;
+/// Asserts what each script writes, and how it ends.
+fn all_answer<R: Abort + AllocGlobal + Threads + Sync>(rt: &R, cases: &[Case]) -> Result<(), Fail> {
+    for (script, answer, end) in cases {
+        answers(rt, script, answer, *end)?;
     }
-    let bootstrap = b"volume = V1\nVolSessionId=1,3-4\nFileIndex=2\nFileIndex=5-6\n";
-    let script = script_of(&rt, &digits, bootstrap)?;
-    answers(
-        &rt,
-        &script,
-        b"X 3 100 5 63\nX 4 100 2 63\ntotal 0 2 0\n",
+    Ok(())
+}
+
+/// Names of volumes, inputs that end in a bootstrap, and a refused bootstrap that drops the kept one.
+const SCRIPTS: &[Case] = &[
+    (
+        b"volume V\\x201 00\nbsr\nVolume=\"V 1\"\n.\nextract",
+        b"refused 12 V\\x201 0\n",
         ScriptEnd::Refused,
-    )
-}
-
-#[test]
-fn a_bootstrap_is_refused_by_line(rt: HostRuntime) -> Result<(), Fail> {
-    for (bootstrap, answer) in [
-        (b"FileIndex=1\n".as_slice(), b"refused 30 line 1\n"),
-        (b"Client=\"x\"\n", b"refused 32 line 1\n"),
-        (b"Volume=\"V1\"\nClient=\"x\"\n", b"refused 32 line 2\n"),
-        (b"Volume=\"V1\"\nFoo=1\n", b"refused 31 line 2\n"),
-        (b"Volume=\"V1\"\nFileIndex=5-2\n", b"refused 33 line 2\n"),
-        (b"Volume=\"V1\"\nFileIndex\n", b"refused 33 line 2\n"),
-        (b"Volume=\"V1\"\nFileIndex=0\n", b"refused 33 line 2\n"),
-    ] {
-        let mut script = Vec::from_slice(rt.alloc(), b"bsr\n")?;
-        script.extend_from_slice(bootstrap)?;
-        script.extend_from_slice(b".\n")?;
-        answers(&rt, &script, answer, ScriptEnd::Refused)?;
-    }
-    Ok(())
-}
-
-#[test]
-fn a_line_of_a_bootstrap_has_at_most_4096_bytes(rt: HostRuntime) -> Result<(), Fail> {
-    for (len, answer, end) in [
-        (4096, b"".as_slice(), ScriptEnd::Clean),
-        (4097, b"refused 34 line 2\n", ScriptEnd::Refused),
-    ] {
-        let mut script = Vec::from_slice(rt.alloc(), b"bsr\nVolume=\"V1\"\n")?;
-        for _ in 0..len {
-            script.push(b'#')?;
-        }
-        script.extend_from_slice(b"\n.\n")?;
-        answers(&rt, &script, answer, end)?;
-    }
-    Ok(())
-}
-
-#[test]
-fn a_refused_bootstrap_drops_the_kept_one(rt: HostRuntime) -> Result<(), Fail> {
-    let script =
-        b"volume V1 -\nbsr\nVolume=\"V1\"\n.\nextract\nextract\nbsr\nFileIndex=1\n.\nextract\n";
-    let answer = b"total 0 0 0\ntotal 0 0 0\nrefused 30 line 1\nrefused 90 line 10\n";
-    answers(&rt, script, answer, ScriptEnd::Refused)
-}
-
-#[test]
-fn a_stream_that_is_not_supported_is_told(rt: HostRuntime) -> Result<(), Fail> {
-    let digits = block(&rt, b"0000005b", b"00000004", b"00000005")?;
-    let script = script_of(&rt, &digits, ALL_OF_V1)?;
-    answers(
-        &rt,
-        &script,
-        b"X 1 100 1 65 4\ntotal 0 1 0\n",
+    ),
+    (
+        b"volume \\x56\\x31 -\nbsr\nVolume=V1\n.\nextract\n",
+        b"total 0 0 0\n",
+        ScriptEnd::Clean,
+    ),
+    (b"", b"", ScriptEnd::Clean),
+    (b"bsr\nFileIndex=1\n", b"", ScriptEnd::Clean),
+    (b"bsr\n.\r\n..\n", b"", ScriptEnd::Clean),
+    (
+        b"volume V1 -\nbsr\nVolume=V1\n.\nextract\nbsr\n",
+        b"total 0 0 0\n",
+        ScriptEnd::Clean,
+    ),
+    (
+        b"volume V1 -\nbsr\nVolume=\"V1\"\n.\nextract\nextract\nbsr\nFileIndex=1\n.\nextract\n",
+        b"total 0 0 0\ntotal 0 0 0\nrefused 30 line 1\nrefused 90 line 10\n",
         ScriptEnd::Refused,
-    )
-}
+    ),
+];
 
 #[test]
-fn a_torn_record_is_told(rt: HostRuntime) -> Result<(), Fail> {
-    let digits = block(&rt, b"0000005b", b"00000002", b"ffffffff")?;
-    let script = script_of(&rt, &digits, ALL_OF_V1)?;
-    answers(
-        &rt,
-        &script,
-        b"X 1 100 1 61\ntotal 0 1 0\n",
+fn scripts_are_answered(rt: HostRuntime) -> Result<(), Fail> {
+    all_answer(&rt, SCRIPTS)
+}
+
+/// Bootstraps, and the lines by which they are refused.
+const REFUSED_BOOTSTRAPS: &[Case] = &[
+    (
+        b"bsr\nFileIndex=1\n.\n",
+        b"refused 30 line 1\n",
         ScriptEnd::Refused,
-    )
-}
-
-#[test]
-fn a_record_that_goes_on_from_nothing_is_told(rt: HostRuntime) -> Result<(), Fail> {
-    let digits = b"000000000000002900000000424230320000000100000064\
-        00000001fffffffe0000000568656c6c6f";
-    let bootstrap = b"Volume=\"V1\"\nVolSessionId=1\n";
-    let script = script_of(&rt, digits, bootstrap)?;
-    answers(
-        &rt,
-        &script,
-        b"X 1 100 1 60\ntotal 0 1 0\n",
+    ),
+    (
+        b"bsr\nClient=\"x\"\n.\n",
+        b"refused 32 line 1\n",
         ScriptEnd::Refused,
-    )
+    ),
+    (
+        b"bsr\nVolume=\"V1\"\nClient=\"x\"\n.\n",
+        b"refused 32 line 2\n",
+        ScriptEnd::Refused,
+    ),
+    (
+        b"bsr\nVolume=\"V1\"\nFoo=1\n.\n",
+        b"refused 31 line 2\n",
+        ScriptEnd::Refused,
+    ),
+    (
+        b"bsr\nVolume=\"V1\"\nFileIndex=5-2\n.\n",
+        b"refused 33 line 2\n",
+        ScriptEnd::Refused,
+    ),
+    (
+        b"bsr\nVolume=\"V1\"\nFileIndex\n.\n",
+        b"refused 33 line 2\n",
+        ScriptEnd::Refused,
+    ),
+    (
+        b"bsr\nVolume=\"V1\"\nFileIndex=0\n.\n",
+        b"refused 33 line 2\n",
+        ScriptEnd::Refused,
+    ),
+];
+
+/// Lines that do not fit.
+const REFUSED_LINES: &[&[u8]] = &[
+    b"extract",
+    b"",
+    b"unknown",
+    b"job 1 B F T 100 1 100 64 c f",
+    b"volume",
+    b"volume V1",
+    b"volume V1 ",
+    b"volume V1 0",
+    b"volume V1 AB",
+    b"volume V1 0g",
+    b"volume V1  00",
+    b"volume V1 00 00",
+    b"volume .. 00",
+    b"volume  00",
+    b"volume V\\x2 00",
+    b"volume V\\x2G 00",
+    b"volume V\\x4A 00",
+    b"volume V\\y41 00",
+    b"volume V\\x5c 00",
+    b"volume V1 00\r",
+    b"bsr ",
+    b".",
+];
+
+/// Asserts that a line is refused after one that fits.
+fn is_refused<R: Abort + AllocGlobal + Threads + Sync>(rt: &R, line: &[u8]) -> Result<(), Fail> {
+    let mut script = Vec::from_slice(rt.alloc(), b"volume V1 -\n")?;
+    script.extend_from_slice(line)?;
+    script.extend_from_slice(b"\n")?;
+    answers(rt, &script, b"refused 90 line 2\n", ScriptEnd::Refused)
 }
 
-#[test]
-fn a_block_that_is_cut_off_is_refused(rt: HostRuntime) -> Result<(), Fail> {
-    let digits = hello(&rt)?;
-    for len in 1..91 {
-        let front = digits.get(..2 * len).ok_or("too few digits")?;
-        let script = script_of(&rt, front, ALL_OF_V1)?;
-        answers(&rt, &script, b"refused 12 V1 0\n", ScriptEnd::Refused)?;
+/// Asserts that each line is refused.
+fn all_are_refused<R: Abort + AllocGlobal + Threads + Sync>(
+    rt: &R,
+    lines: &[&[u8]],
+) -> Result<(), Fail> {
+    for line in lines {
+        is_refused(rt, line)?;
     }
     Ok(())
 }
 
 #[test]
-fn a_bad_block_is_refused(rt: HostRuntime) -> Result<(), Fail> {
-    for (size, answer) in [
-        (b"00000017", b"refused 11 V1 0\n".as_slice()),
-        (b"00400001", b"refused 11 V1 0\n"),
-        (b"00000018", b"refused 10 V1 24\n"),
-    ] {
-        let digits = block(&rt, size, b"00000002", b"00000005")?;
-        let script = script_of(&rt, &digits, ALL_OF_V1)?;
-        answers(&rt, &script, answer, ScriptEnd::Refused)?;
-    }
-    Ok(())
+fn lines_and_bootstraps_are_refused_by_line(rt: HostRuntime) -> Result<(), Fail> {
+    all_are_refused(&rt, REFUSED_LINES)?;
+    all_answer(&rt, REFUSED_BOOTSTRAPS)
 }
 
-#[test]
-fn lines_that_do_not_fit_are_refused(rt: HostRuntime) -> Result<(), Fail> {
-    for line in [
-        b"extract".as_slice(),
-        b"",
-        b"unknown",
-        b"job 1 B F T 100 1 100 64 c f",
-        b"volume",
-        b"volume V1",
-        b"volume V1 ",
-        b"volume V1 0",
-        b"volume V1 AB",
-        b"volume V1 0g",
-        b"volume V1  00",
-        b"volume V1 00 00",
-        b"volume .. 00",
-        b"volume  00",
-        b"volume V\\x2 00",
-        b"volume V\\x2G 00",
-        b"volume V\\x4A 00",
-        b"volume V\\y41 00",
-        b"volume V\\x5c 00",
-        b"volume V1 00\r",
-        b"bsr ",
-        b".",
-    ] {
-        let mut script = Vec::from_slice(rt.alloc(), b"volume V1 -\n")?;
-        script.extend_from_slice(line)?;
-        script.extend_from_slice(b"\n")?;
-        answers(&rt, &script, b"refused 90 line 2\n", ScriptEnd::Refused)?;
+/// Asserts what a script of this front, of `count` times a byte, and of this back writes.
+fn repeated_answers<R: Abort + AllocGlobal + Threads + Sync>(
+    rt: &R,
+    [front, back]: [&[u8]; 2],
+    (count, byte): (u32, u8),
+    answer: &[u8],
+    end: ScriptEnd,
+) -> Result<(), Fail> {
+    let mut script = Vec::from_slice(rt.alloc(), front)?;
+    for _ in 0..count {
+        script.push(byte)?;
     }
-    Ok(())
+    script.extend_from_slice(back)?;
+    answers(rt, &script, answer, end)
 }
 
 #[test]
 fn a_line_has_at_most_4096_bytes(rt: HostRuntime) -> Result<(), Fail> {
-    for (name, answer, end) in [
-        (b"V1".as_slice(), b"".as_slice(), ScriptEnd::Clean),
-        (b"V11", b"refused 90 line 1\n", ScriptEnd::Refused),
-    ] {
-        let mut script = Vec::from_slice(rt.alloc(), b"volume ")?;
-        script.extend_from_slice(name)?;
-        script.push(b' ')?;
-        for _ in 0..4086 {
-            script.push(b'0')?;
-        }
-        answers(&rt, &script, answer, end)?;
+    let bootstrap: [&[u8]; 2] = [b"bsr\nVolume=\"V1\"\n", b"\n.\n"];
+    repeated_answers(&rt, bootstrap, (4096, b'#'), b"", ScriptEnd::Clean)?;
+    repeated_answers(
+        &rt,
+        bootstrap,
+        (4097, b'#'),
+        b"refused 34 line 2\n",
+        ScriptEnd::Refused,
+    )?;
+    repeated_answers(
+        &rt,
+        [b"volume V1 ", b""],
+        (4086, b'0'),
+        b"",
+        ScriptEnd::Clean,
+    )?;
+    repeated_answers(
+        &rt,
+        [b"volume V11 ", b""],
+        (4086, b'0'),
+        b"refused 90 line 1\n",
+        ScriptEnd::Refused,
+    )
+}
+
+/// Restores of whole volumes: the digits of the volume, a bootstrap, what is written, and how it ends.
+const VOLUMES: &[(&[u8], &[u8], &[u8], ScriptEnd)] = &[
+    (b"-", ALL_OF_V1, b"total 0 0 0\n", ScriptEnd::Clean),
+    // Keywords are joined by `and`, their values by `or`.
+    (
+        b"000000000000002400000000424230320000000100000064000000030000000a00000000\
+        000000000000002400000000424230320000000200000064000000050000000a00000000\
+        000000000000002400000000424230320000000300000064000000050000000a00000000\
+        000000000000002400000000424230320000000400000064000000020000000a00000000",
+        b"volume = V1\nVolSessionId=1,3-4\nFileIndex=2\nFileIndex=5-6\n",
+        b"X 3 100 5 63\nX 4 100 2 63\ntotal 0 2 0\n",
+        ScriptEnd::Refused,
+    ),
+    // A record goes on that never began.
+    (
+        b"00000000000000290000000042423032000000010000006400000001fffffffe0000000568656c6c6f",
+        b"Volume=\"V1\"\nVolSessionId=1\n",
+        b"X 1 100 1 60\ntotal 0 1 0\n",
+        ScriptEnd::Refused,
+    ),
+];
+
+/// Asserts what restores of volumes write.
+fn volumes_answer<R: Abort + AllocGlobal + Threads + Sync>(
+    rt: &R,
+    cases: &[(&[u8], &[u8], &[u8], ScriptEnd)],
+) -> Result<(), Fail> {
+    for (digits, bootstrap, answer, end) in cases {
+        let script = script_of(rt.alloc(), digits, bootstrap)?;
+        answers(rt, &script, answer, *end)?;
+    }
+    Ok(())
+}
+
+/// Restores of the block: its numbers, a bootstrap, what is written, and how it ends.
+const BLOCKS: &[(Numbers, &[u8], &[u8], ScriptEnd)] = &[
+    (SOUND, ALL_OF_V1, HELLO, ScriptEnd::Clean),
+    // A storage filters nothing.
+    (
+        SOUND,
+        b"Storage=\"S\"\nVolume=\"V1\"\nFileIndex=1\n",
+        HELLO,
+        ScriptEnd::Clean,
+    ),
+    (
+        SOUND,
+        b"Volume=\"Q\"\n",
+        b"refused 14 Q 0\n",
+        ScriptEnd::Refused,
+    ),
+    // A stream that is not supported, and a torn record.
+    (
+        [b"0000005b", b"00000004", b"00000005"],
+        ALL_OF_V1,
+        b"X 1 100 1 65 4\ntotal 0 1 0\n",
+        ScriptEnd::Refused,
+    ),
+    (
+        [b"0000005b", b"00000002", b"ffffffff"],
+        ALL_OF_V1,
+        b"X 1 100 1 61\ntotal 0 1 0\n",
+        ScriptEnd::Refused,
+    ),
+    // Sizes that no block has, and a checksum that a short block has in its place.
+    (
+        [b"00000017", b"00000002", b"00000005"],
+        ALL_OF_V1,
+        b"refused 11 V1 0\n",
+        ScriptEnd::Refused,
+    ),
+    (
+        [b"00400001", b"00000002", b"00000005"],
+        ALL_OF_V1,
+        b"refused 11 V1 0\n",
+        ScriptEnd::Refused,
+    ),
+    (
+        [b"00000018", b"00000002", b"00000005"],
+        ALL_OF_V1,
+        b"refused 10 V1 24\n",
+        ScriptEnd::Refused,
+    ),
+];
+
+/// Asserts what restores of the block write.
+fn blocks_answer<R: Abort + AllocGlobal + Threads + Sync>(
+    rt: &R,
+    cases: &[(Numbers, &[u8], &[u8], ScriptEnd)],
+) -> Result<(), Fail> {
+    for (numbers, bootstrap, answer, end) in cases {
+        let digits = block(rt.alloc(), *numbers)?;
+        let script = script_of(rt.alloc(), &digits, bootstrap)?;
+        answers(rt, &script, answer, *end)?;
     }
     Ok(())
 }
 
 #[test]
-fn a_name_is_read_and_printed_escaped(rt: HostRuntime) -> Result<(), Fail> {
-    let script = b"volume V\\x201 00\nbsr\nVolume=\"V 1\"\n.\nextract";
-    answers(&rt, script, b"refused 12 V\\x201 0\n", ScriptEnd::Refused)?;
-    let script = b"volume \\x56\\x31 -\nbsr\nVolume=V1\n.\nextract\n";
-    answers(&rt, script, b"total 0 0 0\n", ScriptEnd::Clean)
+fn volumes_are_restored_or_refused(rt: HostRuntime) -> Result<(), Fail> {
+    volumes_answer(&rt, VOLUMES)?;
+    blocks_answer(&rt, BLOCKS)
 }
 
-#[test]
-fn bytes_go_behind_those_of_their_volume(rt: HostRuntime) -> Result<(), Fail> {
-    let digits = hello(&rt)?;
+/// Asserts that each part of a block is refused.
+fn parts_are_refused<R: Abort + AllocGlobal + Threads + Sync>(
+    rt: &R,
+    digits: &[u8],
+) -> Result<(), Fail> {
+    for len in 1..91 {
+        let front = digits.get(..2 * len).ok_or("too few digits")?;
+        let script = script_of(rt.alloc(), front, ALL_OF_V1)?;
+        answers(rt, &script, b"refused 12 V1 0\n", ScriptEnd::Refused)?;
+    }
+    Ok(())
+}
+
+/// Asserts that a block is restored of which two lines of a script give a part each.
+fn parts_are_appended<R: Abort + AllocGlobal + Threads + Sync>(
+    rt: &R,
+    digits: &[u8],
+) -> Result<(), Fail> {
     let (front, back) = digits.split_at(100.min(digits.len()));
-    let mut script = Vec::from_slice(rt.alloc(), b"volume V1 ")?;
-    script.extend_from_slice(front)?;
-    script.extend_from_slice(b"\nvolume V2 00\n")?;
-    script.extend_from_slice(&script_of(&rt, back, ALL_OF_V1)?)?;
-    answers(&rt, &script, HELLO, ScriptEnd::Clean)
+    let last = script_of(rt.alloc(), back, ALL_OF_V1)?;
+    let mut script = Vec::new(rt.alloc());
+    for part in [b"volume V1 ", front, b"\nvolume V2 00\n", &last] {
+        script.extend_from_slice(part)?;
+    }
+    answers(rt, &script, HELLO, ScriptEnd::Clean)
 }
 
 #[test]
-fn an_input_that_ends_in_a_bootstrap_has_no_effect(rt: HostRuntime) -> Result<(), Fail> {
-    answers(&rt, b"", b"", ScriptEnd::Clean)?;
-    answers(&rt, b"bsr\nFileIndex=1\n", b"", ScriptEnd::Clean)?;
-    answers(&rt, b"bsr\n.\r\n..\n", b"", ScriptEnd::Clean)?;
-    answers(
-        &rt,
-        b"volume V1 -\nbsr\nVolume=V1\n.\nextract\nbsr\n",
-        b"total 0 0 0\n",
-        ScriptEnd::Clean,
-    )
+fn bytes_are_appended_to_their_volume(rt: HostRuntime) -> Result<(), Fail> {
+    let digits = block(rt.alloc(), SOUND)?;
+    parts_are_refused(&rt, &digits)?;
+    parts_are_appended(&rt, &digits)
 }
 
-/// What can be neither read nor written.
+/// A stream that can be neither read nor written.
 #[derive(Drop)]
 struct Broken;
 
@@ -313,7 +393,7 @@ impl Write for Broken {
     }
 }
 
-/// The kind of error that a run ends with, if it ends with one.
+/// Returns the kind of error that a run ends with, if it ends with one.
 fn error_of(run: io::Result<ScriptEnd>) -> Option<ErrorKind> {
     match run {
         Ok(_) => None,
@@ -323,7 +403,7 @@ fn error_of(run: io::Result<ScriptEnd>) -> Option<ErrorKind> {
 
 #[test]
 fn a_reader_that_fails_ends_the_run(rt: HostRuntime) -> Result<(), Fail> {
-    let whole = script_of(&rt, &hello(&rt)?, ALL_OF_V1)?;
+    let whole = script_of(rt.alloc(), &block(rt.alloc(), SOUND)?, ALL_OF_V1)?;
     let mut reader = BufReader::new(rt.alloc(), whole.as_slice().chain(Broken))?;
     let mut written = Vec::new(rt.alloc());
     let run = run_script(&rt, rt.alloc(), &mut reader, &mut written);
@@ -332,16 +412,18 @@ fn a_reader_that_fails_ends_the_run(rt: HostRuntime) -> Result<(), Fail> {
     Ok(())
 }
 
+/// Returns the kind of error that a run of a script ends with, if nothing can be written.
+fn unwritten(rt: &(impl Threads + Sync), alloc: Global, script: &[u8]) -> Option<ErrorKind> {
+    let mut reader = script;
+    error_of(run_script(rt, alloc, &mut reader, &mut Broken))
+}
+
 #[test]
 fn a_writer_that_fails_ends_the_run(rt: HostRuntime) -> Result<(), Fail> {
-    for script in [
-        b"unknown\n".as_slice(),
-        b"bsr\nx\n.\n",
-        b"volume V1 -\nbsr\nVolume=V1\n.\nextract\n",
-    ] {
-        let mut reader = script;
-        let run = run_script(&rt, rt.alloc(), &mut reader, &mut Broken);
-        assert_eq!(rt; error_of(run), Some(ErrorKind::BrokenPipe));
-    }
+    let broken = Some(ErrorKind::BrokenPipe);
+    assert_eq!(rt; unwritten(&rt, rt.alloc(), b"unknown\n"), broken);
+    assert_eq!(rt; unwritten(&rt, rt.alloc(), b"bsr\nx\n.\n"), broken);
+    let restore = b"volume V1 -\nbsr\nVolume=V1\n.\nextract\n";
+    assert_eq!(rt; unwritten(&rt, rt.alloc(), restore), broken);
     Ok(())
 }
