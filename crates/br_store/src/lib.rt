@@ -12,8 +12,6 @@ mod opening;
 mod queries;
 mod store;
 mod tables;
-#[cfg(test)]
-mod tests;
 mod write;
 
 pub use br_rows::{StoreFault, inserted_jobs_load};

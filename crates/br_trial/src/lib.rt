@@ -1,4 +1,5 @@
-//! Whole restores, tried: from saved files and a history, by a talk with the console, to the manifest. There are only tests here.
+//! Tests of whole restores, from saved files and a history by a console session to the manifest,
+//! and of the catalogue. A crate with tests is proved twice; this one has nothing else to prove.
 #![tactic(auto)]
 
 #[cfg(test)]
@@ -7,6 +8,8 @@ mod drawn;
 mod generated_tests;
 #[cfg(test)]
 mod restore_tests;
+#[cfg(test)]
+mod store_tests;
 #[cfg(test)]
 mod stored_tests;
 #[cfg(test)]

@@ -1,6 +1,7 @@
-use super::*;
-use br_history::{FileRow, History, JobRow, JobRows};
+//! The catalogue: jobs that are stored, refused and loaded, and what a crash leaves.
+use br_history::{FileRow, JobRow, JobRows};
 use br_session::Span;
+use br_store::Store;
 use br_types::{JobId, Letter, Name, Path, SessionKey, VolName};
 use sqlite::{Alter, Connection, Error, FileStore, Files, MemStore, Options};
 use sqlite_disk::{Fuse, Memory};
@@ -118,122 +119,41 @@ fn refused<S: Alter>(store: &mut Store<S>) -> u32 {
     }
 }
 
-fn job_at(history: &History, place: usize) -> Result<&JobRows, Fail> {
-    Ok(history.get(place).ok_or("a job")?)
+/// Inserts two jobs, and two more with the number and with the session of the first one. Returns
+/// the number with which each is refused, or 0 if it is taken.
+fn insert_four(alloc: Global, store: &mut Store<MemStore>) -> Result<[u32; 4], Fail> {
+    Ok([
+        insert(alloc, store, 2, 1, b"/a/two")?,
+        insert(alloc, store, 2, 3, b"/a/one")?,
+        insert(alloc, store, 3, 1, b"/a/one")?,
+        insert(alloc, store, 1, 2, b"/a/one")?,
+    ])
 }
 
-fn first_path(job: &JobRows) -> Result<&[u8], Fail> {
-    Ok(job.files().first().ok_or("a file")?.path.bytes())
+/// Shows all of some jobs.
+fn shown(alloc: Global, jobs: &[JobRows]) -> Result<String, Fail> {
+    Ok(format!(in alloc; "{jobs:?}")?)
 }
 
-#[test]
-fn two_jobs_in_order(rt: HostRuntime) -> Result<(), Fail> {
-    let alloc = rt.alloc();
-    let mut store = empty(alloc)?;
-    assert_eq!(rt; insert(alloc, &mut store, 2, 1, b"/a/two")?, 0);
-    assert_eq!(rt; insert(alloc, &mut store, 1, 2, b"/a/one")?, 0);
-    let history = store.load_history()?;
-    assert_eq!(rt; history.len(), 2);
-    assert_eq!(rt; first_path(job_at(&history, 0)?)?, b"/a/one".as_slice());
-    assert_eq!(rt; first_path(job_at(&history, 1)?)?, b"/a/two".as_slice());
-    Ok(())
+/// Shows the jobs that a store loads.
+fn loaded(alloc: Global, store: &mut Store<MemStore>) -> Result<String, Fail> {
+    shown(alloc, store.load_history()?.jobs())
 }
 
-#[test]
-fn repeated(rt: HostRuntime) -> Result<(), Fail> {
-    let alloc = rt.alloc();
-    let mut store = empty(alloc)?;
-    assert_eq!(rt; insert(alloc, &mut store, 2, 1, b"/a/two")?, 0);
-    assert_eq!(rt; insert(alloc, &mut store, 2, 3, b"/a/one")?, 45);
-    assert_eq!(rt; insert(alloc, &mut store, 3, 1, b"/a/one")?, 45);
-    let history = store.load_history()?;
-    assert_eq!(rt; history.len(), 1);
-    assert_eq!(rt; first_path(job_at(&history, 0)?)?, b"/a/two".as_slice());
-    Ok(())
-}
-
-fn letters(row: &JobRow) -> [u8; 3] {
-    [row.kind.get(), row.level.get(), row.status.get()]
-}
-
-fn numbers(row: &JobRow) -> [u64; 4] {
-    let session = row.session;
-    [
-        u64::from(row.id.get()),
-        row.start,
-        u64::from(session.id),
-        u64::from(session.time),
-    ]
-}
-
-fn span_numbers(span: &Span) -> [u64; 5] {
-    [
-        u64::from(span.first),
-        u64::from(span.last),
-        span.start,
-        span.end,
-        u64::from(span.vol_index),
-    ]
+/// Shows the two jobs that are taken, in order of their numbers.
+fn taken(alloc: Global) -> Result<String, Fail> {
+    let mut jobs = Vec::new(alloc);
+    jobs.push(a_job(alloc, 1, 2, b"/a/one")?)?;
+    jobs.push(a_job(alloc, 2, 1, b"/a/two")?)?;
+    shown(alloc, &jobs)
 }
 
 #[test]
-fn the_row_of_a_job(rt: HostRuntime) -> Result<(), Fail> {
+fn jobs_are_loaded_as_they_were_inserted(rt: HostRuntime) -> Result<(), Fail> {
     let alloc = rt.alloc();
     let mut store = empty(alloc)?;
-    assert_eq!(rt; insert(alloc, &mut store, 2, 7, b"/a/two")?, 0);
-    let history = store.load_history()?;
-    let row = job_at(&history, 0)?.row();
-    assert_eq!(rt;
-        numbers(row).as_slice(),
-        [2, 4_999_999_998, 7, 9].as_slice()
-    );
-    assert_eq!(rt; letters(row).as_slice(), b"BFT".as_slice());
-    assert_eq!(rt; row.client.bytes(), b"web".as_slice());
-    assert_eq!(rt; row.fileset.bytes(), b"all".as_slice());
-    Ok(())
-}
-
-fn only_span(job: &JobRows) -> Result<&Span, Fail> {
-    match job.spans() {
-        [span] => Ok(span),
-        _ => Err(Fail::from("not one span")),
-    }
-}
-
-#[test]
-fn the_span_of_a_job(rt: HostRuntime) -> Result<(), Fail> {
-    let alloc = rt.alloc();
-    let mut store = empty(alloc)?;
-    assert_eq!(rt; insert(alloc, &mut store, 2, 7, b"/a/two")?, 0);
-    let history = store.load_history()?;
-    let span = only_span(job_at(&history, 0)?)?;
-    assert_eq!(rt;
-        span_numbers(span).as_slice(),
-        [1, 1, 4_294_967_297, 8_589_934_599, 1].as_slice()
-    );
-    assert_eq!(rt; span.vol.bytes(), b"V1".as_slice());
-    Ok(())
-}
-
-fn file_at(job: &JobRows, place: usize) -> Result<&FileRow, Fail> {
-    Ok(job.files().get(place).ok_or("a file")?)
-}
-
-#[test]
-fn the_files_of_a_job(rt: HostRuntime) -> Result<(), Fail> {
-    let alloc = rt.alloc();
-    let mut store = empty(alloc)?;
-    assert_eq!(rt; insert(alloc, &mut store, 2, 7, b"/a/two")?, 0);
-    let history = store.load_history()?;
-    let job = job_at(&history, 0)?;
-    assert_eq!(rt; job.files().len(), 2);
-    let saved = file_at(job, 0)?;
-    assert_eq!(rt; saved.lstat.as_str(), LSTAT);
-    assert_eq!(rt; saved.md5, Some([0xabu8; 16]));
-    let gone = file_at(job, 1)?;
-    assert_eq!(rt; gone.path.bytes(), b"/a/gone/".as_slice());
-    assert_eq!(rt; gone.index, 0);
-    assert_eq!(rt; gone.md5, None);
+    assert_eq!(rt; insert_four(alloc, &mut store)?, [0, 45, 45, 0]);
+    assert_eq!(rt; loaded(alloc, &mut store)?.as_str(), taken(alloc)?.as_str());
     Ok(())
 }
 
@@ -255,49 +175,57 @@ fn changed(alloc: Global, change: &str) -> Result<u32, Fail> {
     Ok(refusal(alloc, conn))
 }
 
-#[test]
-fn versions(rt: HostRuntime) -> Result<(), Fail> {
-    let alloc = rt.alloc();
-    assert_eq!(rt; changed(alloc, "UPDATE Version SET VersionId = 3")?, 47);
-    assert_eq!(rt;
-        changed(alloc, "INSERT INTO Version (VersionId) VALUES (1)")?,
-        47
-    );
-    Ok(())
+/// Changes of a catalogue with one job, and the number with which it is refused after each; 0 if it
+/// is loaded.
+const CHANGES: [(&str, u32); 10] = [
+    ("UPDATE Version SET VersionId = 3", 47),
+    ("INSERT INTO Version (VersionId) VALUES (1)", 47),
+    (
+        "INSERT INTO JobMedia (JobId, MediaId, FirstIndex, LastIndex, StartFile, EndFile, StartBlock, EndBlock, VolIndex) VALUES (2, 1, 1, 1, 5, 5, 0, 9, 2)",
+        0,
+    ),
+    (
+        "INSERT INTO JobMedia (JobId, MediaId, FirstIndex, LastIndex, StartFile, EndFile, StartBlock, EndBlock, VolIndex) VALUES (2, 1, 1, 1, 5, 5, 0, 9, 3)",
+        47,
+    ),
+    (
+        "INSERT INTO JobMedia (JobId, MediaId, FirstIndex, LastIndex, StartFile, EndFile, StartBlock, EndBlock, VolIndex) VALUES (2, 1, 1, 1, 5, 4294967296, 0, 9, 2)",
+        47,
+    ),
+    (
+        "UPDATE File SET LStat = '1 2 33188 1 0 0 0 5 4096 1 3 4' WHERE FileIndex = 1",
+        47,
+    ),
+    (
+        "UPDATE File SET MD5 = 'abababababababababababababababa' WHERE FileIndex = 1",
+        47,
+    ),
+    (
+        "UPDATE File SET FileIndex = 2147483648 WHERE FileIndex = 1",
+        47,
+    ),
+    ("DROP TABLE File", 45),
+    ("CREATE TABLE Extra(Id INTEGER PRIMARY KEY)", 45),
+];
+
+/// Returns the first change after which a catalogue is refused with another number than the given
+/// one, and that number.
+fn wrongly_read(
+    alloc: Global,
+    changes: &[(&'static str, u32)],
+) -> Result<Option<(&'static str, u32)>, Fail> {
+    for (change, number) in changes {
+        let found = changed(alloc, change)?;
+        if found != *number {
+            return Ok(Some((change, found)));
+        }
+    }
+    Ok(None)
 }
 
 #[test]
-fn numbers_of_spans(rt: HostRuntime) -> Result<(), Fail> {
-    let next =
-        "INSERT INTO JobMedia (JobId, MediaId, FirstIndex, LastIndex, StartFile, EndFile, StartBlock, EndBlock, VolIndex) VALUES (2, 1, 1, 1, 5, 5, 0, 9, 2)";
-    assert_eq!(rt; changed(rt.alloc(), next)?, 0);
-    let skips =
-        "INSERT INTO JobMedia (JobId, MediaId, FirstIndex, LastIndex, StartFile, EndFile, StartBlock, EndBlock, VolIndex) VALUES (2, 1, 1, 1, 5, 5, 0, 9, 3)";
-    assert_eq!(rt; changed(rt.alloc(), skips)?, 47);
-    let far =
-        "INSERT INTO JobMedia (JobId, MediaId, FirstIndex, LastIndex, StartFile, EndFile, StartBlock, EndBlock, VolIndex) VALUES (2, 1, 1, 1, 5, 4294967296, 0, 9, 2)";
-    assert_eq!(rt; changed(rt.alloc(), far)?, 47);
-    Ok(())
-}
-
-#[test]
-fn columns_of_files(rt: HostRuntime) -> Result<(), Fail> {
-    let twelve = "UPDATE File SET LStat = '1 2 33188 1 0 0 0 5 4096 1 3 4' WHERE FileIndex = 1";
-    assert_eq!(rt; changed(rt.alloc(), twelve)?, 47);
-    let short = "UPDATE File SET MD5 = 'abababababababababababababababa' WHERE FileIndex = 1";
-    assert_eq!(rt; changed(rt.alloc(), short)?, 47);
-    let high = "UPDATE File SET FileIndex = 2147483648 WHERE FileIndex = 1";
-    assert_eq!(rt; changed(rt.alloc(), high)?, 47);
-    Ok(())
-}
-
-#[test]
-fn other_tables(rt: HostRuntime) -> Result<(), Fail> {
-    assert_eq!(rt; changed(rt.alloc(), "DROP TABLE File")?, 45);
-    assert_eq!(rt;
-        changed(rt.alloc(), "CREATE TABLE Extra(Id INTEGER PRIMARY KEY)")?,
-        45
-    );
+fn changed_catalogues_are_refused(rt: HostRuntime) -> Result<(), Fail> {
+    assert_eq!(rt; wrongly_read(rt.alloc(), &CHANGES)?, None);
     Ok(())
 }
 
