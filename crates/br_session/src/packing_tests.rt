@@ -23,11 +23,9 @@ fn record(alloc: Global, stream: u32, bytes: &[u8]) -> Result<Record, Fail>
     })
 }
 
-/// Packs one record of stream 2.
-fn packed(alloc: Global, bytes: &[u8]) -> Result<Vec<Vec<u8>>, Fail>
-    requires size { length bytes.now < 2 ^ 32 }
-{
-    let record = record(alloc, 2, bytes)?;
+/// Packs one record of stream 2 and 100 bytes.
+fn packed_long(alloc: Global) -> Result<Vec<Vec<u8>>, Fail> {
+    let record = record(alloc, 2, &[b'x'; 100])?;
     Ok(pack(alloc, &[record], SESSION, 64)?)
 }
 
@@ -97,11 +95,10 @@ fn are_four(blocks: &[Vec<u8>]) -> bool {
     }
 }
 
-#[test]
-fn a_long_record_continues_from_block_to_block(rt: HostRuntime) -> Result<(), Fail> {
-    let blocks = packed(rt.alloc(), &[b'x'; 100])?;
-    assert!(rt; are_four(&blocks));
-    Ok(())
+/// Returns whether a long record continues from block to block.
+fn long_continues(alloc: Global) -> Result<bool, Fail> {
+    let blocks = packed_long(alloc)?;
+    Ok(are_four(&blocks))
 }
 
 /// Returns whether the blocks are one of a record of 16 bytes and one of a record of a byte.
@@ -112,12 +109,10 @@ fn are_two(blocks: &[Vec<u8>]) -> bool {
     }
 }
 
-#[test]
-fn a_record_begins_if_a_byte_of_it_fits(rt: HostRuntime) -> Result<(), Fail> {
-    // The first record leaves 12 bytes.
-    let blocks = packed_two(rt.alloc(), 2, b"0123456789abcdef", b"x", 64)?;
-    assert!(rt; are_two(&blocks));
-    Ok(())
+/// Returns whether a record begins in the next block if the first one leaves 12 bytes.
+fn twelve_bytes_are_too_few(alloc: Global) -> Result<bool, Fail> {
+    let blocks = packed_two(alloc, 2, b"0123456789abcdef", b"x", 64)?;
+    Ok(are_two(&blocks))
 }
 
 /// Returns whether these bytes are the only block.
@@ -128,28 +123,24 @@ fn is_only(blocks: &[Vec<u8>], wanted: &[u8]) -> bool {
     }
 }
 
-#[test]
-fn a_record_without_data_needs_its_header(rt: HostRuntime) -> Result<(), Fail> {
-    let blocks = packed_two(rt.alloc(), 2, b"0123456789abcdef", b"", 64)?;
-    assert!(rt;
-        is_only(
-            &blocks,
-            b"\0\0\0\0\0\0\0\x40\0\0\0\0BB02\0\0\0\x01\0\0\0\x64\0\0\0\x01\0\0\0\x02\0\0\0\x100123456789abcdef\0\0\0\x01\0\0\0\x03\0\0\0\0"
-        )
-    );
-    Ok(())
+/// A full block that ends with the header of a record without data.
+const EMPTY_LAST: &[u8] =
+    b"\0\0\0\0\0\0\0\x40\0\0\0\0BB02\0\0\0\x01\0\0\0\x64\0\0\0\x01\0\0\0\x02\0\0\0\x100123456789abcdef\0\0\0\x01\0\0\0\x03\0\0\0\0";
+
+/// Returns whether a record without data fits into 12 bytes.
+fn twelve_bytes_take_a_header(alloc: Global) -> Result<bool, Fail> {
+    let blocks = packed_two(alloc, 2, b"0123456789abcdef", b"", 64)?;
+    Ok(is_only(&blocks, EMPTY_LAST))
 }
 
-#[test]
-fn two_records_fit_one_block(rt: HostRuntime) -> Result<(), Fail> {
-    let blocks = packed_two(rt.alloc(), 1, b"ab", b"hello", 64_512)?;
-    assert!(rt;
-        is_only(
-            &blocks,
-            b"\0\0\0\0\0\0\0\x37\0\0\0\0BB02\0\0\0\x01\0\0\0\x64\0\0\0\x01\0\0\0\x01\0\0\0\x02ab\0\0\0\x01\0\0\0\x02\0\0\0\x05hello"
-        )
-    );
-    Ok(())
+/// A block of two whole records.
+const TWO: &[u8] =
+    b"\0\0\0\0\0\0\0\x37\0\0\0\0BB02\0\0\0\x01\0\0\0\x64\0\0\0\x01\0\0\0\x01\0\0\0\x02ab\0\0\0\x01\0\0\0\x02\0\0\0\x05hello";
+
+/// Returns whether two short records are one block.
+fn two_fit_one_block(alloc: Global) -> Result<bool, Fail> {
+    let blocks = packed_two(alloc, 1, b"ab", b"hello", 64_512)?;
+    Ok(is_only(&blocks, TWO))
 }
 
 /// A block of a record of 15 bytes and of the first byte of another one of two bytes.
@@ -164,17 +155,19 @@ fn are_full_and_left(blocks: &[Vec<u8>]) -> bool {
     }
 }
 
-#[test]
-fn one_byte_of_a_record_fits(rt: HostRuntime) -> Result<(), Fail> {
-    // The first record leaves 13 bytes.
-    let blocks = packed_two(rt.alloc(), 2, b"0123456789abcde", b"xy", 64)?;
-    assert!(rt; are_full_and_left(&blocks));
-    Ok(())
+/// Returns whether a record begins in a block that leaves 13 bytes.
+fn thirteen_bytes_take_one(alloc: Global) -> Result<bool, Fail> {
+    let blocks = packed_two(alloc, 2, b"0123456789abcde", b"xy", 64)?;
+    Ok(are_full_and_left(&blocks))
 }
 
 #[test]
-fn no_records_make_no_block(rt: HostRuntime) -> Result<(), Fail> {
-    let blocks = pack(rt.alloc(), &[], SESSION, 64)?;
-    assert_eq!(rt; blocks.len(), 0);
+fn records_are_packed(rt: HostRuntime) -> Result<(), Fail> {
+    assert!(rt; long_continues(rt.alloc())?);
+    assert!(rt; twelve_bytes_are_too_few(rt.alloc())?);
+    assert!(rt; twelve_bytes_take_a_header(rt.alloc())?);
+    assert!(rt; two_fit_one_block(rt.alloc())?);
+    assert!(rt; thirteen_bytes_take_one(rt.alloc())?);
+    assert!(rt; pack(rt.alloc(), &[], SESSION, 64)?.is_empty());
     Ok(())
 }

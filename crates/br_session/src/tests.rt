@@ -62,11 +62,6 @@ fn saved(alloc: Global, given: &FileParts<'_>) -> Result<SavedFile, Fail> {
     Ok(made(alloc, given)??)
 }
 
-/// Returns the number of the refusal; 0 if the file can be saved.
-fn refusal(alloc: Global, given: &FileParts<'_>) -> Result<u32, Fail> {
-    Ok(made(alloc, given)?.err().map_or(0, |fault| fault.number()))
-}
-
 /// Makes a text of `count` times the same byte.
 fn many(alloc: Global, byte: u8, count: usize) -> Result<Vec<u8>, AllocError> {
     let mut bytes = Vec::new(alloc);
@@ -84,21 +79,14 @@ fn has(file: &SavedFile, link: &[u8], bytes: &[u8]) -> bool {
     file.link() == link && file.bytes() == bytes
 }
 
-#[test]
-fn files_have_their_parts(rt: HostRuntime) -> Result<(), Fail> {
-    let file = saved(rt.alloc(), &FILE)?;
-    assert!(rt; is_of(&file, b"/a", 3, 14));
-    assert!(rt; has(&file, b"", b"message digest"));
-    assert!(rt; !file.digest());
-    Ok(())
-}
-
-#[test]
-fn links_have_their_text(rt: HostRuntime) -> Result<(), Fail> {
-    let link = saved(rt.alloc(), &SYMBOLIC)?;
-    assert!(rt; has(&link, b"a", b""));
-    assert!(rt; link.digest());
-    Ok(())
+/// Returns whether a file of these parts has them.
+fn has_parts(alloc: Global, given: &FileParts<'_>) -> Result<bool, Fail> {
+    let file = saved(alloc, given)?;
+    Ok(
+        is_of(&file, given.path, given.kind, 14)
+            && has(&file, given.link, given.bytes)
+            && file.digest() == given.digest,
+    )
 }
 
 /// Returns the number of the refusal of a file of this type with 2^30 + 1 bytes; 0 if it can be
@@ -109,14 +97,6 @@ fn refusal_of_large(alloc: Global, kind: u32) -> Result<u32, Fail> {
     let bytes = many(alloc, 0, 1_073_741_825)?;
     let file = SavedFile::new(path, kind, stat, Vec::new(alloc), bytes, false);
     Ok(file.err().map_or(0, |fault| fault.number()))
-}
-
-#[test]
-fn large_files_are_refused_before_their_type_is_tested(rt: HostRuntime) -> Result<(), Fail> {
-    assert_eq!(rt; refusal_of_large(rt.alloc(), 3)?, 15);
-    assert_eq!(rt; refusal_of_large(rt.alloc(), 6)?, 15);
-    assert_eq!(rt; SessionFault::TooLarge.number(), 15);
-    Ok(())
 }
 
 /// The bytes of `FILE`.
@@ -138,37 +118,33 @@ fn refusal_of(
         bytes,
         digest: false,
     };
-    refusal(alloc, &given)
+    Ok(made(alloc, &given)?.err().map_or(0, |fault| fault.number()))
 }
 
-#[test]
-fn types_are_1_to_5(rt: HostRuntime) -> Result<(), Fail> {
-    assert_eq!(rt; refusal_of(rt.alloc(), b"/a", 0, b"", MESSAGE)?, 17);
-    assert_eq!(rt; refusal_of(rt.alloc(), b"/a", 6, b"", b"")?, 17);
-    Ok(())
-}
+/// Parts of files, and the number of the refusal, 0 for none: path, type, link text and bytes. Types
+/// are 1 to 5, directories alone end in a slash, empty files have no bytes, and links alone have a
+/// text.
+const MADE: [(&[u8], u32, &[u8], &[u8], u32); 10] = [
+    (b"/a", 0, b"", MESSAGE, 17),
+    (b"/a", 6, b"", b"", 17),
+    (b"/a", 5, b"", b"", 17),
+    (b"/a/", 5, b"", b"", 0),
+    (b"/a/", 3, b"", MESSAGE, 17),
+    (b"/a", 2, b"", MESSAGE, 17),
+    (b"/a", 2, b"", b"", 0),
+    (b"/a", 3, b"b", MESSAGE, 17),
+    (b"/a", 1, b"b", b"", 0),
+    (b"/a", 4, b"b\0", b"", 17),
+];
 
-#[test]
-fn directories_alone_end_in_a_slash(rt: HostRuntime) -> Result<(), Fail> {
-    assert_eq!(rt; refusal_of(rt.alloc(), b"/a", 5, b"", b"")?, 17);
-    assert_eq!(rt; refusal_of(rt.alloc(), b"/a/", 5, b"", b"")?, 0);
-    assert_eq!(rt; refusal_of(rt.alloc(), b"/a/", 3, b"", MESSAGE)?, 17);
-    Ok(())
-}
-
-#[test]
-fn empty_files_have_no_bytes(rt: HostRuntime) -> Result<(), Fail> {
-    assert_eq!(rt; refusal_of(rt.alloc(), b"/a", 2, b"", MESSAGE)?, 17);
-    assert_eq!(rt; refusal_of(rt.alloc(), b"/a", 2, b"", b"")?, 0);
-    Ok(())
-}
-
-#[test]
-fn links_alone_have_a_text(rt: HostRuntime) -> Result<(), Fail> {
-    assert_eq!(rt; refusal_of(rt.alloc(), b"/a", 3, b"b", MESSAGE)?, 17);
-    assert_eq!(rt; refusal_of(rt.alloc(), b"/a", 1, b"b", b"")?, 0);
-    assert_eq!(rt; refusal_of(rt.alloc(), b"/a", 4, b"b\0", b"")?, 17);
-    Ok(())
+/// Returns path, type and link text of the first file that is wrongly refused, or wrongly not.
+fn wrongly_made(alloc: Global) -> Result<Option<(&'static [u8], u32, &'static [u8])>, Fail> {
+    for (path, kind, link, bytes, number) in MADE {
+        if refusal_of(alloc, path, kind, link, bytes)? != number {
+            return Ok(Some((path, kind, link)));
+        }
+    }
+    Ok(None)
 }
 
 /// Returns the number of the refusal of a symbolic link with a text of `count` bytes; 0 if it can
@@ -178,10 +154,25 @@ fn refusal_of_long(alloc: Global, count: usize) -> Result<u32, Fail> {
     refusal_of(alloc, b"/a", 4, &text, b"")
 }
 
+/// Returns the numbers of the refusals of link texts of 4096 and 4097 bytes.
+fn refusals_of_long(alloc: Global) -> Result<[u32; 2], Fail> {
+    Ok([refusal_of_long(alloc, 4096)?, refusal_of_long(alloc, 4097)?])
+}
+
 #[test]
-fn a_link_text_has_at_most_4096_bytes(rt: HostRuntime) -> Result<(), Fail> {
-    assert_eq!(rt; refusal_of_long(rt.alloc(), 4097)?, 17);
-    assert_eq!(rt; refusal_of_long(rt.alloc(), 4096)?, 0);
+fn files_are_made_of_parts_that_fit(rt: HostRuntime) -> Result<(), Fail> {
+    assert!(rt; has_parts(rt.alloc(), &FILE)?);
+    assert!(rt; has_parts(rt.alloc(), &SYMBOLIC)?);
+    assert_eq!(rt; wrongly_made(rt.alloc())?, None);
+    assert_eq!(rt; refusals_of_long(rt.alloc())?, [0, 17]);
+    Ok(())
+}
+
+#[test]
+fn large_files_are_refused_before_their_type_is_tested(rt: HostRuntime) -> Result<(), Fail> {
+    assert_eq!(rt; refusal_of_large(rt.alloc(), 3)?, 15);
+    assert_eq!(rt; refusal_of_large(rt.alloc(), 6)?, 15);
+    assert_eq!(rt; SessionFault::TooLarge.number(), 15);
     Ok(())
 }
 
@@ -290,12 +281,13 @@ fn are_spans_of_first(spans: &[Span]) -> bool {
     }
 }
 
-#[test]
-fn blocks_are_dealt_out(rt: HostRuntime) -> Result<(), Fail> {
-    let first = first_session(rt.alloc())?;
-    assert!(rt; are_blocks_of_first(&first.blocks));
-    assert!(rt; are_spans_of_first(&first.spans));
-    Ok(())
+/// Returns whether the first session's blocks and spans are as wanted.
+fn first_is_dealt_out(alloc: Global) -> Result<[bool; 2], Fail> {
+    let first = first_session(alloc)?;
+    Ok([
+        are_blocks_of_first(&first.blocks),
+        are_spans_of_first(&first.spans),
+    ])
 }
 
 /// Writes the second session to B and A after the first. A second length of A does not count.
@@ -320,11 +312,16 @@ fn are_spans_of_second(spans: &[Span]) -> bool {
     }
 }
 
+/// Returns the number of the second session's blocks, and whether its spans are as wanted.
+fn second_is_dealt_out(alloc: Global) -> Result<(usize, bool), Fail> {
+    let second = second_session(alloc)?;
+    Ok((second.blocks.len(), are_spans_of_second(&second.spans)))
+}
+
 #[test]
-fn blocks_are_dealt_out_after_others(rt: HostRuntime) -> Result<(), Fail> {
-    let second = second_session(rt.alloc())?;
-    assert_eq!(rt; second.blocks.len(), 3);
-    assert!(rt; are_spans_of_second(&second.spans));
+fn blocks_are_dealt_out(rt: HostRuntime) -> Result<(), Fail> {
+    assert_eq!(rt; first_is_dealt_out(rt.alloc())?, [true; 2]);
+    assert_eq!(rt; second_is_dealt_out(rt.alloc())?, (3, true));
     Ok(())
 }
 
@@ -404,12 +401,13 @@ fn is_one_span(spans: &[Span], files: (u32, u32), bytes: (u64, u64)) -> bool {
     }
 }
 
-#[test]
-fn a_file_and_a_link_are_one_block(rt: HostRuntime) -> Result<(), Fail> {
-    let written = two_written(rt.alloc(), &ABC, &LINK)?;
-    assert!(rt; is_two_files(&written.blocks));
-    assert!(rt; is_one_span(&written.spans, (1, 2), (0, 140)));
-    Ok(())
+/// Returns whether block and span of a file and a link are as wanted.
+fn writes_two_files(alloc: Global) -> Result<[bool; 2], Fail> {
+    let written = two_written(alloc, &ABC, &LINK)?;
+    Ok([
+        is_two_files(&written.blocks),
+        is_one_span(&written.spans, (1, 2), (0, 140)),
+    ])
 }
 
 /// The header of a record of stream 3 with 16 bytes, and the digest of `message digest` in RFC
@@ -425,11 +423,10 @@ fn ends_with_digest(blocks: &[(VolName, Vec<u8>)]) -> bool {
     }
 }
 
-#[test]
-fn digests_are_written(rt: HostRuntime) -> Result<(), Fail> {
-    let written = file_written(rt.alloc(), b"message digest", true)?;
-    assert!(rt; ends_with_digest(&written.blocks));
-    Ok(())
+/// Returns whether the digest of a file is written.
+fn writes_digest(alloc: Global) -> Result<bool, Fail> {
+    let written = file_written(alloc, MESSAGE, true)?;
+    Ok(ends_with_digest(&written.blocks))
 }
 
 /// Writes a file of 65,537 bytes `a`.
@@ -461,27 +458,46 @@ fn are_large(blocks: &[(VolName, Vec<u8>)]) -> bool {
     }
 }
 
-#[test]
-fn large_files_have_several_records(rt: HostRuntime) -> Result<(), Fail> {
-    let written = large_written(rt.alloc())?;
-    assert!(rt; are_large(&written.blocks));
-    assert!(rt; is_one_span(&written.spans, (1, 1), (0, 65_670)));
-    Ok(())
+/// Returns whether blocks and span of a large file are as wanted.
+fn writes_large(alloc: Global) -> Result<[bool; 2], Fail> {
+    let written = large_written(alloc)?;
+    Ok([
+        are_large(&written.blocks),
+        is_one_span(&written.spans, (1, 1), (0, 65_670)),
+    ])
+}
+
+/// Returns whether nothing is written.
+fn is_nothing(written: &Written) -> bool {
+    written.blocks.is_empty() && written.spans.is_empty()
+}
+
+/// Returns whether a session of no files writes nothing, without a place.
+fn writes_nothing_nowhere(alloc: Global) -> Result<bool, Fail> {
+    let written = write_session(alloc, &[], session(1, 100), 64, &[], &[])?;
+    Ok(is_nothing(&written))
+}
+
+/// Returns whether a session of no files writes nothing to a place.
+fn writes_nothing_to_place(alloc: Global) -> Result<bool, Fail> {
+    let written = on_one_volume(alloc, &[], 64, 0)??;
+    Ok(is_nothing(&written))
+}
+
+/// Returns whether a session of no files writes nothing, without a place and with one.
+fn writes_nothing(alloc: Global) -> Result<[bool; 2], Fail> {
+    Ok([
+        writes_nothing_nowhere(alloc)?,
+        writes_nothing_to_place(alloc)?,
+    ])
 }
 
 #[test]
-fn no_files_need_no_place(rt: HostRuntime) -> Result<(), Fail> {
-    let written = write_session(rt.alloc(), &[], session(1, 100), 64, &[], &[])?;
-    assert_eq!(rt; written.blocks.len(), 0);
-    assert_eq!(rt; written.spans.len(), 0);
-    Ok(())
-}
-
-#[test]
-fn no_files_take_no_place(rt: HostRuntime) -> Result<(), Fail> {
-    let written = on_one_volume(rt.alloc(), &[], 64, 0)??;
-    assert_eq!(rt; written.blocks.len(), 0);
-    assert_eq!(rt; written.spans.len(), 0);
+fn sessions_are_written_to_one_volume(rt: HostRuntime) -> Result<(), Fail> {
+    assert_eq!(rt; writes_two_files(rt.alloc())?, [true; 2]);
+    assert!(rt; writes_digest(rt.alloc())?);
+    assert_eq!(rt; writes_large(rt.alloc())?, [true; 2]);
+    assert_eq!(rt; writes_nothing(rt.alloc())?, [true; 2]);
     Ok(())
 }
 
@@ -515,67 +531,54 @@ const DIRECTORY: FileParts<'static> = FileParts {
     digest: false,
 };
 
-#[test]
-fn links_name_earlier_files(rt: HostRuntime) -> Result<(), Fail> {
-    let alloc = rt.alloc();
-    assert_eq!(rt; refusal_of_two(alloc, &ABC, &LINK, 0)?, 0);
-    assert_eq!(rt; refusal_of_two(alloc, &EMPTY, &LINK, 0)?, 0);
-    Ok(())
-}
+/// Links to themselves, to no file, and to a file with a negative number.
+const LINK_TO_ITSELF: FileParts<'static> = FileParts {
+    numbers: b"A A A A A A A A A A A A A C",
+    ..LINK
+};
 
-#[test]
-fn links_name_no_later_file_and_no_directory(rt: HostRuntime) -> Result<(), Fail> {
-    let alloc = rt.alloc();
-    assert_eq!(rt; refusal_of_two(alloc, &LINK, &ABC, 0)?, 16);
-    assert_eq!(rt; refusal_of_two(alloc, &DIRECTORY, &LINK, 0)?, 16);
-    Ok(())
-}
+const LINK_TO_NONE: FileParts<'static> = FileParts {
+    numbers: NUMBERS,
+    ..LINK
+};
 
-/// Returns the number of the refusal of a file and a link with these numbers; 0 if they are
-/// written.
-fn refusal_of_numbers(alloc: Global, numbers: &[u8]) -> Result<u32, Fail> {
-    let link = FileParts {
-        path: b"/y",
-        kind: 1,
-        numbers,
-        link: b"/x",
-        bytes: b"",
-        digest: true,
-    };
-    refusal_of_two(alloc, &ABC, &link, 0)
-}
-
-#[test]
-fn links_to_themselves_and_to_no_file_are_refused(rt: HostRuntime) -> Result<(), Fail> {
-    let alloc = rt.alloc();
-    assert_eq!(rt;
-        refusal_of_numbers(alloc, b"A A A A A A A A A A A A A C")?,
-        16
-    );
-    assert_eq!(rt; refusal_of_numbers(alloc, NUMBERS)?, 16);
-    assert_eq!(rt;
-        refusal_of_numbers(alloc, b"A A A A A A A A A A A A A -B")?,
-        16
-    );
-    Ok(())
-}
+const LINK_TO_NEGATIVE: FileParts<'static> = FileParts {
+    numbers: b"A A A A A A A A A A A A A -B",
+    ..LINK
+};
 
 /// The last byte that a span may have: 2^63 - 2.
 const GREATEST: u64 = 9_223_372_036_854_775_806;
 
-#[test]
-fn spans_end_before_2_63_1(rt: HostRuntime) -> Result<(), Fail> {
-    let alloc = rt.alloc();
-    assert_eq!(rt; refusal_of_two(alloc, &ABC, &LINK, GREATEST - 140)?, 0);
-    assert_eq!(rt; refusal_of_two(alloc, &ABC, &LINK, GREATEST - 139)?, 42);
-    Ok(())
+/// Two files, the length of the volume that they are written to, and the number of the refusal, 0
+/// for none. Links name earlier files, and spans begin and end before 2^63 - 1.
+const PAIRS: [(FileParts<'static>, FileParts<'static>, u64, u32); 12] = [
+    (ABC, LINK, 0, 0),
+    (EMPTY, LINK, 0, 0),
+    (LINK, ABC, 0, 16),
+    (DIRECTORY, LINK, 0, 16),
+    (ABC, LINK_TO_ITSELF, 0, 16),
+    (ABC, LINK_TO_NONE, 0, 16),
+    (ABC, LINK_TO_NEGATIVE, 0, 16),
+    (ABC, LINK, GREATEST - 140, 0),
+    (ABC, LINK, GREATEST - 139, 42),
+    (ABC, LINK, GREATEST, 42),
+    (ABC, LINK, u64::MAX, 42),
+    (LINK, ABC, GREATEST, 16),
+];
+
+/// Returns the place of the first pair that is wrongly refused, or wrongly not.
+fn wrong_pair(alloc: Global) -> Result<Option<usize>, Fail> {
+    for (place, (first, second, start, number)) in PAIRS.iter().enumerate() {
+        if refusal_of_two(alloc, first, second, *start)? != *number {
+            return Ok(Some(place));
+        }
+    }
+    Ok(None)
 }
 
 #[test]
-fn spans_begin_before_2_63_1(rt: HostRuntime) -> Result<(), Fail> {
-    let alloc = rt.alloc();
-    assert_eq!(rt; refusal_of_two(alloc, &ABC, &LINK, GREATEST)?, 42);
-    assert_eq!(rt; refusal_of_two(alloc, &ABC, &LINK, u64::MAX)?, 42);
-    assert_eq!(rt; refusal_of_two(alloc, &LINK, &ABC, GREATEST)?, 16);
+fn sessions_are_refused(rt: HostRuntime) -> Result<(), Fail> {
+    assert_eq!(rt; wrong_pair(rt.alloc())?, None);
     Ok(())
 }
