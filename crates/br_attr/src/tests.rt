@@ -215,47 +215,76 @@ fn are_numbers(alloc: Global, stat: &Stat) -> Result<bool, AllocError> {
     Ok(numbers.as_slice() == NUMBERS)
 }
 
-#[test]
-fn reads_and_writes_a_record(rt: HostRuntime) -> Result<(), Fail> {
-    let attr = read(rt.alloc(), RECORD, 1)?;
-    assert!(rt; names(&attr, (1, 3), b"/a", b""));
-    assert_eq!(rt; node_of(&attr.stat()), NODE);
-    assert_eq!(rt; data_of(&attr.stat()), DATA);
-    assert!(rt; is_record(rt.alloc(), &attr)?);
-    assert!(rt; are_record(rt.alloc(), &attr)?);
-    assert!(rt; are_numbers(rt.alloc(), &attr.stat())?);
-    Ok(())
+/// Reads the record, and returns its numbers.
+fn numbers_of_record(alloc: Global) -> Result<[[i64; 7]; 2], Fail> {
+    let attr = read(alloc, RECORD, 1)?;
+    let stat = attr.stat();
+    Ok([node_of(&stat), data_of(&stat)])
+}
+
+/// Returns whether the attributes are named as the record's, and written as the record: as a whole,
+/// from their parts, and the numbers alone.
+fn are_of_record(alloc: Global, attr: &Attr) -> Result<[bool; 4], Fail> {
+    Ok([
+        names(attr, (1, 3), b"/a", b""),
+        is_record(alloc, attr)?,
+        are_record(alloc, attr)?,
+        are_numbers(alloc, &attr.stat())?,
+    ])
+}
+
+/// Reads the record and writes it again.
+fn record_is_written(alloc: Global) -> Result<[bool; 4], Fail> {
+    let attr = read(alloc, RECORD, 1)?;
+    are_of_record(alloc, &attr)
+}
+
+/// Returns whether the hard link is read.
+fn hard_link_is_read(alloc: Global) -> Result<bool, Fail> {
+    let attr = read(alloc, HARD_LINK, 7)?;
+    let stat = attr.stat();
+    Ok(names(&attr, (7, 1), b"/b", b"/a") && (stat.ctime(), stat.link_index()) == (-1, 2))
 }
 
 #[test]
-fn reads_links(rt: HostRuntime) -> Result<(), Fail> {
+fn reads_and_writes_records(rt: HostRuntime) -> Result<(), Fail> {
+    assert_eq!(rt; numbers_of_record(rt.alloc())?, [NODE, DATA]);
+    assert_eq!(rt; record_is_written(rt.alloc())?, [true; 4]);
     assert!(rt; link_comes_apart(read(rt.alloc(), LINK, 1)?));
-    let attr = read(rt.alloc(), HARD_LINK, 7)?;
-    assert!(rt; names(&attr, (7, 1), b"/b", b"/a"));
-    assert_eq!(rt; attr.stat().ctime(), -1);
-    assert_eq!(rt; attr.stat().link_index(), 2);
+    assert!(rt; hard_link_is_read(rt.alloc())?);
     Ok(())
 }
 
+/// Returns why a record is refused for another index, and why texts of numbers are.
+fn faults(alloc: Global) -> Result<[Option<AttrFault>; 3], Fail> {
+    Ok([
+        fault_of(alloc, RECORD, 2)?,
+        Stat::read(b"A\tA").err(),
+        Stat::read(b"").err(),
+    ])
+}
+
+/// What `faults` returns.
+const FAULTS: [Option<AttrFault>; 3] = [
+    Some(AttrFault::IndexDiffers),
+    Some(AttrFault::BadNumber),
+    Some(AttrFault::MissingField),
+];
+
+/// Reads long texts: one that is 1, and one that is too great.
+fn long_numbers(alloc: Global) -> Result<[Result<i64, AttrFault>; 2], AllocError> {
+    Ok([long_number(alloc, b'A')?, long_number(alloc, b'B')?])
+}
+
 #[test]
-fn refuses_records(rt: HostRuntime) -> Result<(), Fail> {
-    assert_eq!(rt;
-        fault_of(rt.alloc(), RECORD, 2)?,
-        Some(AttrFault::IndexDiffers)
-    );
+fn refuses_records_and_reads_and_writes_numbers(rt: HostRuntime) -> Result<(), Fail> {
+    assert_eq!(rt; faults(rt.alloc())?, FAULTS);
     assert_eq!(rt; wrongly_refused(rt.alloc(), &RECORDS)?, None);
-    assert_eq!(rt; Stat::read(b"A\tA").err(), Some(AttrFault::BadNumber));
-    assert_eq!(rt; Stat::read(b"").err(), Some(AttrFault::MissingField));
-    Ok(())
-}
-
-#[test]
-fn reads_and_writes_numbers(rt: HostRuntime) -> Result<(), Fail> {
-    assert_eq!(rt; wrongly_read(&READ), None);
-    assert_eq!(rt; long_number(rt.alloc(), b'A')?, Ok(1));
+    assert_eq!(rt; [wrongly_read(&READ), not_refused(&NO_NUMBERS)], [None; 2]);
     assert_eq!(rt; wrongly_written(rt.alloc(), &SHORTEST)?, None);
-    assert_eq!(rt; not_refused(&NO_NUMBERS), None);
-    assert_eq!(rt; long_number(rt.alloc(), b'B')?, Err(AttrFault::BadNumber));
-    assert_eq!(rt; AttrFault::BadNumber.number(), 20);
+    assert_eq!(rt;
+        long_numbers(rt.alloc())?,
+        [Ok(1), Err(AttrFault::BadNumber)]
+    );
     Ok(())
 }
