@@ -451,11 +451,23 @@ fn has_text(alloc: Global, fault: BsrFault, wanted: &str) -> Result<bool, Fail> 
     Ok(message.as_str() == wanted)
 }
 
+/// Returns whether the group of a volume is all of it.
+fn volume_is_made(alloc: Global) -> Result<bool, Fail> {
+    let group = volume(alloc)?;
+    Ok(is_volume(&group))
+}
+
+/// Returns whether the copy of a group has its addresses.
+fn addresses_are_copied(alloc: Global) -> Result<bool, Fail> {
+    let group = addresses_again(alloc)?;
+    Ok(is_addresses(&group))
+}
+
 /// Returns whether groups and bootstraps that are made, and not read, are as wanted.
 fn are_made(alloc: Global) -> Result<[bool; 5], Fail> {
     Ok([
-        is_volume(&volume(alloc)?),
-        is_addresses(&addresses_again(alloc)?),
+        volume_is_made(alloc)?,
+        addresses_are_copied(alloc)?,
         is_written(alloc, b"Volume=\"V1\"\nVolAddr=3-9\nVolAddr=1-4\n")?,
         is_refused(alloc)?,
         has_no_group(alloc),
