@@ -74,58 +74,151 @@ fn first_wrong(found: &Found, spots: &[(u32, u64, u32)]) -> Option<usize> {
     Some(found.hits.len().min(spots.len()))
 }
 
-/// Returns whether a piece is matched by a drive that fails from its `k`-th call on.
-fn is_answered(alloc: Global, bytes: &[u8], piece: &Piece, k: u64) -> Result<bool, Fail> {
-    let mut drive = MemDrive::failing_from(volumes(alloc, bytes)?, k);
-    Ok(match_piece(alloc, piece, &mut drive).is_ok())
+/// Returns the number and the address of the refusal on V1.
+fn refused_on(alloc: Global, bytes: &[u8], text: &[u8]) -> Result<Option<(u32, u64)>, Fail> {
+    Ok(refused(&found_on(alloc, bytes, text)?))
 }
 
-/// Returns the number of calls of the drive that a piece takes, if it is not refused.
-fn calls_of(alloc: Global, bytes: &[u8], piece: &Piece) -> Result<Option<u64>, Fail> {
-    for calls in 0..20 {
-        if is_answered(alloc, bytes, piece, calls + 1)? {
-            return Ok(Some(calls));
-        }
+/// What V1 is, and the text of a bootstrap: V1 has the first `len` bytes of `count` of the blocks,
+/// which bytes follow that are no block.
+type Case<'s> = (usize, usize, &'s [u8]);
+
+/// Returns the bytes of V1.
+fn bytes_of(alloc: Global, (count, len, _): Case<'_>) -> Result<Vec<u8>, Fail> {
+    let mut bytes = Vec::new(alloc);
+    for _block in 0..count {
+        bytes.extend_from_slice(BLOCK)?;
     }
-    Ok(None)
-}
-
-/// Returns the number of calls of the drive that a bootstrap's first piece takes, if it is not
-/// refused.
-fn calls(alloc: Global, bytes: &[u8], text: &[u8]) -> Result<Option<u64>, Fail> {
-    let pieces = pieces_of_text(alloc, text)?;
-    let piece = pieces.first().ok_or("a piece")?;
-    calls_of(alloc, bytes, piece)
-}
-
-/// Returns the first `len` bytes of two of the blocks, which bytes follow that are no block.
-fn with_spoilt_tail(alloc: Global, len: usize) -> Result<Vec<u8>, Fail> {
-    let mut bytes = Vec::from_slice(alloc, BLOCK)?;
-    bytes.extend_from_slice(BLOCK)?;
     bytes.extend_from_slice(b"these bytes are not a block of level BB02")?;
     bytes.truncate(len);
     Ok(bytes)
 }
 
-/// Returns the place of the first hit on V1 that is not as wanted.
-fn wrong_on(
-    alloc: Global,
-    bytes: &[u8],
-    text: &[u8],
-    places: &[(u32, u64, u32)],
-) -> Result<Option<usize>, Fail> {
-    let found = found_on(alloc, bytes, text)??;
-    Ok(first_wrong(&found, places))
+/// Matches the first piece of a case.
+fn found_in(alloc: Global, case: Case<'_>) -> Result<Result<Found, PieceFault>, Fail> {
+    let bytes = bytes_of(alloc, case)?;
+    found_on(alloc, &bytes, case.2)
 }
 
-/// Returns whether nothing is found on V1.
-fn has_none_on(alloc: Global, bytes: &[u8], text: &[u8]) -> Result<bool, Fail> {
-    Ok(found_on(alloc, bytes, text)??.hits.is_empty())
-}
+/// Cases, and the group, the address and the ordinal of each hit.
+const FOUND: &[(Case<'static>, &[(u32, u64, u32)])] = &[
+    (
+        (1, 91, b"Volume=V1\nFileIndex=1\n"),
+        &[(0, 0, 0), (0, 0, 1)],
+    ),
+    ((1, 91, b"Volume=V1\n"), &[(0, 0, 0), (0, 0, 1)]),
+    ((1, 0, b"Volume=V1\n"), &[]),
+    // A hit has the number of the first group.
+    (
+        (1, 91, b"Volume=V1\nStream=2\nVolume=V1\n"),
+        &[(1, 0, 0), (0, 0, 1)],
+    ),
+    // Other records are no hits.
+    ((1, 91, b"Volume=V1\nVolSessionId=2\n"), &[]),
+    ((1, 91, b"Volume=V1\nVolSessionTime=101\n"), &[]),
+    ((1, 91, b"Volume=V1\nVolFile=1\n"), &[]),
+    ((1, 91, b"Volume=V1\nVolBlock=1-90\n"), &[]),
+    ((1, 91, b"Volume=V1\nFileIndex=2\n"), &[]),
+    ((1, 91, b"Volume=V1\nStream=3\n"), &[]),
+    // The walk ends after the last address.
+    (
+        (2, 300, b"Volume=V1\nVolAddr=0-90\n"),
+        &[(0, 0, 0), (0, 0, 1)],
+    ),
+    (
+        (2, 300, b"Volume=V1\nVolAddr=91\n"),
+        &[(0, 91, 0), (0, 91, 1)],
+    ),
+    (
+        (
+            2,
+            300,
+            b"Volume=V1\nVolAddr=181\nVolAddr=0-90\nVolume=V1\nVolAddr=50-100\n",
+        ),
+        &[(0, 0, 0), (0, 0, 1), (1, 91, 0), (1, 91, 1)],
+    ),
+    // The second block has only its header, and no range has its address.
+    (
+        (2, 115, b"Volume=V1\nVolAddr=0\nVolAddr=92-200\n"),
+        &[(0, 0, 0), (0, 0, 1)],
+    ),
+    // Groups come in any order.
+    (
+        (
+            4,
+            364,
+            b"Volume=V1\nVolAddr=273\nVolume=V1\nVolAddr=0\nVolume=V1\nVolAddr=182\n",
+        ),
+        &[
+            (1, 0, 0),
+            (1, 0, 1),
+            (2, 182, 0),
+            (2, 182, 1),
+            (0, 273, 0),
+            (0, 273, 1),
+        ],
+    ),
+    // One of the groups has no addresses.
+    (
+        (
+            4,
+            364,
+            b"Volume=V1\nVolAddr=182\nVolume=V1\nStream=2\nVolume=V1\nVolAddr=0-91\nStream=1\n",
+        ),
+        &[
+            (2, 0, 0),
+            (1, 0, 1),
+            (2, 91, 0),
+            (1, 91, 1),
+            (0, 182, 0),
+            (0, 182, 1),
+            (1, 273, 1),
+        ],
+    ),
+    // Ranges of groups overlap.
+    (
+        (
+            4,
+            364,
+            b"Volume=V1\nVolAddr=91-182\nStream=2\nVolume=V1\nVolAddr=0-300\nStream=1\nVolume=V1\nVolAddr=150-273\nVolume=V1\nVolAddr=91\n",
+        ),
+        &[
+            (1, 0, 0),
+            (1, 91, 0),
+            (0, 91, 1),
+            (1, 182, 0),
+            (0, 182, 1),
+            (1, 273, 0),
+            (2, 273, 1),
+        ],
+    ),
+    // At the ends of the ranges, and one byte beside them.
+    (
+        (
+            4,
+            364,
+            b"Volume=V1\nVolAddr=1-91\nVolume=V1\nVolAddr=92-181\nVolume=V1\nVolAddr=182-272\nVolume=V1\nVolAddr=183-273\n",
+        ),
+        &[
+            (0, 91, 0),
+            (0, 91, 1),
+            (2, 182, 0),
+            (2, 182, 1),
+            (3, 273, 0),
+            (3, 273, 1),
+        ],
+    ),
+];
 
-/// Returns the number and the address of the refusal on V1.
-fn refused_on(alloc: Global, bytes: &[u8], text: &[u8]) -> Result<Option<(u32, u64)>, Fail> {
-    Ok(refused(&found_on(alloc, bytes, text)?))
+/// Returns the first of the cases with another hit, and the place of that hit.
+fn wrong_found(alloc: Global) -> Result<Option<(usize, usize)>, Fail> {
+    for (row, (case, spots)) in FOUND.iter().enumerate() {
+        let found = found_in(alloc, *case)??;
+        if let Some(place) = first_wrong(&found, spots) {
+            return Ok(Some((row, place)));
+        }
+    }
+    Ok(None)
 }
 
 /// Returns whether a hit is of file 1 of session 1, 100.
@@ -148,10 +241,87 @@ fn are_both(hits: &[Hit]) -> bool {
 
 #[test]
 fn hits_are_found(rt: HostRuntime) -> Result<(), Fail> {
+    assert_eq!(rt; wrong_found(rt.alloc())?, None);
     let found = found_on(rt.alloc(), BLOCK, b"Volume=V1\nFileIndex=1\n")??;
     assert_eq!(rt; found.piece, 0);
-    assert_eq!(rt; first_wrong(&found, &[(0, 0, 0), (0, 0, 1)]), None);
     assert!(rt; are_both(&found.hits));
+    Ok(())
+}
+
+/// Cases, and the number and the address of the refusal.
+const REFUSED: &[(Case<'static>, (u32, u64))] = &[
+    ((2, 300, b"Volume=V1\nVolAddr=182\n"), (10, 182)),
+    // Only one of the groups has addresses.
+    ((2, 300, b"Volume=V1\nVolAddr=0\nVolume=V1\n"), (10, 182)),
+    // The second block has only its header, and then not even that.
+    (
+        (2, 115, b"Volume=V1\nVolAddr=0\nVolAddr=91-200\n"),
+        (12, 91),
+    ),
+    (
+        (2, 114, b"Volume=V1\nVolAddr=0\nVolAddr=92-200\n"),
+        (12, 91),
+    ),
+];
+
+/// Returns the first of the cases with another refusal, and that refusal.
+fn wrong_refusal(alloc: Global) -> Result<Option<(usize, Option<(u32, u64)>)>, Fail> {
+    for (row, (case, wanted)) in REFUSED.iter().enumerate() {
+        let got = refused(&found_in(alloc, *case)?);
+        if got != Some(*wanted) {
+            return Ok(Some((row, got)));
+        }
+    }
+    Ok(None)
+}
+
+/// Returns the first length at which the cut off block is not refused as truncated, 0 if there is
+/// none.
+fn not_refused(alloc: Global) -> Result<usize, Fail> {
+    for len in 1..91 {
+        if refused_on(alloc, &BLOCK[..len], b"Volume=V1\n")? != Some((12, 0)) {
+            return Ok(len);
+        }
+    }
+    Ok(0)
+}
+
+/// Returns the refusal of a block with these numbers at the bytes 5 and 7 of its header.
+fn refused_at(alloc: Global, fifth: u8, seventh: u8) -> Result<Option<(u32, u64)>, Fail> {
+    let mut bytes = *BLOCK;
+    bytes[5] = fifth;
+    bytes[7] = seventh;
+    refused_on(alloc, &bytes, b"Volume=V1\n")
+}
+
+/// Returns whether a fault is that there is no volume Q.
+fn is_unknown(fault: &PieceFault) -> bool {
+    fault.number() == 14
+        && fault.addr() == Some(0)
+        && fault
+            .vol()
+            .is_some_and(|vol| vol.bytes() == b"Q".as_slice())
+}
+
+/// Returns whether the piece is refused since there is no volume Q.
+fn refuses_q(alloc: Global, text: &[u8]) -> Result<bool, Fail> {
+    match found_on(alloc, BLOCK, text)? {
+        Ok(_) => Ok(false),
+        Err(fault) => Ok(is_unknown(&fault)),
+    }
+}
+
+#[test]
+fn bad_volumes_are_refused(rt: HostRuntime) -> Result<(), Fail> {
+    assert_eq!(rt; wrong_refusal(rt.alloc())?, None);
+    assert_eq!(rt; not_refused(rt.alloc())?, 0);
+    assert_eq!(rt; refused_at(rt.alloc(), 0, 23)?, Some((11, 0)));
+    // 4,194,305.
+    assert_eq!(rt; refused_at(rt.alloc(), 0x40, 1)?, Some((11, 0)));
+    // 24: the bytes after the header are no block.
+    assert_eq!(rt; refused_at(rt.alloc(), 0, 24)?, Some((10, 24)));
+    assert!(rt; refuses_q(rt.alloc(), b"Volume=Q\n")?);
+    assert!(rt; refuses_q(rt.alloc(), b"Volume=Q\nVolAddr=1000-2000\n")?);
     Ok(())
 }
 
@@ -186,17 +356,6 @@ fn keep_numbers(alloc: Global) -> Result<bool, Fail> {
     gives_both(alloc, &mut drive, &pieces)
 }
 
-#[test]
-fn a_hit_has_the_number_of_the_first_group(rt: HostRuntime) -> Result<(), Fail> {
-    let text = b"Volume=V1\nStream=2\nVolume=V1\n";
-    assert_eq!(rt;
-        wrong_on(rt.alloc(), BLOCK, text, &[(1, 0, 0), (0, 0, 1)])?,
-        None
-    );
-    assert!(rt; keep_numbers(rt.alloc())?);
-    Ok(())
-}
-
 /// Returns whether the first hit is of this stream.
 fn begins_with(hits: &[Hit], stream: i32) -> bool {
     hits.first().is_some_and(|hit| hit.stream == stream)
@@ -209,204 +368,6 @@ fn finds_the_part(alloc: Global) -> Result<bool, Fail> {
     bytes[78..82].copy_from_slice(&[0xff, 0xff, 0xff, 0xfe]);
     let found = found_on(alloc, &bytes, b"Volume=V1\nStream=1-2\n")??;
     Ok(first_wrong(&found, &[(0, 0, 1)]).is_none() && begins_with(&found.hits, -2))
-}
-
-#[test]
-fn other_records_are_no_hits(rt: HostRuntime) -> Result<(), Fail> {
-    assert!(rt; has_none_on(rt.alloc(), BLOCK, b"Volume=V1\nVolSessionId=2\n")?);
-    assert!(rt; has_none_on(rt.alloc(), BLOCK, b"Volume=V1\nVolSessionTime=101\n")?);
-    assert!(rt; has_none_on(rt.alloc(), BLOCK, b"Volume=V1\nVolFile=1\n")?);
-    assert!(rt; has_none_on(rt.alloc(), BLOCK, b"Volume=V1\nVolBlock=1-90\n")?);
-    assert!(rt; has_none_on(rt.alloc(), BLOCK, b"Volume=V1\nFileIndex=2\n")?);
-    assert!(rt; has_none_on(rt.alloc(), BLOCK, b"Volume=V1\nStream=3\n")?);
-    assert!(rt; finds_the_part(rt.alloc())?);
-    Ok(())
-}
-
-/// Returns the place of the first hit on the blocks with a spoilt tail that is not as wanted.
-fn wrong_before_tail(
-    alloc: Global,
-    len: usize,
-    text: &[u8],
-    places: &[(u32, u64, u32)],
-) -> Result<Option<usize>, Fail> {
-    let bytes = with_spoilt_tail(alloc, len)?;
-    wrong_on(alloc, &bytes, text, places)
-}
-
-/// Returns the refusal on the blocks with a spoilt tail.
-fn refused_before_tail(alloc: Global, len: usize, text: &[u8]) -> Result<Option<(u32, u64)>, Fail> {
-    let bytes = with_spoilt_tail(alloc, len)?;
-    refused_on(alloc, &bytes, text)
-}
-
-#[test]
-fn the_walk_ends_after_the_last_address(rt: HostRuntime) -> Result<(), Fail> {
-    let alloc = rt.alloc();
-    let first = b"Volume=V1\nVolAddr=0-90\n";
-    assert_eq!(rt;
-        wrong_before_tail(alloc, 300, first, &[(0, 0, 0), (0, 0, 1)])?,
-        None
-    );
-    let second = b"Volume=V1\nVolAddr=91\n";
-    assert_eq!(rt;
-        wrong_before_tail(alloc, 300, second, &[(0, 91, 0), (0, 91, 1)])?,
-        None
-    );
-    let tail = b"Volume=V1\nVolAddr=182\n";
-    assert_eq!(rt; refused_before_tail(alloc, 300, tail)?, Some((10, 182)));
-    let both = b"Volume=V1\nVolAddr=181\nVolAddr=0-90\nVolume=V1\nVolAddr=50-100\n";
-    let places = [(0, 0, 0), (0, 0, 1), (1, 91, 0), (1, 91, 1)];
-    assert_eq!(rt; wrong_before_tail(alloc, 300, both, &places)?, None);
-    // Only one of the groups has addresses.
-    let all = b"Volume=V1\nVolAddr=0\nVolume=V1\n";
-    assert_eq!(rt; refused_before_tail(alloc, 300, all)?, Some((10, 182)));
-    assert_eq!(rt;
-        wrong_on(rt.alloc(), BLOCK, b"Volume=V1\n", &[(0, 0, 0), (0, 0, 1)])?,
-        None
-    );
-    Ok(())
-}
-
-#[test]
-fn only_a_covered_block_must_be_whole(rt: HostRuntime) -> Result<(), Fail> {
-    // The second block has only its header.
-    let alloc = rt.alloc();
-    let beside = b"Volume=V1\nVolAddr=0\nVolAddr=92-200\n";
-    assert_eq!(rt;
-        wrong_before_tail(alloc, 115, beside, &[(0, 0, 0), (0, 0, 1)])?,
-        None
-    );
-    let inside = b"Volume=V1\nVolAddr=0\nVolAddr=91-200\n";
-    assert_eq!(rt; refused_before_tail(alloc, 115, inside)?, Some((12, 91)));
-    // Not even its header is whole.
-    assert_eq!(rt; refused_before_tail(alloc, 114, beside)?, Some((12, 91)));
-    Ok(())
-}
-
-/// Returns the place of the first hit on four blocks, at 0, 91, 182 and 273, that is not as wanted.
-fn wrong_on_four(
-    alloc: Global,
-    text: &[u8],
-    places: &[(u32, u64, u32)],
-) -> Result<Option<usize>, Fail> {
-    let mut bytes = Vec::from_slice(alloc, BLOCK)?;
-    for _ in 0..3 {
-        bytes.extend_from_slice(BLOCK)?;
-    }
-    wrong_on(alloc, &bytes, text, places)
-}
-
-#[test]
-fn groups_come_in_any_order(rt: HostRuntime) -> Result<(), Fail> {
-    let falling = b"Volume=V1\nVolAddr=273\nVolume=V1\nVolAddr=0\nVolume=V1\nVolAddr=182\n";
-    let places = [
-        (1, 0, 0),
-        (1, 0, 1),
-        (2, 182, 0),
-        (2, 182, 1),
-        (0, 273, 0),
-        (0, 273, 1),
-    ];
-    assert_eq!(rt; wrong_on_four(rt.alloc(), falling, &places)?, None);
-    // One of the groups has no addresses.
-    let everywhere =
-        b"Volume=V1\nVolAddr=182\nVolume=V1\nStream=2\nVolume=V1\nVolAddr=0-91\nStream=1\n";
-    let places = [
-        (2, 0, 0),
-        (1, 0, 1),
-        (2, 91, 0),
-        (1, 91, 1),
-        (0, 182, 0),
-        (0, 182, 1),
-        (1, 273, 1),
-    ];
-    assert_eq!(rt; wrong_on_four(rt.alloc(), everywhere, &places)?, None);
-    Ok(())
-}
-
-#[test]
-fn ranges_of_groups_may_overlap(rt: HostRuntime) -> Result<(), Fail> {
-    let nested =
-        b"Volume=V1\nVolAddr=91-182\nStream=2\nVolume=V1\nVolAddr=0-300\nStream=1\nVolume=V1\nVolAddr=150-273\nVolume=V1\nVolAddr=91\n";
-    let places = [
-        (1, 0, 0),
-        (1, 91, 0),
-        (0, 91, 1),
-        (1, 182, 0),
-        (0, 182, 1),
-        (1, 273, 0),
-        (2, 273, 1),
-    ];
-    assert_eq!(rt; wrong_on_four(rt.alloc(), nested, &places)?, None);
-    // At the ends of the ranges, and one byte beside them.
-    let ends =
-        b"Volume=V1\nVolAddr=1-91\nVolume=V1\nVolAddr=92-181\nVolume=V1\nVolAddr=182-272\nVolume=V1\nVolAddr=183-273\n";
-    let places = [
-        (0, 91, 0),
-        (0, 91, 1),
-        (2, 182, 0),
-        (2, 182, 1),
-        (3, 273, 0),
-        (3, 273, 1),
-    ];
-    assert_eq!(rt; wrong_on_four(rt.alloc(), ends, &places)?, None);
-    Ok(())
-}
-
-/// Returns the first length at which the cut off block is not refused as truncated, 0 if there is
-/// none.
-fn not_refused(alloc: Global) -> Result<usize, Fail> {
-    for len in 1..91 {
-        if refused_on(alloc, &BLOCK[..len], b"Volume=V1\n")? != Some((12, 0)) {
-            return Ok(len);
-        }
-    }
-    Ok(0)
-}
-
-/// Returns the refusal of a block with these numbers at the bytes 5 and 7 of its header.
-fn refused_at(alloc: Global, fifth: u8, seventh: u8) -> Result<Option<(u32, u64)>, Fail> {
-    let mut bytes = *BLOCK;
-    bytes[5] = fifth;
-    bytes[7] = seventh;
-    refused_on(alloc, &bytes, b"Volume=V1\n")
-}
-
-#[test]
-fn a_cut_off_volume_and_a_bad_header_are_refused(rt: HostRuntime) -> Result<(), Fail> {
-    assert_eq!(rt; not_refused(rt.alloc())?, 0);
-    assert!(rt; has_none_on(rt.alloc(), &BLOCK[..0], b"Volume=V1\n")?);
-    assert_eq!(rt; refused_at(rt.alloc(), 0, 23)?, Some((11, 0)));
-    // 4,194,305.
-    assert_eq!(rt; refused_at(rt.alloc(), 0x40, 1)?, Some((11, 0)));
-    // 24: the bytes after the header are no block.
-    assert_eq!(rt; refused_at(rt.alloc(), 0, 24)?, Some((10, 24)));
-    Ok(())
-}
-
-/// Returns whether a fault is that there is no volume Q.
-fn is_unknown(fault: &PieceFault) -> bool {
-    fault.number() == 14
-        && fault.addr() == Some(0)
-        && fault
-            .vol()
-            .is_some_and(|vol| vol.bytes() == b"Q".as_slice())
-}
-
-/// Returns whether the piece is refused since there is no volume Q.
-fn refuses_q(alloc: Global, text: &[u8]) -> Result<bool, Fail> {
-    match found_on(alloc, BLOCK, text)? {
-        Ok(_) => Ok(false),
-        Err(fault) => Ok(is_unknown(&fault)),
-    }
-}
-
-#[test]
-fn a_volume_that_does_not_exist_is_refused(rt: HostRuntime) -> Result<(), Fail> {
-    assert!(rt; refuses_q(rt.alloc(), b"Volume=Q\n")?);
-    assert!(rt; refuses_q(rt.alloc(), b"Volume=Q\nVolAddr=1000-2000\n")?);
-    Ok(())
 }
 
 /// Returns a piece 3 of V1 without groups.
@@ -432,13 +393,62 @@ fn refused_without_groups(alloc: Global, bytes: &[u8]) -> Result<Option<(u32, u6
 }
 
 #[test]
-fn a_piece_without_groups_has_no_hits(rt: HostRuntime) -> Result<(), Fail> {
+fn pieces_keep_their_numbers(rt: HostRuntime) -> Result<(), Fail> {
+    assert!(rt; keep_numbers(rt.alloc())?);
+    assert!(rt; finds_the_part(rt.alloc())?);
     assert!(rt; finds_nothing(rt.alloc(), BLOCK)?);
     assert!(rt; finds_nothing(rt.alloc(), b"")?);
     // 24 bytes that are no block: the header at address 0 is read.
     let refusal = refused_without_groups(rt.alloc(), b"not a block of level BB2")?;
     assert_eq!(rt; refusal, Some((10, 0)));
     Ok(())
+}
+
+/// Returns whether a piece is matched by a drive that fails from its `k`-th call on.
+fn is_answered(alloc: Global, bytes: &[u8], piece: &Piece, k: u64) -> Result<bool, Fail> {
+    let mut drive = MemDrive::failing_from(volumes(alloc, bytes)?, k);
+    Ok(match_piece(alloc, piece, &mut drive).is_ok())
+}
+
+/// Returns the number of calls of the drive that a piece takes, if it is not refused.
+fn calls_of(alloc: Global, bytes: &[u8], piece: &Piece) -> Result<Option<u64>, Fail> {
+    for calls in 0..20 {
+        if is_answered(alloc, bytes, piece, calls + 1)? {
+            return Ok(Some(calls));
+        }
+    }
+    Ok(None)
+}
+
+/// Returns the number of calls of the drive that the first piece of a case takes, if it is not
+/// refused.
+fn calls_in(alloc: Global, case: Case<'_>) -> Result<Option<u64>, Fail> {
+    let bytes = bytes_of(alloc, case)?;
+    let pieces = pieces_of_text(alloc, case.2)?;
+    let piece = pieces.first().ok_or("a piece")?;
+    calls_of(alloc, &bytes, piece)
+}
+
+/// Cases, and the number of calls of the drive: only covered blocks are read.
+const CALLS: &[(Case<'static>, u64)] = &[
+    ((1, 91, b"Volume=V1\n"), 3),
+    ((2, 182, b"Volume=V1\n"), 5),
+    ((2, 182, b"Volume=V1\nFileIndex=7\n"), 5),
+    ((0, 0, b"Volume=V1\n"), 1),
+    ((2, 182, b"Volume=V1\nVolAddr=0\n"), 2),
+    ((2, 182, b"Volume=V1\nVolAddr=91\n"), 3),
+    ((2, 182, b"Volume=V1\nVolAddr=1-90\n"), 1),
+];
+
+/// Returns the first of the cases with another number of calls, and that number.
+fn wrong_calls(alloc: Global) -> Result<Option<(usize, Option<u64>)>, Fail> {
+    for (row, (case, wanted)) in CALLS.iter().enumerate() {
+        let got = calls_in(alloc, *case)?;
+        if got != Some(*wanted) {
+            return Ok(Some((row, got)));
+        }
+    }
+    Ok(None)
 }
 
 /// Returns the refusal by a drive that fails from its `k`-th call on, `None` if the piece is
@@ -450,48 +460,14 @@ fn refused_from(alloc: Global, k: u64) -> Result<Option<(u32, u64)>, Fail> {
     Ok(refused(&match_piece(alloc, piece, &mut drive)))
 }
 
-/// Returns whether the piece is matched by a drive that fails from its `k`-th call on.
-fn answers_before(alloc: Global, k: u64) -> Result<bool, Fail> {
-    let pieces = pieces_of_text(alloc, b"Volume=V1\n")?;
-    let piece = pieces.first().ok_or("a piece")?;
-    is_answered(alloc, BLOCK, piece, k)
-}
-
 #[test]
-fn a_drive_that_fails_is_refused_with_the_address(rt: HostRuntime) -> Result<(), Fail> {
+fn a_drive_is_called_for_covered_blocks_and_its_failure_has_an_address(
+    rt: HostRuntime,
+) -> Result<(), Fail> {
+    assert_eq!(rt; wrong_calls(rt.alloc())?, None);
     assert_eq!(rt; refused_from(rt.alloc(), 1)?, Some((13, 0)));
     assert_eq!(rt; refused_from(rt.alloc(), 2)?, Some((13, 0)));
     assert_eq!(rt; refused_from(rt.alloc(), 3)?, Some((13, 91)));
-    assert!(rt; answers_before(rt.alloc(), 4)?);
-    Ok(())
-}
-
-/// Returns the number of calls that the two blocks take.
-fn calls_of_two(alloc: Global, text: &[u8]) -> Result<Option<u64>, Fail> {
-    let two = with_spoilt_tail(alloc, 182)?;
-    calls(alloc, &two, text)
-}
-
-#[test]
-fn only_covered_blocks_are_read(rt: HostRuntime) -> Result<(), Fail> {
-    assert_eq!(rt; calls_of_two(rt.alloc(), b"Volume=V1\n")?, Some(5));
-    assert_eq!(rt;
-        calls_of_two(rt.alloc(), b"Volume=V1\nFileIndex=7\n")?,
-        Some(5)
-    );
-    assert_eq!(rt; calls(rt.alloc(), b"", b"Volume=V1\n")?, Some(1));
-    assert_eq!(rt;
-        calls_of_two(rt.alloc(), b"Volume=V1\nVolAddr=0\n")?,
-        Some(2)
-    );
-    assert_eq!(rt;
-        calls_of_two(rt.alloc(), b"Volume=V1\nVolAddr=91\n")?,
-        Some(3)
-    );
-    assert_eq!(rt;
-        calls_of_two(rt.alloc(), b"Volume=V1\nVolAddr=1-90\n")?,
-        Some(1)
-    );
     Ok(())
 }
 
@@ -532,23 +508,23 @@ fn found_in_100(alloc: Global, text: &[u8]) -> Result<Found, Fail> {
     Ok(found_on(alloc, &bytes, text)??)
 }
 
-#[test]
-fn many_ranges_are_looked_up(rt: HostRuntime) -> Result<(), Fail> {
-    let text = many_ranges(rt.alloc())?;
-    let found = found_in_100(rt.alloc(), text.as_bytes())?;
-    assert_eq!(rt; found.hits.len(), 33);
-    assert!(rt; are_of_thirds(&found.hits));
-    Ok(())
-}
-
 /// Returns whether the hit at this place is of this file.
 fn has_index(hits: &[Hit], place: usize, index: u32) -> bool {
     hits.get(place)
         .is_some_and(|hit| hit.key.index.get() == index)
 }
 
+/// Returns what is found of many ranges in the block of 100 records.
+fn found_of_many(alloc: Global) -> Result<Found, Fail> {
+    let text = many_ranges(alloc)?;
+    found_in_100(alloc, text.as_bytes())
+}
+
 #[test]
-fn a_range_may_hold_others(rt: HostRuntime) -> Result<(), Fail> {
+fn many_ranges_are_looked_up_and_a_range_may_hold_others(rt: HostRuntime) -> Result<(), Fail> {
+    let thirds = found_of_many(rt.alloc())?;
+    assert_eq!(rt; thirds.hits.len(), 33);
+    assert!(rt; are_of_thirds(&thirds.hits));
     let text = b"Volume=V1\nFileIndex=30-31\nFileIndex=10-90\nFileIndex=20,95\n";
     let found = found_in_100(rt.alloc(), text)?;
     assert_eq!(rt; found.hits.len(), 82);
