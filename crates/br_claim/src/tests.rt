@@ -15,11 +15,23 @@ fn two_seats_draw_in_turn(rt: HostRuntime) -> Result<(), Fail> {
     let third = claims.draw(&mut s);
     let fourth = claims.draw(&mut t);
     let fifth = claims.draw(&mut s);
-    assert_eq!(rt; [first, second, third], [Some(0), Some(1), Some(2)]);
-    assert_eq!(rt; [fourth, fifth], [None, None]);
-    let lists = claims.gather(Vec::from_array(rt.alloc(), [s, t])?)?;
+    let lists = gathered(rt.alloc(), claims, s, t)?;
+    let drawn = [first, second, third, fourth, fifth];
+    assert_eq!(rt; drawn, [Some(0), Some(1), Some(2), None, None]);
     assert!(rt; are_these(lists.as_slice(), &[0, 2], &[1]));
     Ok(())
+}
+
+/// Returns the numbers that two seats drew.
+fn gathered(
+    alloc: Global,
+    claims: Claims,
+    s: ClaimSeat,
+    t: ClaimSeat,
+) -> Result<Vec<Vec<u32>>, Fail>
+    requires { (s.claims ≡ claims.claims) × (t.claims ≡ claims.claims) }
+{
+    Ok(claims.gather(Vec::from_array(alloc, [s, t])?)?)
 }
 
 /// Returns whether there are two lists, with these numbers.
@@ -36,8 +48,7 @@ fn a_missing_seat_is_refused(rt: HostRuntime) -> Result<(), Fail> {
     let s = claims.seat()?;
     let t = claims.seat()?;
     drop(t);
-    let gathered = claims.gather(Vec::from_array(rt.alloc(), [s])?);
-    let why = gathered.err();
+    let why = claims.gather(Vec::from_array(rt.alloc(), [s])?).err();
     assert_eq!(rt; why.map(|fault| fault.number()), Some(71));
     Ok(())
 }
@@ -69,7 +80,7 @@ fn two_threads_draw_each_number_once(rt: HostRuntime) -> Result<(), Fail> {
     let t = claims.seat()?;
     let shared = &claims;
     let (s, t) = join(&rt, || drained(shared, s), || drained(shared, t));
-    let lists = claims.gather(Vec::from_array(rt.alloc(), [s, t])?)?;
+    let lists = gathered(rt.alloc(), claims, s, t)?;
     let all = merged(rt.alloc(), lists.as_slice())?;
     assert!(rt; are_all_below(1000, all.as_slice()));
     Ok(())
