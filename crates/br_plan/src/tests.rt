@@ -1,3 +1,6 @@
+ghost use Rattle.std.specs.Prelude.{◌≡◌, IfOk};
+ghost use Rattle.br_plan.specs.Means.{IsViewOfChosen};
+
 use super::*;
 use br_bsr::write_bootstrap;
 use br_choose::choose;
@@ -31,7 +34,7 @@ fn letter(byte: u8) -> Result<Letter, Fail> {
     Ok(Letter::new(byte).ok_or("a letter")?)
 }
 
-/// The row of a job: number, level, start, which is its session's time too.
+/// Makes the row of a job from number, level and start, which is its session's time too.
 fn job_row(alloc: Global, shape: (u32, u8, u64)) -> Result<JobRow, Fail> {
     let (id, level, start) = shape;
     Ok(JobRow {
@@ -77,7 +80,7 @@ fn spans_of(alloc: Global, visits: &[Visit<'_>]) -> Result<Vec<Span>, Fail> {
     Ok(spans)
 }
 
-/// A job with these rows and spans.
+/// Makes a job with these rows and spans.
 fn job(
     alloc: Global,
     shape: (u32, u8, u64),
@@ -91,14 +94,14 @@ fn job(
     )?)
 }
 
-/// A Full of one job with these rows, and one span of all of them.
+/// Makes a history of one Full with these rows, and one span of all of them.
 fn history_of(alloc: Global, rows: &[Row<'_>]) -> Result<History, Fail> {
     let mut history = History::new(alloc);
     history.push(job(alloc, FULL, rows, &[(b"A", (1, 9), (0, 63))])?)?;
     Ok(history)
 }
 
-/// A Full and an Incremental on two volumes.
+/// Makes a history of a Full and an Incremental on two volumes.
 fn two_jobs(alloc: Global) -> Result<History, Fail> {
     let mut history = History::new(alloc);
     history.push(job(
@@ -132,15 +135,16 @@ fn marks_of(alloc: Global, paths: &[&[u8]]) -> Result<Vec<Path>, Fail> {
     Ok(marks)
 }
 
-/// The plan for these paths at moment 250.
+/// Makes the plan for these paths at moment 250.
 fn plan(alloc: Global, history: &History, paths: &[&[u8]]) -> Result<Plan, Fail> {
     let request = request(alloc, b"mars", b"home", 250)?;
     Ok(Plan::make(alloc, history, &request, &marks_of(alloc, paths)?)?)
 }
 
-/// The plan for what is marked by hand in a tree of the view at moment 250: all names in the root that match a pattern.
-fn plan_of_tree(alloc: Global, history: &History, pattern: &[u8]) -> Result<Plan, Fail> {
-    let request = request(alloc, b"mars", b"home", 250)?;
+/// Returns the tree of the view of the jobs that a request chooses.
+fn tree_of<'h>(alloc: Global, history: &'h History, request: &Request) -> Result<Tree<'h>, Fail>
+    ensures { IfOk result (λ tree. IsViewOfChosen history.now request.now tree.view) }
+{
     let jobs = choose(
         alloc,
         history,
@@ -148,158 +152,204 @@ fn plan_of_tree(alloc: Global, history: &History, pattern: &[u8]) -> Result<Plan
         &request.fileset,
         request.moment,
     )?;
-    let mut tree = Tree::build(alloc, View::build(alloc, &jobs)?)?;
+    Ok(Tree::build(alloc, View::build(alloc, &jobs)?)?)
+}
+
+/// Marks all names in the root that match a pattern.
+fn mark_names(tree: &mut Tree<'_>, pattern: &[u8])
+    ensures { tree.new.view ≡ tree.old.view }
+{
     tree.mark(b"/", pattern);
-    Ok(Plan::for_marked(alloc, history, &request, &tree)?)
 }
 
-/// The text of the plan's bootstrap.
-fn text_of(alloc: Global, plan: &Plan) -> Result<Vec<u8>, Fail> {
-    Ok(write_bootstrap(alloc, plan.bootstrap())?)
+/// Makes the plan for a request and all names in the root that match a pattern, marked in a tree.
+fn plan_of_tree(
+    alloc: Global,
+    history: &History,
+    request: &Request,
+    pattern: &[u8],
+) -> Result<Plan, Fail> {
+    let mut tree = tree_of(alloc, history, request)?;
+    mark_names(&mut tree, pattern);
+    Ok(Plan::for_marked(alloc, history, request, &tree)?)
 }
 
-/// The plan's names: the number of the session, the index and the path of each.
-fn names_of(alloc: Global, plan: &Plan) -> Result<Vec<u8>, Fail> {
-    let mut text = Vec::new(alloc);
+/// Appends the plan's names: the number of the session, the index and the path of each.
+fn show_names(text: &mut Vec<u8>, plan: &Plan) -> Result<(), Fail> {
     for (key, path) in plan.names().iter() {
         text.push(b'0' + (key.session.id % 10) as u8)?;
         text.push(b'0' + (key.index.get() % 10) as u8)?;
         text.extend_from_slice(path.bytes())?;
         text.push(b' ')?;
     }
+    Ok(())
+}
+
+/// Returns the text of the plan's bootstrap, and after it the plan's names.
+fn shown(alloc: Global, plan: &Plan) -> Result<Vec<u8>, Fail> {
+    let mut text = write_bootstrap(alloc, plan.bootstrap())?;
+    show_names(&mut text, plan)?;
     Ok(text)
 }
 
-/// Client, file set and moment of a request.
-type Asked<'s> = (&'s [u8], &'s [u8], u64);
+/// Shows the plan for these paths of a Full with these rows.
+fn planned(alloc: Global, rows: &[Row<'_>], paths: &[&[u8]]) -> Result<Vec<u8>, Fail> {
+    shown(alloc, &plan(alloc, &history_of(alloc, rows)?, paths)?)
+}
 
-/// The number of the refusal over two jobs, 0 where a plan is made.
-fn refusal(alloc: Global, asked: Asked<'_>, paths: &[&[u8]]) -> Result<u32, Fail> {
-    let history = two_jobs(alloc)?;
-    let request = request(alloc, asked.0, asked.1, asked.2)?;
-    let marks = marks_of(alloc, paths)?;
-    match Plan::make(alloc, &history, &request, &marks) {
-        Ok(_) => Ok(0),
-        Err(fault) => Ok(fault.number()),
-    }
+/// Shows the plan for all names in the root of a Full with these rows that match a pattern.
+fn planned_by_tree(alloc: Global, rows: &[Row<'_>], pattern: &[u8]) -> Result<Vec<u8>, Fail> {
+    let request = request(alloc, b"mars", b"home", 250)?;
+    shown(
+        alloc,
+        &plan_of_tree(alloc, &history_of(alloc, rows)?, &request, pattern)?,
+    )
+}
+
+/// Makes a plan over two jobs, and adds a job to their history afterwards.
+fn plan_before_a_job(alloc: Global, paths: &[&[u8]]) -> Result<Plan, Fail> {
+    let mut history = two_jobs(alloc)?;
+    let plan = plan(alloc, &history, paths)?;
+    history.push(job(alloc, (3, b'F', 240), &[(b"/a", 1, SAVED)], &[])?)?;
+    Ok(plan)
+}
+
+/// Shows a plan over two jobs after a job was added to their history.
+fn planned_before_a_job(alloc: Global, paths: &[&[u8]]) -> Result<Vec<u8>, Fail> {
+    shown(alloc, &plan_before_a_job(alloc, paths)?)
 }
 
 const TWO_JOBS: &[u8] =
     b"Volume=\"A\"\nVolSessionId=1\nVolSessionTime=100\nVolAddr=0-63\nFileIndex=1\n\
 Volume=\"B\"\nVolSessionId=1\nVolSessionTime=100\nVolAddr=0-107\nFileIndex=1\n\
 Volume=\"B\"\nVolSessionId=2\nVolSessionTime=200\nVolAddr=108-171\nFileIndex=1\n\
-Volume=\"A\"\nVolSessionId=2\nVolSessionTime=200\nVolAddr=64-171\nFileIndex=1\n";
+Volume=\"A\"\nVolSessionId=2\nVolSessionTime=200\nVolAddr=64-171\nFileIndex=1\n\
+11/a 21/b ";
 
 #[test]
 fn each_span_of_a_marked_file_is_read(rt: HostRuntime) -> Result<(), Fail> {
     let alloc = rt.alloc();
-    let history = two_jobs(alloc)?;
-    let plan = plan(alloc, &history, &[b"/b", b"/a"])?;
-    assert_eq!(rt; text_of(alloc, &plan)?.as_slice(), TWO_JOBS);
     assert_eq!(rt;
-        names_of(alloc, &plan)?.as_slice(),
-        b"11/a 21/b ".as_slice()
+        planned_before_a_job(alloc, &[b"/b", b"/a"])?.as_slice(),
+        TWO_JOBS
+    );
+    assert_eq!(rt;
+        planned_before_a_job(alloc, &[b"/a", b"/b"])?.as_slice(),
+        TWO_JOBS
     );
     Ok(())
 }
 
-#[test]
-fn a_plan_owns_what_it_names(rt: HostRuntime) -> Result<(), Fail> {
-    let alloc = rt.alloc();
-    let mut history = two_jobs(alloc)?;
-    let plan = plan(alloc, &history, &[b"/a", b"/b"])?;
-    history.push(job(alloc, (3, b'F', 240), &[(b"/a", 1, SAVED)], &[])?)?;
-    assert_eq!(rt; text_of(alloc, &plan)?.as_slice(), TWO_JOBS);
-    Ok(())
-}
+/// A file and a hard link to it.
+const ONE_LINK: &[Row<'static>] = &[(b"/x", 1, SAVED), (b"/y", 2, LINK_1)];
 
+/// The plan for both of them.
 const FILES_1_TO_2: &[u8] =
-    b"Volume=\"A\"\nVolSessionId=1\nVolSessionTime=100\nVolAddr=0-63\nFileIndex=1-2\n";
+    b"Volume=\"A\"\nVolSessionId=1\nVolSessionTime=100\nVolAddr=0-63\nFileIndex=1-2\n11/x 12/y ";
 
-#[test]
-fn the_file_of_a_hard_link_is_restored_too(rt: HostRuntime) -> Result<(), Fail> {
-    let alloc = rt.alloc();
-    let history = history_of(alloc, &[(b"/x", 1, SAVED), (b"/y", 2, LINK_1)])?;
-    let plan = plan(alloc, &history, &[b"/y"])?;
-    assert_eq!(rt; text_of(alloc, &plan)?.as_slice(), FILES_1_TO_2);
-    assert_eq!(rt;
-        names_of(alloc, &plan)?.as_slice(),
-        b"11/x 12/y ".as_slice()
-    );
-    Ok(())
-}
+/// A file, a hard link to it, and one to that link.
+const TWO_LINKS: &[Row<'static>] = &[(b"/x", 1, SAVED), (b"/y", 2, LINK_1), (b"/z", 3, LINK_2)];
 
-#[test]
-fn a_tree_is_planned_as_its_marks_are(rt: HostRuntime) -> Result<(), Fail> {
-    let alloc = rt.alloc();
-    let history = history_of(alloc, &[(b"/x", 1, SAVED), (b"/y", 2, LINK_1)])?;
-    let plan = plan_of_tree(alloc, &history, b"y")?;
-    assert_eq!(rt; text_of(alloc, &plan)?.as_slice(), FILES_1_TO_2);
-    assert_eq!(rt;
-        names_of(alloc, &plan)?.as_slice(),
-        b"11/x 12/y ".as_slice()
-    );
-    Ok(())
-}
-
+/// The plan for the links alone.
 const FILES_2_TO_3: &[u8] =
-    b"Volume=\"A\"\nVolSessionId=1\nVolSessionTime=100\nVolAddr=0-63\nFileIndex=2-3\n";
+    b"Volume=\"A\"\nVolSessionId=1\nVolSessionTime=100\nVolAddr=0-63\nFileIndex=2-3\n12/y 13/z ";
+
+/// Files that are not in the order of their paths.
+const FOUR_FILES: &[Row<'static>] = &[
+    (b"/x", 4, SAVED),
+    (b"/y", 2, SAVED),
+    (b"/z", 3, SAVED),
+    (b"/w", 1, SAVED),
+];
+
+/// The plan for all but the second one.
+const FILES_APART: &[u8] =
+    b"Volume=\"A\"\nVolSessionId=1\nVolSessionTime=100\nVolAddr=0-63\nFileIndex=1\nFileIndex=3-4\n\
+11/w 13/z 14/x ";
+
+/// Rows of a Full, marked paths, and their plan.
+type Planned = (
+    &'static [Row<'static>],
+    &'static [&'static [u8]],
+    &'static [u8],
+);
+
+/// The file of a hard link is restored too; a link is followed once; indexes are ranges.
+const PLANS: [Planned; 3] = [
+    (ONE_LINK, &[b"/y"], FILES_1_TO_2),
+    (TWO_LINKS, &[b"/z", b"/none"], FILES_2_TO_3),
+    (FOUR_FILES, &[b"/x", b"/w", b"/z"], FILES_APART),
+];
+
+/// Shows the first plan that is not the given one.
+fn wrong_plan(alloc: Global, plans: &[Planned]) -> Result<Option<Vec<u8>>, Fail> {
+    for (rows, paths, expected) in plans {
+        let found = planned(alloc, rows, paths)?;
+        if found.as_slice() != *expected {
+            return Ok(Some(found));
+        }
+    }
+    Ok(None)
+}
 
 #[test]
-fn a_link_is_followed_once(rt: HostRuntime) -> Result<(), Fail> {
+fn plans_follow_links_once(rt: HostRuntime) -> Result<(), Fail> {
     let alloc = rt.alloc();
-    let history = history_of(
-        alloc,
-        &[(b"/x", 1, SAVED), (b"/y", 2, LINK_1), (b"/z", 3, LINK_2)],
-    )?;
-    let plan = plan(alloc, &history, &[b"/z", b"/none"])?;
-    assert_eq!(rt; text_of(alloc, &plan)?.as_slice(), FILES_2_TO_3);
+    assert_eq!(rt; wrong_plan(alloc, &PLANS)?, None);
     assert_eq!(rt;
-        names_of(alloc, &plan)?.as_slice(),
-        b"12/y 13/z ".as_slice()
+        planned_by_tree(alloc, ONE_LINK, b"y")?.as_slice(),
+        FILES_1_TO_2
     );
     Ok(())
 }
 
-const FILES_APART: &[u8] =
-    b"Volume=\"A\"\nVolSessionId=1\nVolSessionTime=100\nVolAddr=0-63\nFileIndex=1\nFileIndex=3-4\n";
+/// Client, file set and moment of a request.
+type Asked<'s> = (&'s [u8], &'s [u8], u64);
 
-#[test]
-fn indexes_are_ranges(rt: HostRuntime) -> Result<(), Fail> {
-    let alloc = rt.alloc();
-    let history = history_of(
-        alloc,
-        &[
-            (b"/x", 4, SAVED),
-            (b"/y", 2, SAVED),
-            (b"/z", 3, SAVED),
-            (b"/w", 1, SAVED),
-        ],
-    )?;
-    let plan = plan(alloc, &history, &[b"/x", b"/w", b"/z"])?;
-    assert_eq!(rt; text_of(alloc, &plan)?.as_slice(), FILES_APART);
-    Ok(())
+/// Returns the number with which a request is refused, or 0 if a plan is made.
+fn number_of(alloc: Global, history: &History, request: &Request, marks: &[Path]) -> u32 {
+    match Plan::make(alloc, history, request, marks) {
+        Ok(_) => 0,
+        Err(fault) => fault.number(),
+    }
 }
 
-#[test]
-fn nothing_marked_is_no_plan(rt: HostRuntime) -> Result<(), Fail> {
-    let alloc = rt.alloc();
-    assert_eq!(rt; refusal(alloc, (b"mars", b"home", 250), &[b"/a"])?, 0);
-    assert_eq!(rt; refusal(alloc, (b"mars", b"home", 250), &[b"/c"])?, 51);
-    assert_eq!(rt; refusal(alloc, (b"mars", b"home", 250), &[])?, 51);
-    Ok(())
+/// Returns the number with which a request over two jobs is refused, or 0 if a plan is made.
+fn refusal(alloc: Global, asked: Asked<'_>, paths: &[&[u8]]) -> Result<u32, Fail> {
+    let request = request(alloc, asked.0, asked.1, asked.2)?;
+    let marks = marks_of(alloc, paths)?;
+    Ok(number_of(alloc, &two_jobs(alloc)?, &request, &marks))
 }
 
-#[test]
-fn refused_choices_are_no_plans(rt: HostRuntime) -> Result<(), Fail> {
-    let alloc = rt.alloc();
-    assert_eq!(rt; refusal(alloc, (b"mars", b"home", 100), &[])?, 50);
-    assert_eq!(rt; refusal(alloc, (b"venus", b"home", 250), &[])?, 53);
-    assert_eq!(rt; refusal(alloc, (b"mars", b"data", 250), &[])?, 54);
-    Ok(())
+/// A request, marked paths, and the number with which these are refused over two jobs; 0 if a plan
+/// is made.
+type Refusal = (Asked<'static>, &'static [&'static [u8]], u32);
+
+const REFUSALS: [Refusal; 6] = [
+    ((b"mars", b"home", 250), &[b"/a"], 0),
+    ((b"mars", b"home", 250), &[b"/c"], 51),
+    ((b"mars", b"home", 250), &[], 51),
+    ((b"mars", b"home", 100), &[], 50),
+    ((b"venus", b"home", 250), &[], 53),
+    ((b"mars", b"data", 250), &[], 54),
+];
+
+/// Returns the first request that is refused with another number than the given one, and that
+/// number.
+fn wrongly_refused(
+    alloc: Global,
+    refusals: &[Refusal],
+) -> Result<Option<(Asked<'static>, u32)>, Fail> {
+    for (asked, paths, number) in refusals {
+        let found = refusal(alloc, *asked, paths)?;
+        if found != *number {
+            return Ok(Some((*asked, found)));
+        }
+    }
+    Ok(None)
 }
 
-/// The seconds of a moment's text, or the number of the refusal as a negative one.
+/// Returns the seconds of a moment's text, or the number of the refusal as a negative one.
 fn moment_of(text: &[u8]) -> i64 {
     match read_moment(text) {
         Ok(seconds) => i64::try_from(seconds).unwrap_or(0),
@@ -307,20 +357,33 @@ fn moment_of(text: &[u8]) -> i64 {
     }
 }
 
-#[test]
-fn moments_are_read(rt: HostRuntime) -> Result<(), Fail> {
-    assert_eq!(rt; moment_of(b"1970-01-01 00:04:10"), 250);
-    assert_eq!(rt; moment_of(b"2000-02-29 00:00:00"), 951_782_400);
-    assert_eq!(rt; moment_of(b"9999-12-31 23:59:59"), 253_402_300_799);
-    Ok(())
+/// Texts of moments, and their seconds, or the number of the refusal as a negative one.
+const MOMENTS: [(&[u8], i64); 8] = [
+    (b"1970-01-01 00:04:10", 250),
+    (b"2000-02-29 00:00:00", 951_782_400),
+    (b"9999-12-31 23:59:59", 253_402_300_799),
+    (b"2024-02-30 00:00:00", -52),
+    (b"2100-02-29 00:00:00", -52),
+    (b"1969-12-31 23:59:59", -52),
+    (b"1970-1-1 00:00:00", -52),
+    (b"2016-12-31 23:59:60", -52),
+];
+
+/// Returns the first text that is read as another moment than the given one, and what it is read
+/// as.
+fn wrong_moment(moments: &[(&'static [u8], i64)]) -> Option<(&'static [u8], i64)> {
+    for (text, expected) in moments {
+        let found = moment_of(text);
+        if found != *expected {
+            return Some((text, found));
+        }
+    }
+    None
 }
 
 #[test]
-fn moments_are_refused(rt: HostRuntime) -> Result<(), Fail> {
-    assert_eq!(rt; moment_of(b"2024-02-30 00:00:00"), -52);
-    assert_eq!(rt; moment_of(b"2100-02-29 00:00:00"), -52);
-    assert_eq!(rt; moment_of(b"1969-12-31 23:59:59"), -52);
-    assert_eq!(rt; moment_of(b"1970-1-1 00:00:00"), -52);
-    assert_eq!(rt; moment_of(b"2016-12-31 23:59:60"), -52);
+fn requests_and_moments_are_refused(rt: HostRuntime) -> Result<(), Fail> {
+    assert_eq!(rt; wrongly_refused(rt.alloc(), &REFUSALS)?, None);
+    assert_eq!(rt; wrong_moment(&MOMENTS), None);
     Ok(())
 }
