@@ -1,10 +1,12 @@
 pub mod ListLaws
 pub mod SlotLaws
+pub mod FlagLaws
 pub mod AnswerLaws
 pub mod FilledLaws
+pub mod EmptyLaws
 pub mod WorkersLaws
 pub mod NumberLaws
-pub mod PoolLaws
 pub mod BackLaws
 pub mod WorkedLaws
-pub mod DealtLaws
+pub mod ReaderLaws
+pub mod ResultLaws

@@ -1,5 +1,5 @@
 -- Lists that grow at their end, and lists the other way round.
-use Rattle.std.proofs.Common.{◌≡◌, ℕ, zero, suc, ◌<◌, List, [], ◌∷◌, ◌++◌, map, reverse, length, take, drop, slice_index_or, refl, ap, sym, subst, ◌∙◌, append_assoc, arith}
+use Rattle.std.proofs.Common.{◌≡◌, ℕ, zero, suc, ◌+◌, ◌<◌, List, [], ◌∷◌, ◌++◌, map, reverse, length, take, drop, slice_index_or, refl, ap, sym, subst, ◌∙◌, append_assoc, arith}
 use Rattle.std.specs.List.{AllByRecursion, AllZip}
 use mathlib.Core.List.{reverse-append}
 
@@ -86,3 +86,44 @@ written n a b e = subst (λ k. take k (a ++ drop (length a) b) ≡ a) e (front a
     front : {X : Type 0} (a r : List X) → take (length a) (a ++ r) ≡ a
     front [] r = refl
     front (x ∷ xs) r = ap (λ l. x ∷ l) (front xs r)
+
+-- each pair of a first and a third list, by the second
+pub zip_trans : {A : Type 0} (R S T : A → A → Type 0) → ((a b c : A) → R a b → S b c → T a c) → (xs ys zs : List A) → AllZip R xs ys → AllZip S ys zs → AllZip T xs zs
+zip_trans R S T so [] [] [] p q = tt
+zip_trans R S T so [] [] (z ∷ zs) p q = absurd q
+zip_trans R S T so [] (y ∷ ys) zs p q = absurd p
+zip_trans R S T so (x ∷ xs) [] zs p q = absurd p
+zip_trans R S T so (x ∷ xs) (y ∷ ys) [] p q = absurd q
+zip_trans R S T so (x ∷ xs) (y ∷ ys) (z ∷ zs) p q = (so x y z p.0 q.0, zip_trans R S T so xs ys zs p.1 q.1)
+
+pub reverse_reverse : {X : Type 0} (xs : List X) → reverse (reverse xs) ≡ xs
+reverse_reverse [] = refl
+reverse_reverse (x ∷ xs) = ap reverse (reverse_cons x xs) ∙ reverse-append (reverse xs) (x ∷ []) ∙ ap (λ l. x ∷ l) (reverse_reverse xs)
+
+-- what is left from a place on
+pub drop_at : {X : Type 0} (xs : List X) (i : ℕ) (x : X) → i < length xs → x ≡ slice_index_or xs i x → drop i xs ≡ x ∷ drop (suc i) xs
+drop_at [] i x low is = absurd (omega (arith, low))
+drop_at (y ∷ ys) zero x low is = ap (λ z. z ∷ ys) (sym is)
+drop_at (y ∷ ys) (suc i) x low is = drop_at ys i x (omega (arith, low)) is
+
+pub drop_all : {X : Type 0} (xs : List X) (n : ℕ) → n ≡ length xs → drop n xs ≡ []
+drop_all xs n e = rw e (whole xs)
+  where
+    whole : {X : Type 0} (xs : List X) → drop (length xs) xs ≡ []
+    whole [] = refl
+    whole (x ∷ xs) = whole xs
+
+pub map_map : {A B C : Type 0} (f : B → C) (g : A → B) (xs : List A) → map f (map g xs) ≡ map (λ x. f (g x)) xs
+map_map f g [] = refl
+map_map f g (x ∷ xs) = ap (λ l. f (g x) ∷ l) (map_map f g xs)
+
+pub map_reverse : {A B : Type 0} (f : A → B) (xs : List A) → map f (reverse xs) ≡ reverse (map f xs)
+map_reverse f [] = refl
+map_reverse f (x ∷ xs) = rw (reverse_cons x xs, reverse_cons (f x) (map f xs), map_more f (reverse xs) x) (ap (λ l. l ++ f x ∷ []) (map_reverse f xs))
+
+-- of each
+pub zip_map : {A B : Type 0} (R : B → B → Type 0) (f : A → B) (xs ys : List A) → AllZip (λ x y. R (f x) (f y)) xs ys → AllZip R (map f xs) (map f ys)
+zip_map R f [] [] z = tt
+zip_map R f [] (y ∷ ys) z = absurd z
+zip_map R f (x ∷ xs) [] z = absurd z
+zip_map R f (x ∷ xs) (y ∷ ys) z = (z.0, zip_map R f xs ys z.1)

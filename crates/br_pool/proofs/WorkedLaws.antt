@@ -1,5 +1,5 @@
--- The workers after their run, with the drives in their places again.
-use Rattle.std.proofs.Common.{◌≡◌, ℕ, ◌<◌, ◌≤◌, List, [], ◌∷◌, map, reverse, flat_map, length, Option, refl, ap, sym, subst, ◌∙◌, arith}
+-- The workers after their run, with the readers in their places again.
+use Rattle.std.proofs.Common.{◌≡◌, ℕ, ◌<◌, ◌≤◌, List, [], ◌∷◌, map, reverse, flat_map, length, Bool, Option, ap, sym, subst, ◌∙◌, arith}
 use Rattle.std.proofs.lemmas.List.{length-map, length-reverse}
 use Rattle.std.specs.List.{AllByRecursion, AllZip}
 use Rattle.atomic_table.specs.Seated.{TableId}
@@ -10,18 +10,14 @@ use Rattle.br_claim.specs.Claims.{Seated}
 use Rattle.br_match.proofs.GrowthLaws.{grows_itself}
 use Rattle.br_pool.specs.Pool.{StandsTold}
 use Rattle.br_pool.specs.Slots.{AllBelow}
-use Rattle.br_pool.specs.Workers.{Answer, HaveWorked}
-use Rattle.br_pool.proofs.ListLaws.{zip_reverse, zip_length, zip_so, zip_itself}
+use Rattle.br_pool.specs.Workers.{Answer, HasServed, HaveWorked}
+use Rattle.br_pool.proofs.ListLaws.{map_map, map_reverse, zip_itself, zip_length, zip_map, zip_reverse, zip_so}
 use Rattle.br_pool.proofs.AnswerLaws.{all_below}
-use Rattle.br_pool.proofs.WorkersLaws.{Ran, map_reverse, zip_map, have_worked}
+use Rattle.br_pool.proofs.WorkersLaws.{Ran, have_worked}
 
-map_map : {A B C : Type 0} (f : B → C) (g : A → B) (xs : List A) → map f (map g xs) ≡ map (λ x. f (g x)) xs
-map_map f g [] = refl
-map_map f g (x ∷ xs) = ap (λ l. f (g x) ∷ l) (map_map f g xs)
-
--- what each of the drives shows
-shown : {W D B : Type 0} (drive : W → D) (f : D → B) (ws : List W) (ds : List D) → ds ≡ reverse (map drive ws) → map (λ w. f (drive w)) (reverse ws) ≡ map f ds
-shown drive f ws ds e = sym (map_map f drive (reverse ws)) ∙ ap (map f) (map_reverse drive ws ∙ sym e)
+-- what each of the readers shows
+shown : {W R B : Type 0} (reader : W → R) (f : R → B) (ws : List W) (rs : List R) → rs ≡ reverse (map reader ws) → map (λ w. f (reader w)) (reverse ws) ≡ map f rs
+shown reader f ws rs e = sym (map_map f reader (reverse ws)) ∙ ap (map f) (map_reverse reader ws ∙ sym e)
 
 -- what each pair says of its second part holds of the whole second list
 pub all_second : {A B : Type 0} (R : A → B → Type 0) (Q : B → Type 0) → ((a : A) (b : B) → R a b → Q b) → (xs : List A) (ys : List B) → AllZip R xs ys → AllByRecursion Q ys
@@ -38,33 +34,36 @@ module _ {D : Type 0} (shows : D → Option (List Volume)) (fails : D → ℕ) w
   pub all_kept : (ds : List D) → AllZip Kept ds ds
   all_kept ds = zip_itself Kept (λ d. (grows_itself (shows d), omega arith)) ds
 
-module _ {W D : Type 0} (claims : TableId) (pieces : List Piece) (shows : D → Option (List Volume)) (fails : D → ℕ) (drive : W → D) (seat : W → Seated) (answers : W → List (ℕ × Answer)) where
+module _ {W R : Type 0} (claims : TableId) (pieces : List Piece) (left : List ℕ) (shows : R → Option (List Volume)) (fails : R → ℕ) (out : R → Bool) (reader : W → R) (seat : W → Seated) (answers : W → List (ℕ × Answer)) where
   -- a worker before and after its run
-  abbrev pub Served : W → W → Type 0
-  Served = Ran claims pieces (λ (w : W). shows (drive w)) (λ (w : W). fails (drive w)) seat answers
+  abbrev pub Did : W → W → Type 0
+  Did = Ran claims pieces left (λ (w : W). shows (reader w)) (λ (w : W). fails (reader w)) (λ (w : W). out (reader w)) seat answers
 
-  pub numbers_below : (n : ℕ) (ws vs : List W) → n ≡ length pieces → AllZip Served ws vs → AllByRecursion (λ (v : W). AllBelow n (answers v)) vs
+  -- a reader before and after
+  abbrev pub Goes : R → R → Type 0
+  Goes r s = HasServed (shows r) (shows s) (fails r) (fails s) (out r) (out s)
+
+  pub numbers_below : (n : ℕ) (ws vs : List W) → n ≡ length pieces → AllZip Did ws vs → AllByRecursion (λ (v : W). AllBelow n (answers v)) vs
   numbers_below n ws vs len z =
-      all_second Served (λ (v : W). AllBelow n (answers v)) (λ w v r. subst (λ k. AllBelow k (answers v)) (sym len)
-      (all_below (λ volumes. StandsTold pieces volumes (shows (drive w)) (shows (drive v))) (fails (drive w) < fails (drive v)) pieces (answers v) r.each)) ws vs z
+      all_second Did (λ (v : W). AllBelow n (answers v)) (λ w v r. subst (λ k. AllBelow k (answers v)) (sym len)
+      (all_below (λ volumes. StandsTold pieces volumes (shows (reader w)) (shows (reader v))) pieces (answers v) r.each)) ws vs z
 
-  pub places_kept : (ws vs : List W) (before after : List D) → AllZip Served ws vs → reverse (map drive ws) ≡ before → after ≡ reverse (map drive vs) → AllZip (Kept shows fails) before after
+  pub places_kept : (ws vs : List W) (before after : List R) → AllZip Did ws vs → reverse (map reader ws) ≡ before → after ≡ reverse (map reader vs) → AllZip Goes before after
   places_kept ws vs before after z p q =
-      subst (λ l. AllZip (Kept shows fails) l after) p
-      (subst (λ l. AllZip (Kept shows fails) (reverse (map drive ws)) l) (sym q)
-      (zip_reverse (Kept shows fails) (map drive ws) (map drive vs)
-      (zip_map (Kept shows fails) drive ws vs (zip_so Served (λ (w v : W). Kept shows fails (drive w) (drive v)) (λ w v r. (r.grows, r.counted)) ws vs z))))
+      subst (λ l. AllZip Goes l after) p
+      (subst (λ l. AllZip Goes (reverse (map reader ws)) l) (sym q)
+      (zip_reverse Goes (map reader ws) (map reader vs)
+      (zip_map Goes reader ws vs (zip_so Did (λ (w v : W). Goes (reader w) (reader v)) (λ w v r. r.served) ws vs z))))
 
-  pub seats_many : (ws vs : List W) (before : List D) (seats : List Seated) → AllZip Served ws vs → reverse (map drive ws) ≡ before → seats ≡ reverse (map seat vs) → length seats ≡ length before
+  pub seats_many : (ws vs : List W) (before : List R) (seats : List Seated) → AllZip Did ws vs → reverse (map reader ws) ≡ before → seats ≡ reverse (map seat vs) → length seats ≡ length before
   seats_many ws vs before seats z p q =
       let a : length seats ≡ length vs = ap length q ∙ length-reverse (map seat vs) ∙ length-map vs seat in
-      let b : length before ≡ length ws = sym (ap length p) ∙ length-reverse (map drive ws) ∙ length-map ws drive in
-      a ∙ zip_length Served ws vs z ∙ sym b
+      let b : length before ≡ length ws = sym (ap length p) ∙ length-reverse (map reader ws) ∙ length-map ws reader in
+      a ∙ zip_length Did ws vs z ∙ sym b
 
-  pub have_served : (ws vs : List W) (before after : List D) (seats : List Seated) → AllZip Served ws vs → 0 < length ws → reverse (map drive ws) ≡ before → after ≡ reverse (map drive vs)
+  pub have_served : (ws vs : List W) (before after : List R) (seats : List Seated) → AllZip Did ws vs → reverse (map reader ws) ≡ before → after ≡ reverse (map reader vs)
       → seats ≡ reverse (map seat vs)
-      → HaveWorked claims pieces (map shows before) (map shows after) (map fails before) (map fails after) seats (flat_map answers (reverse vs))
-  have_served ws vs before after seats z some p q r =
-      rw (← shown drive shows ws before (sym p), ← shown drive shows vs after q, ← shown drive fails ws before (sym p), ← shown drive fails vs after q, r, ← map_reverse seat vs)
-      (have_worked claims pieces (λ (w : W). shows (drive w)) (λ (w : W). fails (drive w)) seat answers (reverse ws) (reverse vs) (zip_reverse Served ws vs z)
-      (subst (λ n. 0 < n) (sym (length-reverse ws)) some))
+      → HaveWorked claims pieces left (map shows before) (map shows after) (map out before) (map out after) seats (flat_map answers (reverse vs))
+  have_served ws vs before after seats z p q r =
+      rw (← shown reader shows ws before (sym p), ← shown reader shows vs after q, ← shown reader out ws before (sym p), ← shown reader out vs after q, r, ← map_reverse seat vs)
+      (have_worked claims pieces left (λ (w : W). shows (reader w)) (λ (w : W). fails (reader w)) (λ (w : W). out (reader w)) seat answers (reverse ws) (reverse vs) (zip_reverse Did ws vs z))

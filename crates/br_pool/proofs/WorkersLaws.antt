@@ -1,5 +1,5 @@
 -- What the workers answered, each with its drive, as what all drives answered.
-use Rattle.std.proofs.Common.{◌≡◌, ℕ, ◌+◌, ◌<◌, ◌⊎◌, inl, inr, Bool, true, false, cond, List, [], ◌∷◌, ◌++◌, map, reverse, flat_map, length, Option, refl, ap, ◌∙◌, arith, eqb}
+use Rattle.std.proofs.Common.{◌≡◌, ℕ, zero, suc, ◌+◌, ◌<◌, ◌⊎◌, inl, inr, Bool, true, false, cond, List, [], ◌∷◌, ◌++◌, map, flat_map, length, Option, refl, ap, sym, subst, ◌∙◌, arith, eqb, eqb-true, eq-eqb}
 use Rattle.std.specs.Prelude.{◌||◌}
 use Rattle.std.specs.List.{AllByRecursion, AllZip}
 use Rattle.atomic_table.specs.Seated.{TableId}
@@ -7,15 +7,10 @@ use Rattle.br_model.specs.Volume.{Volume}
 use Rattle.br_model.specs.Meaning.{Piece}
 use Rattle.br_claim.specs.Claims.{Seated, AllOf, some_ended, times_in}
 use Rattle.br_claim.specs.Rule.{times}
-use Rattle.br_pool.specs.Pool.{StandsTold, HasRisen}
-use Rattle.br_pool.specs.Workers.{Answer, is_failure, AllAnswer, any_failure, HasWorked, HaveWorked}
-use Rattle.br_pool.proofs.ListLaws.{map_more, reverse_cons}
+use Rattle.br_pool.specs.Pool.{StandsTold}
+use Rattle.br_pool.specs.Workers.{Answer, AllAnswer, AreAllAnswered, HasWorked, HaveWorked, count_in, number_at, numbers_of}
 use Rattle.br_pool.proofs.AnswerLaws.{all_weaker}
-use Rattle.br_pool.proofs.FilledLaws.{numbers_of}
-
-pub map_reverse : {A B : Type 0} (f : A → B) (xs : List A) → map f (reverse xs) ≡ reverse (map f xs)
-map_reverse f [] = refl
-map_reverse f (x ∷ xs) = rw (reverse_cons x xs, reverse_cons (f x) (map f xs), map_more f (reverse xs) x) (ap (λ l. l ++ f x ∷ []) (map_reverse f xs))
+use Rattle.br_pool.proofs.FlagLaws.{Stay, Same, fewer_or_same}
 
 all_append : {A : Type 0} (P : A → Type 0) (xs ys : List A) → AllByRecursion P xs → AllByRecursion P ys → AllByRecursion P (xs ++ ys)
 all_append P [] ys p q = q
@@ -25,6 +20,15 @@ times_append : (x : ℕ) (xs ys : List ℕ) → times x (xs ++ ys) ≡ times x x
 times_append x [] ys = let e : times x ys ≡ 0 + times x ys = omega arith in e
 times_append x (y ∷ xs) ys =
     let more = times_append x xs ys in let e : cond (eqb y x) 1 0 + times x (xs ++ ys) ≡ (cond (eqb y x) 1 0 + times x xs) + times x ys = omega (arith, more) in e
+
+-- what is in a list is in the list of its images
+times_map : (f : ℕ → ℕ) (x : ℕ) (xs : List ℕ) → 0 < times x xs → 0 < times (f x) (map f xs)
+times_map f x [] some = absurd (omega (arith, some))
+times_map f x (y ∷ xs) some = parted (λ more. times_map f x xs more) (eqb y x) refl some
+  where
+    parted : (0 < times x xs → 0 < times (f x) (map f xs)) → (b : Bool) → eqb y x ≡ b → 0 < cond b 1 0 + times x xs → 0 < cond (eqb (f y) (f x)) 1 0 + times (f x) (map f xs)
+    parted behind true e more = let is : eqb (f y) (f x) ≡ true = eq-eqb (f y) (f x) (ap f (eqb-true y x e)) in subst (λ b. 0 < cond b 1 0 + times (f x) (map f xs)) (sym is) (omega arith)
+    parted behind false e more = let later = behind (omega (arith, more)) in omega (arith, later)
 
 numbers_append : (xs ys : List (ℕ × Answer)) → numbers_of (xs ++ ys) ≡ numbers_of xs ++ numbers_of ys
 numbers_append [] ys = refl
@@ -38,41 +42,21 @@ or_right : (a b : Bool) → b ≡ true → (a || b) ≡ true
 or_right true b e = refl
 or_right false b e = e
 
-any_append : (xs ys : List (ℕ × Answer)) → any_failure xs ≡ true → any_failure (xs ++ ys) ≡ true
-any_append [] ys e = absurd cc
-any_append (x ∷ xs) ys e = parted (λ h. any_append xs ys h) (is_failure x.1) e
-  where
-    parted : (any_failure xs ≡ true → any_failure (xs ++ ys) ≡ true) → (b : Bool) → (b || any_failure xs) ≡ true → (b || any_failure (xs ++ ys)) ≡ true
-    parted behind true h = refl
-    parted behind false h = behind h
-
-module _ {W : Type 0} (claims : TableId) (pieces : List Piece) (shows : W → Option (List Volume)) (fails : W → ℕ) (seat : W → Seated) (answers : W → List (ℕ × Answer)) where
+module _ {W : Type 0} (claims : TableId) (pieces : List Piece) (left : List ℕ) (shows : W → Option (List Volume)) (fails : W → ℕ) (out : W → Bool) (seat : W → Seated) (answers : W → List (ℕ × Answer)) where
   -- a worker before and after its run
   abbrev pub Ran : W → W → Type 0
-  Ran w v = HasWorked claims pieces (shows w) (shows v) (fails w) (fails v) (seat v) (answers v)
+  Ran w v = HasWorked claims pieces left (shows w) (shows v) (fails w) (fails v) (out w) (out v) (seat v) (answers v)
 
-  each_of : (ws vs : List W) → AllZip Ran ws vs
-      → AllAnswer (λ volumes. AllZip (StandsTold pieces volumes) (map shows ws) (map shows vs)) (HasRisen (map fails ws) (map fails vs)) pieces (flat_map answers vs)
+  each_of : (ws vs : List W) → AllZip Ran ws vs → AllAnswer (λ volumes. AllZip (StandsTold pieces volumes) (map shows ws) (map shows vs)) pieces (flat_map answers vs)
   each_of [] [] z = tt
   each_of [] (v ∷ vs) z = absurd z
   each_of (w ∷ ws) [] z = absurd z
   each_of (w ∷ ws) (v ∷ vs) z =
       all_append _ (answers v) (flat_map answers vs)
       (all_weaker (λ volumes. StandsTold pieces volumes (shows w) (shows v)) (λ volumes. AllZip (StandsTold pieces volumes) (map shows (w ∷ ws)) (map shows (v ∷ vs)))
-      (fails w < fails v) (HasRisen (map fails (w ∷ ws)) (map fails (v ∷ vs))) (λ volumes told. told.0) (λ risen. inl risen) pieces (answers v) z.0.each)
+      (λ volumes told. told.0) pieces (answers v) z.0.each)
       (all_weaker (λ volumes. AllZip (StandsTold pieces volumes) (map shows ws) (map shows vs)) (λ volumes. AllZip (StandsTold pieces volumes) (map shows (w ∷ ws)) (map shows (v ∷ vs)))
-      (HasRisen (map fails ws) (map fails vs)) (HasRisen (map fails (w ∷ ws)) (map fails (v ∷ vs))) (λ volumes told. told.1) (λ risen. inr risen) pieces (flat_map answers vs) (each_of ws vs z.1))
-
-  drawn_of : (ws vs : List W) → AllZip Ran ws vs → (x : ℕ) → times x (numbers_of (flat_map answers vs)) ≡ times_in x (map (λ (s : Seated). s.drawn) (map seat vs))
-  drawn_of [] [] z x = refl
-  drawn_of [] (v ∷ vs) z x = absurd z
-  drawn_of (w ∷ ws) [] z x = absurd z
-  drawn_of (w ∷ ws) (v ∷ vs) z x =
-      let here : times x (numbers_of (answers v)) ≡ times x (seat v).drawn = ap (times x) z.0.drawn in
-      let more = drawn_of ws vs z.1 x in
-      let both : times x (numbers_of (answers v ++ flat_map answers vs)) ≡ times x (numbers_of (answers v)) + times x (numbers_of (flat_map answers vs)) =
-      ap (times x) (numbers_append (answers v) (flat_map answers vs)) ∙ times_append x (numbers_of (answers v)) (numbers_of (flat_map answers vs)) in
-      omega (arith, here, more, both)
+      (λ volumes told. told.1) pieces (flat_map answers vs) (each_of ws vs z.1))
 
   claims_of : (ws vs : List W) → AllZip Ran ws vs → AllOf claims (map seat vs)
   claims_of [] [] z = tt
@@ -80,27 +64,53 @@ module _ {W : Type 0} (claims : TableId) (pieces : List Piece) (shows : W → Op
   claims_of (w ∷ ws) [] z = absurd z
   claims_of (w ∷ ws) (v ∷ vs) z = (z.0.claims_are, claims_of ws vs z.1)
 
-  ended_of : (ws vs : List W) → AllZip Ran ws vs → 0 < length ws → (some_ended (map seat vs) ≡ true) ⊎ (any_failure (flat_map answers vs) ≡ true)
-  ended_of [] vs z some = absurd (omega (arith, some))
-  ended_of (w ∷ ws) [] z some = absurd z
-  ended_of (w ∷ ws) (v ∷ vs) z some = parted z.0.ended
-    where
-      parted : ((seat v).ended ≡ true) ⊎ (any_failure (answers v) ≡ true) → (some_ended (map seat (v ∷ vs)) ≡ true) ⊎ (any_failure (flat_map answers (v ∷ vs)) ≡ true)
-      parted (inl e) = inl (or_left (seat v).ended (some_ended (map seat vs)) e)
-      parted (inr e) = inr (any_append (answers v) (flat_map answers vs) e)
+  stay_of : (ws vs : List W) → AllZip Ran ws vs → Stay (map out ws) (map out vs)
+  stay_of [] [] z = tt
+  stay_of [] (v ∷ vs) z = absurd z
+  stay_of (w ∷ ws) [] z = absurd z
+  stay_of (w ∷ ws) (v ∷ vs) z = (z.0.served.stays, stay_of ws vs z.1)
 
-  pub have_worked : (ws vs : List W) → AllZip Ran ws vs → 0 < length ws
-      → HaveWorked claims pieces (map shows ws) (map shows vs) (map fails ws) (map fails vs) (map seat vs) (flat_map answers vs)
-  have_worked ws vs z some = record {
+  -- one that is not out drew until none was left
+  ended_of : (ws vs : List W) → AllZip Ran ws vs → Same (map out ws) (map out vs) → 0 < count_in (map out ws) → some_ended (map seat vs) ≡ true
+  ended_of [] vs z same some = absurd (omega (arith, some))
+  ended_of (w ∷ ws) [] z same some = absurd z
+  ended_of (w ∷ ws) (v ∷ vs) z same some = parted (λ more. ended_of ws vs z.1 same.1 more) (out w) refl some
+    where
+      parted : (0 < count_in (map out ws) → some_ended (map seat vs) ≡ true) → (b : Bool) → out w ≡ b → 0 < count_in (b ∷ map out ws) → some_ended (map seat (v ∷ vs)) ≡ true
+      parted behind true e more = or_right (seat v).ended (some_ended (map seat vs)) (behind more)
+      parted behind false e more = or_left (seat v).ended (some_ended (map seat vs)) (z.0.ended (same.0 ∙ e))
+
+  -- if none went out, what was drawn was answered
+  answered_of : (ws vs : List W) → AllZip Ran ws vs → Same (map out ws) (map out vs) → (x : ℕ) → 0 < times_in x (map (λ (s : Seated). s.drawn) (map seat vs))
+      → 0 < times (number_at left x) (numbers_of (flat_map answers vs))
+  answered_of [] [] z same x some = absurd (omega (arith, some))
+  answered_of [] (v ∷ vs) z same x some = absurd z
+  answered_of (w ∷ ws) [] z same x some = absurd z
+  answered_of (w ∷ ws) (v ∷ vs) z same x some = parted (λ more. answered_of ws vs z.1 same.1 x more) (times x (seat v).drawn) refl some
+    where
+      y : ℕ
+      y = number_at left x
+
+      both : times y (numbers_of (answers v ++ flat_map answers vs)) ≡ times y (numbers_of (answers v)) + times y (numbers_of (flat_map answers vs))
+      both = ap (times y) (numbers_append (answers v) (flat_map answers vs)) ∙ times_append y (numbers_of (answers v)) (numbers_of (flat_map answers vs))
+
+      parted : (0 < times_in x (map (λ (s : Seated). s.drawn) (map seat vs)) → 0 < times y (numbers_of (flat_map answers vs))) → (n : ℕ) → times x (seat v).drawn ≡ n
+          → 0 < n + times_in x (map (λ (s : Seated). s.drawn) (map seat vs)) → 0 < times y (numbers_of (answers v ++ flat_map answers vs))
+      parted behind zero e more = let later = behind (omega (arith, more)) in let q = both in omega (arith, later, q)
+      parted behind (suc n) e more =
+          let here = times_map (number_at left) x (seat v).drawn (omega (arith, e)) in
+          let same_here : times y (numbers_of (answers v)) ≡ times y (map (number_at left) (seat v).drawn) = ap (times y) (z.0.answered same.0) in
+          let q = both in
+          omega (arith, here, same_here, q)
+
+  pub have_worked : (ws vs : List W) → AllZip Ran ws vs → HaveWorked claims pieces left (map shows ws) (map shows vs) (map out ws) (map out vs) (map seat vs) (flat_map answers vs)
+  have_worked ws vs z = record {
     claims_are = claims_of ws vs z;
     each = each_of ws vs z;
-    drawn = drawn_of ws vs z;
-    ended = ended_of ws vs z some;
+    progress = λ some. step some (fewer_or_same (map out ws) (map out vs) (stay_of ws vs z));
   }
-
--- of each
-pub zip_map : {A B : Type 0} (R : B → B → Type 0) (f : A → B) (xs ys : List A) → AllZip (λ x y. R (f x) (f y)) xs ys → AllZip R (map f xs) (map f ys)
-zip_map R f [] [] z = tt
-zip_map R f [] (y ∷ ys) z = absurd z
-zip_map R f (x ∷ xs) [] z = absurd z
-zip_map R f (x ∷ xs) (y ∷ ys) z = (z.0, zip_map R f xs ys z.1)
+    where
+      step : 0 < count_in (map out ws) → (count_in (map out vs) < count_in (map out ws)) ⊎ Same (map out ws) (map out vs)
+          → (count_in (map out vs) < count_in (map out ws)) ⊎ AreAllAnswered left (map seat vs) (flat_map answers vs)
+      step some (inl fewer) = inl fewer
+      step some (inr same) = inr (ended_of ws vs z same some, answered_of ws vs z same)

@@ -3,3 +3,4 @@ pub mod Pool
 pub mod Workers
 pub mod Slots
 pub mod Reading
+pub mod Rounds

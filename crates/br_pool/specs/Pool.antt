@@ -1,5 +1,5 @@
 -- What many drives find of some pieces, whatever their volumes do meanwhile.
-use Rattle.std.specs.Prelude.{◌≡◌, ℕ, ◌<◌, ◌≤◌, ◌⊎◌, List, [], ◌∷◌, map, length, Vec, Option, Some, None, Result, Ok, IfErr}
+use Rattle.std.specs.Prelude.{◌≡◌, ℕ, ◌<◌, ◌≤◌, List, [], ◌∷◌, map, length, Vec, Option, Some, None, Result, Ok, IfErr}
 use Rattle.std.specs.Global.{Global}
 use Rattle.std.specs.List.{AllZip, range_with_len}
 use Rattle.br_model.specs.Answer.{◌>>=◌, Answers}
@@ -48,18 +48,13 @@ abbrev pub found_hits : Vec Found Global → List (List Hit)
 found_hits founds = map (λ (f : Found). f.hits.items) founds.items
 
 -- Over all volumes that each of the drives may be taken to show, the result is the hits of each
--- piece, or the fault of the first piece that has one. A drive may fail, and memory may run out, at
--- any time.
+-- piece, or the fault of the first piece that has one. Each drive may fail, and memory may run out,
+-- at any time.
 abbrev pub PoolOver : List (Option (List Volume)) → List (Option (List Volume)) → List Piece → Result (Vec Found Global) PoolFault → Type 0
 PoolOver before after pieces result =
     (volumes : List Volume) → AllZip (StandsTold pieces volumes) before after → Answers found_hits cause result (hits_lists volumes pieces)
 
--- the count at one of the places has risen
-abbrev pub HasRisen : List ℕ → List ℕ → Type 0
-HasRisen [] later = ⊥
-HasRisen (n ∷ ns) [] = ⊥
-HasRisen (n ∷ ns) (m ∷ ms) = (n < m) ⊎ HasRisen ns ms
-
--- A result that is refused with a drive's failure shows that a drive failed meanwhile.
-abbrev pub FailsByDrive : {D A E : Type 0} → (D → ℕ) → List D → List D → (E → Type 0) → Result A E → Type 0
-FailsByDrive failures before after is_failure result = IfErr result (λ fault. is_failure fault → HasRisen (map failures before) (map failures after))
+-- A refusal of this kind comes only if each of the drives failed meanwhile.
+abbrev pub OnlyIfAllFail : {D A E : Type 0} → (D → ℕ) → List D → List D → (E → Type 0) → Result A E → Type 0
+OnlyIfAllFail failures before after is_refusal result =
+    IfErr result (λ fault. is_refusal fault → AllZip (λ old new. failures old < failures new) before after)

@@ -1,12 +1,17 @@
 -- Answers in the slots of their pieces.
-use Rattle.std.specs.Prelude.{◌≡◌, ℕ, ◌<◌, List, [], ◌∷◌, ◌++◌, map, slice_set, Vec, Option, Some, None, Result, Ok, Err, ⊤}
+use Rattle.std.specs.Prelude.{◌≡◌, ℕ, suc, ◌<◌, cond, if◌then◌else◌, Bool, true, false, List, [], ◌∷◌, ◌++◌, map, slice_set, Vec, Option, Some, None, Result, Ok, Err, ⊤}
 use Rattle.std.specs.Global.{Global}
-use Rattle.std.specs.List.{AllByRecursion}
+use Rattle.std.specs.List.{AllByRecursion, list_any}
+use Rattle.br_model.specs.Volume.{Volume}
+use Rattle.br_model.specs.Meaning.{Piece}
 use Rattle.br_match.specs.declared.hit.Found.{Found}
 use Rattle.br_match.specs.declared.fault.PieceFault.{PieceFault}
-use Rattle.br_pool.specs.Workers.{Answer}
+use Rattle.br_match.specs.declared.fault.PieceFault.TheVariants as piece
+use Rattle.br_pool.specs.Workers.{Answer, AllAnswer, IsAnswer, count_in}
 use Rattle.br_pool.specs.declared.fault.PoolFault.{PoolFault}
-use Rattle.br_pool.specs.declared.fault.PoolFault.TheVariants.{Memory, Piece}
+use Rattle.br_pool.specs.declared.fault.PoolFault.TheVariants.{Memory, Piece as OfPiece, NoDriveLeft}
+
+-- ---- slots that are filled
 
 -- the slots, with each answer in the slot of its number
 abbrev pub with_each : List (Option Answer) → List (ℕ × Answer) → List (Option Answer)
@@ -17,12 +22,40 @@ with_each slots (a ∷ answers) = with_each (slice_set slots a.0 (Some a.1)) ans
 abbrev pub AllBelow : ℕ → List (ℕ × Answer) → Type 0
 AllBelow n answers = AllByRecursion (λ (a : ℕ × Answer). a.0 < n) answers
 
--- no slot before the first refusal is empty
-abbrev pub HasNoGap : List (Option Answer) → Type 0
-HasNoGap [] = ⊤
-HasNoGap (None ∷ slots) = ⊥
-HasNoGap (Some (Ok found) ∷ slots) = HasNoGap slots
-HasNoGap (Some (Err why) ∷ slots) = ⊤
+-- a slot that is filled has the answer for its piece
+abbrev pub Fills : (List Volume → Type 0) → Piece → Option Answer → Type 0
+Fills over p None = ⊤
+Fills over p (Some a) = IsAnswer over p a
+
+-- answers were put into their slots
+abbrev pub Adds : (List Volume → Type 0) → List Piece → List (Option Answer) → List (Option Answer) → Type 0
+Adds over pieces before after = (answers : List (ℕ × Answer)) × (after ≡ with_each before answers) × AllAnswer over pieces answers
+
+-- ---- slots that are empty
+
+-- the piece has no answer yet
+abbrev pub is_empty : Option Answer → Bool
+is_empty None = true
+is_empty (Some a) = false
+
+-- the places of the empty slots, counted from k
+abbrev pub empties : ℕ → List (Option Answer) → List ℕ
+empties k [] = []
+empties k (s ∷ slots) = (if is_empty s then k ∷ [] else []) ++ empties (suc k) slots
+
+-- The most rounds that can follow: none if no slot is empty. Each round takes a drive out or leaves no
+-- slot empty.
+abbrev pub rounds_left : List Bool → List (Option Answer) → ℕ
+rounds_left flags slots = cond (list_any is_empty slots) (suc (count_in flags)) 0
+
+-- ---- the result
+
+-- memory ran out over the piece
+abbrev pub is_memory : Option Answer → Bool
+is_memory None = false
+is_memory (Some (Ok found)) = false
+is_memory (Some (Err piece.Memory)) = true
+is_memory (Some (Err (piece.Block why vol addr))) = false
 
 -- slots of what was found
 abbrev pub full_of : List Found → List (Option Answer)
@@ -34,9 +67,10 @@ pub record IsFirstFault (slots : List (Option Answer)) (why : PieceFault) : Type
   pub rest : List (Option Answer)
   pub parted : slots ≡ full_of front ++ Some (Err why) ∷ rest
 
--- the result is what all slots have, in their order, or the first refusal; memory may run out at
--- any time
+-- The result is what all slots have, in their order; or memory ran out, here or over a piece; or
+-- else a slot is empty; or else it is the first refusal.
 abbrev pub IsListed : List (Option Answer) → Result (Vec Found Global) PoolFault → Type 0
 IsListed slots (Ok founds) = slots ≡ full_of founds.items
 IsListed slots (Err Memory) = ⊤
-IsListed slots (Err (Piece why)) = IsFirstFault slots why
+IsListed slots (Err NoDriveLeft) = (list_any is_memory slots ≡ false) × (list_any is_empty slots ≡ true)
+IsListed slots (Err (OfPiece why)) = (list_any is_memory slots ≡ false) × IsFirstFault slots why

@@ -13,39 +13,44 @@ use thiserror::Error;
 pub enum PoolFault {
     #[error("out of memory")]
     Memory,
-    /// The fault of the first piece that has one.
+    /// The fault of the first piece that has one: what its volume refuses. It is neither `Memory`
+    /// nor the failure of a drive.
     #[error("{0}")]
     Piece(PieceFault),
+    /// Each drive failed, and some pieces were not read.
+    #[error("each drive failed, and some volumes were not read")]
+    NoDriveLeft,
 }
 
 impl PoolFault {
-    /// Returns the number of the refusal: 1 or 10 to 14.
+    /// Returns the number of the refusal: 1, 10 to 12, 14 or 70.
     pub fn number(&self) -> u32
         ensures { result ≡ fault_number self.now }
     {
         match self {
             PoolFault::Memory => 1,
             PoolFault::Piece(fault) => fault.number(),
+            PoolFault::NoDriveLeft => 70,
         }
     }
 
-    /// Returns the volume of the block; none if memory ran out.
+    /// Returns the volume of the block that was refused, if one was.
     pub fn vol(&self) -> Option<&VolName>
         ensures { option_copied result ≡ fault_volume self.now }
     {
         match self {
-            PoolFault::Memory => None,
+            PoolFault::Memory | PoolFault::NoDriveLeft => None,
             PoolFault::Piece(fault) => fault.vol(),
         }
     }
 
-    /// Returns the address of the block, in bytes from the start of the volume; none if memory ran
-    /// out.
+    /// Returns the address of the block that was refused, in bytes from the start of the volume, if
+    /// one was.
     pub fn addr(&self) -> Option<u64>
         ensures { result ≡ fault_address self.now }
     {
         match self {
-            PoolFault::Memory => None,
+            PoolFault::Memory | PoolFault::NoDriveLeft => None,
             PoolFault::Piece(fault) => fault.addr(),
         }
     }

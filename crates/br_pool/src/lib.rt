@@ -2,12 +2,14 @@
 //! own.
 //!
 //! `run_pool` returns what one drive would find of each piece, whichever worker reads it. The
-//! volumes of the drives may grow meanwhile.
+//! volumes of the drives may grow meanwhile, and drives may fail as long as one is left.
 #![tactic(auto)]
 
 mod fault;
 mod gate;
 mod pool;
+mod readers;
+mod rounds;
 mod slots;
 #[cfg(test)]
 mod tests;

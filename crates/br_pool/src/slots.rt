@@ -1,6 +1,6 @@
-ghost use Rattle.std.specs.Prelude.{◌≡◌, ◌<◌, None, length, IfOk};
-ghost use Rattle.std.specs.List.{AllByRecursion};
-ghost use Rattle.br_pool.specs.Slots.{AllBelow, HasNoGap, IsListed, with_each};
+ghost use Rattle.std.specs.Prelude.{◌≡◌, ◌<◌, ◌++◌, ◌∷◌, [], if◌then◌else◌, None, length, IfOk, OnOk};
+ghost use Rattle.std.specs.List.{AllByRecursion, list_any};
+ghost use Rattle.br_pool.specs.Slots.{AllBelow, IsListed, empties, is_empty, is_memory, with_each};
 
 use crate::fault::PoolFault;
 use crate::worker::Answer;
@@ -29,24 +29,78 @@ pub(crate) fn fill(slots: &mut [Option<Answer>], answers: Vec<(u32, Answer)>)
     }
 }
 
+/// Returns whether the slot has no answer.
+fn is_empty(slot: &Option<Answer>) -> bool
+    ensures { result ≡ is_empty slot.now }
+{
+    match slot {
+        Some(_) => false,
+        None => true,
+    }
+}
+
+/// Returns whether a slot has no answer.
+pub(crate) fn has_empty(slots: &[Option<Answer>]) -> bool
+    ensures { result ≡ list_any is_empty slots.now }
+{
+    slots.iter().any(is_empty)
+}
+
+/// Appends a number if it is wanted.
+fn note_if(left: &mut Vec<u32>, number: u32, wanted: bool) -> Result<(), AllocError>
+    ensures { OnOk result (left.new.items ≡ left.old.items ++ (if wanted then number ∷ [] else [])) }
+{
+    if wanted {
+        left.push(number)?;
+    }
+    Ok(())
+}
+
+/// Returns the numbers of the empty slots, in order.
+pub(crate) fn left_of(alloc: Global, slots: &[Option<Answer>]) -> Result<Vec<u32>, AllocError>
+    ensures { IfOk result (λ left. left.items ≡ empties 0 slots.now) }
+{
+    let Ok(count) = u32::try_from(slots.len()) else {
+        return Err(AllocError);
+    };
+    let mut left = Vec::new(alloc);
+    for number in 0..count {
+        let wanted = is_empty(&slots[number as usize]);
+        note_if(&mut left, number, wanted)?;
+    }
+    Ok(left)
+}
+
 /// Returns whether memory ran out.
-fn is_memory(slot: &Option<Answer>) -> bool {
+fn is_memory(slot: &Option<Answer>) -> bool
+    ensures { result ≡ is_memory slot.now }
+{
     match slot {
         Some(Err(PieceFault::Memory)) => true,
         _ => false,
     }
 }
 
-/// Returns what was found, in order, or the first refusal. Out of memory comes before all others.
+/// Returns whether memory ran out over a piece.
+fn has_memory(slots: &[Option<Answer>]) -> bool
+    ensures { result ≡ list_any is_memory slots.now }
+{
+    slots.iter().any(is_memory)
+}
+
+/// Returns what was found, in order. Else memory ran out, or else no drive is left if a slot is
+/// empty, or else it is the first refusal.
 pub(crate) fn found_in_order(
     alloc: Global,
     slots: Vec<Option<Answer>>,
 ) -> Result<Vec<Found>, PoolFault>
-    requires { HasNoGap slots.items }
     ensures { IsListed slots.items result }
 {
-    if slots.iter().any(is_memory) {
+    if has_memory(&slots) {
         return Err(PoolFault::Memory);
+    }
+    if has_empty(&slots) {
+        return Err(PoolFault::NoDriveLeft);
     }
     let mut founds = Vec::with_capacity(alloc, slots.len())?;
     for slot in slots {

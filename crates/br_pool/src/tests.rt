@@ -61,6 +61,40 @@ fn drives(alloc: Global, count: usize) -> Result<Vec<MemDrive>, Fail>
     Ok(drives)
 }
 
+/// Returns a drive over the volumes that fails from this call on, counted from 1, if it is to fail.
+fn drive(alloc: Global, from: Option<u64>) -> Result<MemDrive, Fail> {
+    let volumes = volumes(alloc)?;
+    match from {
+        None => Ok(MemDrive::new(volumes)),
+        Some(k) => Ok(MemDrive::failing_from(volumes, k)),
+    }
+}
+
+/// Returns a drive over the volumes for each of these calls from which it fails.
+fn failing(alloc: Global, froms: &[Option<u64>]) -> Result<Vec<MemDrive>, Fail>
+    ensures { IfOk result (λ drives. length drives.items ≡ length froms.now) }
+{
+    let mut drives = Vec::new(alloc);
+    for from in froms {
+        drives.push(drive(alloc, *from)?)?;
+    }
+    Ok(drives)
+}
+
+/// Runs the pool over a bootstrap with drives that fail from these calls on.
+fn found_beside<R: Threads + Sync>(
+    rt: &R,
+    alloc: Global,
+    text: &[u8],
+    froms: &[Option<u64>],
+) -> Result<Result<Vec<Found>, PoolFault>, Fail>
+    requires { IsDriveCount (length froms.now) }
+{
+    let pieces = pieces_of_text(alloc, text)?;
+    let mut drives = failing(alloc, froms)?;
+    Ok(run_pool(rt, alloc, &pieces, &mut drives, &OpenGate))
+}
+
 /// Runs the pool over a bootstrap with `count` drives.
 fn found_by<R: Threads + Sync, G: Gate + Sync>(
     rt: &R,
@@ -130,6 +164,81 @@ fn a_missing_volume_beside_sound_ones(rt: HostRuntime) -> Result<(), Fail> {
     Ok(())
 }
 
+/// Returns the number of a refusal; 0 if there is none.
+fn number(answer: &Result<Vec<Found>, PoolFault>) -> u32 {
+    match answer {
+        Ok(_) => 0,
+        Err(fault) => fault.number(),
+    }
+}
+
+/// Returns whether drives that fail from these calls on find all of the three volumes.
+fn find_all<R: Threads + Sync>(rt: &R, alloc: Global, froms: &[Option<u64>]) -> Result<bool, Fail>
+    requires { IsDriveCount (length froms.now) }
+{
+    let answer = found_beside(rt, alloc, THREE, froms)?;
+    Ok(match &answer {
+        Ok(founds) => counts_of(founds) == Some(ALL),
+        Err(_) => false,
+    })
+}
+
+/// Returns the first call from which one of two drives fails and not all is found. One drive alone
+/// takes 15 calls for the three volumes.
+fn first_call_missed<R: Threads + Sync>(rt: &R, alloc: Global) -> Result<Option<u64>, Fail> {
+    for k in 1..18 {
+        if !find_all(rt, alloc, &[Some(k), None])? {
+            return Ok(Some(k));
+        }
+    }
+    Ok(None)
+}
+
+#[test]
+fn a_drive_that_fails_loses_nothing(rt: HostRuntime) -> Result<(), Fail> {
+    assert_eq!(rt; first_call_missed(&rt, rt.alloc())?, None);
+    assert!(rt; find_all(&rt, rt.alloc(), &[Some(1), Some(2), None, Some(5), Some(9)])?);
+    Ok(())
+}
+
+/// Returns the number of the refusal of drives that fail from these calls on; 0 if there is none.
+fn number_beside<R: Threads + Sync>(
+    rt: &R,
+    alloc: Global,
+    text: &[u8],
+    froms: &[Option<u64>],
+) -> Result<u32, Fail>
+    requires { IsDriveCount (length froms.now) }
+{
+    let answer = found_beside(rt, alloc, text, froms)?;
+    Ok(number(&answer))
+}
+
+#[test]
+fn no_drive_is_left(rt: HostRuntime) -> Result<(), Fail> {
+    assert_eq!(rt; number_beside(&rt, rt.alloc(), THREE, &[Some(1)])?, 70);
+    assert_eq!(rt;
+        number_beside(&rt, rt.alloc(), THREE, &[Some(1), Some(1)])?,
+        70
+    );
+    assert_eq!(rt;
+        number_beside(&rt, rt.alloc(), THREE, &[Some(3), Some(3), Some(3)])?,
+        70
+    );
+    Ok(())
+}
+
+#[test]
+fn a_refused_piece_beside_a_failing_drive(rt: HostRuntime) -> Result<(), Fail> {
+    assert_eq!(rt;
+        number_beside(&rt, rt.alloc(), MISSING, &[Some(1), None])?,
+        14
+    );
+    // The drive fails in B, so B is never read, though Q was refused before.
+    assert_eq!(rt; number_beside(&rt, rt.alloc(), MISSING, &[Some(6)])?, 70);
+    Ok(())
+}
+
 /// A gate that holds one piece until two others were read, and records whether they were.
 #[derive(Drop)]
 struct HoldsOne<'r, C: Clock> {
@@ -175,5 +284,63 @@ fn a_held_piece_holds_no_other(rt: HostRuntime) -> Result<(), Fail> {
     assert!(rt; goes_round(&rt, rt.alloc(), 0)?);
     assert!(rt; goes_round(&rt, rt.alloc(), 1)?);
     assert!(rt; goes_round(&rt, rt.alloc(), 2)?);
+    Ok(())
+}
+
+const TWO: &[u8] = b"Volume=A\nVolume=B\n";
+
+/// Sixteen pieces, of which the drives show three.
+const SIXTEEN: &[u8] =
+    b"Volume=A\nVolume=B\nVolume=C\nVolume=D\nVolume=E\nVolume=F\nVolume=G\nVolume=H\n\
+Volume=I\nVolume=J\nVolume=K\nVolume=L\nVolume=M\nVolume=N\nVolume=O\nVolume=P\n";
+
+/// A gate that holds each piece until `count` have entered, and counts those for which that came.
+#[derive(Drop)]
+struct HoldsAll<'r, C: Clock> {
+    clock: &'r C,
+    count: u64,
+    entered: AtomicU64,
+    met: AtomicU64,
+}
+
+impl<C: Clock> Gate for HoldsAll<'_, C> {
+    fn enter(&self, _number: u32) {
+        self.entered.fetch_add(1, Ordering::SeqCst);
+        for _look in 0..10_000 {
+            if self.entered.load(Ordering::SeqCst) == self.count {
+                self.met.fetch_add(1, Ordering::SeqCst);
+                return;
+            }
+            thread::sleep(self.clock, Duration::from_millis(1));
+        }
+    }
+
+    fn leave(&self, _number: u32) {}
+}
+
+/// Returns the number of pieces that `count` drives had in hand at once, each held until `count` had
+/// entered.
+fn met_by<R: Clock + Threads + Sync>(
+    rt: &R,
+    alloc: Global,
+    text: &[u8],
+    count: usize,
+) -> Result<u64, Fail>
+    requires { IsDriveCount count }
+{
+    let gate = HoldsAll {
+        clock: rt,
+        count: count as u64,
+        entered: AtomicU64::new(0),
+        met: AtomicU64::new(0),
+    };
+    let _answer = found_by(rt, alloc, text, count, &gate)?;
+    Ok(gate.met.load(Ordering::SeqCst))
+}
+
+#[test]
+fn all_drives_read_at_once(rt: HostRuntime) -> Result<(), Fail> {
+    assert_eq!(rt; met_by(&rt, rt.alloc(), TWO, 2)?, 2);
+    assert_eq!(rt; met_by(&rt, rt.alloc(), SIXTEEN, 16)?, 16);
     Ok(())
 }

@@ -1,7 +1,8 @@
-ghost use Rattle.std.specs.Prelude.{◌≡◌, ◌<◌, ◌≤◌, true, length, IfOk};
+ghost use Rattle.std.specs.Prelude.{◌≡◌, ◌<◌, ◌≤◌, true, false, length, IfOk};
+ghost use Rattle.std.specs.List.{AllByRecursion};
 ghost use Rattle.br_match.specs.Matching.{FoundOver};
 ghost use Rattle.br_volume.specs.Drive.{OnlyGrows};
-ghost use Rattle.br_pool.specs.Workers.{EachAt, EachPairAt, HasRun, IsSetUp, is_failure};
+ghost use Rattle.br_pool.specs.Workers.{EachAt, EachPairAt, HasRun, HasWorked, IsReady, IsSetUp, is_failure, number_at};
 
 use crate::gate::Gate;
 use br_claim::{ClaimSeat, Claims};
@@ -15,11 +16,28 @@ use std::thread::Threads;
 /// What a drive finds of a piece, or the reason why it gave the piece up.
 pub(crate) type Answer = Result<Found, PieceFault>;
 
-/// A drive, the seat by which it draws the numbers of pieces, and its answer for each number.
-pub(crate) struct Worker<D: Drive> {
+/// A drive, and whether it is out: whether it failed in this run of the pool.
+pub(crate) struct Reader<D: Drive> {
     pub(crate) drive: D,
+    pub(crate) out: bool,
+}
+
+/// A reader in a round, the seat by which it draws pieces, and its answer for each number.
+pub(crate) struct Worker<D: Drive> {
+    pub(crate) reader: Reader<D>,
     pub(crate) seat: ClaimSeat,
     pub(crate) answers: Vec<(u32, Answer)>,
+}
+
+/// What all workers of a round share.
+#[derive(Drop)]
+pub(crate) struct Round<'r, G: Gate> {
+    pub(crate) pieces: &'r [Piece],
+    /// The numbers of the pieces that are read in this round.
+    pub(crate) left: &'r [u32],
+    /// The places in `left`, which workers draw.
+    pub(crate) claims: &'r Claims,
+    pub(crate) gate: &'r G,
 }
 
 /// Returns whether the drive failed.
@@ -52,54 +70,77 @@ fn read_one<D: Drive, G: Gate>(
     answer
 }
 
-/// Draws numbers and reads the pieces with these numbers, until none is left or the drive fails.
-fn work<D: Drive, G: Gate>(
+/// Returns the number at a place.
+fn number_at(left: &[u32], place: u32) -> u32
+    requires { place < length left.now }
+    ensures { result ≡ number_at left.now place }
+{
+    left[place as usize]
+}
+
+/// Draws pieces and reads them, until none is left or the drive fails. Returns whether it failed.
+/// The piece at which it failed has no answer.
+fn read_drawn<D: Drive, G: Gate>(
     alloc: Global,
-    pieces: &[Piece],
-    claims: &Claims,
-    gate: &G,
-    worker: &mut Worker<D>,
-)
-    requires few { claims.now.limit ≡ length pieces.now }
-    requires ready { IsSetUp claims.now.claims claims.now.limit worker.old }
-    ensures { HasRun D.shows D.failures claims.now.claims pieces.now worker.old worker.new }
+    round: &Round<'_, G>,
+    drive: &mut D,
+    seat: &mut ClaimSeat,
+    answers: &mut Vec<(u32, Answer)>,
+) -> bool
+    requires few { round.now.claims.now.limit ≡ length round.now.left.now }
+    requires below { AllByRecursion (λ x. x < length round.now.pieces.now) round.now.left.now }
+    requires ready { IsReady round.now.claims.now.claims round.now.claims.now.limit seat.old answers.old }
+    ensures { HasWorked round.now.claims.now.claims round.now.pieces.now round.now.left.now (D.shows drive.old) (D.shows drive.new)
+        (D.failures drive.old) (D.failures drive.new) false result seat.new answers.new.items }
+{
+    while let Some(place) = round.claims.draw(seat) {
+        let number = number_at(round.left, place);
+        let piece = &round.pieces[number as usize];
+        let answer = read_one(alloc, piece, number, round.gate, drive);
+        let failed = is_failure(&answer);
+        if failed {
+            return true;
+        }
+        answers.push_reserved((number, answer));
+    }
+    false
+}
+
+/// Reads pieces, as `read_drawn`, unless the drive is out.
+fn work<D: Drive, G: Gate>(alloc: Global, round: &Round<'_, G>, worker: &mut Worker<D>)
+    requires few { round.now.claims.now.limit ≡ length round.now.left.now }
+    requires below { AllByRecursion (λ x. x < length round.now.pieces.now) round.now.left.now }
+    requires ready { IsSetUp round.now.claims.now.claims round.now.claims.now.limit worker.old }
+    ensures { HasRun D.shows D.failures round.now.claims.now.claims round.now.pieces.now round.now.left.now worker.old worker.new }
 {
     let Worker {
-        drive,
+        reader,
         seat,
         answers,
     } = worker;
-    while let Some(number) = claims.draw(seat) {
-        let answer = read_one(alloc, &pieces[number as usize], number, gate, drive);
-        let failed = is_failure(&answer);
-        answers.push_reserved((number, answer));
-        if failed {
-            return;
-        }
+    if reader.out {
+        return;
     }
+    let failed = read_drawn(alloc, round, &mut reader.drive, seat, answers);
+    reader.out = failed;
 }
 
 /// Runs each worker in a thread of its own.
 pub(crate) fn run_workers<D: Drive + Send, G: Gate + Sync, R: Threads + Sync>(
     rt: &R,
     alloc: Global,
-    pieces: &[Piece],
-    claims: &Claims,
-    gate: &G,
+    round: &Round<'_, G>,
     workers: &mut [Worker<D>],
 )
-    requires few { claims.now.limit ≡ length pieces.now }
-    requires ready { EachAt (IsSetUp claims.now.claims claims.now.limit) workers.old }
-    ensures { EachPairAt (HasRun D.shows D.failures claims.now.claims pieces.now) workers.old workers.new }
+    requires few { round.now.claims.now.limit ≡ length round.now.left.now }
+    requires below { AllByRecursion (λ x. x < length round.now.pieces.now) round.now.left.now }
+    requires ready { EachAt (IsSetUp round.now.claims.now.claims round.now.claims.now.limit) workers.old }
+    ensures { EachPairAt (HasRun D.shows D.failures round.now.claims.now.claims round.now.pieces.now round.now.left.now)
+        workers.old workers.new }
 {
     let count = workers.len();
     if count == 0 {
         return;
     }
-    thread::for_each_mut(
-        rt,
-        workers,
-        count,
-        &|_, worker| work(alloc, pieces, claims, gate, worker),
-    );
+    thread::for_each_mut(rt, workers, count, &|_, worker| work(alloc, round, worker));
 }

@@ -1,29 +1,18 @@
 ghost use Rattle.std.specs.Prelude.{◌≡◌, ◌<◌, ◌≤◌, ◌+◌, [], map, reverse, flat_map, length, vec_capacity, IfOk};
 ghost use Rattle.std.specs.List.{AllByRecursion, AllZip};
-ghost use Rattle.br_pool.specs.Pool.{StayInPlace};
 ghost use Rattle.br_pool.specs.Reading.{Reads};
 ghost use Rattle.br_pool.specs.Slots.{AllBelow, with_each};
-ghost use Rattle.br_pool.specs.Workers.{HasRun, IsReady, IsSetUp};
+ghost use Rattle.br_pool.specs.Workers.{HasRun, HaveServed, IsReady, IsSetUp};
 
 use crate::gate::Gate;
 use crate::slots::fill;
-use crate::worker::{Answer, Worker, run_workers};
+use crate::worker::{Answer, Reader, Round, Worker, run_workers};
 use br_claim::{ClaimSeat, Claims};
-use br_piece::Piece;
 use br_volume::Drive;
 use std::alloc::{AllocError, Global};
 use std::thread::Threads;
 
-/// The work that all workers share.
-#[derive(Drop)]
-pub(crate) struct Work<'w, G: Gate> {
-    pub(crate) pieces: &'w [Piece],
-    /// The numbers of the pieces, which workers draw.
-    pub(crate) claims: &'w Claims,
-    pub(crate) gate: &'w G,
-}
-
-/// What a worker has beside its drive.
+/// What a worker has beside its reader.
 #[derive(Drop)]
 pub(crate) struct Share {
     pub(crate) seat: ClaimSeat,
@@ -62,20 +51,24 @@ pub(crate) fn shares_for(
     Ok(shares)
 }
 
-/// Makes a worker of each drive and a share, the last drive first.
-fn into_workers<D: Drive>(drives: &mut Vec<D>, shares: Vec<Share>, workers: &mut Vec<Worker<D>>)
-    requires many { length drives.old.items ≡ length shares.items }
+/// Makes a worker of each reader and a share, the last reader first.
+fn into_workers<D: Drive>(
+    readers: &mut Vec<Reader<D>>,
+    shares: Vec<Share>,
+    workers: &mut Vec<Worker<D>>,
+)
+    requires many { length readers.old.items ≡ length shares.items }
     requires none { workers.old.items ≡ [] }
     requires room { length shares.items ≤ vec_capacity workers.old }
-    ensures none { drives.new.items ≡ [] }
-    ensures room { vec_capacity drives.new ≡ vec_capacity drives.old }
-    ensures drives { reverse (map (λ (w : Worker D). w.drive) workers.new.items) ≡ drives.old.items }
+    ensures none { readers.new.items ≡ [] }
+    ensures room { vec_capacity readers.new ≡ vec_capacity readers.old }
+    ensures readers { reverse (map (λ (w : Worker D). w.reader) workers.new.items) ≡ readers.old.items }
     ensures shares { AllZip (λ d (w : Worker D). (w.seat ≡ d.seat) × (w.answers ≡ d.answers)) shares.items workers.new.items }
 {
     for share in shares {
         let Share { seat, answers } = share;
         workers.push_reserved(Worker {
-            drive: drives.take_last(),
+            reader: readers.take_last(),
             seat,
             answers,
         });
@@ -86,71 +79,72 @@ fn into_workers<D: Drive>(drives: &mut Vec<D>, shares: Vec<Share>, workers: &mut
 fn run_all<D: Drive + Send, G: Gate + Sync, R: Threads + Sync>(
     rt: &R,
     alloc: Global,
-    pieces: &[Piece],
-    claims: &Claims,
-    gate: &G,
+    round: &Round<'_, G>,
     mut workers: Vec<Worker<D>>,
 ) -> Vec<Worker<D>>
-    requires few { claims.now.limit ≡ length pieces.now }
-    requires ready { AllByRecursion (IsSetUp claims.now.claims claims.now.limit) workers.items }
-    ensures { AllZip (HasRun D.shows D.failures claims.now.claims pieces.now) workers.items result.items }
+    requires few { round.now.claims.now.limit ≡ length round.now.left.now }
+    requires below { AllByRecursion (λ x. x < length round.now.pieces.now) round.now.left.now }
+    requires ready { AllByRecursion (IsSetUp round.now.claims.now.claims round.now.claims.now.limit) workers.items }
+    ensures { AllZip (HasRun D.shows D.failures round.now.claims.now.claims round.now.pieces.now round.now.left.now)
+        workers.items result.items }
 {
-    run_workers(rt, alloc, pieces, claims, gate, workers.as_mut_slice());
+    run_workers(rt, alloc, round, workers.as_mut_slice());
     workers
 }
 
-/// Takes the workers apart, the last one first. Their drives go back, and their answers into the
+/// Takes the workers apart, the last one first. Their readers go back, and their answers into the
 /// slots.
 fn out_of_workers<D: Drive>(
     mut workers: Vec<Worker<D>>,
-    drives: &mut Vec<D>,
+    readers: &mut Vec<Reader<D>>,
     seats: &mut Vec<ClaimSeat>,
     slots: &mut [Option<Answer>],
 )
-    requires none { drives.old.items ≡ [] }
+    requires none { readers.old.items ≡ [] }
     requires no_seats { seats.old.items ≡ [] }
-    requires room { (length workers.items ≤ vec_capacity drives.old) × (length workers.items ≤ vec_capacity seats.old) }
+    requires room { (length workers.items ≤ vec_capacity readers.old) × (length workers.items ≤ vec_capacity seats.old) }
     requires below { AllByRecursion (λ (w : Worker D). AllBelow (length slots.old) w.answers.items) workers.items }
-    ensures drives { drives.new.items ≡ reverse (map (λ (w : Worker D). w.drive) workers.items) }
+    ensures readers { readers.new.items ≡ reverse (map (λ (w : Worker D). w.reader) workers.items) }
     ensures seats { seats.new.items ≡ reverse (map (λ (w : Worker D). w.seat) workers.items) }
     ensures slots { slots.new ≡ with_each slots.old (flat_map (λ (w : Worker D). w.answers.items) (reverse workers.items)) }
 {
     while !workers.is_empty() {
         let Worker {
-            drive,
+            reader,
             seat,
             answers,
         } = workers.take_last();
-        drives.push_reserved(drive);
+        readers.push_reserved(reader);
         seats.push_reserved(seat);
         fill(slots, answers);
     }
     workers.destroy_empty();
 }
 
-/// Reads the pieces with the drives, and fills the slots `into` with the answers. Returns the seats
-/// of the workers. The drives are then in their places again.
+/// Reads pieces with the readers, and fills the slots `into` with the answers. Returns the seats of
+/// the workers. The readers are then in their places again.
 pub(crate) fn read_all<D: Drive + Send, G: Gate + Sync, R: Threads + Sync>(
     rt: &R,
     alloc: Global,
-    work: &Work<'_, G>,
-    drives: &mut Vec<D>,
+    round: &Round<'_, G>,
+    readers: &mut Vec<Reader<D>>,
     shares: Vec<Share>,
     into: &mut [Option<Answer>],
 ) -> Result<Vec<ClaimSeat>, AllocError>
-    requires few { work.now.claims.now.limit ≡ length work.now.pieces.now }
-    requires slots { length into.old ≡ length work.now.pieces.now }
-    requires many { length drives.old.items ≡ length shares.items }
-    requires ready { AllByRecursion (λ d. IsReady work.now.claims.now.claims work.now.claims.now.limit d.seat d.answers) shares.items }
-    requires some { 0 < length shares.items }
-    ensures many { IfOk result (λ seats. length seats.items ≡ length drives.old.items) }
-    ensures places { StayInPlace D.shows D.failures drives.old.items drives.new.items }
-    ensures read { Reads D.shows D.failures work.now.claims.now work.now.pieces.now drives.old.items drives.new.items into.old into.new result }
+    requires few { round.now.claims.now.limit ≡ length round.now.left.now }
+    requires below { AllByRecursion (λ x. x < length round.now.pieces.now) round.now.left.now }
+    requires slots { length into.old ≡ length round.now.pieces.now }
+    requires many { length readers.old.items ≡ length shares.items }
+    requires ready { AllByRecursion (λ d. IsReady round.now.claims.now.claims round.now.claims.now.limit d.seat d.answers) shares.items }
+    ensures many { IfOk result (λ seats. length seats.items ≡ length readers.old.items) }
+    ensures served { HaveServed D.shows D.failures readers.old.items readers.new.items }
+    ensures read { Reads D.shows round.now.claims.now round.now.pieces.now round.now.left.now
+        readers.old.items readers.new.items into.old into.new result }
 {
     let mut seats = Vec::with_capacity(alloc, shares.len())?;
     let mut workers = Vec::with_capacity(alloc, shares.len())?;
-    into_workers(drives, shares, &mut workers);
-    let workers = run_all(rt, alloc, work.pieces, work.claims, work.gate, workers);
-    out_of_workers(workers, drives, &mut seats, into);
+    into_workers(readers, shares, &mut workers);
+    let workers = run_all(rt, alloc, round, workers);
+    out_of_workers(workers, readers, &mut seats, into);
     Ok(seats)
 }

@@ -1,65 +1,73 @@
-use Rattle.std.proofs.Common.{◌≡◌, ℕ, List, map, length, Vec, Option, None, ap, sym, subst, ◌∙◌}
-use Rattle.std.specs.Global.{Global}
-use Rattle.std.specs.List.{AllByRecursion}
-use Rattle.atomic_table.specs.Seated.{TableId}
-use Rattle.br_claim.specs.Claims.{Claimed}
-use Rattle.br_pool.specs.Slots.{HasNoGap, IsListed}
-use Rattle.br_pool.specs.Workers.{Answer, IsReady}
-use Rattle.br_pool.specs.declared.workers.Share.{Share}
-use Rattle.br_pool.proofs.ListLaws.{written}
-use Rattle.br_pool.proofs.SlotLaws.{length_with_each}
+use Rattle.std.proofs.Common.{◌≡◌, ℕ, ◌<◌, ◌≤◌, Bool, true, List, map, reverse, length, Option, None, ap, sym, subst, ◌∙◌, arith}
+use Rattle.std.specs.List.{AllByRecursion, AllZip}
+use Rattle.br_model.specs.Volume.{Volume}
+use Rattle.br_volume.specs.Drive.{OnlyGrows}
+use Rattle.br_pool.specs.Pool.{StandsTold, StayInPlace}
+use Rattle.br_pool.specs.Rounds.{OverAll}
+use Rattle.br_pool.specs.Slots.{Fills, IsListed}
+use Rattle.br_pool.specs.Workers.{Answer, HaveServed, Served, outs}
+use Rattle.br_pool.specs.declared.worker.Reader.{Reader}
+use Rattle.br_pool.proofs.ListLaws.{written, zip_length, zip_so}
 use Rattle.br_pool.proofs.WorkedLaws.{all_kept}
-use Rattle.br_pool.proofs.DealtLaws.{no_gap_left, what_is_listed}
+use Rattle.br_pool.proofs.ReaderLaws.{all_risen, zip_back, zip_there}
+use Rattle.br_pool.proofs.ResultLaws.{listed_decided, listed_hits, listed_left, listed_numbers}
 use Rattle.br_pool.proofs.pool.run_pool.Goals as goal
-
-ready_at : (a b : TableId) (m n : ℕ) (shares : List Share) → b ≡ a → n ≡ m → AllByRecursion (λ (d : Share). IsReady a m d.seat d.answers) shares
-    → AllByRecursion (λ (d : Share). IsReady b n d.seat d.answers) shares
-ready_at a b m n shares p q h = rw (p, q) h
-
-pub returns-in_default-clause-places : goal.returns-in_default-clause-places
-returns-in_default-clause-places g c = all_kept g.D.Drive.shows g.D.Drive.failures c.args.drives.now.items
-
-pub returns-in_err-claims-clause-places : goal.returns-in_err-claims-clause-places
-returns-in_err-claims-clause-places g c = all_kept g.D.Drive.shows g.D.Drive.failures c.args.drives.now.items
-
-pub returns-in_err-shares-clause-places : goal.returns-in_err-shares-clause-places
-returns-in_err-shares-clause-places g c = all_kept g.D.Drive.shows g.D.Drive.failures c.args.drives.now.items
 
 pub returns-in_err-slots-clause-places : goal.returns-in_err-slots-clause-places
 returns-in_err-slots-clause-places g c = all_kept g.D.Drive.shows g.D.Drive.failures c.args.drives.now.items
 
-pub read_all-requires-clause-ready : goal.read_all-requires-clause-ready
-read_all-requires-clause-ready g c κs within = let made = c.in_ok-shares.ensures.claims in
-    ready_at c.in_ok-claims.claims.claims c.shares_for.new.claims.claims (length c.args.pieces.now) c.shares_for.new.claims.limit c.in_ok-shares.shares.items (ap (λ (k : Claimed). k.claims) made)
-    (ap (λ (k : Claimed). k.limit) made ∙ c.in_ok-claims.ensures.0 ∙ c.in-Ok.ensures.1) c.in_ok-shares.ensures.ready
+pub returns-in_err-readers-clause-places : goal.returns-in_err-readers-clause-places
+returns-in_err-readers-clause-places g c = all_kept g.D.Drive.shows g.D.Drive.failures c.args.drives.now.items
 
-pub found_in_order-requires : goal.found_in_order-requires
-found_in_order-requires g c =
-    let w = c.in_ok-seats.ensures.read in
-    let few : c.shares_for.new.claims.limit ≡ length c.args.pieces.now =
-    ap (λ (k : Claimed). k.limit) c.in_ok-shares.ensures.claims ∙ c.in_ok-claims.ensures.0 ∙ c.in-Ok.ensures.1 in
-    let many : length c.deref_mut.result.now ≡ length c.args.pieces.now = ap length c.deref_mut.ensures.value ∙ c.in_ok-slots.ensures.many in
-    let same : length c.read_all.new.into ≡ c.in_ok-slots.slots.len = ap length w.1 ∙ length_with_each c.deref_mut.result.now w.0 ∙ c.deref_mut.ensures.len in
-    subst HasNoGap (sym (written c.in_ok-slots.slots.len c.read_all.new.into c.in_ok-slots.slots.items same))
-    (no_gap_left c.shares_for.new.claims.claims c.args.pieces.now (map g.D.Drive.shows c.args.drives.now.items) (map g.D.Drive.shows c.read_all.new.drives.items)
-    (map g.D.Drive.failures c.args.drives.now.items) (map g.D.Drive.failures c.read_all.new.drives.items) c.in_ok-seats.seats.items c.deref_mut.result.now c.read_all.new.into w.0
-    w.1 w.2 c.shares_for.new.claims.limit (map (λ (v : Vec ℕ Global). v.items) c.in-Ok-gather._lists.items) (many ∙ sym few) few c.in-Ok-gather.ensures.dealt c.in-Ok-gather.ensures.lists)
+pub out_of_readers-requires-clause-room : goal.out_of_readers-requires-clause-room
+out_of_readers-requires-clause-room g c =
+    let a = zip_length _ c.into_readers.new.readers.items c.run_rounds-run.new.readers.items c.run_rounds-run.ensures.served in
+    let b = c.into_readers.ensures.many in
+    let room = c.into_readers.ensures.room in
+    let e = c.args.drives.now.ok in
+    omega (arith, a, b, room, e.0, e.1)
+
+pub run_rounds-run-requires-clause-none : goal.run_rounds-run-requires-clause-none
+run_rounds-run-requires-clause-none g c κs within =
+    subst (λ (l : List (Option Answer)). AllByRecursion (λ (s : Option Answer). s ≡ None) l) (sym c.deref_mut.ensures.value) c.in_ok-slots.ensures.none
+
+-- the drives are in their places, whatever the rounds return
+places_of : {D : Type 0} (shows : D → Option (List Volume)) (fails : D → ℕ) (first last : List (Reader D)) (before after : List D) → HaveServed shows fails first last
+    → reverse (map (λ (r : Reader D). r.drive) first) ≡ before → after ≡ reverse (map (λ (r : Reader D). r.drive) last) → StayInPlace shows fails before after
+places_of {D} shows fails first last before after served there back =
+    zip_back (λ (r : Reader D). r.drive) (λ d e. OnlyGrows (shows d) (shows e) × (fails d ≤ fails e)) first last before after there back
+    (zip_so (Served shows fails) (λ r s. OnlyGrows (shows r.drive) (shows s.drive) × (fails r.drive ≤ fails s.drive)) (λ r s k. (k.grows, k.counted)) first last served)
+
+pub returns-in_err-run-clause-places : goal.returns-in_err-run-clause-places
+returns-in_err-run-clause-places g c =
+    places_of g.D.Drive.shows g.D.Drive.failures c.into_readers.new.readers.items c.run_rounds-run.new.readers.items c.args.drives.now.items c.out_of_readers.new.drives.items
+    c.run_rounds-run.ensures.served c.into_readers.ensures.drives c.out_of_readers.ensures
 
 pub returns : goal.returns
 returns g c =
-    let w = c.in_ok-seats.ensures.read in
-    let many : length c.deref_mut.result.now ≡ length c.args.pieces.now = ap length c.deref_mut.ensures.value ∙ c.in_ok-slots.ensures.many in
-    let none : AllByRecursion (λ (s : Option Answer). s ≡ None) c.deref_mut.result.now =
-    subst (λ (l : List (Option Answer)). AllByRecursion (λ (s : Option Answer). s ≡ None) l) (sym c.deref_mut.ensures.value) c.in_ok-slots.ensures.none in
-    let same : length c.read_all.new.into ≡ c.in_ok-slots.slots.len = ap length w.1 ∙ length_with_each c.deref_mut.result.now w.0 ∙ c.deref_mut.ensures.len in
-    let listed : IsListed c.read_all.new.into c.found_in_order.result =
-    subst (λ (l : List (Option Answer)). IsListed l c.found_in_order.result) (written c.in_ok-slots.slots.len c.read_all.new.into c.in_ok-slots.slots.items same) c.found_in_order.ensures in
-    let all =
-    what_is_listed c.shares_for.new.claims.claims c.args.pieces.now (map g.D.Drive.shows c.args.drives.now.items) (map g.D.Drive.shows c.read_all.new.drives.items)
-    (map g.D.Drive.failures c.args.drives.now.items) (map g.D.Drive.failures c.read_all.new.drives.items) c.in_ok-seats.seats.items c.deref_mut.result.now c.read_all.new.into w.0
-    w.1 w.2 many none c.found_in_order.result listed in record {
-      numbers = all.0;
-      hits = all.1;
-      places = c.in_ok-seats.ensures.places;
-      failed = all.2;
+    let drive : Reader g.row.D.Denot → g.row.D.Denot = λ r. r.drive in
+    let shows : Reader g.row.D.Denot → Option (List Volume) = λ r. g.D.Drive.shows r.drive in
+    let fails : Reader g.row.D.Denot → ℕ = λ r. g.D.Drive.failures r.drive in
+    let out : Reader g.row.D.Denot → Bool = λ r. r.out in
+    let pieces = c.args.pieces.now in
+    let before = c.args.drives.now.items in
+    let after = c.out_of_readers.new.drives.items in
+    let first = c.into_readers.new.readers.items in
+    let last = c.run_rounds-run.new.readers.items in
+    let there = c.into_readers.ensures.drives in
+    let back = c.out_of_readers.ensures in
+    let served = c.run_rounds-run.ensures.served in
+    let over : List Volume → Type 0 = OverAll g.D.Drive.shows pieces first last in
+    let fills : AllZip (Fills over) pieces c.run_rounds-run.new.slots = c.in_ok-run.ensures.filled in
+    let same : length c.run_rounds-run.new.slots ≡ c.in_ok-slots.slots.len = c.run_rounds-run.ensures.many ∙ c.deref_mut.ensures.len in
+    let listed : IsListed c.run_rounds-run.new.slots c.found_in_order.result =
+    subst (λ (l : List (Option Answer)). IsListed l c.found_in_order.result) (written c.in_ok-slots.slots.len c.run_rounds-run.new.slots c.in_ok-slots.slots.items same) c.found_in_order.ensures in
+    let risen : AllByRecursion (λ (b : Bool). b ≡ true) (outs last) → AllZip (λ d e. g.D.Drive.failures d < g.D.Drive.failures e) before after =
+    λ gone. zip_back drive (λ d e. g.D.Drive.failures d < g.D.Drive.failures e) first last before after there back (all_risen shows fails out first last served c.into_readers.ensures.fresh gone) in record {
+      numbers = listed_numbers over pieces c.run_rounds-run.new.slots fills c.found_in_order.result listed;
+      hits = λ volumes stands. listed_hits over pieces c.run_rounds-run.new.slots fills c.found_in_order.result listed volumes
+          (zip_there drive (StandsTold pieces volumes) g.D.Drive.shows first last before after there back stands);
+      places = places_of g.D.Drive.shows g.D.Drive.failures first last before after served there back;
+      decided = listed_decided over pieces c.run_rounds-run.new.slots fills c.found_in_order.result listed;
+      failed = listed_left over pieces c.run_rounds-run.new.slots fills c.found_in_order.result listed _ (λ empty. risen (c.in_ok-run.ensures.left empty));
     }

@@ -8,12 +8,12 @@ loop-share-preserved g c = let i = c.loop-share.invariant in
     let taken = c.take_last.ensures in record {
       walk = rw append_assoc (ap (λ l. c.loop-share.yielded ++ l) (sym c.in-Some.ensures.steps.0) ∙ i.walk);
       given = rw pushed.items (zip_more _ c.loop-share.yielded c.loop-share.workers.items c.in-Some.share _ i.given (refl, refl));
-      drives =
+      readers =
           rw pushed.items
-          (ap (λ l. c.take_last.new.self.items ++ l) (turned_more (λ w. w.drive) c.loop-share.workers.items _)
-          ∙ moved_back c.take_last.new.self.items c.take_last.result (reverse (map (λ w. w.drive) c.loop-share.workers.items)) c.loop-share.drives.items c.args.drives.now.items taken.items i.drives);
+          (ap (λ l. c.take_last.new.self.items ++ l) (turned_more (λ w. w.reader) c.loop-share.workers.items _)
+          ∙ moved_back c.take_last.new.self.items c.take_last.result (reverse (map (λ w. w.reader) c.loop-share.workers.items)) c.loop-share.readers.items c.args.readers.now.items taken.items i.readers);
       left = let a = i.left in let b = c.in-Some.ensures.steps.1 in let d = taken.len in omega (arith, a, b, d);
       count = let a = i.count in let b = c.in-Some.ensures.steps.1 in let d = pushed.len in omega (arith, a, b, d);
       room = pushed.capacity ∙ i.room;
-      drives_room = taken.capacity ∙ i.drives_room;
+      readers_room = taken.capacity ∙ i.readers_room;
     }

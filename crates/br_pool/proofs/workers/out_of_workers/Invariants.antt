@@ -6,12 +6,12 @@ use Rattle.br_pool.proofs.workers.out_of_workers.Given as goal
 -- what is taken apart and what is left are all
 abbrev pub invariant-loop-workers : goal.invariant-loop-workers
 invariant-loop-workers g l = record {
-  drives : l.drives.items ++ reverse (map (λ w. w.drive) l.workers.items) ≡ reverse (map (λ w. w.drive) l.fn.workers.items);
+  readers : l.readers.items ++ reverse (map (λ w. w.reader) l.workers.items) ≡ reverse (map (λ w. w.reader) l.fn.workers.items);
   seats : l.seats.items ++ reverse (map (λ w. w.seat) l.workers.items) ≡ reverse (map (λ w. w.seat) l.fn.workers.items);
   slots : with_each l.slots (flat_map (λ w. w.answers.items) (reverse l.workers.items)) ≡ with_each l.fn.slots (flat_map (λ w. w.answers.items) (reverse l.fn.workers.items));
   below : AllByRecursion (λ w. AllBelow (length l.fn.slots) w.answers.items) l.workers.items;
   long : length l.slots ≡ length l.fn.slots;
-  drives_room : vec_len l.drives + vec_len l.workers ≤ vec_capacity l.drives;
+  readers_room : vec_len l.readers + vec_len l.workers ≤ vec_capacity l.readers;
   seats_room : vec_len l.seats + vec_len l.workers ≤ vec_capacity l.seats;
 }
 

@@ -1,0 +1,117 @@
+use Rattle.std.proofs.Common.{◌≡◌, ℕ, ◌<◌, Bool, true, false, List, [], ◌∷◌, ◌++◌, map, length, length-append, refl, ap, sym, subst, ◌∙◌, arith}
+use Rattle.std.specs.List.{AllByRecursion}
+use Rattle.std.specs.Prelude.{IfOk}
+use Rattle.br_claim.specs.Claims.{Seated}
+use Rattle.br_model.specs.Meaning.{Piece}
+use Rattle.br_match.specs.Matching.{FoundOver}
+use Rattle.br_match.proofs.GrowthLaws.{grows_itself, grows_more}
+use Rattle.br_pool.specs.Pool.{StandsTold}
+use Rattle.br_pool.specs.Workers.{Answer, AllAnswer, is_failure, number_at, numbers_of}
+use Rattle.br_pool.proofs.AnswerLaws.{answered_longer, answered_more}
+use Rattle.br_pool.proofs.ListLaws.{all_at, map_more}
+use Rattle.br_pool.proofs.worker.read_drawn.Goals as goal
+
+differ : true ≡ false → ⊥
+differ e = absurd cc
+
+differ_too : false ≡ true → ⊥
+differ_too e = absurd cc
+
+-- the number drawn is that of a piece
+below_at : (n : ℕ) (left : List ℕ) (place number : ℕ) → AllByRecursion (λ (x : ℕ). x < n) left → place < length left → number ≡ number_at left place → number < n
+below_at n left place number all low e = subst (λ m. m < n) (sym e) (all_at (λ (x : ℕ). x < n) left place 0 low all)
+
+-- the numbers after one more answer
+one_more : (left : List ℕ) (place number : ℕ) (a : Answer) (drawn : List ℕ) (before after : List (ℕ × Answer)) → after ≡ before ++ (number, a) ∷ [] → number ≡ number_at left place
+    → numbers_of before ≡ map (number_at left) drawn → numbers_of after ≡ map (number_at left) (drawn ++ place ∷ [])
+one_more left place number a drawn before after e is so =
+    ap numbers_of e ∙ map_more (λ (x : ℕ × Answer). x.0) before (number, a) ∙ ap (λ (l : List ℕ). l ++ number ∷ []) so
+    ∙ ap (λ (n : ℕ). map (number_at left) drawn ++ n ∷ []) is ∙ sym (map_more (number_at left) drawn place)
+
+pub loop-place-init : goal.loop-place-init
+loop-place-init g c = let r = c.requires.ready in
+    let shows = g.D.Drive.shows c.args.drive.now in record {
+      claims_are = r.claims_are;
+      limit_is = r.limit_is;
+      grows = grows_itself shows;
+      counted = omega arith;
+      drawn = ap numbers_of r.answered_none ∙ sym (ap (map (number_at c.args.round.now.left.now)) r.drawn_none);
+      each = subst (λ (l : List (ℕ × Answer)). AllAnswer (λ volumes. StandsTold c.args.round.now.pieces.now volumes shows shows) c.args.round.now.pieces.now l) (sym r.answered_none) tt;
+      many = c.args.answers.now.ok.0 ∙ ap length r.answered_none ∙ sym (ap length r.drawn_none);
+      room = r.room;
+    }
+
+pub number_at-number-requires : goal.number_at-number-requires
+number_at-number-requires g c = let a = c.in-Some.ensures.below in let b = c.loop-place.invariant.limit_is in let d = c.requires.few in omega (arith, a, b, d)
+
+pub bounds-round-number : goal.bounds-round-number
+bounds-round-number g c =
+    let a = c.in-Some.ensures.below in
+    let b = c.loop-place.invariant.limit_is in
+    let d = c.requires.few in
+    below_at (length c.args.round.now.pieces.now) c.args.round.now.left.now c.in-Some.place c.number_at-number.result c.requires.below (omega (arith, a, b, d)) c.number_at-number.ensures
+
+pub loop-place-preserved : goal.loop-place-preserved
+loop-place-preserved g c = let i = c.loop-place.invariant in
+    let pieces = c.args.round.now.pieces.now in
+    let left = c.args.round.now.left.now in
+    let number = c.number_at-number.result in
+    let first = g.D.Drive.shows c.args.drive.now in
+    let second = g.D.Drive.shows c.loop-place.drive in
+    let third = g.D.Drive.shows c.read_one-answer.new.drive in
+    let e = c.read_one-answer.ensures in
+    let step = c.in-Some.ensures.step.1 in
+    let low = c.in-Some.ensures.below in
+    let pushed = c.push_reserved.ensures in record {
+      claims_are = ap (λ (s : Seated). s.claims) step ∙ i.claims_are;
+      limit_is = ap (λ (s : Seated). s.limit) step ∙ i.limit_is;
+      grows = grows_more first second third i.grows e.grows;
+      counted = let a = i.counted in let b = e.counted in omega (arith, a, b);
+      drawn = one_more left c.in-Some.place number c.read_one-answer.result c.loop-place.seat.drawn c.loop-place.answers.items c.push_reserved.new.self.items pushed.items c.number_at-number.ensures i.drawn
+          ∙ sym (ap (λ (s : Seated). map (number_at left) s.drawn) step);
+      each =
+          rw pushed.items
+          (answered_more pieces number c.index-round-number.result c.read_one-answer.result first second third c.loop-place.answers.items i.grows e.grows
+          (below_at (length pieces) left c.in-Some.place number c.requires.below (let a = i.limit_is in let b = c.requires.few in omega (arith, a, b, low)) c.number_at-number.ensures)
+          c.index-round-number.is (subst (λ (p : Piece). IfOk c.read_one-answer.result (λ f. f.piece ≡ p.number)) (sym c.index-round-number.is) e.number)
+          (subst (λ (p : Piece). FoundOver second third p c.read_one-answer.result) (sym c.index-round-number.is) e.hits) (sym c.is_failure-failed.ensures ∙ c.if-failed.false) i.each);
+      many = let a = i.many in let b = pushed.len in let d = ap (λ (s : Seated). length s.drawn) step in let l = length-append c.loop-place.seat.drawn (c.in-Some.place ∷ []) in omega (arith, a, b, d, l);
+      room = let a = pushed.capacity in let b = i.room in omega (arith, a, b);
+    }
+
+pub returns-then-failed : goal.returns-then-failed
+returns-then-failed g c = let i = c.loop-place.invariant in
+    let pieces = c.args.round.now.pieces.now in
+    let first = g.D.Drive.shows c.args.drive.now in
+    let second = g.D.Drive.shows c.loop-place.drive in
+    let third = g.D.Drive.shows c.read_one-answer.new.drive in
+    let e = c.read_one-answer.ensures in
+    let step = c.in-Some.ensures.step.1 in
+    let less = e.failed (sym c.is_failure-failed.ensures ∙ c.if-failed.true) in record {
+      claims_are = ap (λ (s : Seated). s.claims) step ∙ i.claims_are;
+      served = record {
+        grows = grows_more first second third i.grows e.grows;
+        counted = let a = i.counted in let b = e.counted in omega (arith, a, b);
+        stays = λ p. refl;
+        risen = λ p q. let a = i.counted in omega (arith, a, less);
+      };
+      each = answered_longer pieces first second third c.loop-place.answers.items i.grows e.grows i.each;
+      answered = λ p. absurd (differ p);
+      ended = λ p. absurd (differ p);
+    }
+
+pub returns : goal.returns
+returns g c = let i = c.loop-place.invariant in
+    let left = c.args.round.now.left.now in
+    let step = c.in_default.ensures.step in record {
+      claims_are = ap (λ (s : Seated). s.claims) step ∙ i.claims_are;
+      served = record {
+        grows = i.grows;
+        counted = i.counted;
+        stays = λ p. p;
+        risen = λ p q. absurd (differ_too q);
+      };
+      each = i.each;
+      answered = λ p. i.drawn ∙ sym (ap (λ (s : Seated). map (number_at left) s.drawn) step);
+      ended = λ p. ap (λ (s : Seated). s.ended) step;
+    }
