@@ -38,8 +38,8 @@ all_rows =
     (codes "The volume ends inside a block header, or inside a block that the restore needs.")
     (codes "Copy the volume again, since the copy is probably incomplete; without a whole one, choose an earlier moment.") ∷
     row_with 13 (codes "DriveFault")
-    (codes "The system could not read the volume.")
-    (codes "Check that `--volumes` names a folder, check permissions and the system's log, and run the command again or try another copy.") ∷
+    (codes "A drive failed while it read a volume.")
+    (codes "Only library calls return it: a command reads on with the other drives, or prints 70.") ∷
     row_with 14 (codes "UnknownVolume")
     (codes "The volume is not in the folder of volumes.")
     (codes "Copy the volume into the folder under exactly the printed name, or correct `--volumes`.") ∷
@@ -165,7 +165,7 @@ all_rows =
     (codes "Check that volumes and catalogue belong together; else choose an earlier moment.") ∷
     row_with 70 (codes "NoDriveLeft")
     (codes "Every drive failed before all volumes were read.")
-    (codes "No command prints it: a drive that fails ends the restore with 13.") ∷
+    (codes "Check that `--volumes` names a folder, check permissions and the system's log, and run the command again or try another copy.") ∷
     row_with 71 (codes "MissingSeat")
     (codes "A thread's list of the numbers that it drew is missing.")
     (codes "Only library calls return it: keep the list of each thread.") ∷

@@ -41,8 +41,8 @@ pub const REFUSALS: [Refusal; 53] = [
     Refusal {
         number: 13,
         name: "DriveFault",
-        meaning: "The system could not read the volume.",
-        next: "Check that `--volumes` names a folder, check permissions and the system's log, and run the command again or try another copy.",
+        meaning: "A drive failed while it read a volume.",
+        next: "Only library calls return it: a command reads on with the other drives, or prints 70.",
     },
     Refusal {
         number: 14,
@@ -294,7 +294,7 @@ pub const REFUSALS: [Refusal; 53] = [
         number: 70,
         name: "NoDriveLeft",
         meaning: "Every drive failed before all volumes were read.",
-        next: "No command prints it: a drive that fails ends the restore with 13.",
+        next: "Check that `--volumes` names a folder, check permissions and the system's log, and run the command again or try another copy.",
     },
     Refusal {
         number: 71,
