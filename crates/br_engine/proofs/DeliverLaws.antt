@@ -12,7 +12,7 @@ use Rattle.br_model.specs.Delivery.{Stop, delivery, item_of, put_behind}
 use Rattle.br_bsr.specs.Fault as bootstrap
 use Rattle.br_bsr.specs.declared.fault.BsrFault.{BsrFault}
 use Rattle.br_join.specs.Outcome.{restored}
-use Rattle.br_engine.specs.Fault.{IsDriveFault, IsFree, IsNoLine}
+use Rattle.br_engine.specs.Fault.{IsNoDriveLeft, IsFree, IsNoLine}
 use Rattle.br_engine.specs.Restoring.{Told, Outcomes}
 use Rattle.br_engine.specs.Outputs.{InSink, are_files, end_of_files}
 use Rattle.br_engine.specs.Extracting.{GivesOver, OverText, OverVolumes, Extracts, Said, WritesNothing}
@@ -69,7 +69,7 @@ free_is_no_line (Bootstrap fault) free = absurd free
 free_is_no_line (Piece fault) free = tt
 free_is_no_line (Io fault) free = tt
 
-pub free_is_no_drive : (fault : ExtractFault) → IsFree fault → IsDriveFault fault → ⊥
+pub free_is_no_drive : (fault : ExtractFault) → IsFree fault → IsNoDriveLeft fault → ⊥
 free_is_no_drive Memory free e = absurd cc
 free_is_no_drive (Bootstrap fault) free e = free
 free_is_no_drive (Piece fault) free e = free

@@ -9,8 +9,8 @@ use Rattle.br_model.specs.Meaning as model
 use Rattle.br_model.specs.Restored.{Planned}
 use Rattle.br_bsr.specs.Fault as bootstrap
 use Rattle.br_bsr.specs.declared.fault.BsrFault.{BsrFault}
-use Rattle.br_match.specs.Fault as piece
-use Rattle.br_match.specs.declared.fault.PieceFault.{PieceFault}
+use Rattle.br_pool.specs.Fault as pool
+use Rattle.br_pool.specs.declared.fault.PoolFault.{PoolFault}
 use Rattle.br_engine.specs.Fault.{OfLine, OfPiece, cause}
 use Rattle.br_engine.specs.Restoring.{Told, Outcomes, RestoredOver, restored_files}
 use Rattle.br_engine.specs.Extracting.{GivesOver, OverText, OverVolumes, Said, extracted}
@@ -44,9 +44,9 @@ pub gives_files : (earlier later : Told) (groups : List Group) (names : Option (
     → GivesOver earlier later groups names (Ok os)
 gives_files earlier later groups names os given = λ volumes stands. ap (refused_as OfPiece) (given volumes stands)
 
-pub gives_refused : (earlier later : Told) (groups : List Group) (names : Option (List Planned)) (fault : PieceFault) → RestoredOver earlier later groups names (Err fault)
+pub gives_refused : (earlier later : Told) (groups : List Group) (names : Option (List Planned)) (fault : PoolFault) → RestoredOver earlier later groups names (Err fault)
     → GivesOver earlier later groups names (Err (Piece fault))
-gives_refused earlier later groups names fault given = λ volumes stands. go volumes (piece.cause fault) (given volumes stands)
+gives_refused earlier later groups names fault given = λ volumes stands. go volumes (pool.cause fault) (given volumes stands)
   where
     go : (volumes : List Volume) (r : Option model.PieceFault) → IsRefusal r (restored_files groups names volumes)
         → IsRefusal (option_map OfPiece r) (refused_as OfPiece (restored_files groups names volumes))

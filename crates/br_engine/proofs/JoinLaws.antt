@@ -14,13 +14,11 @@ use Rattle.br_model.specs.Meaning as model
 use Rattle.br_model.specs.Meaning.{Piece, Hit, Hits, hits_of, with_hits, hits_on, hits_on_each, pieces_of, meaning}
 use Rattle.br_model.specs.Bootstrap.{Group}
 use Rattle.br_model.specs.Restored.{Planned, files}
-use Rattle.br_match.specs.Fault.{cause}
 use Rattle.br_match.specs.declared.hit.Found.{Found}
-use Rattle.br_match.specs.declared.fault.PieceFault.{PieceFault}
-use Rattle.br_match.specs.declared.fault.PieceFault.TheVariants.{Memory}
 use Rattle.br_pool.specs.Fault as pool
 use Rattle.br_pool.specs.Pool.{PoolOver, hits_lists}
 use Rattle.br_pool.specs.declared.fault.PoolFault.{PoolFault}
+use Rattle.br_pool.specs.declared.fault.PoolFault.TheVariants.{Memory}
 use Rattle.br_join.specs.Joining.{Joining, taken}
 use Rattle.br_join.specs.Outcome.{restored}
 use Rattle.br_join.proofs.TakingLaws.{taken_together}
@@ -103,20 +101,19 @@ restored_found earlier later groups names pieces founds os are given e = λ volu
     rw set (ap Ok (sym e))
 
 -- one of them has a fault
-pub restored_refused : (earlier later : Told) (groups : List Group) (names : Option (List Planned)) (pieces : List Piece) (fault : PoolFault) (why : PieceFault)
-    → pieces ≡ pieces_of groups → PoolOver earlier later pieces (Err fault) → cause why ≡ pool.cause fault → RestoredOver earlier later groups names (Err why)
+pub restored_refused : (earlier later : Told) (groups : List Group) (names : Option (List Planned)) (pieces : List Piece) (fault : PoolFault)
+    → pieces ≡ pieces_of groups → PoolOver earlier later pieces (Err fault) → RestoredOver earlier later groups names (Err fault)
 unfolding meaning restored_files
-restored_refused earlier later groups names pieces fault why are given same = λ volumes stands.
-    subst (λ (r : Option model.PieceFault). IsRefusal r (restored_files groups names volumes)) (sym same)
-    (go volumes (pool.cause fault)
-    (subst (λ (ps : List Piece). IsRefusal (pool.cause fault) (hits_lists volumes ps)) are (given volumes (subst (λ (ps : List Piece). AllStand earlier later ps volumes) (sym are) stands))))
+restored_refused earlier later groups names pieces fault are given = λ volumes stands.
+    go volumes (pool.cause fault)
+    (subst (λ (ps : List Piece). IsRefusal (pool.cause fault) (hits_lists volumes ps)) are (given volumes (subst (λ (ps : List Piece). AllStand earlier later ps volumes) (sym are) stands)))
   where
     go : (volumes : List Volume) (r : Option model.PieceFault) → IsRefusal r (hits_lists volumes (pieces_of groups)) → IsRefusal r (restored_files groups names volumes)
     go volumes None h = tt
     go volumes (Some e) h = rw (each_is volumes (pieces_of groups), h) refl
 
 -- the files are made, or memory runs out
-pub restored_of : (earlier later : Told) (groups : List Group) (names : Option (List Planned)) (pieces : List Piece) (founds : Vec Found Global) (result : Result Outcomes PieceFault)
+pub restored_of : (earlier later : Told) (groups : List Group) (names : Option (List Planned)) (pieces : List Piece) (founds : Vec Found Global) (result : Result Outcomes PoolFault)
     → pieces ≡ pieces_of groups → PoolOver earlier later pieces (Ok founds) → IfOk result (λ os. map restored os.items ≡ files (hits_found founds.items) names)
     → IfErr result (λ why. why ≡ Memory) → RestoredOver earlier later groups names result
 restored_of earlier later groups names pieces founds (Ok os) are given made short = restored_found earlier later groups names pieces founds os are given made

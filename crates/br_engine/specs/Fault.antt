@@ -8,6 +8,9 @@ use Rattle.br_bsr.specs.Fault as bootstrap
 use Rattle.br_match.specs.Fault as piece
 use Rattle.br_match.specs.declared.fault.PieceFault.{PieceFault}
 use Rattle.br_match.specs.declared.fault.PieceFault.TheVariants as variant
+use Rattle.br_pool.specs.Fault as pool
+use Rattle.br_pool.specs.declared.fault.PoolFault.{PoolFault}
+use Rattle.br_pool.specs.declared.fault.PoolFault.TheVariants as of_pool
 use Rattle.br_engine.specs.declared.fault.ExtractFault.{ExtractFault}
 use Rattle.br_engine.specs.declared.fault.ExtractFault.TheVariants.{Memory, Bootstrap, Piece, Io}
 
@@ -16,19 +19,19 @@ pub data Refusal : Type 0 where
   OfLine : LineFault → Refusal
   OfPiece : model.PieceFault → Refusal
 
--- The refusal that the bootstrap's text and the volumes decide. There is none if memory ran out, a drive failed, or reading or writing
+-- The refusal that the bootstrap's text and the volumes decide. There is none if memory ran out, no drive is left, or reading or writing
 -- failed.
 abbrev pub cause : ExtractFault → Option Refusal
 cause Memory = None
 cause (Bootstrap fault) = option_map OfLine (bootstrap.cause fault)
-cause (Piece fault) = option_map OfPiece (piece.cause fault)
+cause (Piece fault) = option_map OfPiece (pool.cause fault)
 cause (Io fault) = None
 
 -- the number of a refusal; a fault of reading or writing has none
 abbrev pub fault_number : ExtractFault → Option ℕ
 fault_number Memory = Some 1
 fault_number (Bootstrap fault) = Some (bootstrap.fault_number fault)
-fault_number (Piece fault) = Some (piece.fault_number fault)
+fault_number (Piece fault) = Some (pool.fault_number fault)
 fault_number (Io fault) = None
 
 -- the line for a refused line of a bootstrap, or for memory that ran out
@@ -41,11 +44,17 @@ abbrev pub piece_text : PieceFault → List ℕ
 piece_text variant.Memory = refused_line 1
 piece_text (variant.Block why vol addr) = piece_fault (record { number = piece.cause_number why; volume = vol; address = addr })
 
+-- the line for the pieces: that of the first that has a fault, or of the number alone
+abbrev pub pool_text : PoolFault → List ℕ
+pool_text of_pool.Memory = refused_line 1
+pool_text (of_pool.Piece why) = piece_text why
+pool_text of_pool.NoDriveLeft = refused_line 70
+
 -- the line of a refusal; a fault of reading or writing has none
 abbrev pub fault_text : ExtractFault → List ℕ
 fault_text Memory = refused_line 1
 fault_text (Bootstrap fault) = bootstrap_text (bootstrap.cause fault)
-fault_text (Piece fault) = piece_text fault
+fault_text (Piece fault) = pool_text fault
 fault_text (Io fault) = []
 
 -- memory ran out, or reading or writing failed, which may happen at any time
@@ -62,6 +71,6 @@ IsNoLine (Bootstrap fault) = ⊥
 IsNoLine (Piece fault) = ⊤
 IsNoLine (Io fault) = ⊤
 
--- a drive failed
-abbrev pub IsDriveFault : ExtractFault → Type 0
-IsDriveFault fault = fault_number fault ≡ Some 13
+-- each drive failed
+abbrev pub IsNoDriveLeft : ExtractFault → Type 0
+IsNoDriveLeft fault = fault_number fault ≡ Some 70

@@ -10,10 +10,10 @@ use Rattle.br_model.specs.Bootstrap.{Group}
 use Rattle.br_model.specs.Meaning as model
 use Rattle.br_model.specs.Meaning.{Piece, Hit, Hits, hits_on_each, hits_of, pieces_of, meaning}
 use Rattle.br_model.specs.Restored.{Names, Planned, Restored, files, planned_in}
-use Rattle.br_match.specs.Fault.{cause, fault_number}
 use Rattle.br_match.specs.declared.hit.Found.{Found}
-use Rattle.br_match.specs.declared.fault.PieceFault.{PieceFault}
+use Rattle.br_pool.specs.Fault.{cause}
 use Rattle.br_pool.specs.Pool.{StandsTold}
+use Rattle.br_pool.specs.declared.fault.PoolFault.{PoolFault}
 use Rattle.br_join.specs.Joining.{Joining, taken}
 use Rattle.br_join.specs.Outcome.{restored}
 use Rattle.br_join.specs.declared.item.Outcome.{Outcome}
@@ -56,16 +56,12 @@ abbrev pub Outcomes : Type 0
 Outcomes = Vec (FileKey × Outcome) Global
 
 -- over all volumes that each of the drives may be taken to show, the outcomes are the files that the bootstrap gives, or the refusal is
--- the first fault; a drive may fail, and memory run out, at any time
-abbrev pub RestoredOver : Told → Told → List Group → Option (List Planned) → Result Outcomes PieceFault → Type 0
+-- the first fault; each drive may fail, and memory run out, at any time
+abbrev pub RestoredOver : Told → Told → List Group → Option (List Planned) → Result Outcomes PoolFault → Type 0
 RestoredOver earlier later groups names result =
     (volumes : List Volume) → AllStand earlier later (pieces_of groups) volumes
     → Answers (λ (os : Outcomes). map restored os.items) cause result (restored_files groups names volumes)
 
 -- the same, as the contract of a restore states it
-abbrev pub RestoresOver : {D : Type 0} → (D → Option (List Volume)) → List D → List D → List Group → Option Names → Result Outcomes PieceFault → Type 0
+abbrev pub RestoresOver : {D : Type 0} → (D → Option (List Volume)) → List D → List D → List Group → Option Names → Result Outcomes PoolFault → Type 0
 RestoresOver shows before after groups names result = RestoredOver (map shows before) (map shows after) groups (option_map planned_in names) result
-
--- a drive failed
-abbrev pub IsDriveFault : PieceFault → Type 0
-IsDriveFault fault = fault_number fault ≡ 13

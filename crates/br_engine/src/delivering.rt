@@ -1,7 +1,7 @@
 ghost use Rattle.std.specs.Prelude.{◌≡◌, map, option_map, Some, None, IfErr};
-ghost use Rattle.br_pool.specs.Pool.{AreDrives, FailsByDrive, StayInPlace};
+ghost use Rattle.br_pool.specs.Pool.{AreDrives, OnlyIfAllFail, StayInPlace};
 ghost use Rattle.br_join.specs.Outcome.{restored};
-ghost use Rattle.br_engine.specs.Fault.{IsDriveFault, IsNoLine};
+ghost use Rattle.br_engine.specs.Fault.{IsNoDriveLeft, IsNoLine};
 ghost use Rattle.br_engine.specs.Outputs.{SinkCounts, StopsByFailure, end_of_files};
 ghost use Rattle.br_engine.specs.Delivering.{DeliversOver, DeliversText, EndsWith, ExtractsOver, RunsOver};
 ghost use Rattle.br_engine.specs.Delivering.{CountsFailures, RefusalWritesNothing, StopIsCounted};
@@ -89,7 +89,7 @@ pub fn restore_into<D: Drive + Send, W: Write, S: Sink>(
     ensures nothing { RefusalWritesNothing W.contents out.old out.new result }
     ensures driven { IfErr result IsNoLine }
     ensures places { StayInPlace D.shows D.failures drives.old.items drives.new.items }
-    ensures failed { FailsByDrive D.failures drives.old.items drives.new.items IsDriveFault result }
+    ensures failed { OnlyIfAllFail D.failures drives.old.items drives.new.items IsNoDriveLeft result }
     ensures sink_counted { CountsFailures S.failures out.old out.new }
     ensures sink_failed { StopIsCounted S.failures out.old out.new result }
 {
@@ -112,7 +112,7 @@ pub fn extract<D: Drive + Send, W: Write, S: Sink>(
     ensures extracts { ExtractsOver D.shows W.contents drives.old.items drives.new.items out.old out.new bootstrap.now result }
     ensures nothing { RefusalWritesNothing W.contents out.old out.new result }
     ensures places { StayInPlace D.shows D.failures drives.old.items drives.new.items }
-    ensures failed { FailsByDrive D.failures drives.old.items drives.new.items IsDriveFault result }
+    ensures failed { OnlyIfAllFail D.failures drives.old.items drives.new.items IsNoDriveLeft result }
     ensures sink_counted { CountsFailures S.failures out.old out.new }
     ensures sink_failed { StopIsCounted S.failures out.old out.new result }
 {
@@ -136,7 +136,7 @@ pub fn extract_text<D: Drive + Send, W: Write, S: Sink>(
     ensures runs { RunsOver D.shows W.contents drives.old.items drives.new.items out.old out.new (Some text.now) result }
     ensures nothing { RefusalWritesNothing W.contents out.old out.new result }
     ensures places { StayInPlace D.shows D.failures drives.old.items drives.new.items }
-    ensures failed { FailsByDrive D.failures drives.old.items drives.new.items IsDriveFault result }
+    ensures failed { OnlyIfAllFail D.failures drives.old.items drives.new.items IsNoDriveLeft result }
     ensures sink_counted { CountsFailures S.failures out.old out.new }
     ensures sink_failed { StopIsCounted S.failures out.old out.new result }
 {
@@ -161,7 +161,7 @@ pub fn run_extract<R: Read + Drop, D: Drive + Send, W: Write, S: Sink>(
     ensures runs { RunsOver D.shows W.contents drives.old.items drives.new.items out.old out.new (R.remaining reader.old) result }
     ensures nothing { RefusalWritesNothing W.contents out.old out.new result }
     ensures places { StayInPlace D.shows D.failures drives.old.items drives.new.items }
-    ensures failed { FailsByDrive D.failures drives.old.items drives.new.items IsDriveFault result }
+    ensures failed { OnlyIfAllFail D.failures drives.old.items drives.new.items IsNoDriveLeft result }
     ensures sink_counted { CountsFailures S.failures out.old out.new }
     ensures sink_failed { StopIsCounted S.failures out.old out.new result }
 {

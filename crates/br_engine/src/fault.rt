@@ -3,10 +3,11 @@ ghost use Rattle.br_model.specs.Text.{line, refused_line, escaped};
 ghost use Rattle.br_model.specs.Refusal.{line_fault, piece_fault};
 ghost use Rattle.br_bsr.specs.Fault.{cause};
 ghost use Rattle.br_engine.specs.declared.fault.ExtractFault.TheVariants.{Memory, Bootstrap, Piece, Io};
-ghost use Rattle.br_engine.specs.Fault.{fault_number, fault_text, bootstrap_text, piece_text};
+ghost use Rattle.br_engine.specs.Fault.{fault_number, fault_text, bootstrap_text, piece_text, pool_text};
 
 use br_bsr::BsrFault;
 use br_match::PieceFault;
+use br_pool::PoolFault;
 use br_types::{push_escaped, push_number};
 use std::alloc::AllocError;
 use std::io;
@@ -20,9 +21,9 @@ pub enum ExtractFault {
     /// A line of the bootstrap was refused.
     #[error("{0}")]
     Bootstrap(BsrFault),
-    /// A volume could not be read.
+    /// A volume could not be read, or no drive is left.
     #[error("{0}")]
-    Piece(PieceFault),
+    Piece(PoolFault),
     /// Reading the bootstrap or writing the manifest failed.
     #[error("{0}")]
     Io(io::Error),
@@ -44,10 +45,10 @@ impl From<BsrFault> for ExtractFault {
     }
 }
 
-impl From<PieceFault> for ExtractFault {
+impl From<PoolFault> for ExtractFault {
     ghost from_gives = { λ fault e. e ≡ Piece fault };
 
-    fn from(fault: PieceFault) -> ExtractFault {
+    fn from(fault: PoolFault) -> ExtractFault {
         ExtractFault::Piece(fault)
     }
 }
@@ -109,9 +110,7 @@ fn push_block_line(text: &mut Vec<u8>, number: u32, vol: &[u8], addr: u64) -> Re
 
 /// Appends the line of a piece that was refused: `refused N VOLUME ADDRESS` with the volume escaped,
 /// or `refused 1` if memory ran out.
-///
-/// If memory runs out here, a part of the line may have been appended.
-pub fn push_piece_line(text: &mut Vec<u8>, fault: &PieceFault) -> Result<(), AllocError>
+fn push_piece_line(text: &mut Vec<u8>, fault: &PieceFault) -> Result<(), AllocError>
     ensures { OnOk result (text.new.items ≡ text.old.items ++ piece_text fault.now) }
 {
     match fault {
@@ -122,9 +121,23 @@ pub fn push_piece_line(text: &mut Vec<u8>, fault: &PieceFault) -> Result<(), All
     }
 }
 
+/// Appends the line of pieces that were not read: that of the first piece that has a fault, `refused 1`
+/// if memory ran out, or `refused 70` if no drive is left.
+///
+/// If memory runs out here, a part of the line may have been appended.
+pub fn push_pool_line(text: &mut Vec<u8>, fault: &PoolFault) -> Result<(), AllocError>
+    ensures { OnOk result (text.new.items ≡ text.old.items ++ pool_text fault.now) }
+{
+    match fault {
+        PoolFault::Memory => push_refused_line(text, 1),
+        PoolFault::Piece(fault) => push_piece_line(text, fault),
+        PoolFault::NoDriveLeft => push_refused_line(text, 70),
+    }
+}
+
 impl ExtractFault {
-    /// Returns the number of the refusal: 1 out of memory, 10 to 14 a volume, 30 to 34 a line of the
-    /// bootstrap. A fault of reading or writing is no refusal.
+    /// Returns the number of the refusal: 1 out of memory, 10 to 12 and 14 a volume, 30 to 34 a line of
+    /// the bootstrap, 70 no drive left. A fault of reading or writing is no refusal.
     pub fn number(&self) -> Option<u32>
         ensures { result ≡ fault_number self.now }
     {
@@ -137,7 +150,8 @@ impl ExtractFault {
     }
 
     /// Appends the line of the refusal: `refused N line K` for a line of the bootstrap, counted from 1;
-    /// `refused N VOLUME ADDRESS` for 10 to 14, with the volume escaped; `refused 1` if memory ran out.
+    /// `refused N VOLUME ADDRESS` for 10 to 14, with the volume escaped; `refused 1` if memory ran out,
+    /// and `refused 70` if no drive is left.
     /// Appends nothing for a fault of reading or writing.
     ///
     /// If memory runs out here, a part of the line may have been appended.
@@ -147,7 +161,7 @@ impl ExtractFault {
         match self {
             ExtractFault::Memory => push_refused_line(text, 1),
             ExtractFault::Bootstrap(fault) => push_bootstrap_line(text, *fault),
-            ExtractFault::Piece(fault) => push_piece_line(text, fault),
+            ExtractFault::Piece(fault) => push_pool_line(text, fault),
             ExtractFault::Io(_) => Ok(()),
         }
     }

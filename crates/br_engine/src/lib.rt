@@ -9,6 +9,6 @@ mod outputs;
 mod restoring;
 
 pub use delivering::{extract, extract_text, restore_into, run_extract};
-pub use fault::{ExtractFault, push_piece_line, push_refused_line};
+pub use fault::{ExtractFault, push_pool_line, push_refused_line};
 pub use outputs::{Outputs, RestoreEnd};
 pub use restoring::restore;

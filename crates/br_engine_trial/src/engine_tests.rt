@@ -5,6 +5,7 @@ use br_bsr::{Bootstrap, BsrFault, read_bootstrap};
 use br_engine::{ExtractFault, Outputs, RestoreEnd, extract, extract_text, restore, run_extract};
 use br_join::Outcome;
 use br_match::{PieceCause, PieceFault};
+use br_pool::PoolFault;
 use br_sink::{Item, MemSink};
 use br_types::VolName;
 use br_volume::MemDrive;
@@ -171,7 +172,7 @@ fn push_block_told(
     let vol = VolName::new(alloc, name)?;
     push_told(
         text,
-        &ExtractFault::Piece(PieceFault::Block { cause, vol, addr }),
+        &ExtractFault::Piece(PoolFault::Piece(PieceFault::Block { cause, vol, addr })),
     )
 }
 
@@ -184,7 +185,8 @@ fn each_fault_has_its_number_and_line(rt: HostRuntime) -> Result<(), Fail> {
         &mut text,
         &ExtractFault::Bootstrap(BsrFault::BadValue { line: 7 }),
     )?;
-    push_told(&mut text, &ExtractFault::Piece(PieceFault::Memory))?;
+    push_told(&mut text, &ExtractFault::Piece(PoolFault::Memory))?;
+    push_told(&mut text, &ExtractFault::Piece(PoolFault::NoDriveLeft))?;
     push_block_told(
         rt.alloc(),
         &mut text,
@@ -202,7 +204,7 @@ fn each_fault_has_its_number_and_line(rt: HostRuntime) -> Result<(), Fail> {
     push_told(&mut text, &ExtractFault::Io(error))?;
     assert_eq!(rt;
         text.as_slice(),
-        b"1 refused 1\n1 refused 1\n33 refused 33 line 7\n1 refused 1\n14 refused 14 V\\x201 0\n\
+        b"1 refused 1\n1 refused 1\n33 refused 33 line 7\n1 refused 1\n70 refused 70\n14 refused 14 V\\x201 0\n\
         12 refused 12 V1 18446744073709551615\n13 refused 13 V1 24\n0 "
             .as_slice()
     );
