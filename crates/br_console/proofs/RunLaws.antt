@@ -1,5 +1,5 @@
 -- A run of the console step by step: what each step says of the whole.
-use Rattle.std.proofs.Common.{◌≡◌, ℕ, Bool, true, false, cond, List, map, Option, Some, None, Result, Ok, Err, refl, ap, sym, subst, ◌∙◌}
+use Rattle.std.proofs.Common.{◌≡◌, ℕ, Bool, true, false, cond, List, map, Option, Some, None, Result, Ok, Err, refl, ap, sym, subst, ◌∙◌, arith}
 use Rattle.std.specs.Prelude.{option_map, IfSome, ⊤}
 use Rattle.std.specs.Io.KnownBytes.{Appends, Keeps}
 use Rattle.std.proofs.KnownBytes.{Appends-nil, Appends-trans, Appends-kept}
@@ -21,8 +21,7 @@ use Rattle.br_plan.specs.Fault as plan
 use Rattle.br_plan.specs.Means.{IsViewOfChosen}
 use Rattle.br_plan.specs.declared.fault.PlanFault.{PlanFault}
 use Rattle.br_plan.specs.declared.fault.PlanFault.TheVariants as planning
-use Rattle.br_match.specs.Fault as piece
-use Rattle.br_match.specs.declared.fault.PieceFault.{PieceFault}
+use Rattle.br_pool.specs.Fault as pool
 use Rattle.br_tree.specs.Marking.{Marking, console_at, unmarked}
 use Rattle.br_mark.specs.Seen.{Situation}
 use Rattle.br_engine.specs.Restoring.{Told, restored_files}
@@ -195,21 +194,21 @@ module _ (earlier later : Told) (before after : Option (List ℕ)) (had has : In
   plan_refused extract.Memory why is h = rw is ((λ volumes stands. tt), tt, h.2)
   plan_refused (extract.Bootstrap e) why is h = absurd is
   plan_refused (extract.Piece e) why is h =
-      rw is ((λ volumes stands. piece_is (piece.cause e) (restored_files plan.groups (Some plan.names) volumes) (h.0 volumes stands)), h.1, h.2)
+      rw is ((λ volumes stands. piece_is (pool.cause e) (restored_files plan.groups (Some plan.names) volumes) (h.0 volumes stands)), h.1, h.2)
   plan_refused (extract.Io e) fault.Memory is h = ((λ volumes stands. tt), tt, h.2)
   plan_refused (extract.Io e) (fault.Plan why) is h = absurd is
   plan_refused (extract.Io e) (fault.Piece why) is h = absurd is
   plan_refused (extract.Io e) (fault.Io why) is h = ((λ volumes stands. tt), tt, h.2)
 
--- a drive that failed stays one
-pub drive_fault_stays : (e : ExtractFault) (why : ConsoleFault) → BecomesFault e why → fault_number why ≡ Some 13 → engine.fault_number e ≡ Some 13
-drive_fault_stays extract.Memory why is h = ap fault_number (sym is) ∙ h
-drive_fault_stays (extract.Bootstrap e) why is h = absurd is
-drive_fault_stays (extract.Piece e) why is h = ap fault_number (sym is) ∙ h
-drive_fault_stays (extract.Io e) fault.Memory is h = absurd cc
-drive_fault_stays (extract.Io e) (fault.Plan why) is h = absurd is
-drive_fault_stays (extract.Io e) (fault.Piece why) is h = absurd is
-drive_fault_stays (extract.Io e) (fault.Io why) is h = absurd cc
+-- that no drive is left stays so
+pub no_drive_stays : (e : ExtractFault) (why : ConsoleFault) → BecomesFault e why → fault_number why ≡ Some 70 → engine.fault_number e ≡ Some 70
+no_drive_stays extract.Memory why is h = ap fault_number (sym is) ∙ h
+no_drive_stays (extract.Bootstrap e) why is h = absurd is
+no_drive_stays (extract.Piece e) why is h = ap fault_number (sym is) ∙ h
+no_drive_stays (extract.Io e) fault.Memory is h = absurd cc
+no_drive_stays (extract.Io e) (fault.Plan why) is h = absurd is
+no_drive_stays (extract.Io e) (fault.Piece why) is h = absurd is
+no_drive_stays (extract.Io e) (fault.Io why) is h = absurd cc
 
 -- memory that ran out, and a fault of reading or writing, is not the fault of a piece
 pub free_is_no_piece : (why : ConsoleFault) → IsFree why → IsNoPiece why
@@ -225,16 +224,21 @@ unplanned_is_no_piece now after expected (fault.Plan why) h = tt
 unplanned_is_no_piece now after expected (fault.Piece why) h = absurd h
 unplanned_is_no_piece now after expected (fault.Io why) h = tt
 
--- a drive fails in pieces alone
-pub drive_fails_in_piece : (why : ConsoleFault) → IsNoPiece why → fault_number why ≡ Some 13 → ⊥
-drive_fails_in_piece fault.Memory none is = absurd cc
-drive_fails_in_piece (fault.Plan planning.Memory) none is = absurd cc
-drive_fails_in_piece (fault.Plan planning.NoFull) none is = absurd cc
-drive_fails_in_piece (fault.Plan planning.NothingMarked) none is = absurd cc
-drive_fails_in_piece (fault.Plan planning.UnknownClient) none is = absurd cc
-drive_fails_in_piece (fault.Plan planning.UnknownFileSet) none is = absurd cc
-drive_fails_in_piece (fault.Piece why) none is = none
-drive_fails_in_piece (fault.Io why) none is = absurd cc
+-- the number, if there is one
+abbrev number_in : Option ℕ → ℕ
+number_in None = 0
+number_in (Some n) = n
+
+-- no drive is left in pieces alone
+pub no_drive_in_piece : (why : ConsoleFault) → IsNoPiece why → fault_number why ≡ Some 70 → ⊥
+no_drive_in_piece fault.Memory none is = let e : 1 ≡ 70 = ap number_in is in omega (arith, e)
+no_drive_in_piece (fault.Plan planning.Memory) none is = let e : 1 ≡ 70 = ap number_in is in omega (arith, e)
+no_drive_in_piece (fault.Plan planning.NoFull) none is = let e : 50 ≡ 70 = ap number_in is in omega (arith, e)
+no_drive_in_piece (fault.Plan planning.NothingMarked) none is = let e : 51 ≡ 70 = ap number_in is in omega (arith, e)
+no_drive_in_piece (fault.Plan planning.UnknownClient) none is = let e : 53 ≡ 70 = ap number_in is in omega (arith, e)
+no_drive_in_piece (fault.Plan planning.UnknownFileSet) none is = let e : 54 ≡ 70 = ap number_in is in omega (arith, e)
+no_drive_in_piece (fault.Piece why) none is = none
+no_drive_in_piece (fault.Io why) none is = let e : 0 ≡ 70 = ap number_in is in omega (arith, e)
 
 -- ---- the whole
 
@@ -315,7 +319,7 @@ runs_stopped (Some text) earlier later before now after had has history q lines 
         → RefusesRun before after (run_from (begun history q text) volumes) (cause w)
     by_fault volumes fault.Memory h s = tt
     by_fault volumes (fault.Plan w) h s = absurd s
-    by_fault volumes (fault.Piece w) h s = go volumes (piece.cause w) h s
+    by_fault volumes (fault.Piece w) h s = go volumes (pool.cause w) h s
     by_fault volumes (fault.Io w) h s = tt
 
 -- ---- over any drives

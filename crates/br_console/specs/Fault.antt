@@ -4,9 +4,9 @@ use Rattle.std.specs.declared.io.ErrorKind.{ErrorKind}
 use Rattle.std.specs.declared.io.ErrorKind.TheVariants.{OutOfMemory}
 use Rattle.br_model.specs.Text.{refused_line}
 use Rattle.br_model.specs.Meaning as model
-use Rattle.br_match.specs.Fault as piece
 use Rattle.br_plan.specs.Fault as plan
-use Rattle.br_engine.specs.Fault.{piece_text}
+use Rattle.br_pool.specs.Fault as pool
+use Rattle.br_engine.specs.Fault.{pool_text}
 use Rattle.br_console.specs.declared.console_fault.ConsoleFault.{ConsoleFault}
 use Rattle.br_console.specs.declared.console_fault.ConsoleFault.TheVariants.{Memory, Plan, Piece, Io}
 
@@ -15,28 +15,28 @@ pub data Refusal : Type 0 where
   OfPlan : ℕ → Refusal
   OfPiece : model.PieceFault → Refusal
 
--- The refusal that history, lines and volumes decide. There is none if memory ran out, a drive failed, or reading or writing failed.
+-- The refusal that history, lines and volumes decide. There is none if memory ran out, no drive is left, or reading or writing failed.
 abbrev pub cause : ConsoleFault → Option Refusal
 cause Memory = None
 cause (Plan fault) = option_map OfPlan (plan.cause fault)
-cause (Piece fault) = option_map OfPiece (piece.cause fault)
+cause (Piece fault) = option_map OfPiece (pool.cause fault)
 cause (Io fault) = None
 
 -- the number of a refusal; a fault of reading or writing has none
 abbrev pub fault_number : ConsoleFault → Option ℕ
 fault_number Memory = Some 1
 fault_number (Plan fault) = Some (plan.fault_number fault)
-fault_number (Piece fault) = Some (piece.fault_number fault)
+fault_number (Piece fault) = Some (pool.fault_number fault)
 fault_number (Io fault) = None
 
 -- the line of a refusal; a fault of reading or writing has none
 abbrev pub fault_text : ConsoleFault → List ℕ
 fault_text Memory = refused_line 1
 fault_text (Plan fault) = refused_line (plan.fault_number fault)
-fault_text (Piece fault) = piece_text fault
+fault_text (Piece fault) = pool_text fault
 fault_text (Io fault) = []
 
--- anything but the fault of a piece
+-- anything but a refusal of the pieces
 abbrev pub IsNoPiece : ConsoleFault → Type 0
 IsNoPiece Memory = ⊤
 IsNoPiece (Plan fault) = ⊤

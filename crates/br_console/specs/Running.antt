@@ -104,7 +104,7 @@ abbrev pub Shows : ConsoleRun → Answer → Type 0
 Shows run answer = (are_accepted run.lines ≡ answer.is_clean) × EndIs run.end answer.restored
 
 -- The refusal is the expected one, and what is expected was appended to what the writer held. There is no refusal to compare if memory
--- ran out, a drive failed, or reading or writing failed, which may happen at any time.
+-- ran out, no drive is left, or reading or writing failed, which may happen at any time.
 abbrev pub RefusesRun : Option (List ℕ) → Option (List ℕ) → Run → Option Refusal → Type 0
 RefusesRun before after expected None = ⊤
 RefusesRun before after expected (Some why) = (expected.answer ≡ Err why) × Appends before after expected.text
@@ -201,9 +201,9 @@ BecomesFault (extract.Bootstrap e) why = ⊥
 BecomesFault (extract.Piece e) why = why ≡ fault.Piece e
 BecomesFault (extract.Io e) why = IsFree why
 
--- a drive failed
-abbrev pub IsDriveFault : ConsoleFault → Type 0
-IsDriveFault why = fault_number why ≡ Some 13
+-- each drive failed
+abbrev pub IsNoDriveLeft : ConsoleFault → Type 0
+IsNoDriveLeft why = fault_number why ≡ Some 70
 
 -- ---- the files of a run
 

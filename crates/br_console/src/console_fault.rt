@@ -3,9 +3,9 @@ ghost use Rattle.std.specs.IoError.{error_kind};
 ghost use Rattle.br_console.specs.Fault.{fault_number, fault_text, IsStreamFault};
 ghost use Rattle.br_console.specs.declared.console_fault.ConsoleFault.TheVariants.{Memory, Plan, Piece, Io};
 
-use br_engine::{push_piece_line, push_refused_line};
-use br_match::PieceFault;
+use br_engine::{push_pool_line, push_refused_line};
 use br_plan::PlanFault;
+use br_pool::PoolFault;
 use std::alloc::AllocError;
 use std::io::{self, ErrorKind};
 use thiserror::Error;
@@ -18,9 +18,9 @@ pub enum ConsoleFault {
     /// No jobs were chosen, or nothing was marked.
     #[error("{0}")]
     Plan(PlanFault),
-    /// A volume could not be read.
+    /// A volume could not be read, or no drive is left.
     #[error("{0}")]
-    Piece(PieceFault),
+    Piece(PoolFault),
     /// Reading the lines or writing what comes of them failed.
     #[error("{0}")]
     Io(io::Error),
@@ -42,10 +42,10 @@ impl From<PlanFault> for ConsoleFault {
     }
 }
 
-impl From<PieceFault> for ConsoleFault {
+impl From<PoolFault> for ConsoleFault {
     ghost from_gives = { λ fault e. e ≡ Piece fault };
 
-    fn from(fault: PieceFault) -> ConsoleFault {
+    fn from(fault: PoolFault) -> ConsoleFault {
         ConsoleFault::Piece(fault)
     }
 }
@@ -65,7 +65,7 @@ impl From<io::Error> for ConsoleFault {
 
 impl ConsoleFault {
     /// Returns the number of the refusal: 1 out of memory, 50, 53 or 54 no jobs to choose, 51 nothing
-    /// marked, 10 to 14 a volume. A fault of reading or writing is no refusal.
+    /// marked, 10 to 12 and 14 a volume, 70 no drive left. A fault of reading or writing is no refusal.
     pub fn number(&self) -> Option<u32>
         ensures { result ≡ fault_number self.now }
     {
@@ -87,7 +87,7 @@ impl ConsoleFault {
         match self {
             ConsoleFault::Memory => push_refused_line(text, 1),
             ConsoleFault::Plan(fault) => push_refused_line(text, fault.number()),
-            ConsoleFault::Piece(fault) => push_piece_line(text, fault),
+            ConsoleFault::Piece(fault) => push_pool_line(text, fault),
             ConsoleFault::Io(_) => Ok(()),
         }
     }

@@ -1,11 +1,11 @@
 ghost use Rattle.std.specs.Prelude.{◌≡◌, ℕ, Err, IfErr, IfOk};
 ghost use Rattle.br_model.specs.Answer.{Answers};
 ghost use Rattle.br_plan.specs.Fault.{cause};
-ghost use Rattle.br_pool.specs.Pool.{AreDrives, FailsByDrive, StayInPlace};
+ghost use Rattle.br_pool.specs.Pool.{AreDrives, OnlyIfAllFail, StayInPlace};
 ghost use Rattle.br_engine.specs.Fault.{IsNoLine};
 ghost use Rattle.br_engine.specs.Delivering.{CountsFailures};
 ghost use Rattle.br_console.specs.Fault.{IsNoPiece};
-ghost use Rattle.br_console.specs.Running.{BecomesFault, IsDriveFault, WritesPlan, opening};
+ghost use Rattle.br_console.specs.Running.{BecomesFault, IsNoDriveLeft, WritesPlan, opening};
 ghost use Rattle.br_console.specs.Delivering.{BeginsInto, DeliversInto, IfUnchosen, IsViewOfAsked, RunStopIsCounted, RunsInto, TellsInto, plan_for};
 
 use crate::console_fault::ConsoleFault;
@@ -119,7 +119,7 @@ fn console_fault(fault: ExtractFault) -> ConsoleFault
 ///
 /// - `Plan` if the choice is refused (53, 54, 50); then nothing is read or written. Or after the dialogue
 ///   if nothing is marked (51).
-/// - `Piece` after the bootstrap for the first volume that can't be read.
+/// - `Piece` after the bootstrap for the first volume that can't be read, or if no drive is left.
 /// - `Memory` and `Io` as in a session, at any time; then a part of a text may have been written.
 ///
 /// After an error nothing is put into the sink.
@@ -137,7 +137,7 @@ pub fn run_console<R: BufRead + Drop, D: Drive + Send, W: Write + Drop, S: Sink>
     ensures tells { TellsInto (R.remaining reader.old) W.contents out.old out.new asked.now result }
     ensures untouched { IfUnchosen asked.now ((reader.new ≡ reader.old) × (drives.new ≡ drives.old) × (out.new ≡ out.old)) }
     ensures places { StayInPlace D.shows D.failures drives.old.items drives.new.items }
-    ensures failed { FailsByDrive D.failures drives.old.items drives.new.items IsDriveFault result }
+    ensures failed { OnlyIfAllFail D.failures drives.old.items drives.new.items IsNoDriveLeft result }
     ensures sink_counted { CountsFailures S.failures out.old out.new }
     ensures sink_failed { RunStopIsCounted S.failures out.old out.new result }
 {

@@ -270,7 +270,7 @@ Volume=\"B\"\nVolSessionId=1\nVolSessionTime=100\nVolAddr=0-107\nFileIndex=1\n",
 };
 
 const FAILED: Case = Case {
-    run: Err(13),
+    run: Err(70),
     ..NO_VOLUMES
 };
 

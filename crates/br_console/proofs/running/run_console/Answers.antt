@@ -7,7 +7,7 @@ use Rattle.br_pool.proofs.WorkedLaws.{all_kept}
 use Rattle.br_engine.specs.Extracting.{OverVolumes}
 use Rattle.br_engine.specs.Delivering.{Delivers, in_sink}
 use Rattle.br_console.specs.Running.{BeginsOver}
-use Rattle.br_console.proofs.RunLaws.{drive_fails_in_piece, drive_fault_stays, plan_refused, plan_restored, restores_files, restores_undone, runs_refused, runs_restored, runs_stopped, runs_undone, tells_refused, tells_restored, tells_stopped, tells_undone}
+use Rattle.br_console.proofs.RunLaws.{no_drive_in_piece, no_drive_stays, plan_refused, plan_restored, restores_files, restores_undone, runs_refused, runs_restored, runs_stopped, runs_undone, tells_refused, tells_restored, tells_stopped, tells_undone}
 use Rattle.br_console.proofs.running.run_console.Goals as goal
 
 -- ---- before a drive is asked
@@ -43,7 +43,7 @@ returns-in_err-lines-clause-places g c = all_kept g.D.Drive.shows g.D.Drive.fail
 pub returns-in_err-lines-clause-failed : goal.returns-in_err-lines-clause-failed
 returns-in_err-lines-clause-failed g c =
     let p = err_from_is_err_and c.from_residual.result c.from_residual.ensures.1 in
-    rw (p.1, p.2) (λ is. absurd (drive_fails_in_piece c.in_err-lines.field-0.0 c.in_err-lines.ensures.driveless is))
+    rw (p.1, p.2) (λ is. absurd (no_drive_in_piece c.in_err-lines.field-0.0 c.in_err-lines.ensures.driveless is))
 
 -- ---- the dialogue did not end by `done`
 
@@ -157,7 +157,7 @@ pub returns-clause-untouched : goal.returns-clause-untouched
 returns-clause-untouched g c = λ n refused. absurd (c.in_ok-lines.ensures.chosen n refused)
 
 pub returns-clause-failed : goal.returns-clause-failed
-returns-clause-failed g c = λ is. c.in-Err.ensures.failed (drive_fault_stays c.in-Err.fault c.console_fault.result c.console_fault.ensures is)
+returns-clause-failed g c = λ is. c.in-Err.ensures.failed (no_drive_stays c.in-Err.fault c.console_fault.result c.console_fault.ensures is)
 
 -- ---- the files are restored
 
