@@ -7,6 +7,7 @@ use Rattle.br_model.specs.Volume.{Volume, is_above}
 use Rattle.br_model.specs.Meaning.{Piece, PieceFault, Hit, bound_of, is_covered, just_groups, hits_on}
 use Rattle.br_model.proofs.AnswerLaws.{bind_ok}
 use Rattle.br_match.specs.declared.fault.PieceFault as code
+use Rattle.br_match.specs.declared.hit.Batch.{Batch}
 use Rattle.br_match.specs.declared.hit.Found.{Found}
 use Rattle.br_match.specs.Matching.{AnswersPiece, FoundOver}
 use Rattle.br_match.specs.declared.walk.Step.TheVariants.{End}
@@ -27,6 +28,14 @@ uncovered_step volumes piece a h hits near uncovered has =
 pub ends_above : (volumes : List Volume) (piece : Piece) (a : ℕ) (hits : List Hit) → is_above (bound_of (just_groups piece.groups)) a ≡ true
     → Follows volumes piece a → StepAnswers piece a a hits hits (Ok End) volumes
 ends_above volumes piece a hits above follows = (step_above volumes piece a follows above, refl)
+
+-- ---- one block
+
+-- a step that began with no hits gives those of its block
+pub block_given : (volumes : List Volume) (piece : Piece) (a next : ℕ) (before : List Hit) (batch : Batch) → before ≡ [] → IsStep volumes piece a next before batch.hits.items
+    → step_on volumes piece a ≡ Ok (Some (batch.hits.items, next))
+block_given volumes piece a next before batch none step =
+    step.step ∙ ap (λ (hs : List Hit). Ok (Some (hs, next))) (sym (step.pushed ∙ ap (λ (hs : List Hit). hs ++ step.batch) none))
 
 -- ---- the walk
 

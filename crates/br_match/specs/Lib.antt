@@ -3,3 +3,4 @@ pub mod Matching
 pub mod Walk
 pub mod Groups
 pub mod Near
+pub mod Seen

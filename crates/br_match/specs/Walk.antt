@@ -1,5 +1,5 @@
 -- The walk of a piece's volume, block by block, and what holds of it while a drive's volumes grow.
-use Rattle.std.specs.Prelude.{◌≡◌, ℕ, ◌+◌, ◌/◌, ◌<◌, List, [], ◌++◌, length, drop, flat_map, Option, Some, None, option_map, Result, Ok, Err, Bool, true, false, ⊤}
+use Rattle.std.specs.Prelude.{◌≡◌, ℕ, ◌+◌, ◌/◌, ◌^◌, ◌<◌, List, [], ◌++◌, length, drop, flat_map, Option, Some, None, option_map, Result, Ok, Err, ⊤}
 use Rattle.br_model.specs.Answer.{◌>>=◌, some_or, refused_as, IsRefusal, Answers}
 use Rattle.br_model.specs.Block.{Header, read_header}
 use Rattle.br_model.specs.Volume.{Volume, volume_bytes, BlockFault, blocks_from, next_block}
@@ -8,6 +8,7 @@ use Rattle.br_model.specs.Meaning.{Piece, PieceFault, Hit, bound_of, is_covered,
 use Rattle.br_volume.specs.Drive.{bytes_got, bytes_shown}
 use Rattle.br_volume.specs.declared.drive.Got.{Got}
 use Rattle.br_match.specs.declared.fault.PieceFault as code
+use Rattle.br_match.specs.declared.hit.Batch.{Batch}
 use Rattle.br_match.specs.declared.walk.Step.{Step}
 use Rattle.br_match.specs.declared.walk.Step.TheVariants.{Passed, End}
 use Rattle.br_match.specs.Fault.{cause}
@@ -125,6 +126,10 @@ abbrev pub PassesBlock : {D : Type 0} → (D → Option (List Volume)) → D →
 PassesBlock shows earlier later piece address head before after result =
     AfterHead (shows earlier) (shows later) piece address head (BlockAnswers piece address (address + head.size) before after result)
 
+-- a walk went on from an address, below 2 ^ 63, to a greater one
+abbrev pub GoesOn : ℕ → ℕ → Type 0
+GoesOn address next = (address < 2 ^ 63) × (address < next)
+
 -- a step past a block, or the end of the walk
 abbrev pub StepAnswers : Piece → ℕ → ℕ → List Hit → List Hit → Result Step code.PieceFault → List Volume → Type 0
 StepAnswers piece address next before after (Ok Passed) volumes = IsStep volumes piece address next before after
@@ -135,6 +140,18 @@ StepAnswers piece address next before after (Err e) volumes = IsRefusal (cause e
 abbrev pub TakesStep : {D : Type 0} → (D → Option (List Volume)) → D → D → Piece → ℕ → ℕ → List Hit → List Hit → Result Step code.PieceFault → Type 0
 TakesStep shows earlier later piece address next before after result =
     AfterWalk (shows earlier) (shows later) piece address (StepAnswers piece address next before after result)
+
+-- the hits of one block, with the address after it, or the end of the walk
+abbrev pub BlockGiven : Piece → ℕ → ℕ → Result (Option Batch) code.PieceFault → List Volume → Type 0
+BlockGiven piece address next (Ok (Some batch)) volumes = step_on volumes piece address ≡ Ok (Some (batch.hits.items, next))
+BlockGiven piece address next (Ok None) volumes = step_on volumes piece address ≡ Ok None
+BlockGiven piece address next (Err e) volumes = IsRefusal (cause e) (step_on volumes piece address)
+
+-- over the volumes that a drive may be taken to show: the walk gives the hits of its next block, or
+-- is at its end
+abbrev pub GivesBlock : {D : Type 0} → (D → Option (List Volume)) → D → D → Piece → ℕ → ℕ → Result (Option Batch) code.PieceFault → Type 0
+GivesBlock shows earlier later piece address next result =
+    AfterWalk (shows earlier) (shows later) piece address (BlockGiven piece address next result)
 
 -- these hits were found of a piece before its walk came to the address
 pub record IsWalked (volumes : List Volume) (piece : Piece) (address : ℕ) (found : List Hit) : Type 0 where

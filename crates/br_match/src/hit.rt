@@ -53,6 +53,13 @@ impl Model for Hit {
     } };
 }
 
+/// The hits in one block of a piece's volume.
+#[derive(Debug, Drop)]
+pub struct Batch {
+    /// The hits, in order of place in the block.
+    pub hits: Vec<Hit>,
+}
+
 /// What was found of a piece.
 #[derive(Debug, Drop)]
 pub struct Found {

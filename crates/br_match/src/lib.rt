@@ -1,7 +1,7 @@
 //! Matching: the records of one volume that a bootstrap asks for, as a drive finds them.
 //!
-//! `match_piece` walks the volume of a piece and returns the hits. The volumes of the drive may
-//! grow meanwhile.
+//! `match_piece` walks the volume of a piece and returns the hits. `Walk` does the same block by
+//! block: each `Batch` has the hits in one block. The volumes of the drive may grow meanwhile.
 #![tactic(auto)]
 
 mod admitted;
@@ -16,5 +16,6 @@ mod tests;
 mod walk;
 
 pub use fault::{PieceCause, PieceFault};
-pub use hit::{Found, Hit, Spot};
+pub use hit::{Batch, Found, Hit, Spot};
 pub use matching::match_piece;
+pub use walk::Walk;

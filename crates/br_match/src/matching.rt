@@ -5,7 +5,7 @@ ghost use Rattle.br_volume.specs.Drive.{OnlyGrows};
 
 use crate::fault::PieceFault;
 use crate::hit::Found;
-use crate::walk::{Step, Walk};
+use crate::walk::Walk;
 use br_piece::Piece;
 use br_volume::Drive;
 use std::alloc::Global;
@@ -36,7 +36,9 @@ pub fn match_piece<D: Drive>(
     let mut buf = Vec::new(alloc);
     let mut hits = Vec::new(alloc);
     let mut walk = Walk::new(alloc, piece)?;
-    while let Step::Passed = walk.step(alloc, drive, &mut buf, &mut hits)? {}
+    while let Some(mut batch) = walk.next(alloc, drive, &mut buf)? {
+        hits.append(&mut batch.hits)?;
+    }
     Ok(Found {
         piece: piece.number,
         hits,

@@ -550,3 +550,84 @@ fn faults_say_what_is_wrong(rt: HostRuntime) -> Result<(), Fail> {
     assert_eq!(rt; PieceFault::Memory.addr(), None);
     Ok(())
 }
+
+/// Returns the number of hits in a walk's next block; none at its end.
+fn next_len(
+    alloc: Global,
+    walk: &mut Walk<'_>,
+    drive: &mut MemDrive,
+) -> Result<Option<usize>, PieceFault> {
+    let mut buf = Vec::new(alloc);
+    let batch = walk.next(alloc, drive, &mut buf)?;
+    Ok(batch.map(|batch| batch.hits.len()))
+}
+
+/// Returns what a walk of a piece gives from an address on: of five calls the number of hits, -1 at
+/// the end of the walk or the negative number of the refusal, and the address after the call.
+fn steps_of(
+    alloc: Global,
+    bytes: &[u8],
+    piece: &Piece,
+    addr: u64,
+) -> Result<[(i64, u64); 5], Fail> {
+    let mut drive = MemDrive::new(volumes(alloc, bytes)?);
+    let mut walk = Walk::resume(alloc, piece, addr)?;
+    let mut steps = [(0, 0); 5];
+    for step in &mut steps {
+        let count = match next_len(alloc, &mut walk, &mut drive) {
+            Ok(None) => -1,
+            Ok(Some(len)) => i64::try_from(len)?,
+            Err(fault) => -i64::from(fault.number()),
+        };
+        *step = (count, walk.addr());
+    }
+    Ok(steps)
+}
+
+/// Returns the same of the first piece of a case.
+fn steps_in(alloc: Global, case: Case<'_>, addr: u64) -> Result<[(i64, u64); 5], Fail> {
+    let bytes = bytes_of(alloc, case)?;
+    let pieces = pieces_of_text(alloc, case.2)?;
+    let piece = pieces.first().ok_or("a piece")?;
+    steps_of(alloc, &bytes, piece, addr)
+}
+
+/// Returns the address at which a new walk of the first piece of a case begins.
+fn first_address(alloc: Global, case: Case<'_>) -> Result<u64, Fail> {
+    let pieces = pieces_of_text(alloc, case.2)?;
+    let piece = pieces.first().ok_or("a piece")?;
+    Ok(Walk::new(alloc, piece)?.addr())
+}
+
+/// Two blocks, of which all records are asked for, or the data of the second.
+const BOTH_BLOCKS: Case<'static> = (2, 182, b"Volume=V1\n");
+
+const SECOND_BLOCK: Case<'static> = (2, 182, b"Volume=V1\nStream=2\nVolAddr=91-200\n");
+
+/// The second block has not all of its bytes.
+const CUT_OFF: Case<'static> = (2, 181, b"Volume=V1\n");
+
+const END: (i64, u64) = (-1, 182);
+
+const CUT: (i64, u64) = (-12, 91);
+
+#[test]
+fn a_walk_gives_block_by_block(rt: HostRuntime) -> Result<(), Fail> {
+    let alloc = rt.alloc();
+    assert_eq!(rt; first_address(alloc, SECOND_BLOCK)?, 0);
+    assert_eq!(rt;
+        steps_in(alloc, BOTH_BLOCKS, 0)?,
+        [(2, 91), (2, 182), END, END, END]
+    );
+    assert_eq!(rt;
+        steps_in(alloc, BOTH_BLOCKS, 91)?,
+        [(2, 182), END, END, END, END]
+    );
+    assert_eq!(rt;
+        steps_in(alloc, SECOND_BLOCK, 0)?,
+        [(0, 91), (1, 182), END, END, END]
+    );
+    // After a refusal the walk is still before the block.
+    assert_eq!(rt; steps_in(alloc, CUT_OFF, 0)?, [(2, 91), CUT, CUT, CUT, CUT]);
+    Ok(())
+}

@@ -1,18 +1,18 @@
-ghost use Rattle.std.specs.Prelude.{◌≡◌, ◌<◌, ◌≤◌, ◌+◌, ◌^◌, false, true, Ok, IfOk, IfErr, IfSome, option_map};
+ghost use Rattle.std.specs.Prelude.{◌≡◌, ◌<◌, ◌≤◌, ◌+◌, ◌^◌, false, true, None, Ok, IfOk, IfErr, IfSome, option_map};
 ghost use Rattle.std.specs.List.{AllZip};
 ghost use Rattle.br_match.specs.Groups.{AreAlike, all_alike_once};
 ghost use Rattle.br_model.specs.Meaning.{bound_of, is_covered, just_groups};
 ghost use Rattle.br_model.specs.Volume.{is_above};
 ghost use Rattle.br_volume.specs.Drive.{OnlyGrows, IsSized};
 ghost use Rattle.br_match.specs.Fault.{FailsWithDrive, cause_number, fault_number, cause, refusal};
-ghost use Rattle.br_match.specs.Walk.{AfterWalk, HeadAnswers, IsRefusedFor, PassesBlock, ReadsOver, TakesStep, unknown};
+ghost use Rattle.br_match.specs.Walk.{AfterWalk, GivesBlock, GoesOn, HeadAnswers, IsRefusedFor, PassesBlock, ReadsOver, TakesStep, unknown};
 ghost use Rattle.br_volume.specs.Fault as drive;
 ghost use Rattle.br_volume.specs.declared.fault.DriveFault.TheVariants.{Fault};
-ghost use Rattle.br_match.specs.declared.walk.Step.TheVariants.{Passed};
+ghost use Rattle.br_match.specs.declared.walk.Step.TheVariants.{End, Passed};
 
 use crate::block_hits::push_hits;
 use crate::fault::{PieceCause, PieceFault};
-use crate::hit::Hit;
+use crate::hit::{Batch, Hit};
 use crate::matchers::{Matchers, covers_any};
 use br_block::{Block, BlockHead};
 use br_bsr::Group;
@@ -118,7 +118,7 @@ fn bound_for(groups: &[(u32, Group)]) -> Option<u64>
 
 /// The result of a step of a walk.
 #[derive(Clone, Copy, Debug)]
-pub(crate) enum Step {
+enum Step {
     /// The walk passed a block.
     Passed,
     /// The walk is at its end.
@@ -127,7 +127,7 @@ pub(crate) enum Step {
 
 /// A walk of a piece's volume, before the block at its address.
 #[derive(Drop)]
-pub(crate) struct Walk<'p> {
+pub struct Walk<'p> {
     piece: &'p Piece,
     /// The groups of the piece.
     matchers: Matchers,
@@ -139,17 +139,44 @@ pub(crate) struct Walk<'p> {
 }
 
 impl<'p> Walk<'p> {
-    /// Returns a walk before the first block.
-    pub(crate) fn new(alloc: Global, piece: &'p Piece) -> Result<Walk<'p>, AllocError>
-        ensures of { IfOk result (λ walk. walk.piece.now ≡ piece.now) }
-        ensures start { IfOk result (λ walk. walk.addr ≡ 0) }
+    ghost use Rattle.br_match.specs.Seen.{piece_of, address_of};
+
+    /// Returns a walk before the first block of the piece's volume.
+    ///
+    /// # Errors
+    ///
+    /// `AllocError` if memory runs out.
+    pub fn new(alloc: Global, piece: &'p Piece) -> Result<Walk<'p>, AllocError>
+        ensures of { IfOk result (λ walk. piece_of walk ≡ piece.now) }
+        ensures start { IfOk result (λ walk. address_of walk ≡ 0) }
+    {
+        Walk::resume(alloc, piece, 0)
+    }
+
+    /// Returns a walk before the block at this address, in bytes from the start of the volume. An
+    /// earlier walk of the piece has come there.
+    ///
+    /// # Errors
+    ///
+    /// `AllocError` if memory runs out.
+    pub fn resume(alloc: Global, piece: &'p Piece, addr: u64) -> Result<Walk<'p>, AllocError>
+        ensures of { IfOk result (λ walk. piece_of walk ≡ piece.now) }
+        ensures start { IfOk result (λ walk. address_of walk ≡ addr) }
     {
         Ok(Walk {
             piece,
             matchers: Matchers::new(alloc, &piece.groups)?,
             bound: bound_for(&piece.groups),
-            addr: 0,
+            addr,
         })
+    }
+
+    /// Returns the address of the block that the walk is before, in bytes from the start of the
+    /// volume.
+    pub fn addr(&self) -> u64
+        ensures { result ≡ address_of self.now }
+    {
+        self.addr
     }
 
     /// Returns whether the walk ends here, whatever the volume has.
@@ -213,16 +240,18 @@ impl<'p> Walk<'p> {
 
     /// Passes one block and appends its hits, or finds the end of the walk. After a refusal the
     /// walk is still before that block.
-    pub(crate) fn step<D: Drive>(
+    fn step<D: Drive>(
         &mut self,
         alloc: Global,
         drive: &mut D,
         buf: &mut Vec<u8>,
         hits: &mut Vec<Hit>,
     ) -> Result<Step, PieceFault>
-        ensures hits { TakesStep D.shows drive.old drive.new self.old.piece.now self.old.addr self.new.addr hits.old.items hits.new.items result }
+        ensures hits { TakesStep D.shows drive.old drive.new
+            self.old.piece.now self.old.addr self.new.addr hits.old.items hits.new.items result }
         ensures of { self.new.piece.now ≡ self.old.piece.now }
-        ensures nearer { result ≡ Ok Passed → (self.old.addr < 2 ^ 63) × (self.old.addr < self.new.addr) }
+        ensures nearer { result ≡ Ok Passed → GoesOn self.old.addr self.new.addr }
+        ensures ended { result ≡ Ok End → self.new.addr ≡ self.old.addr }
         ensures stays { IfErr result (λ _. self.new.addr ≡ self.old.addr) }
         ensures grows { OnlyGrows (D.shows drive.old) (D.shows drive.new) }
         ensures counted { D.failures drive.old ≤ D.failures drive.new }
@@ -237,5 +266,35 @@ impl<'p> Walk<'p> {
         self.push_block(alloc, drive, head, buf, hits)?;
         self.addr += u64::from(head.size);
         Ok(Step::Passed)
+    }
+
+    /// Passes one block and returns its hits; none at the end of the walk. The buffer is for the
+    /// block's bytes.
+    ///
+    /// # Errors
+    ///
+    /// `BadId`, `BadBlockSize` or `Truncated` with the address of the block, `DriveFault` with the
+    /// address that the walk had come to, `UnknownVolume` with address 0, `Memory` if memory runs
+    /// out. Then the walk is still before that block.
+    pub fn next<D: Drive>(
+        &mut self,
+        alloc: Global,
+        drive: &mut D,
+        buf: &mut Vec<u8>,
+    ) -> Result<Option<Batch>, PieceFault>
+        ensures hits { GivesBlock D.shows drive.old drive.new (piece_of self.old) (address_of self.old) (address_of self.new) result }
+        ensures of { piece_of self.new ≡ piece_of self.old }
+        ensures nearer { IfOk result (λ batch. IfSome batch (λ _. GoesOn (address_of self.old) (address_of self.new))) }
+        ensures ended { result ≡ Ok None → address_of self.new ≡ address_of self.old }
+        ensures stays { IfErr result (λ _. address_of self.new ≡ address_of self.old) }
+        ensures grows { OnlyGrows (D.shows drive.old) (D.shows drive.new) }
+        ensures counted { D.failures drive.old ≤ D.failures drive.new }
+        ensures failed { FailsWithDrive D.failures drive.old drive.new result }
+    {
+        let mut hits = Vec::new(alloc);
+        match self.step(alloc, drive, buf, &mut hits)? {
+            Step::Passed => Ok(Some(Batch { hits })),
+            Step::End => Ok(None),
+        }
     }
 }

@@ -1,4 +1,4 @@
-use Rattle.std.proofs.Common.{◌≡◌, ◌+◌, Ok, Err, Some, true, ap, sym, ◌∙◌}
+use Rattle.std.proofs.Common.{◌≡◌, ◌+◌, Ok, Err, Some, ap, sym, ◌∙◌}
 use Rattle.std.proofs.lemmas.Result.{err_from_is_err_and}
 use Rattle.br_model.specs.Block.{Header}
 use Rattle.br_match.specs.Walk.{AfterWalk, BlockAnswers, Follows, HasHead, HeadAnswers, IsStep, StepAnswers}
