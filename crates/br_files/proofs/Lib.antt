@@ -1,0 +1,4 @@
+pub mod PlaceLaws
+pub mod KeptLaws
+pub mod AppendLaws
+pub mod ReadLaws

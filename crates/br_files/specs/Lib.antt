@@ -1,0 +1,5 @@
+pub mod Tree
+pub mod Calls
+pub mod Read
+pub mod Append
+pub mod Memory

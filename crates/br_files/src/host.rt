@@ -1,0 +1,133 @@
+//! The files of the system. Each method is one call of std: no clause can say what a disk does.
+ghost use Rattle.std.specs.Prelude.{◌≡◌, IfOk};
+
+use crate::disk::Disk;
+use crate::fault::DiskFault;
+use crate::kind::{Found, Kind};
+use crate::path::FilePath;
+use std::alloc::Global;
+use std::fs::{FileType, OpenOptions};
+use std::io::{ErrorKind, Write};
+use std::marker::Model;
+use std::os::unix::fs::{FileExt, OpenOptionsExt};
+use std::rt::Files;
+use std::{fs, io};
+
+/// A disk of the system.
+#[derive(Drop)]
+pub struct HostDisk<F: Files + Drop> {
+    alloc: Global,
+    files: F,
+}
+
+/// An open file, and the path under which it was opened.
+#[derive(Drop)]
+pub struct HostFile<H: Drop> {
+    path: FilePath,
+    file: H,
+}
+
+impl<H: Drop> Model for HostFile<H> {
+    ghost use Rattle.std.specs.Prelude.{List, ℕ};
+
+    ghost Value = { List ℕ };
+
+    ghost view = { λ f. f.path };
+}
+
+impl<F: Files + Drop> HostDisk<F> {
+    /// Returns the disk over which this handle opens files.
+    pub fn new(alloc: Global, files: F) -> HostDisk<F> {
+        HostDisk { alloc, files }
+    }
+
+    /// Opens the file at the path.
+    fn opened(&self, how: &OpenOptions, path: &str) -> Result<HostFile<F::File>, DiskFault>
+        ensures { IfOk result (λ file. file ≡ path.now) }
+    {
+        let kept = FilePath::new(self.alloc, path.as_bytes())?;
+        let file = how.open(&self.files, path).map_err(fault_of)?;
+        Ok(HostFile { path: kept, file })
+    }
+}
+
+/// Returns the fault that stands for an error of the system.
+fn fault_of(error: io::Error) -> DiskFault {
+    match error.kind() {
+        ErrorKind::NotFound => DiskFault::NotFound,
+        ErrorKind::AlreadyExists => DiskFault::Exists,
+        ErrorKind::Interrupted => DiskFault::Interrupted,
+        ErrorKind::OutOfMemory => DiskFault::Memory,
+        _ => DiskFault::Failed,
+    }
+}
+
+fn kind_of(kind: FileType) -> Kind {
+    if kind.is_file() {
+        Kind::File
+    } else if kind.is_dir() {
+        Kind::Folder
+    } else if kind.is_symlink() {
+        Kind::Link
+    } else {
+        Kind::Other
+    }
+}
+
+impl<F: Files + Drop> Disk for HostDisk<F>
+where
+    F::File: FileExt,
+{
+    ghost use Rattle.std.specs.Prelude.{None};
+
+    type File = HostFile<F::File>;
+
+    ghost told = { λ _. None };
+
+    ghost path_of = { λ file. file };
+
+    ghost steady = { λ _. None };
+
+    fn find(&mut self, path: &str) -> Result<Found, DiskFault> {
+        let metadata = fs::metadata(&self.files, path).map_err(fault_of)?;
+        Ok(Found {
+            kind: kind_of(metadata.file_type()),
+            len: metadata.len(),
+        })
+    }
+
+    fn open(&mut self, path: &str) -> Result<HostFile<F::File>, DiskFault> {
+        let mut how = OpenOptions::new();
+        how.read(true);
+        self.opened(&how, path)
+    }
+
+    fn open_to_append(&mut self, path: &str) -> Result<HostFile<F::File>, DiskFault> {
+        let mut how = OpenOptions::new();
+        how.append(true);
+        self.opened(&how, path)
+    }
+
+    fn create(&mut self, path: &str) -> Result<HostFile<F::File>, DiskFault> {
+        let mut how = OpenOptions::new();
+        how.append(true).create_new(true).mode(0o600);
+        self.opened(&how, path)
+    }
+
+    fn is_at(&self, file: &HostFile<F::File>, path: &str) -> bool {
+        file.path.bytes() == path.as_bytes()
+    }
+
+    fn read_at(
+        &mut self,
+        file: &HostFile<F::File>,
+        buf: &mut [u8],
+        at: u64,
+    ) -> Result<usize, DiskFault> {
+        file.file.read_at(buf, at).map_err(fault_of)
+    }
+
+    fn write(&mut self, file: &mut HostFile<F::File>, bytes: &[u8]) -> Result<usize, DiskFault> {
+        file.file.write(bytes).map_err(fault_of)
+    }
+}
