@@ -1,3 +1,4 @@
 mod EscapeLaws
 pub mod KeyLaws
 pub mod PathLaws
+pub mod TextLaws

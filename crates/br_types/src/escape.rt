@@ -52,7 +52,6 @@ pub fn push_hexadecimal(text: &mut Vec<u8>, bytes: &[u8]) -> Result<(), AllocErr
 /// and every other as `\x` and two hexadecimal digits in lower case. `unescape` reads it back.
 ///
 /// If memory runs out, a part of the name may have been appended.
-#[tactic(auto, unfolding(br_model::specs::Text::escaped))]
 pub fn push_escaped(text: &mut Vec<u8>, name: &[u8]) -> Result<(), AllocError>
     ensures ok { OnOk result (text.new.items ≡ text.old.items ++ escaped name.now) }
     ensures err { OnErr result (take (length text.old.items) text.new.items ≡ text.old.items) }
