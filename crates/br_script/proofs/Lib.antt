@@ -1,3 +1,4 @@
+pub mod DriveLaws
 pub mod SpaceLaws
 pub mod SpellingLaws
 pub mod StoreLaws

@@ -1,3 +1,4 @@
 pub mod Spelling
+pub mod Drives
 pub mod Line
 pub mod Store

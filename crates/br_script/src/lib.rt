@@ -1,6 +1,8 @@
 //! Scripts, which fill volumes in memory line by line and run bootstraps over them.
 #![tactic(auto)]
 
+mod borrowed;
+mod drives;
 mod fields;
 mod input;
 mod line;

@@ -1,18 +1,17 @@
 ghost use Rattle.std.specs.Prelude.{◌≡◌, bytes_eq, position, OnOk, OnErr};
-ghost use Rattle.br_pool.specs.Pool.{AreDrives};
 ghost use Rattle.br_volume.specs.Memory.{volumes_of};
+ghost use Rattle.br_script.specs.Line.{drives_after, drives_by, line_said, said};
 ghost use Rattle.br_script.specs.Store.{with_bytes};
 
+use crate::drives::{DriveCount, drives_over};
 use crate::input::{Lines, MAX_TURNS, Reading, no_end};
 use crate::line::{LineFault, MAX_LINE, ScriptLine, read_line};
 use br_bsr::{Bootstrap, read_bootstrap};
 use br_engine::{ExtractFault, Outputs, RestoreEnd, extract};
 use br_sink::MemSink;
 use br_types::VolName;
-use br_volume::MemDrive;
 use std::alloc::{AllocError, Global};
 use std::io::{self, BufRead, Write};
-use std::mem;
 use std::thread::Threads;
 
 /// How a script ended.
@@ -28,6 +27,7 @@ pub enum ScriptEnd {
 #[derive(Drop)]
 struct Script {
     alloc: Global,
+    drives: DriveCount,
     volumes: Vec<(VolName, Vec<u8>)>,
     kept: Option<Bootstrap>,
     end: ScriptEnd,
@@ -103,34 +103,39 @@ fn append(
     }
 }
 
-/// Runs a bootstrap over drives, and writes the manifest.
+/// Runs a bootstrap over the volumes with `count` drives, and writes the manifest.
 fn restore<W: Write>(
     rt: &(impl Threads + Sync),
     alloc: Global,
     bootstrap: &Bootstrap,
-    drives: &mut Vec<MemDrive>,
+    volumes: &[(VolName, Vec<u8>)],
+    count: DriveCount,
     writer: &mut W,
-) -> Result<RestoreEnd, ExtractFault>
-    requires drives { AreDrives drives.old.items }
-{
+) -> Result<RestoreEnd, ExtractFault> {
+    let mut drives = drives_over(alloc, volumes, count)?;
     let mut out = Outputs {
         writer,
         sink: None::<MemSink>,
     };
-    extract(rt, alloc, bootstrap, drives, &mut out)
+    extract(rt, alloc, bootstrap, &mut drives, &mut out)
 }
 
 impl Script {
-    fn new(alloc: Global) -> Script {
+    fn new(alloc: Global) -> Script
+        ensures { result.drives ≡ 1 }
+    {
         Script {
             alloc,
+            drives: DriveCount::one(),
             volumes: Vec::new(alloc),
             kept: None,
             end: ScriptEnd::Clean,
         }
     }
 
-    fn refuse<W: Write>(&mut self, number: u32, writer: &mut W) -> io::Result<()> {
+    fn refuse<W: Write>(&mut self, number: u32, writer: &mut W) -> io::Result<()>
+        ensures { self.new.drives ≡ self.old.drives }
+    {
         self.end = ScriptEnd::Refused;
         writeln!(writer, "refused {number}")
     }
@@ -140,7 +145,9 @@ impl Script {
         fault: LineFault,
         number: u64,
         writer: &mut W,
-    ) -> io::Result<()> {
+    ) -> io::Result<()>
+        ensures { self.new.drives ≡ self.old.drives }
+    {
         match fault {
             LineFault::Memory => self.refuse(1, writer),
             LineFault::BadScript => {
@@ -150,7 +157,9 @@ impl Script {
         }
     }
 
-    fn refuse_extract<W: Write>(&mut self, fault: ExtractFault, writer: &mut W) -> io::Result<()> {
+    fn refuse_extract<W: Write>(&mut self, fault: ExtractFault, writer: &mut W) -> io::Result<()>
+        ensures { self.new.drives ≡ self.old.drives }
+    {
         if let ExtractFault::Io(e) = fault {
             return Err(e);
         }
@@ -164,7 +173,9 @@ impl Script {
         }
     }
 
-    fn append<W: Write>(&mut self, name: VolName, bytes: &[u8], writer: &mut W) -> io::Result<()> {
+    fn append<W: Write>(&mut self, name: VolName, bytes: &[u8], writer: &mut W) -> io::Result<()>
+        ensures { self.new.drives ≡ self.old.drives }
+    {
         match append(self.alloc, &mut self.volumes, name, bytes) {
             Ok(()) => Ok(()),
             Err(_) => self.refuse(44, writer),
@@ -176,7 +187,9 @@ impl Script {
         &mut self,
         lines: &mut Lines<R>,
         writer: &mut W,
-    ) -> io::Result<()> {
+    ) -> io::Result<()>
+        ensures { self.new.drives ≡ self.old.drives }
+    {
         let text = match read_bootstrap_lines(self.alloc, lines)? {
             BootstrapLines::Text(text) => text,
             BootstrapLines::NoMemory => {
@@ -203,19 +216,20 @@ impl Script {
         rt: &(impl Threads + Sync),
         number: u64,
         writer: &mut W,
-    ) -> io::Result<()> {
+    ) -> io::Result<()>
+        ensures { self.new.drives ≡ self.old.drives }
+    {
         let Some(bootstrap) = &self.kept else {
             return self.refuse_line(LineFault::BadScript, number, writer);
         };
-        let Ok(mut drives) = Vec::with_capacity(self.alloc, 1) else {
-            return self.refuse(1, writer);
-        };
-        let volumes = mem::replace(&mut self.volumes, Vec::new(self.alloc));
-        drives.push_reserved(MemDrive::new(volumes));
-        let run = restore(rt, self.alloc, bootstrap, &mut drives, writer);
-        if let Some(drive) = drives.pop() {
-            self.volumes = drive.into_volumes();
-        }
+        let run = restore(
+            rt,
+            self.alloc,
+            bootstrap,
+            &self.volumes,
+            self.drives,
+            writer,
+        );
         match run {
             Ok(RestoreEnd::AllFiles) => Ok(()),
             Ok(RestoreEnd::SomeFaults | RestoreEnd::Stopped(_)) => {
@@ -226,17 +240,39 @@ impl Script {
         }
     }
 
+    /// Does what a line asks for.
+    fn obey<R: BufRead, W: Write>(
+        &mut self,
+        rt: &(impl Threads + Sync),
+        line: ScriptLine,
+        lines: &mut Lines<R>,
+        writer: &mut W,
+    ) -> io::Result<()>
+        ensures { self.new.drives ≡ drives_after (said line) self.old.drives }
+    {
+        match line {
+            ScriptLine::Drives(count) => {
+                self.drives = count;
+                Ok(())
+            }
+            ScriptLine::Volume { name, bytes } => self.append(name, &bytes, writer),
+            ScriptLine::Bsr => self.keep_bootstrap(lines, writer),
+            ScriptLine::Extract => self.run_kept(rt, lines.number(), writer),
+        }
+    }
+
+    /// Carries out a line, or writes why it is refused.
     fn carry_out<R: BufRead, W: Write>(
         &mut self,
         rt: &(impl Threads + Sync),
         line: &[u8],
         lines: &mut Lines<R>,
         writer: &mut W,
-    ) -> io::Result<()> {
+    ) -> io::Result<()>
+        ensures { self.new.drives ≡ drives_by (line_said line.now) self.old.drives }
+    {
         match read_line(self.alloc, line) {
-            Ok(ScriptLine::Volume { name, bytes }) => self.append(name, &bytes, writer),
-            Ok(ScriptLine::Bsr) => self.keep_bootstrap(lines, writer),
-            Ok(ScriptLine::Extract) => self.run_kept(rt, lines.number(), writer),
+            Ok(asked) => self.obey(rt, asked, lines, writer),
             Err(fault) => self.refuse_line(fault, lines.number(), writer),
         }
     }
@@ -244,8 +280,10 @@ impl Script {
 
 /// Runs a script over volumes in memory, and writes its answers.
 ///
-/// `volume NAME HEX` appends bytes to a volume. The lines between `bsr` and `.` are a bootstrap, which is kept until the next one.
-/// `extract` runs the kept bootstrap and writes the manifest. For a line that is refused, `refused N` is written and nothing done.
+/// `drives N` sets the number of drives, 1 to 16; it is 1 before. `volume NAME HEX` appends bytes to a
+/// volume. The lines between `bsr` and `.` are a bootstrap, which is kept until the next one. `extract`
+/// runs the kept bootstrap and writes the manifest. For a line that is refused, `refused N` is written
+/// and nothing done.
 ///
 /// # Errors
 ///

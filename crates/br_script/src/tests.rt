@@ -71,7 +71,8 @@ fn all_answer<R: Abort + AllocGlobal + Threads + Sync>(rt: &R, cases: &[Case]) -
     Ok(())
 }
 
-/// Names of volumes, inputs that end in a bootstrap, and a refused bootstrap that drops the kept one.
+/// Names of volumes, inputs that end in a bootstrap, a refused bootstrap that drops the kept one, and
+/// drives that read a volume that grows.
 const SCRIPTS: &[Case] = &[
     (
         b"volume V\\x201 00\nbsr\nVolume=\"V 1\"\n.\nextract",
@@ -94,6 +95,11 @@ const SCRIPTS: &[Case] = &[
     (
         b"volume V1 -\nbsr\nVolume=\"V1\"\n.\nextract\nextract\nbsr\nFileIndex=1\n.\nextract\n",
         b"total 0 0 0\ntotal 0 0 0\nrefused 30 line 1\nrefused 90 line 10\n",
+        ScriptEnd::Refused,
+    ),
+    (
+        b"drives 2\nvolume V1 -\nbsr\nVolume=V1\n.\nextract\nvolume V1 00\ndrives 3\nextract\n",
+        b"total 0 0 0\nrefused 12 V1 0\n",
         ScriptEnd::Refused,
     ),
 ];
@@ -164,6 +170,23 @@ const REFUSED_LINES: &[&[u8]] = &[
     b"volume V\\y41 00",
     b"volume V\\x5c 00",
     b"volume V1 00\r",
+    b"drives",
+    b"drives ",
+    b"drives 0",
+    b"drives 00",
+    b"drives 17",
+    b"drives 100",
+    b"drives 4294967298",
+    b"drives 18446744073709551618",
+    b"drives x",
+    b"drives 1x",
+    b"drives +2",
+    b"drives -1",
+    b"drives  2",
+    b"drives 2 3",
+    b"drives 2 ",
+    b"drives 2\r",
+    b"Drives 2",
     b"bsr ",
     b".",
 ];
@@ -337,6 +360,50 @@ fn blocks_answer<R: Abort + AllocGlobal + Threads + Sync>(
 fn volumes_are_restored_or_refused(rt: HostRuntime) -> Result<(), Fail> {
     volumes_answer(&rt, VOLUMES)?;
     blocks_answer(&rt, BLOCKS)
+}
+
+/// Lines before a script that set the number of drives, the last of them to 1, 2, 3 and 16.
+const DRIVES: &[&[u8]] = &[
+    b"",
+    b"drives 1\n",
+    b"drives 2\n",
+    b"drives 16\ndrives 3\n",
+    b"drives 16\n",
+    b"drives 00000000000000000000000000016\n",
+];
+
+/// Lines after the digits of V1: two more volumes, each a block with one record, and a bootstrap of
+/// all three.
+const TWO_MORE: &[u8] =
+    b"\nvolume V2 000000000000002400000000424230320000000300000064000000050000000a00000000\n\
+    volume V3 000000000000002400000000424230320000000400000064000000020000000a00000000\n\
+    bsr\nVolume=V3\nVolume=V1\nVolume=V2\n.\nextract\n";
+
+/// What is written of the three volumes.
+const OF_THREE: &[u8] =
+    b"F 1 100 1 3 /a 0,0,33188,1,0,0,0,5,0,0,0,0,0,0 = 5 5d41402abc4b2a76b9719d911017c592\n\
+    X 3 100 5 63\nX 4 100 2 63\ntotal 1 2 0\n";
+
+/// Asserts what is written of three volumes after these lines.
+fn three_answer<R: Abort + AllocGlobal + Threads + Sync>(
+    rt: &R,
+    lines: &[u8],
+    digits: &[u8],
+) -> Result<(), Fail> {
+    let mut script = Vec::from_slice(rt.alloc(), lines)?;
+    for part in [b"volume V1 ", digits, TWO_MORE] {
+        script.extend_from_slice(part)?;
+    }
+    answers(rt, &script, OF_THREE, ScriptEnd::Refused)
+}
+
+#[test]
+fn any_number_of_drives_restores_the_same(rt: HostRuntime) -> Result<(), Fail> {
+    let digits = block(rt.alloc(), SOUND)?;
+    for lines in DRIVES {
+        three_answer(&rt, lines, &digits)?;
+    }
+    Ok(())
 }
 
 /// Asserts that each part of a block is refused.
