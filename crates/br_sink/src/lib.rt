@@ -10,21 +10,13 @@ mod disk;
 mod fault;
 mod folder_files;
 mod folder_sink;
-#[cfg(test)]
-mod folder_tests;
 mod line;
 mod mem_sink;
 mod report;
 mod sink;
-#[cfg(test)]
-mod sink_tests;
-#[cfg(test)]
-mod tests;
 mod text;
 mod ways;
 mod window;
-#[cfg(test)]
-mod window_tests;
 mod writing;
 
 pub use br_join::Item;

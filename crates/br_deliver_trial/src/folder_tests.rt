@@ -1,7 +1,7 @@
-use super::*;
+use crate::manifest_tests::item;
 use crate::sink_tests::{Shape, Stop, ZEROS, file, files, refusal, stop_of};
-use crate::tests::item;
 use br_join::Outcome;
+use br_sink::{FolderSink, Sink, deliver};
 use br_types::FileKey;
 use std::os::unix::fs::symlink;
 use std::test::Fail;
@@ -12,7 +12,7 @@ use std::{env, fs, process};
 pub(crate) fn new_folder(rt: &HostRuntime, name: &str) -> Result<String, Fail> {
     let temporary = env::temp_dir(rt)?;
     let id = process::id(rt.process());
-    let folder = format!(in rt.alloc(); "{}/br_sink_{name}_{id}", temporary.display())?;
+    let folder = format!(in rt.alloc(); "{}/br_deliver_trial_{name}_{id}", temporary.display())?;
     fs::create_dir(rt, folder.as_str())?;
     Ok(folder)
 }
@@ -188,7 +188,8 @@ fn refused(rt: &HostRuntime, path: &str) -> u32 {
     }
 }
 
-/// The refusals of a folder that is empty, of it with a file a, of that file, and of a folder that is not there.
+/// The refusals of a folder that is empty, of it with a file a, of that file, and of a folder that
+/// is not there.
 fn refusals(rt: &HostRuntime, folder: &str) -> Result<[u32; 4], Fail> {
     let inside = format!(in rt.alloc(); "{folder}/a")?;
     let empty = refused(rt, folder);
@@ -345,7 +346,8 @@ fn path_of_many(rt: &HostRuntime, number: u32) -> Result<String, Fail> {
     Ok(format!(in rt.alloc(); "/d{}/f{number}", number % 4)?)
 }
 
-/// The bytes of one of many files: each fifth is large enough that its window is written in threads.
+/// The bytes of one of many files: each fifth is large enough that its window is written in
+/// threads.
 fn bytes_of_many(rt: &HostRuntime, number: u32) -> Result<Vec<u8>, Fail> {
     let [low, ..] = number.to_le_bytes();
     let len = if number % 5 == 0 {
@@ -372,6 +374,16 @@ fn many_files(rt: &HostRuntime) -> Result<Vec<(FileKey, Outcome)>, Fail> {
     Ok(all)
 }
 
+/// Delivers many files into a folder, and returns the stop.
+fn stop_of_many(
+    rt: &HostRuntime,
+    threads: &(impl Threads + Sync),
+    folder: &str,
+) -> Result<Stop, Fail> {
+    let outcomes = many_files(rt)?;
+    stop_in(rt, threads, folder, &outcomes)
+}
+
 /// Returns if one of many files is in a folder.
 fn has_one_of_many(rt: &HostRuntime, folder: &str, number: u32) -> Result<bool, Fail> {
     let path = path_of_many(rt, number)?;
@@ -392,8 +404,7 @@ fn first_missing(rt: &HostRuntime, folder: &str) -> Result<Option<u32>, Fail> {
 #[test]
 fn many_files_come_out_whole(rt: HostRuntime) -> Result<(), Fail> {
     let folder = new_folder(&rt, "many")?;
-    let outcomes = many_files(&rt)?;
-    assert_eq!(rt; stop_in(&rt, &rt, folder.as_str(), &outcomes)?, None);
+    assert_eq!(rt; stop_of_many(&rt, &rt, folder.as_str())?, None);
     assert_eq!(rt; first_missing(&rt, folder.as_str())?, None);
     fs::remove_dir_all(&rt, folder.as_str())?;
     Ok(())

@@ -1,6 +1,6 @@
-use super::*;
-use crate::tests::{fault, item, key, whole_item};
-use br_join::Outcome;
+use crate::manifest_tests::{fault, item, key, whole_item};
+use br_join::{Item, Outcome};
+use br_sink::{MemSink, Report, Sink, SinkFault, SinkStop, deliver};
 use br_types::FileKey;
 use std::alloc::Global;
 use std::test::Fail;
@@ -88,8 +88,8 @@ fn delivered_at(
     delivered(threads, rt.alloc(), &outcomes, (k, paths))
 }
 
-/// The put at which a sink fails, if not 0, the paths of the files that are delivered into it, and what it
-/// gets of them.
+/// The put at which a sink fails, if not 0, the paths of the files that are delivered into it, and
+/// what it gets of them.
 const DELIVERIES: &[(u64, &[&[u8]], Delivered)] = &[
     // A file on the way of another.
     (0, &[b"/a", b"/a/b"], (1, Some((81, 1)))),

@@ -1,6 +1,6 @@
-use super::*;
 use br_attr::Stat;
-use br_join::{FileBytes, Outcome};
+use br_join::{FileBytes, Item, Outcome};
+use br_sink::{Report, manifest, totals};
 use br_types::{FileIndex, FileKey, Path, SessionKey};
 use std::test::Fail;
 
