@@ -1,0 +1,2 @@
+pub mod FolderLaws
+pub mod StoreLaws
