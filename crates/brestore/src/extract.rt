@@ -3,8 +3,9 @@ ghost use Rattle.std.specs.Prelude.{◌≡◌, ◌<◌, ◌≤◌, length, IfOk}
 ghost use Rattle.brestore.specs.Ending.{run_refusal, run_status};
 
 use br_engine::{ExtractFault, Outputs, RestoreEnd, extract_text};
+use br_files::HostDisk;
+use br_folder::FolderDrive;
 use br_sink::{FolderFault, FolderSink};
-use br_volume::FolderDrive;
 use std::alloc::{AllocError, Global};
 use std::fs;
 use std::io::{self, BufWriter, ErrorKind};
@@ -87,7 +88,7 @@ pub(crate) fn drives_over<'r>(
     rt: &'r HostRuntime,
     volumes: &str,
     count: usize,
-) -> Result<Vec<FolderDrive<&'r HostRuntime>>, AllocError>
+) -> Result<Vec<FolderDrive<HostDisk<&'r HostRuntime>>>, AllocError>
     ensures many { IfOk result (λ drives. length drives.items ≡ count) }
 {
     let mut drives = Vec::with_capacity(rt.alloc(), count)?;
