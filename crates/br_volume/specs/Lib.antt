@@ -3,4 +3,3 @@ pub mod Drive
 pub mod Memory
 pub mod Store
 pub mod MemStore
-pub mod Folder

@@ -17,8 +17,8 @@ pub enum Got {
 
 /// A reader of volumes, by name and address.
 pub trait Drive {
-    /// The volumes that the drive shows, if it tells them. A drive over memory does, a drive over a
-    /// folder does not.
+    /// The volumes that the drive shows, if it tells them. A drive over memory does, one over the
+    /// system's files does not.
     ghost shows: { Self → Option (List Volume) };
 
     /// The number of calls that have failed.

@@ -7,8 +7,8 @@ use br_types::VolName;
 
 /// A writer that appends to volumes, by name.
 pub trait VolumeStore {
-    /// The volumes that the store has, if it tells them. A store over memory does, a store over a
-    /// folder does not.
+    /// The volumes that the store has, if it tells them. A store over memory does, one over the
+    /// system's files does not.
     ghost holds: { Self → Option (List Volume) };
 
     /// The number of calls that have failed.
