@@ -25,6 +25,14 @@ begun pieces names = record {
 abbrev pub taken : Joining → ℕ → List Hit → Joining
 taken j piece found = record { pieces = insert j.pieces piece true; names = j.names; hits = with_hits j.hits found }
 
+-- the joiner with more hits, its pieces as they were
+abbrev pub with_batch : Joining → List Hit → Joining
+with_batch j batch = record { pieces = j.pieces; names = j.names; hits = with_hits j.hits batch }
+
+-- the joiner with this piece closed
+abbrev pub with_closed : Joining → ℕ → Joining
+with_closed j piece = record { pieces = insert j.pieces piece true; names = j.names; hits = j.hits }
+
 -- whether all pieces are closed
 abbrev pub is_ready : Joining → Bool
 is_ready j = list_all (λ (p : ℕ × Bool). p.1) (entries j.pieces)

@@ -5,14 +5,14 @@ ghost use Rattle.std.specs.Ordering.{nat_cmp};
 ghost use Rattle.std.specs.FinMap as finite;
 ghost use Rattle.br_model.specs.Restored.{files, planned_in};
 ghost use Rattle.br_join.specs.Outcome.{restored};
-ghost use Rattle.br_join.specs.Joining.{begun, taken, is_ready, emptied};
+ghost use Rattle.br_join.specs.Joining.{begun, taken, with_batch, with_closed, is_ready, emptied};
 ghost use Rattle.br_join.specs.Pieces.{as_map, opens};
 ghost use Rattle.br_join.specs.declared.fault.JoinFault.TheVariants.{StrangerPiece};
 
 use crate::fault::{JoinFault, Refused};
 use crate::item::Outcome;
 use crate::runs::{files_of, settle};
-use br_match::{Found, Hit};
+use br_match::{Batch, Found, Hit};
 use br_piece::Piece;
 use br_types::{FileKey, Names};
 use std::alloc::{AllocError, Global};
@@ -79,16 +79,16 @@ fn open_again(pieces: &mut BTreeMap<u32, bool>)
     });
 }
 
-/// Moves what was found to the end of the hits, or returns it if there is no room.
-fn gather(hits: &mut Vec<Hit>, found: Found) -> Result<(), Found>
-    ensures ok { OnOk result (hits.new.items ≡ hits.old.items ++ found.hits.items) }
+/// Moves some hits to the end of the hits, or returns them if there is no room.
+fn gather(hits: &mut Vec<Hit>, batch: Batch) -> Result<(), Batch>
+    ensures ok { OnOk result (hits.new.items ≡ hits.old.items ++ batch.hits.items) }
     ensures err { OnErr result (hits.new.items ≡ hits.old.items) }
-    ensures back { IfErr result (λ value. value ≡ found) }
+    ensures back { IfErr result (λ value. value ≡ batch) }
 {
-    if hits.reserve(found.hits.len()).is_err() {
-        return Err(found);
+    if hits.reserve(batch.hits.len()).is_err() {
+        return Err(batch);
     }
-    let mut more = found.hits;
+    let mut more = batch.hits;
     // There is room.
     let _ = hits.append(&mut more);
     Ok(())
@@ -137,11 +137,64 @@ impl Joiner {
             });
         }
         let piece = found.piece;
-        if let Err(value) = gather(&mut self.hits, found) {
+        if let Err(batch) = gather(&mut self.hits, Batch { hits: found.hits }) {
+            return Err(Refused {
+                value: Found {
+                    piece,
+                    hits: batch.hits,
+                },
+                fault: JoinFault::Memory,
+            });
+        }
+        close(&mut self.pieces, piece);
+        Ok(())
+    }
+
+    /// Takes the hits in a block of a piece, which stays as it is, open or closed. A hit at a place
+    /// of a file that was taken already changes nothing. The hits are moved, and their bytes are not
+    /// copied.
+    ///
+    /// # Errors
+    ///
+    /// `StrangerPiece` if the number is not that of one of the pieces, `Memory` if memory runs out.
+    /// Then the joiner is unchanged, and the batch is returned with the fault.
+    pub fn take_batch(&mut self, piece: u32, batch: Batch) -> Result<(), Refused<Batch>>
+        ensures ok { OnOk result (self.new ≡ with_batch self.old batch.hits.items) }
+        ensures err { OnErr result (self.new ≡ self.old) }
+        ensures back { IfErr result (λ refused. refused.value ≡ batch) }
+        ensures stranger { finite.get self.old.pieces piece ≡ None → IfErr result (λ refused. refused.fault ≡ StrangerPiece) }
+        ensures known { IfErr result (λ refused. refused.fault ≡ StrangerPiece → finite.get self.old.pieces piece ≡ None) }
+        ensures refused { finite.get self.old.pieces piece ≡ None → IsErr result }
+    {
+        if !self.pieces.contains_key(&piece) {
+            let fault = JoinFault::StrangerPiece;
+            return Err(Refused {
+                value: batch,
+                fault,
+            });
+        }
+        if let Err(value) = gather(&mut self.hits, batch) {
             return Err(Refused {
                 value,
                 fault: JoinFault::Memory,
             });
+        }
+        Ok(())
+    }
+
+    /// Closes a piece. The caller knows that all hits of the piece were taken.
+    ///
+    /// # Errors
+    ///
+    /// `StrangerPiece` if the number is not that of one of the pieces. Then the joiner is unchanged.
+    pub fn close_piece(&mut self, piece: u32) -> Result<(), JoinFault>
+        ensures ok { OnOk result (self.new ≡ with_closed self.old piece) }
+        ensures err { OnErr result (self.new ≡ self.old) }
+        ensures stranger { IfErr result (λ fault. (fault ≡ StrangerPiece) × (finite.get self.old.pieces piece ≡ None)) }
+        ensures refused { finite.get self.old.pieces piece ≡ None → IsErr result }
+    {
+        if !self.pieces.contains_key(&piece) {
+            return Err(JoinFault::StrangerPiece);
         }
         close(&mut self.pieces, piece);
         Ok(())

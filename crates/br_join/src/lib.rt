@@ -1,7 +1,7 @@
 //! Joining: from the fragments that were found to the files that they make.
 //!
-//! `Joiner` gathers what drives find of the pieces of a bootstrap, and makes an `Outcome` of each
-//! file.
+//! `Joiner` gathers what drives find of the pieces of a bootstrap, piece by piece or block by block,
+//! and makes an `Outcome` of each file.
 #![tactic(auto)]
 
 mod data;

@@ -1,7 +1,8 @@
 use super::Joiner;
+use crate::fault::JoinFault;
 use crate::item::{Item, Outcome};
 use br_bsr::read_bootstrap;
-use br_match::{Found, Hit, Spot};
+use br_match::{Batch, Found, Hit, Spot};
 use br_piece::{Piece, split};
 use br_types::{FileIndex, FileKey, Names, Path, SessionKey};
 use md5::{Digest, Md5};
@@ -352,5 +353,58 @@ fn many_files(rt: &(impl Threads + Sync), alloc: Global) -> Result<Vec<(FileKey,
 fn many_files_come_in_order_with_their_own_bytes(rt: HostRuntime) -> Result<(), Fail> {
     let files = many_files(&rt, rt.alloc())?;
     assert_eq!(rt; wrong_of_many(rt.alloc(), &files)?, None);
+    Ok(())
+}
+
+/// Takes the hits of a piece as one batch, which must not be refused.
+fn take_batch(alloc: Global, joiner: &mut Joiner, (piece, rows): Step<'_>) -> Result<(), Fail> {
+    let hits = found(alloc, piece, rows)?.hits;
+    Ok(
+        joiner
+            .take_batch(piece, Batch { hits })
+            .map_err(|refused| refused.fault)?,
+    )
+}
+
+/// Returns whether a joiner is ready after the batches of both pieces, after the first is closed,
+/// and after both are.
+fn readiness_by_closing(alloc: Global, joiner: &mut Joiner) -> Result<[bool; 3], Fail> {
+    take_batch(alloc, joiner, (1, OF_B))?;
+    take_batch(alloc, joiner, (0, OF_A))?;
+    take_batch(alloc, joiner, (1, OF_B))?;
+    let taken = joiner.ready();
+    joiner.close_piece(0)?;
+    let between = joiner.ready();
+    joiner.close_piece(1)?;
+    Ok([taken, between, joiner.ready()])
+}
+
+#[test]
+fn batches_are_taken_and_then_their_pieces_closed(rt: HostRuntime) -> Result<(), Fail> {
+    let mut joiner = new_joiner(rt.alloc(), None)?;
+    assert_eq!(rt;
+        readiness_by_closing(rt.alloc(), &mut joiner)?,
+        [false, false, true]
+    );
+    let files = finished(&rt, rt.alloc(), &mut joiner)?;
+    assert_eq!(rt; wrong_file(rt.alloc(), &files, BOTH)?, None);
+    Ok(())
+}
+
+/// Returns the number of the refusal of a batch of the piece 2, and of its hits that come back.
+fn refused_batch(alloc: Global, joiner: &mut Joiner) -> Result<Option<(u32, usize)>, Fail> {
+    let hits = found(alloc, 2, OF_A)?.hits;
+    match joiner.take_batch(2, Batch { hits }) {
+        Ok(()) => Ok(None),
+        Err(refused) => Ok(Some((refused.fault.number(), refused.value.hits.len()))),
+    }
+}
+
+#[test]
+fn a_batch_of_another_piece_comes_back(rt: HostRuntime) -> Result<(), Fail> {
+    let mut joiner = new_joiner(rt.alloc(), None)?;
+    assert_eq!(rt; refused_batch(rt.alloc(), &mut joiner)?, Some((58, 3)));
+    assert_eq!(rt; joiner.close_piece(2).err(), Some(JoinFault::StrangerPiece));
+    assert!(rt; !joiner.ready());
     Ok(())
 }
