@@ -1,7 +1,8 @@
 use crate::manifest_tests::item;
 use crate::sink_tests::{Shape, Stop, ZEROS, file, files, refusal, stop_of};
+use br_folder_sink::FolderSink;
 use br_join::Outcome;
-use br_sink::{FolderSink, Sink, deliver};
+use br_sink::{Sink, deliver};
 use br_types::FileKey;
 use std::os::unix::fs::symlink;
 use std::test::Fail;

@@ -1,7 +1,8 @@
 use crate::folder_tests::new_folder;
 use crate::sink_tests::{Shape, Stop, file, stop_of};
+use br_folder_sink::FolderSink;
 use br_join::Outcome;
-use br_sink::{FolderSink, Sink};
+use br_sink::Sink;
 use br_types::FileKey;
 use std::alloc::Allocator;
 use std::fs::{File, Metadata, OpenOptions};

@@ -2,11 +2,12 @@
 use br_attr::Stat;
 use br_bsr::read_bootstrap;
 use br_engine::{Outputs, RestoreEnd, extract_text};
+use br_folder_sink::FolderSink;
 use br_join::Joiner;
 use br_match::match_piece;
 use br_piece::{Piece, split};
 use br_session::{Place, SavedFile, write_session};
-use br_sink::{FolderSink, manifest};
+use br_sink::manifest;
 use br_types::{Path, SessionKey, VolName};
 use br_volume::{MemDrive, MemStore, VolumeStore};
 use std::alloc::Global;

@@ -3,8 +3,6 @@ use Rattle.std.specs.Prelude.{ℕ}
 use Rattle.br_model.specs.File as model
 use Rattle.br_sink.specs.declared.fault.SinkFault.{SinkFault}
 use Rattle.br_sink.specs.declared.fault.SinkFault.TheVariants as sink
-use Rattle.br_sink.specs.declared.fault.FolderFault.{FolderFault}
-use Rattle.br_sink.specs.declared.fault.FolderFault.TheVariants as folder
 use Rattle.br_sink.specs.declared.fault.StopCause.{StopCause}
 use Rattle.br_sink.specs.declared.fault.StopCause.TheVariants as stop
 
@@ -12,11 +10,6 @@ use Rattle.br_sink.specs.declared.fault.StopCause.TheVariants as stop
 abbrev pub fault_number : SinkFault → ℕ
 fault_number sink.Memory = 1
 fault_number sink.Fault = 80
-
--- of a folder
-abbrev pub folder_fault_number : FolderFault → ℕ
-folder_fault_number folder.Memory = 1
-folder_fault_number folder.NotEmpty = 81
 
 -- of a delivery
 abbrev pub cause_number : StopCause → ℕ

@@ -3,5 +3,3 @@ pub mod Sink
 pub mod MemSink
 pub mod Ways
 pub mod Delivery
-pub mod Folder
-pub mod Window

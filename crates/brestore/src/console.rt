@@ -6,11 +6,11 @@ use crate::extract::{BAD_STREAM, CLEAN, Ending, REFUSED, drives_over, sink_over}
 use br_command::ConsoleOptions;
 use br_console::{ConsoleFault, ConsoleRun, End, JobSelection, Lines, run_console};
 use br_engine::{Outputs, RestoreEnd};
+use br_folder_sink::{FolderFault, FolderSink};
 use br_history::History;
 use br_plan::Request;
 use br_request::{RequestFault, read_request};
 use br_rows::StoreFault;
-use br_sink::{FolderFault, FolderSink};
 use br_store::Store;
 use sqlite::Connection;
 use std::alloc::{AllocError, Global};

@@ -5,7 +5,7 @@ ghost use Rattle.brestore.specs.Ending.{run_refusal, run_status};
 use br_engine::{ExtractFault, Outputs, RestoreEnd, extract_text};
 use br_files::HostDisk;
 use br_folder::FolderDrive;
-use br_sink::{FolderFault, FolderSink};
+use br_folder_sink::{FolderFault, FolderSink};
 use std::alloc::{AllocError, Global};
 use std::fs;
 use std::io::{self, BufWriter, ErrorKind};

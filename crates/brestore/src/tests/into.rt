@@ -1,7 +1,7 @@
 //! Deliveries into a folder, from volumes in a folder.
 use crate::extract::{Ending, REFUSED, drives_over, ending_of, extract_files};
 use br_engine::{Outputs, extract_text};
-use br_sink::FolderSink;
+use br_folder_sink::FolderSink;
 use std::test::Fail;
 use std::thread::Threads;
 use std::{env, fs, process};

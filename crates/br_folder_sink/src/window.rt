@@ -1,11 +1,11 @@
 //! Files that were made on disk one after another, and are written in threads.
 ghost use Rattle.std.specs.Prelude.{◌≡◌, ℕ, ◌<◌, [], IfErr};
 ghost use Rattle.br_sink.specs.Delivery.{IsStopBelow};
-ghost use Rattle.br_sink.specs.Window.{AreBelow};
+ghost use Rattle.br_folder_sink.specs.Window.{AreBelow};
 
 use crate::disk::fault_of;
-use crate::fault::{SinkFault, SinkStop};
 use br_join::Item;
+use br_sink::{SinkFault, SinkStop};
 use std::alloc::{AllocError, Global};
 use std::io::Write;
 use std::thread;

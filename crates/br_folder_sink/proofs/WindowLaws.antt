@@ -1,7 +1,7 @@
 -- Files that are held open.
 use Rattle.std.proofs.Common.{ℕ, ◌≤◌, List, arith, Result, Ok, Err, OnOk}
-use Rattle.br_sink.specs.Window.{AreBelow}
-use Rattle.br_sink.specs.declared.window.Made.{Made}
+use Rattle.br_folder_sink.specs.Window.{AreBelow}
+use Rattle.br_folder_sink.specs.declared.window.Made.{Made}
 
 -- what stands below a place stands below a later one
 pub below_more : {W : Type 0} (m n : ℕ) (made : List (Made W)) → m ≤ n → AreBelow m made → AreBelow n made

@@ -1,8 +1,8 @@
 use Rattle.std.proofs.Common.{◌≡◌, ◌≤◌, length, take, All}
 use Rattle.br_sink.specs.Delivery.{items_in}
-use Rattle.br_sink.specs.Folder.{HasName, HasText}
-use Rattle.br_sink.specs.Window.{AreBelow}
-use Rattle.br_sink.proofs.folder_sink.FolderSink.put_each.Given as goal
+use Rattle.br_folder_sink.specs.FolderSink.{HasName, HasText}
+use Rattle.br_folder_sink.specs.Window.{AreBelow}
+use Rattle.br_folder_sink.proofs.folder_sink.FolderSink.put_each.Given as goal
 
 -- the files so far are counted, and those that are held open stand among them
 abbrev pub invariant-loop-outcome : goal.invariant-loop-outcome

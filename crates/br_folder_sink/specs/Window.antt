@@ -1,6 +1,6 @@
 -- Files that were made on disk and are not written yet.
 use Rattle.std.specs.Prelude.{ℕ, ◌<◌, List, All}
-use Rattle.br_sink.specs.declared.window.Made.{Made}
+use Rattle.br_folder_sink.specs.declared.window.Made.{Made}
 
 -- each of them stands at a place below this one
 abbrev pub AreBelow : {W : Type 0} → ℕ → List (Made W) → Type 0

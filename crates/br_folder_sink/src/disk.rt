@@ -1,6 +1,6 @@
 //! Files and folders on disk.
-use crate::fault::SinkFault;
 use br_join::FileBytes;
+use br_sink::SinkFault;
 use std::fs::OpenOptions;
 use std::io::ErrorKind;
 use std::rt::Files;

@@ -4,14 +4,14 @@ ghost use Rattle.std.specs.Str.{IsUtf8};
 ghost use Rattle.br_model.specs.File.{has_bytes};
 ghost use Rattle.br_model.specs.Name.{is_directory};
 ghost use Rattle.br_sink.specs.Delivery.{IsStopBelow, items_in};
-ghost use Rattle.br_sink.specs.Folder.{HasName, HasText, is_on_disk};
-ghost use Rattle.br_sink.specs.Window.{AreBelow};
+ghost use Rattle.br_folder_sink.specs.FolderSink.{HasName, HasText, is_on_disk};
+ghost use Rattle.br_folder_sink.specs.Window.{AreBelow};
 
 use crate::disk::make_file;
-use crate::fault::{SinkFault, SinkStop};
 use crate::folder_sink::FolderSink;
 use crate::window::{Made, Window};
 use br_join::{Item, Outcome};
+use br_sink::{SinkFault, SinkStop};
 use br_types::FileKey;
 use std::fs;
 use std::fs::File;

@@ -4,11 +4,11 @@ use Rattle.std.proofs.lemmas.Result.{err_from_is_err_and}
 use Rattle.br_model.specs.File.{Item}
 use Rattle.br_sink.specs.Delivery.{items_in}
 use Rattle.std.proofs.lemmas.List.Elements.{All-push}
-use Rattle.br_sink.specs.Folder.{HasName, HasText}
+use Rattle.br_folder_sink.specs.FolderSink.{HasName, HasText}
 use Rattle.br_sink.proofs.DeliveryLaws.{items_at, items_file, items_fault, items_one_more, some_behind}
-use Rattle.br_sink.proofs.WindowLaws.{below_more, on_ok_known}
-use Rattle.br_sink.proofs.folder_sink.FolderSink.put_each.Goals as goal
-use Rattle.br_sink.proofs.folder_sink.FolderSink.put_each.Goals.{in-File+in_ok-put_next, in_default}
+use Rattle.br_folder_sink.proofs.WindowLaws.{below_more, on_ok_known}
+use Rattle.br_folder_sink.proofs.folder_sink.FolderSink.put_each.Goals as goal
+use Rattle.br_folder_sink.proofs.folder_sink.FolderSink.put_each.Goals.{in-File+in_ok-put_next, in_default}
 
 pub returns-in_err-put_next-clause-stopped : goal.returns-in_err-put_next-clause-stopped
 returns-in_err-put_next-clause-stopped g c =
