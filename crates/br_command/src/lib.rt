@@ -1,8 +1,6 @@
 //! The command line of the program, read by clap: its commands and options, and what the words of a command line ask for.
 #![tactic(auto)]
 
-#[cfg(test)]
-mod tests;
 mod words;
 
 pub use words::{ConsoleOptions, ExtractOptions, Invocation, read_words};

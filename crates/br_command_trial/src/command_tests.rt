@@ -1,4 +1,4 @@
-use crate::words::{ConsoleOptions, ExtractOptions, Invocation, read_words};
+use br_command::{ConsoleOptions, ExtractOptions, Invocation, read_words};
 use clap::error::ErrorKind;
 use std::alloc::Global;
 use std::test::Fail;
