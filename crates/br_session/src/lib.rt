@@ -14,8 +14,6 @@ mod indexes;
 mod lengths;
 mod order;
 mod packing;
-#[cfg(test)]
-mod packing_tests;
 mod place;
 mod records;
 mod saved;
@@ -29,6 +27,3 @@ pub use place::Place;
 pub use saved::SavedFile;
 pub use span::Span;
 pub use write::{Written, write_session};
-
-#[cfg(test)]
-mod tests;

@@ -1,8 +1,9 @@
+//! Which records are packed into which blocks.
 ghost use Rattle.std.specs.Prelude.{◌≡◌, ◌≤◌, ◌<◌, ◌^◌, length, IfOk};
 ghost use Rattle.br_block.specs.Building.{IsBlockLimit};
 
-use crate::{Record, pack};
 use br_block::Block;
+use br_session::{Record, pack};
 use br_types::{FileIndex, SessionKey};
 use std::alloc::Global;
 use std::test::Fail;

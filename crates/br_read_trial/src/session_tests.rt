@@ -1,9 +1,10 @@
+//! Which files can be saved, and the blocks and spans that a session is written as.
 ghost use Rattle.std.specs.Prelude.{◌≡◌, [], IfOk};
 ghost use Rattle.br_block.specs.Building.{IsBlockLimit};
 ghost use Rattle.br_session.specs.Outcome.{ArePlaces};
 
-use super::*;
 use br_attr::Stat;
+use br_session::{Place, SavedFile, SessionFault, Span, Written, write_session};
 use br_types::{Path, SessionKey, VolName};
 use std::alloc::{AllocError, Global};
 use std::test::Fail;
@@ -121,10 +122,12 @@ fn refusal_of(
     Ok(made(alloc, &given)?.err().map_or(0, |fault| fault.number()))
 }
 
-/// Parts of files, and the number of the refusal, 0 for none: path, type, link text and bytes. Types
-/// are 1 to 5, directories alone end in a slash, empty files have no bytes, and links alone have a
-/// text.
-const MADE: [(&[u8], u32, &[u8], &[u8], u32); 10] = [
+/// Parts of a file, and the number of the refusal, 0 for none: path, type, link text and bytes.
+type Made = (&'static [u8], u32, &'static [u8], &'static [u8], u32);
+
+/// Types are 1 to 5, directories alone end in a slash, empty files have no bytes, and links alone
+/// have a text.
+const MADE: [Made; 10] = [
     (b"/a", 0, b"", MESSAGE, 17),
     (b"/a", 6, b"", b"", 17),
     (b"/a", 5, b"", b"", 17),
@@ -138,10 +141,13 @@ const MADE: [(&[u8], u32, &[u8], &[u8], u32); 10] = [
 ];
 
 /// Returns path, type and link text of the first file that is wrongly refused, or wrongly not.
-fn wrongly_made(alloc: Global) -> Result<Option<(&'static [u8], u32, &'static [u8])>, Fail> {
-    for (path, kind, link, bytes, number) in MADE {
-        if refusal_of(alloc, path, kind, link, bytes)? != number {
-            return Ok(Some((path, kind, link)));
+fn wrongly_made(
+    alloc: Global,
+    files: &[Made],
+) -> Result<Option<(&'static [u8], u32, &'static [u8])>, Fail> {
+    for (path, kind, link, bytes, number) in files {
+        if refusal_of(alloc, path, *kind, link, bytes)? != *number {
+            return Ok(Some((path, *kind, link)));
         }
     }
     Ok(None)
@@ -163,7 +169,7 @@ fn refusals_of_long(alloc: Global) -> Result<[u32; 2], Fail> {
 fn files_are_made_of_parts_that_fit(rt: HostRuntime) -> Result<(), Fail> {
     assert!(rt; has_parts(rt.alloc(), &FILE)?);
     assert!(rt; has_parts(rt.alloc(), &SYMBOLIC)?);
-    assert_eq!(rt; wrongly_made(rt.alloc())?, None);
+    assert_eq!(rt; wrongly_made(rt.alloc(), &MADE)?, None);
     assert_eq!(rt; refusals_of_long(rt.alloc())?, [0, 17]);
     Ok(())
 }
@@ -551,8 +557,11 @@ const LINK_TO_NEGATIVE: FileParts<'static> = FileParts {
 const GREATEST: u64 = 9_223_372_036_854_775_806;
 
 /// Two files, the length of the volume that they are written to, and the number of the refusal, 0
-/// for none. Links name earlier files, and spans begin and end before 2^63 - 1.
-const PAIRS: [(FileParts<'static>, FileParts<'static>, u64, u32); 12] = [
+/// for none.
+type Pair = (FileParts<'static>, FileParts<'static>, u64, u32);
+
+/// Links name earlier files, and spans begin and end before 2^63 - 1.
+const PAIRS: [Pair; 12] = [
     (ABC, LINK, 0, 0),
     (EMPTY, LINK, 0, 0),
     (LINK, ABC, 0, 16),
@@ -568,8 +577,8 @@ const PAIRS: [(FileParts<'static>, FileParts<'static>, u64, u32); 12] = [
 ];
 
 /// Returns the place of the first pair that is wrongly refused, or wrongly not.
-fn wrong_pair(alloc: Global) -> Result<Option<usize>, Fail> {
-    for (place, (first, second, start, number)) in PAIRS.iter().enumerate() {
+fn wrong_pair(alloc: Global, pairs: &[Pair]) -> Result<Option<usize>, Fail> {
+    for (place, (first, second, start, number)) in pairs.iter().enumerate() {
         if refusal_of_two(alloc, first, second, *start)? != *number {
             return Ok(Some(place));
         }
@@ -579,6 +588,6 @@ fn wrong_pair(alloc: Global) -> Result<Option<usize>, Fail> {
 
 #[test]
 fn sessions_are_refused(rt: HostRuntime) -> Result<(), Fail> {
-    assert_eq!(rt; wrong_pair(rt.alloc())?, None);
+    assert_eq!(rt; wrong_pair(rt.alloc(), &PAIRS)?, None);
     Ok(())
 }

@@ -1,0 +1,8 @@
+//! The formats that a restore reads, and the sessions that write them, tried. There are only tests
+//! here.
+#![tactic(auto)]
+
+#[cfg(test)]
+mod packing_tests;
+#[cfg(test)]
+mod session_tests;
