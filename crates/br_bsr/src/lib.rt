@@ -18,8 +18,6 @@ mod range;
 mod read;
 mod scan;
 mod statement;
-#[cfg(test)]
-mod tests;
 mod write;
 
 pub use bootstrap::Bootstrap;

@@ -1,4 +1,5 @@
-use super::*;
+//! Which texts are bootstraps, what their groups select, and how they are written.
+use br_bsr::{Bootstrap, BsrFault, Group, Range, read_bootstrap, write_bootstrap};
 use br_types::{SessionKey, VolName};
 use std::alloc::{AllocError, Global};
 use std::test::Fail;
