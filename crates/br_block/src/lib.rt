@@ -14,8 +14,6 @@ mod fault;
 mod fragments;
 mod head;
 mod numbers;
-#[cfg(test)]
-mod tests;
 
 pub use block::Block;
 pub use builder::BlockBuilder;

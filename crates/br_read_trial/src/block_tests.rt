@@ -1,6 +1,7 @@
+//! Which bytes are blocks, what they hold, and how blocks are built.
 ghost use Rattle.std.specs.Prelude.{◌≡◌};
 
-use crate::{Block, BlockBuilder, BlockFault, BlockHead, Fragment};
+use br_block::{Block, BlockBuilder, BlockFault, BlockHead, Fragment};
 use br_types::SessionKey;
 use std::alloc::{AllocError, Global};
 use std::test::Fail;
@@ -125,10 +126,10 @@ fn has_fragments(bytes: &[u8], wanted: &[(i32, i32, u32, &[u8])]) -> bool {
 }
 
 /// Returns the changes of the first changed block that has other fragments.
-fn wrong_fragments() -> Option<Changes> {
-    for (changes, wanted) in CHANGED {
+fn wrong_fragments(blocks: &[(Changes, Wanted)]) -> Option<Changes> {
+    for (changes, wanted) in blocks {
         if !has_fragments(&changed(changes), wanted) {
-            return Some(changes);
+            return Some(*changes);
         }
     }
     None
@@ -140,10 +141,10 @@ fn refusal(bytes: &[u8]) -> Option<u32> {
 }
 
 /// Returns the first changed block that is not refused with its number.
-fn wrong_refusal() -> Option<(Changes, usize)> {
-    for (changes, len, number) in REFUSED {
-        if changed(changes).get(..len).and_then(refusal) != Some(number) {
-            return Some((changes, len));
+fn wrong_refusal(blocks: &[(Changes, usize, u32)]) -> Option<(Changes, usize)> {
+    for (changes, len, number) in blocks {
+        if changed(changes).get(..*len).and_then(refusal) != Some(*number) {
+            return Some((*changes, *len));
         }
     }
     None
@@ -167,6 +168,11 @@ fn head_of(bytes: &[u8]) -> Option<BlockHead> {
     }
 }
 
+/// Reads the header that bytes begin with.
+fn read_head(bytes: &[u8]) -> Result<BlockHead, BlockFault> {
+    BlockHead::read(bytes)
+}
+
 /// Returns the greatest size that a header can have, read from a block that is cut off.
 fn greatest_size() -> Result<u32, BlockFault> {
     Ok(BlockHead::read(&changed(&[(5, 0x40), (7, 0)]))?.size)
@@ -174,11 +180,11 @@ fn greatest_size() -> Result<u32, BlockFault> {
 
 #[test]
 fn blocks_are_read(rt: HostRuntime) -> Result<(), Fail> {
-    assert_eq!(rt; wrong_fragments(), None);
-    assert_eq!(rt; wrong_refusal(), None);
+    assert_eq!(rt; wrong_fragments(&CHANGED), None);
+    assert_eq!(rt; wrong_refusal(&REFUSED), None);
     assert_eq!(rt; wrong_cut(), None);
     assert_eq!(rt; head_of(BLOCK), Some(HEAD));
-    assert_eq!(rt; BlockHead::read(BLOCK), Ok(HEAD));
+    assert_eq!(rt; read_head(BLOCK), Ok(HEAD));
     assert_eq!(rt; greatest_size()?, 4_194_304);
     Ok(())
 }
@@ -310,18 +316,35 @@ fn header_alone(alloc: Global, room: &mut u32) -> Result<Vec<u8>, AllocError> {
     Ok(block.close())
 }
 
+/// Returns whether `BLOCK` is built, and the room before each fragment and at the end.
+fn block_is_built(alloc: Global) -> Result<(bool, [u32; 3]), AllocError> {
+    let mut rooms = [0; 3];
+    let bytes = built(alloc, &mut rooms)?;
+    Ok((bytes.as_slice() == BLOCK.as_slice(), rooms))
+}
+
+/// Returns whether `CONTINUATION` is built, and the room at the end.
+fn continuation_is_built(alloc: Global) -> Result<(bool, u32), AllocError> {
+    let mut room = 0;
+    let bytes = continuing(alloc, &mut room)?;
+    Ok((bytes.as_slice() == CONTINUATION, room))
+}
+
+/// A block without fragments.
+const NO_FRAGMENTS: &[u8] = b"\0\0\0\0\0\0\0\x18\xff\xff\xff\xffBB02\0\0\0\x01\0\0\0\x64";
+
+/// Returns whether `NO_FRAGMENTS` is built, and its room.
+fn header_is_built(alloc: Global) -> Result<(bool, u32), AllocError> {
+    let mut room = 0;
+    let bytes = header_alone(alloc, &mut room)?;
+    Ok((bytes.as_slice() == NO_FRAGMENTS, room))
+}
+
 #[test]
 fn blocks_are_built(rt: HostRuntime) -> Result<(), Fail> {
-    let mut rooms = [0; 3];
-    let mut room = 0;
-    let mut last_room = 0;
-    assert_eq!(rt; built(rt.alloc(), &mut rooms)?.as_slice(), BLOCK.as_slice());
-    assert_eq!(rt; continuing(rt.alloc(), &mut room)?.as_slice(), CONTINUATION);
+    assert_eq!(rt; block_is_built(rt.alloc())?, (true, [67, 17, 0]));
+    assert_eq!(rt; continuation_is_built(rt.alloc())?, (true, 1));
     assert!(rt; has_fragments(CONTINUATION, &[(1, -2, 72, PART)]));
-    assert_eq!(rt;
-        header_alone(rt.alloc(), &mut last_room)?.as_slice(),
-        b"\0\0\0\0\0\0\0\x18\xff\xff\xff\xffBB02\0\0\0\x01\0\0\0\x64".as_slice()
-    );
-    assert_eq!(rt; (rooms, room, last_room), ([67, 17, 0], 1, 40));
+    assert_eq!(rt; header_is_built(rt.alloc())?, (true, 40));
     Ok(())
 }
