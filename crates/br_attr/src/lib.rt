@@ -14,6 +14,3 @@ pub use attr::{Attr, write_attributes};
 pub use fault::AttrFault;
 pub use number::{read_number, write_number};
 pub use stat::Stat;
-
-#[cfg(test)]
-mod tests;

@@ -3,6 +3,8 @@
 #![tactic(auto)]
 
 #[cfg(test)]
+mod attr_tests;
+#[cfg(test)]
 mod block_tests;
 #[cfg(test)]
 mod bsr_tests;

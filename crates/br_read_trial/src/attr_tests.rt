@@ -1,4 +1,5 @@
-use super::*;
+//! Which records are attributes, and how numbers and records are read and written.
+use br_attr::{Attr, AttrFault, Stat, read_number, write_attributes, write_number};
 use br_types::FileIndex;
 use std::alloc::{AllocError, Global};
 use std::test::Fail;
