@@ -6,8 +6,6 @@
 
 mod piece;
 mod splitting;
-#[cfg(test)]
-mod tests;
 
 pub use piece::Piece;
 pub use splitting::split;

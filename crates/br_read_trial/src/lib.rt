@@ -11,4 +11,6 @@ mod bsr_tests;
 #[cfg(test)]
 mod packing_tests;
 #[cfg(test)]
+mod piece_tests;
+#[cfg(test)]
 mod session_tests;

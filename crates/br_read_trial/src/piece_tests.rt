@@ -1,5 +1,6 @@
-use super::*;
+//! How a bootstrap is split into pieces.
 use br_bsr::{BsrFault, Group, Range, read_bootstrap};
+use br_piece::{Piece, split};
 use std::alloc::Global;
 use std::test::Fail;
 
