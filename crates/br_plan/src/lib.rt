@@ -12,8 +12,6 @@ mod plan;
 mod ranges;
 mod request;
 mod select;
-#[cfg(test)]
-mod tests;
 
 pub use fault::PlanFault;
 pub use moment::{BadMoment, read_moment};

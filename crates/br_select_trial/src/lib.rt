@@ -1,4 +1,5 @@
-//! The selection, tried: from the rows of jobs to the chosen jobs, their view and the marks in it. There are only tests here.
+//! The selection, tried: from the rows of jobs to the chosen jobs, their view, the marks in it and
+//! the plan for these. There are only tests here.
 #![tactic(auto)]
 
 #[cfg(test)]
@@ -9,6 +10,8 @@ mod history_tests;
 mod jobs;
 #[cfg(test)]
 mod mark_tests;
+#[cfg(test)]
+mod plan_tests;
 #[cfg(test)]
 mod tree_tests;
 #[cfg(test)]

@@ -1,6 +1,6 @@
 use Rattle.std.proofs.Common.{◌≡◌, ◌∙◌, ℕ, List, Result, Ok, Err, refl, ap}
 use Rattle.br_tree.specs.Marking.{Marking, after_mark}
-use Rattle.br_plan.proofs.tests.mark_names.Goals as goal
+use Rattle.br_select_trial.proofs.plan_tests.mark_names.Goals as goal
 
 -- a mark changes nothing of the view
 stays : (m n : Marking) (r : Result (List (List ℕ)) ℕ) → n ≡ after_mark m r → n.view ≡ m.view

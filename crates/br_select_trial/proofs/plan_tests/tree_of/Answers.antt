@@ -4,7 +4,7 @@ use Rattle.br_model.specs.Job.{JobRows}
 use Rattle.br_model.specs.Choice.{choose}
 use Rattle.br_model.specs.View.{view_of}
 use Rattle.br_tree.specs.Marking.{Marking}
-use Rattle.br_plan.proofs.tests.tree_of.Goals as goal
+use Rattle.br_select_trial.proofs.plan_tests.tree_of.Goals as goal
 
 one_ok : (r : Result (List JobRows) ℕ) (js ks : List JobRows) → r ≡ Ok js → r ≡ Ok ks → js ≡ ks
 one_ok r js ks e f = cc

@@ -1,19 +1,18 @@
+//! What a plan reads and names, and which requests and moments are refused.
 ghost use Rattle.std.specs.Prelude.{◌≡◌, IfOk};
 ghost use Rattle.br_plan.specs.Means.{IsViewOfChosen};
 
-use super::*;
+use crate::jobs::{FULL, File, Job, file_rows, row_of};
 use br_bsr::write_bootstrap;
 use br_choose::choose;
-use br_history::{FileRow, History, JobRow, JobRows};
+use br_history::{History, JobRow, JobRows};
+use br_plan::{Plan, Request, read_moment};
 use br_session::Span;
 use br_tree::Tree;
-use br_types::{JobId, Letter, Name, Path, SessionKey, VolName};
+use br_types::{Name, Path, SessionKey, VolName};
 use br_view::View;
 use std::alloc::Global;
 use std::test::Fail;
-
-/// A row of File: path, index, numbers.
-type Row<'s> = (&'s [u8], u32, &'s str);
 
 /// A span: volume, first and last index, first and last byte.
 type Visit<'s> = (&'s [u8], (u32, u32), (u64, u64));
@@ -27,42 +26,13 @@ const LINK_1: &str = "A A IGk C A A A O A A A A A B";
 /// Numbers of a hard link to file 2 (C).
 const LINK_2: &str = "A A IGk C A A A O A A A A A C";
 
-/// The Full of the tests: its number, its level, and its start.
-const FULL: (u32, u8, u64) = (1, b'F', 100);
-
-fn letter(byte: u8) -> Result<Letter, Fail> {
-    Ok(Letter::new(byte).ok_or("a letter")?)
-}
-
-/// Makes the row of a job from number, level and start, which is its session's time too.
-fn job_row(alloc: Global, shape: (u32, u8, u64)) -> Result<JobRow, Fail> {
-    let (id, level, start) = shape;
-    Ok(JobRow {
-        id: JobId::new(id).ok_or("a number")?,
-        kind: letter(b'B')?,
-        level: letter(level)?,
-        status: letter(b'T')?,
-        start,
-        session: SessionKey {
-            id,
-            time: u32::try_from(start)?,
-        },
-        client: Name::new(alloc, b"mars")?,
-        fileset: Name::new(alloc, b"home")?,
-    })
-}
-
-fn file_rows(alloc: Global, rows: &[Row<'_>]) -> Result<Vec<FileRow>, Fail> {
-    let mut files = Vec::new(alloc);
-    for (path, index, lstat) in rows {
-        files.push(FileRow {
-            path: Path::new(alloc, path)?,
-            index: *index,
-            lstat: String::from_str(alloc, lstat)?,
-            md5: None,
-        })?;
-    }
-    Ok(files)
+/// Makes the row of a job whose session's time is its start.
+fn job_row(alloc: Global, job: Job) -> Result<JobRow, Fail> {
+    let session = SessionKey {
+        id: job.0,
+        time: u32::try_from(job.4)?,
+    };
+    row_of(alloc, job, session, b"mars", b"home")
 }
 
 fn spans_of(alloc: Global, visits: &[Visit<'_>]) -> Result<Vec<Span>, Fail> {
@@ -80,24 +50,19 @@ fn spans_of(alloc: Global, visits: &[Visit<'_>]) -> Result<Vec<Span>, Fail> {
     Ok(spans)
 }
 
-/// Makes a job with these rows and spans.
-fn job(
-    alloc: Global,
-    shape: (u32, u8, u64),
-    rows: &[Row<'_>],
-    visits: &[Visit<'_>],
-) -> Result<JobRows, Fail> {
+/// Makes a job with these files and spans.
+fn job(alloc: Global, shape: Job, files: &[File], visits: &[Visit<'_>]) -> Result<JobRows, Fail> {
     Ok(JobRows::new(
         job_row(alloc, shape)?,
-        file_rows(alloc, rows)?,
+        file_rows(alloc, files)?,
         spans_of(alloc, visits)?,
     )?)
 }
 
-/// Makes a history of one Full with these rows, and one span of all of them.
-fn history_of(alloc: Global, rows: &[Row<'_>]) -> Result<History, Fail> {
+/// Makes a history of one Full with these files, and one span of all of them.
+fn history_of(alloc: Global, files: &[File]) -> Result<History, Fail> {
     let mut history = History::new(alloc);
-    history.push(job(alloc, FULL, rows, &[(b"A", (1, 9), (0, 63))])?)?;
+    history.push(job(alloc, FULL, files, &[(b"A", (1, 9), (0, 63))])?)?;
     Ok(history)
 }
 
@@ -112,7 +77,7 @@ fn two_jobs(alloc: Global) -> Result<History, Fail> {
     )?)?;
     history.push(job(
         alloc,
-        (2, b'I', 200),
+        (2, b'B', b'I', b'T', 200),
         &[(b"/b", 1, SAVED)],
         &[(b"B", (1, 1), (108, 171)), (b"A", (1, 1), (64, 171))],
     )?)?;
@@ -192,17 +157,17 @@ fn shown(alloc: Global, plan: &Plan) -> Result<Vec<u8>, Fail> {
     Ok(text)
 }
 
-/// Shows the plan for these paths of a Full with these rows.
-fn planned(alloc: Global, rows: &[Row<'_>], paths: &[&[u8]]) -> Result<Vec<u8>, Fail> {
-    shown(alloc, &plan(alloc, &history_of(alloc, rows)?, paths)?)
+/// Shows the plan for these paths of a Full with these files.
+fn planned(alloc: Global, files: &[File], paths: &[&[u8]]) -> Result<Vec<u8>, Fail> {
+    shown(alloc, &plan(alloc, &history_of(alloc, files)?, paths)?)
 }
 
-/// Shows the plan for all names in the root of a Full with these rows that match a pattern.
-fn planned_by_tree(alloc: Global, rows: &[Row<'_>], pattern: &[u8]) -> Result<Vec<u8>, Fail> {
+/// Shows the plan for all names in the root of a Full with these files that match a pattern.
+fn planned_by_tree(alloc: Global, files: &[File], pattern: &[u8]) -> Result<Vec<u8>, Fail> {
     let request = request(alloc, b"mars", b"home", 250)?;
     shown(
         alloc,
-        &plan_of_tree(alloc, &history_of(alloc, rows)?, &request, pattern)?,
+        &plan_of_tree(alloc, &history_of(alloc, files)?, &request, pattern)?,
     )
 }
 
@@ -210,7 +175,7 @@ fn planned_by_tree(alloc: Global, rows: &[Row<'_>], pattern: &[u8]) -> Result<Ve
 fn plan_before_a_job(alloc: Global, paths: &[&[u8]]) -> Result<Plan, Fail> {
     let mut history = two_jobs(alloc)?;
     let plan = plan(alloc, &history, paths)?;
-    history.push(job(alloc, (3, b'F', 240), &[(b"/a", 1, SAVED)], &[])?)?;
+    history.push(job(alloc, (3, b'B', b'F', b'T', 240), &[(b"/a", 1, SAVED)], &[])?)?;
     Ok(plan)
 }
 
@@ -241,21 +206,21 @@ fn each_span_of_a_marked_file_is_read(rt: HostRuntime) -> Result<(), Fail> {
 }
 
 /// A file and a hard link to it.
-const ONE_LINK: &[Row<'static>] = &[(b"/x", 1, SAVED), (b"/y", 2, LINK_1)];
+const ONE_LINK: &[File] = &[(b"/x", 1, SAVED), (b"/y", 2, LINK_1)];
 
 /// The plan for both of them.
 const FILES_1_TO_2: &[u8] =
     b"Volume=\"A\"\nVolSessionId=1\nVolSessionTime=100\nVolAddr=0-63\nFileIndex=1-2\n11/x 12/y ";
 
 /// A file, a hard link to it, and one to that link.
-const TWO_LINKS: &[Row<'static>] = &[(b"/x", 1, SAVED), (b"/y", 2, LINK_1), (b"/z", 3, LINK_2)];
+const TWO_LINKS: &[File] = &[(b"/x", 1, SAVED), (b"/y", 2, LINK_1), (b"/z", 3, LINK_2)];
 
 /// The plan for the links alone.
 const FILES_2_TO_3: &[u8] =
     b"Volume=\"A\"\nVolSessionId=1\nVolSessionTime=100\nVolAddr=0-63\nFileIndex=2-3\n12/y 13/z ";
 
 /// Files that are not in the order of their paths.
-const FOUR_FILES: &[Row<'static>] = &[
+const FOUR_FILES: &[File] = &[
     (b"/x", 4, SAVED),
     (b"/y", 2, SAVED),
     (b"/z", 3, SAVED),
@@ -267,12 +232,8 @@ const FILES_APART: &[u8] =
     b"Volume=\"A\"\nVolSessionId=1\nVolSessionTime=100\nVolAddr=0-63\nFileIndex=1\nFileIndex=3-4\n\
 11/w 13/z 14/x ";
 
-/// Rows of a Full, marked paths, and their plan.
-type Planned = (
-    &'static [Row<'static>],
-    &'static [&'static [u8]],
-    &'static [u8],
-);
+/// Files of a Full, marked paths, and their plan.
+type Planned = (&'static [File], &'static [&'static [u8]], &'static [u8]);
 
 /// The file of a hard link is restored too; a link is followed once; indexes are ranges.
 const PLANS: [Planned; 3] = [
@@ -283,8 +244,8 @@ const PLANS: [Planned; 3] = [
 
 /// Shows the first plan that is not the given one.
 fn wrong_plan(alloc: Global, plans: &[Planned]) -> Result<Option<Vec<u8>>, Fail> {
-    for (rows, paths, expected) in plans {
-        let found = planned(alloc, rows, paths)?;
+    for (files, paths, expected) in plans {
+        let found = planned(alloc, files, paths)?;
         if found.as_slice() != *expected {
             return Ok(Some(found));
         }
