@@ -9,8 +9,6 @@ mod encode;
 mod facts;
 mod fault;
 mod load;
-#[cfg(test)]
-mod tests;
 mod value;
 
 pub use encode::{cut, digits_of, high_half, low_half};

@@ -9,6 +9,8 @@ mod generated_tests;
 #[cfg(test)]
 mod restore_tests;
 #[cfg(test)]
+mod rows_tests;
+#[cfg(test)]
 mod store_tests;
 #[cfg(test)]
 mod stored_tests;

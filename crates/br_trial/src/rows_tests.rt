@@ -1,5 +1,6 @@
-use super::*;
+//! Which rows are a history, and how paths, digests and numbers are rows.
 use br_history::{History, JobRows};
+use br_rows::{CatalogueRows, cut, digits_of, high_half, history_of, low_half};
 use sqlite::{Connection, Row};
 use std::alloc::Global;
 use std::test::Fail;
