@@ -28,14 +28,14 @@ use Rattle.clap.proofs.FaultLemmas.{first_fails}
 use Rattle.clap.proofs.WalkLemmas.{both, one_text-rows}
 use Rattle.clap.proofs.ValueTestLemmas.{Accepts-accepts, accepts-Accepts}
 use Rattle.clap.proofs.OnLiterals.{clap_on_literals}
-use Rattle.br_command.specs.Words.{Asked, asked_by, console_app, console_jobs_app, console_start_app, explain_app, extract_app, number_in, program_app, restoring_app, value_rule, words_asked, words_fault}
+use Rattle.br_command.specs.Words.{Asked, asked_by, console_app, console_jobs_app, console_start_app, explain_app, extract_app, extracting_app, number_in, program_app, restoring_app, value_rule, words_asked, words_fault}
 
 program_is_simple : is_simple program_app ≡ true
-unfolding program_app restoring_app explain_app extract_app console_start_app console_jobs_app console_app clap_on_literals
+unfolding program_app restoring_app extracting_app explain_app extract_app console_start_app console_jobs_app console_app clap_on_literals
 program_is_simple = refl
 
 program_is_free : is_simple_and_free program_app ≡ true
-unfolding program_app restoring_app explain_app extract_app console_start_app console_jobs_app console_app clap_on_literals
+unfolding program_app restoring_app extracting_app explain_app extract_app console_start_app console_jobs_app console_app clap_on_literals
 program_is_free = refl
 
 -- what clap finds in words is what they ask for
@@ -155,11 +155,16 @@ with_version = on_top (λ s. record s { has_version = true })
 pub of_version : (f g : Command-F Command) (version : Bor Text) → g ≡ record f { version = Some version } → app_of_fields g ≡ with_version (app_of_fields f)
 of_version f g version is = ap app_of_fields is
 
+-- one command more
+pub one_command : (start last one : Command) (app one_app : App) → app_of start ≡ app → AddsSubcommand start one last
+    → app_of one ≡ one_app → (out-Command one).has_globals ≡ false → app_of last ≡ with_subcommand app one_app.top
+one_command start last one app one_app is adds one_is one_local =
+    adds.shape one_local ∙ ap₂ with_subcommand is (ap (λ (a : App). a.top) one_is)
+
 -- two commands more
 pub two_commands : (start first last one two : Command) (app one_app two_app : App) → app_of start ≡ app
     → AddsSubcommand start one first → AddsSubcommand first two last
     → app_of one ≡ one_app → (out-Command one).has_globals ≡ false → app_of two ≡ two_app → (out-Command two).has_globals ≡ false
     → app_of last ≡ with_subcommand (with_subcommand app one_app.top) two_app.top
 two_commands start first last one two app one_app two_app is adds adds_too one_is one_local two_is two_local =
-    adds_too.shape two_local
-    ∙ ap₂ with_subcommand (adds.shape one_local ∙ ap₂ with_subcommand is (ap (λ (a : App). a.top) one_is)) (ap (λ (a : App). a.top) two_is)
+    one_command first last two _ two_app (one_command start first one app one_app is adds one_is one_local) adds_too two_is two_local

@@ -83,12 +83,13 @@ number_rule = record (new_rule (codes "number")) { action = Some Set; value_name
 unfoldable pub explain_app : App
 explain_app = with_rule (new_app (codes "explain")) number_rule
 
--- the program with its version and the commands `extract` and `console`
+-- the program with its version and the command `extract`
+unfoldable pub extracting_app : App
+extracting_app = with_subcommand (on_top (λ s. record s { has_version = true }) (new_app (codes "brestore"))) extract_app.top
+
+-- the program also has the command `console`
 unfoldable pub restoring_app : App
-restoring_app =
-    with_subcommand
-    (with_subcommand (on_top (λ s. record s { has_version = true }) (new_app (codes "brestore"))) extract_app.top)
-    console_app.top
+restoring_app = with_subcommand extracting_app console_app.top
 
 -- the program also has the commands `explain` and `serve`
 unfoldable pub program_app : App

@@ -3,7 +3,7 @@ ghost use Rattle.std.specs.Prelude.{◌≡◌, ◌≤◌, codes, Some, true, fal
 ghost use Rattle.clap.specs.Walk.{first_of};
 ghost use Rattle.clap.specs.Words.{FailsBy, app_of, fault_of, found_of, rows_of, rule_of, subcommand_rows_of};
 ghost use Rattle.clap.specs.declared.builder.command.Command.TheViews.{out-Command as fields_of};
-ghost use Rattle.br_command.specs.Words.{AsksFor, HasDrives, asked, asked_by, console_app, console_asked, console_jobs_app, console_start_app, drives_asked, drives_rule, explain_app, explain_asked, extract_app, extract_asked, number_asked, number_rule, program_app, restoring_app, value_rule, with_run_rules, words_asked, words_fault};
+ghost use Rattle.br_command.specs.Words.{AsksFor, HasDrives, asked, asked_by, console_app, console_asked, console_jobs_app, console_start_app, drives_asked, drives_rule, explain_app, explain_asked, extract_app, extract_asked, extracting_app, number_asked, number_rule, program_app, restoring_app, value_rule, with_run_rules, words_asked, words_fault};
 
 use clap::builder::ValueParser;
 use clap::error::ErrorKind;
@@ -112,9 +112,7 @@ fn with_run_options<'a>(alloc: Global, command: Command<'a>) -> Result<Command<'
     ensures app { IfOk result (λ r. app_of r ≡ with_run_rules (app_of command.entry)) }
     ensures local { IfOk result (λ r. (fields_of r).has_globals ≡ false) }
 {
-    let into = into_option(alloc);
-    let drives = drives_option(alloc);
-    command.arg(into)?.arg(drives)
+    command.arg(into_option(alloc))?.arg(drives_option(alloc))
 }
 
 /// Returns `extract` with its options.
@@ -122,12 +120,10 @@ fn extract_command<'a>(alloc: Global) -> Result<Command<'a>, AllocError>
     ensures app { IfOk result (λ command. app_of command ≡ extract_app) }
     ensures local { IfOk result (λ command. (fields_of command).has_globals ≡ false) }
 {
-    let bsr = value_option(alloc, "bsr", "FILE", true, "The file of the bootstrap");
-    let volumes = value_option(alloc, "volumes", "DIR", true, "The folder of the volumes");
     let command = Command::new(alloc, "extract")
         .about("Restores the files of a bootstrap from a folder of volumes")
-        .arg(bsr)?
-        .arg(volumes)?;
+        .arg(value_option(alloc, "bsr", "FILE", true, "The file of the bootstrap"))?
+        .arg(value_option(alloc, "volumes", "DIR", true, "The folder of the volumes"))?;
     with_run_options(alloc, command)
 }
 
@@ -144,12 +140,10 @@ fn console_start<'a>(alloc: Global) -> Result<Command<'a>, AllocError>
     ensures app { IfOk result (λ command. app_of command ≡ console_start_app) }
     ensures local { IfOk result (λ command. (fields_of command).has_globals ≡ false) }
 {
-    let db = console_option(alloc, "db", "FILE", "The file of the catalogue");
-    let volumes = console_option(alloc, "volumes", "DIR", "The folder of the volumes");
     Command::new(alloc, "console")
         .about("Marks files as they were at a moment, and restores them")
-        .arg(db)?
-        .arg(volumes)
+        .arg(console_option(alloc, "db", "FILE", "The file of the catalogue"))?
+        .arg(console_option(alloc, "volumes", "DIR", "The folder of the volumes"))
 }
 
 /// Returns `console` with its required options.
@@ -157,15 +151,15 @@ fn console_jobs<'a>(alloc: Global) -> Result<Command<'a>, AllocError>
     ensures app { IfOk result (λ command. app_of command ≡ console_jobs_app) }
     ensures local { IfOk result (λ command. (fields_of command).has_globals ≡ false) }
 {
-    let client = console_option(alloc, "client", "NAME", "The name of the client");
-    let fileset = console_option(alloc, "fileset", "NAME", "The name of the file set");
-    let before = console_option(
-        alloc,
-        "before",
-        "MOMENT",
-        "Uses only jobs that began before YYYY-MM-DD HH:MM:SS, in UTC",
-    );
-    console_start(alloc)?.arg(client)?.arg(fileset)?.arg(before)
+    console_start(alloc)?
+        .arg(console_option(alloc, "client", "NAME", "The name of the client"))?
+        .arg(console_option(alloc, "fileset", "NAME", "The name of the file set"))?
+        .arg(console_option(
+            alloc,
+            "before",
+            "MOMENT",
+            "Uses only jobs that began before YYYY-MM-DD HH:MM:SS, in UTC",
+        ))
 }
 
 /// Returns `console` with its options.
@@ -200,18 +194,25 @@ fn explain_command<'a>(alloc: Global) -> Result<Command<'a>, AllocError>
         .arg(number)
 }
 
+/// Returns the program with its command `extract`.
+fn extracting<'a>(alloc: Global) -> Result<Command<'a>, AllocError>
+    ensures app { IfOk result (λ command. app_of command ≡ extracting_app) }
+    ensures local { IfOk result (λ command. (fields_of command).has_globals ≡ false) }
+{
+    let extract = extract_command(alloc)?;
+    Command::new(alloc, "brestore")
+        .about("Restores files from Bacula volumes")
+        .version("0.1.0")
+        .subcommand(extract)
+}
+
 /// Returns the program with its commands that restore.
 fn restoring<'a>(alloc: Global) -> Result<Command<'a>, AllocError>
     ensures app { IfOk result (λ command. app_of command ≡ restoring_app) }
     ensures local { IfOk result (λ command. (fields_of command).has_globals ≡ false) }
 {
-    let extract = extract_command(alloc)?;
     let console = console_command(alloc)?;
-    Command::new(alloc, "brestore")
-        .about("Restores files from Bacula volumes")
-        .version("0.1.0")
-        .subcommand(extract)?
-        .subcommand(console)
+    extracting(alloc)?.subcommand(console)
 }
 
 /// Returns the program with its commands.
@@ -219,10 +220,9 @@ fn program<'a>(alloc: Global) -> Result<Command<'a>, AllocError>
     ensures { IfOk result (λ command. app_of command ≡ program_app) }
 {
     let explain = explain_command(alloc)?;
-    let serve = Command::new(alloc, "serve").about(
+    restoring(alloc)?.subcommand(explain)?.subcommand(Command::new(alloc, "serve").about(
         "Runs a script from standard input, as with no command",
-    );
-    restoring(alloc)?.subcommand(explain)?.subcommand(serve)
+    ))
 }
 
 /// Returns what was found for an option.
@@ -338,6 +338,20 @@ fn parsed<'a>(command: &mut Command<'a>, words: &'a [String]) -> Result<ArgMatch
     command.try_get_matches_from_mut(words)
 }
 
+/// Reads words by the program's commands.
+fn read_by<'a>(command: &mut Command<'a>, words: &'a [String]) -> Result<Invocation<'a>, Error>
+    requires { app_of command.old ≡ program_app }
+    ensures asks { IfOk result (λ invocation. words_asked (map string_bytes words.entry.now) ≡ Some (asked invocation)) }
+    ensures fails { FailsBy (words_fault (map string_bytes words.entry.now)) result }
+    ensures drives { IfOk result HasDrives }
+{
+    let found = invocation_of(&parsed(command, words)?);
+    match found {
+        Some(invocation) => Ok(invocation),
+        None => Err(command.error(ErrorKind::MissingRequiredArgument, "a value is missing")?),
+    }
+}
+
 /// Reads the words of a command line, of which the first is the program's name.
 ///
 /// The commands are `extract --bsr FILE --volumes DIR`, `console --db FILE --volumes DIR --client NAME --fileset NAME
@@ -353,9 +367,5 @@ pub fn read_words<'a>(alloc: Global, words: &'a [String]) -> Result<Invocation<'
     ensures drives { IfOk result HasDrives }
 {
     let mut command = program(alloc)?;
-    let matches = parsed(&mut command, words)?;
-    match invocation_of(&matches) {
-        Some(invocation) => Ok(invocation),
-        None => Err(command.error(ErrorKind::MissingRequiredArgument, "a value is missing")?),
-    }
+    read_by(&mut command, words)
 }

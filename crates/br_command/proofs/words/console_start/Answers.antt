@@ -10,7 +10,7 @@ unfolding console_start_app
 returns-clause-app c =
     IfOk-weaker c.arg-2.result _ _
     (λ last added.
-    two_added c.about.result c.in_ok-arg.field-0 last c.console_option-db.result c.console_option-volumes.result _ _ _
+    two_added c.about.result c.in_ok-arg.field-0 last c.console_option.result c.console_option-2.result _ _ _
     (ap app_of_fields c.about.ensures ∙ c.new.ensures.app) c.in_ok-arg.ensures added
-    c.console_option-db.ensures.rule c.console_option-db.ensures.local c.console_option-volumes.ensures.rule c.console_option-volumes.ensures.local)
+    c.console_option.ensures.rule c.console_option.ensures.local c.console_option-2.ensures.rule c.console_option-2.ensures.local)
     c.arg-2.ensures

@@ -12,7 +12,7 @@ returns-clause-app c =
     (λ last is.
     is
     ∙ ap with_run_rules
-    (two_added c.about.result c.in_ok-arg.field-0 c.in_ok-command.command c.value_option-bsr.result c.value_option-volumes.result _ _ _
+    (two_added c.about.result c.in_ok-arg.field-0 c.in_ok-command.command c.value_option.result c.value_option-2.result _ _ _
     (ap app_of_fields c.about.ensures ∙ c.new.ensures.app) c.in_ok-arg.ensures c.in_ok-command.ensures
-    c.value_option-bsr.ensures.rule c.value_option-bsr.ensures.local c.value_option-volumes.ensures.rule c.value_option-volumes.ensures.local))
+    c.value_option.ensures.rule c.value_option.ensures.local c.value_option-2.ensures.rule c.value_option-2.ensures.local))
     c.with_run_options.ensures.app

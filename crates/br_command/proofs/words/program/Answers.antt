@@ -9,10 +9,10 @@ use Rattle.br_command.proofs.words.program.Goals as goal
 pub returns : goal.returns
 unfolding program_app
 returns c =
-    let serve_local : (out-Command c.about-serve.result).has_globals ≡ false = search rules in
+    let serve_local : (out-Command c.about.result).has_globals ≡ false = search rules in
     IfOk-weaker c.subcommand-2.result _ _
     (λ last added.
-    two_commands c.in_ok-restoring.field-0 c.in_ok-subcommand.field-0 last c.in_ok-explain.explain c.about-serve.result _ _ _
+    two_commands c.in_ok-restoring.field-0 c.in_ok-subcommand.field-0 last c.in_ok-explain.explain c.about.result _ _ _
     c.in_ok-restoring.ensures.app c.in_ok-subcommand.ensures added c.in_ok-explain.ensures.app c.in_ok-explain.ensures.local
-    (ap app_of_fields c.about-serve.ensures ∙ c.new.ensures.app) serve_local)
+    (ap app_of_fields c.about.ensures ∙ c.new.ensures.app) serve_local)
     c.subcommand-2.ensures

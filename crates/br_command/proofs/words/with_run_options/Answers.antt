@@ -7,6 +7,6 @@ pub returns-clause-app : goal.returns-clause-app
 returns-clause-app c =
     IfOk-weaker c.arg-2.result _ _
     (λ last added.
-    two_added c.args.command c.in_ok-arg.field-0 last c.into_option-into.result c.drives_option-drives.result _ _ _ refl c.in_ok-arg.ensures added
-    c.into_option-into.ensures.rule c.into_option-into.ensures.local c.drives_option-drives.ensures.rule c.drives_option-drives.ensures.local)
+    two_added c.args.command c.in_ok-arg.field-0 last c.into_option.result c.drives_option.result _ _ _ refl c.in_ok-arg.ensures added
+    c.into_option.ensures.rule c.into_option.ensures.local c.drives_option.ensures.rule c.drives_option.ensures.local)
     c.arg-2.ensures
