@@ -11,8 +11,6 @@ mod hit;
 mod matcher;
 mod matchers;
 mod matching;
-#[cfg(test)]
-mod tests;
 mod walk;
 
 pub use fault::{PieceCause, PieceFault};

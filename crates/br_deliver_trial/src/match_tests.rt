@@ -1,5 +1,5 @@
-use super::*;
 use br_bsr::{BsrFault, read_bootstrap};
+use br_match::{Found, Hit, PieceFault, Spot, Walk, match_piece};
 use br_piece::{Piece, split};
 use br_types::VolName;
 use br_volume::MemDrive;
