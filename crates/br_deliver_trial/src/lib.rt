@@ -1,8 +1,12 @@
-//! Tests of matching and delivering, by public calls. There are only tests here.
+//! Tests of matching, joining and delivering, by public calls. There are only tests here.
 #![tactic(auto)]
 
 #[cfg(test)]
 mod folder_tests;
+#[cfg(test)]
+mod join_tests;
+#[cfg(test)]
+mod making_tests;
 #[cfg(test)]
 mod manifest_tests;
 #[cfg(test)]

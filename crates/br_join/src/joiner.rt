@@ -20,9 +20,6 @@ use std::collections::BTreeMap;
 use std::marker::Model;
 use std::thread::Threads;
 
-#[cfg(test)]
-mod tests;
-
 /// Gathers what was found of the pieces of a bootstrap, and makes files of it. Of several hits at
 /// one place of one file it keeps the first that was taken.
 #[derive(Debug, Drop)]

@@ -12,8 +12,6 @@ mod item;
 mod joiner;
 mod making;
 mod making_fault;
-#[cfg(test)]
-mod making_tests;
 mod parts;
 mod records;
 mod runs;

@@ -1,7 +1,5 @@
-use super::Joiner;
-use crate::fault::JoinFault;
-use crate::item::{Item, Outcome};
 use br_bsr::read_bootstrap;
+use br_join::{Item, JoinFault, Joiner, Outcome};
 use br_match::{Batch, Found, Hit, Spot};
 use br_piece::{Piece, split};
 use br_types::{FileIndex, FileKey, Names, Path, SessionKey};
@@ -23,7 +21,7 @@ fn two_pieces(alloc: Global) -> Result<Vec<Piece>, Fail> {
 }
 
 /// Returns the key of the file with this index.
-fn key(index: u32) -> Result<FileKey, Fail> {
+pub(crate) fn key(index: u32) -> Result<FileKey, Fail> {
     let session = SessionKey { id: 1, time: 100 };
     let index = FileIndex::new(index).ok_or("an index")?;
     Ok(FileKey { session, index })
@@ -51,7 +49,7 @@ fn hit(
 }
 
 /// A fragment: the index of its file, its place, its stream and its bytes.
-type Row<'s> = (u32, (u32, u32), i32, &'s [u8]);
+pub(crate) type Row<'s> = (u32, (u32, u32), i32, &'s [u8]);
 
 /// A piece, and what is found of it.
 type Step<'s> = (u32, &'s [Row<'s>]);
@@ -74,7 +72,7 @@ const TURNED: &[Step<'static>] = &[(1, OF_B), (0, OF_A)];
 const NOTHING: &[Step<'static>] = &[(0, &[]), (1, &[])];
 
 /// Returns what was found of a piece.
-fn found(alloc: Global, piece: u32, rows: &[Row<'_>]) -> Result<Found, Fail> {
+pub(crate) fn found(alloc: Global, piece: u32, rows: &[Row<'_>]) -> Result<Found, Fail> {
     let mut hits = Vec::new(alloc);
     for (index, spot, stream, bytes) in rows {
         hits.push(hit(alloc, *index, *spot, *stream, bytes)?)?;
@@ -83,7 +81,7 @@ fn found(alloc: Global, piece: u32, rows: &[Row<'_>]) -> Result<Found, Fail> {
 }
 
 /// Takes what was found, which must not be refused.
-fn take(joiner: &mut Joiner, found: Found) -> Result<(), Fail> {
+pub(crate) fn take(joiner: &mut Joiner, found: Found) -> Result<(), Fail> {
     Ok(joiner.take(found).map_err(|refused| refused.fault)?)
 }
 
@@ -108,7 +106,7 @@ fn take_all(alloc: Global, joiner: &mut Joiner, steps: &[Step<'_>]) -> Result<u6
 }
 
 /// Returns the files, none if a piece is open.
-fn finished(
+pub(crate) fn finished(
     rt: &(impl Threads + Sync),
     alloc: Global,
     joiner: &mut Joiner,
@@ -184,7 +182,7 @@ fn joined(
 }
 
 /// Returns a joiner of the two pieces.
-fn new_joiner(alloc: Global, names: Option<Names>) -> Result<Joiner, Fail> {
+pub(crate) fn new_joiner(alloc: Global, names: Option<Names>) -> Result<Joiner, Fail> {
     let pieces = two_pieces(alloc)?;
     Ok(Joiner::new(alloc, pieces.as_slice(), names)?)
 }

@@ -1,13 +1,11 @@
-ghost use Rattle.std.specs.Prelude.{◌≡◌, All, IfOk};
-ghost use Rattle.br_model.specs.Meaning as meaning;
-
-use crate::item::{Item, Outcome};
-use crate::making::{outcome_of, under_name};
-use br_match::{Hit, Spot};
-use br_types::{FileIndex, FileKey, Path, SessionKey};
-use std::alloc::{AllocError, Global};
+use crate::join_tests::{finished, found, key, new_joiner, take};
+use br_join::{Item, Outcome};
+use br_match::{Found, Hit, Spot};
+use br_types::{FileKey, Names, Path};
+use std::alloc::Global;
 use std::sync::ArcSlice;
 use std::test::Fail;
+use std::thread::Threads;
 
 /// The attributes of a file of type 3: /a, mode 33188, size 5.
 const FILE: &[u8] = b"1 3 /a\0A A IGk B A A A F A A A A A A\0\0";
@@ -31,46 +29,70 @@ const BACK: &[u8] = b"456789abcdefghij";
 #[derive(Clone, Copy)]
 struct Part<'a>(i32, u32, &'a [u8]);
 
-/// Returns the key of the file whose fragments the tests join.
-fn key() -> Result<FileKey, Fail> {
-    Ok(FileKey {
-        session: SessionKey { id: 1, time: 2 },
-        index: FileIndex::new(1).ok_or("an index")?,
+/// Returns a fragment of the file with index 1, in the block at this address.
+fn hit_at(alloc: Global, addr: u64, part: Part<'_>) -> Result<Hit, Fail> {
+    Ok(Hit {
+        key: key(1)?,
+        spot: Spot {
+            group: 0,
+            addr,
+            ordinal: 0,
+        },
+        stream: part.0,
+        size: part.1,
+        bytes: ArcSlice::from_slice(alloc, part.2)?,
     })
 }
 
 /// Returns the fragments of a file, each in a block of its own.
-fn hits_of(alloc: Global, key: FileKey, parts: &[Part<'_>]) -> Result<Vec<Hit>, AllocError>
-    ensures { IfOk result (λ hits. All (λ (h : meaning.Hit). h.key ≡ key) hits.items) }
-{
+fn hits_of(alloc: Global, parts: &[Part<'_>]) -> Result<Vec<Hit>, Fail> {
     let mut hits = Vec::new(alloc);
-    for part in parts {
-        let hit = Hit {
-            key,
-            spot: Spot {
-                group: 0,
-                addr: 0,
-                ordinal: 0,
-            },
-            stream: part.0,
-            size: part.1,
-            bytes: ArcSlice::from_slice(alloc, part.2)?,
-        };
-        hits.push(hit).map_err(AllocError::from)?;
+    for (place, part) in parts.iter().enumerate() {
+        hits.push(hit_at(alloc, place as u64, *part)?)?;
     }
     Ok(hits)
 }
 
+/// Returns the outcome of the file with index 1, which must be the only one.
+fn only(mut files: Vec<(FileKey, Outcome)>) -> Result<Outcome, Fail> {
+    let (found, outcome) = files.pop().ok_or("an outcome")?;
+    if found == key(1)? && files.is_empty() {
+        Ok(outcome)
+    } else {
+        Err("one outcome".into())
+    }
+}
+
+/// Returns the outcome of fragments, if there are names by these.
+fn made_under(
+    threads: &(impl Threads + Sync),
+    alloc: Global,
+    names: Option<Names>,
+    parts: &[Part<'_>],
+) -> Result<Outcome, Fail> {
+    let mut joiner = new_joiner(alloc, names)?;
+    let hits = hits_of(alloc, parts)?;
+    take(&mut joiner, Found { piece: 0, hits })?;
+    take(&mut joiner, found(alloc, 1, &[])?)?;
+    only(finished(threads, alloc, &mut joiner)?)
+}
+
 /// Returns the outcome of fragments.
-fn made(alloc: Global, parts: &[Part<'_>]) -> Result<Outcome, Fail> {
-    let key = key()?;
-    let hits = hits_of(alloc, key, parts)?;
-    Ok(outcome_of(alloc, key, &hits)?)
+fn made(
+    threads: &(impl Threads + Sync),
+    alloc: Global,
+    parts: &[Part<'_>],
+) -> Result<Outcome, Fail> {
+    made_under(threads, alloc, None, parts)
 }
 
 /// Returns the file that fragments make.
-fn file_of(alloc: Global, parts: &[Part<'_>]) -> Result<Item, Fail> {
-    match made(alloc, parts)? {
+fn file_of(
+    threads: &(impl Threads + Sync),
+    alloc: Global,
+    parts: &[Part<'_>],
+) -> Result<Item, Fail> {
+    match made(threads, alloc, parts)? {
         Outcome::File(item) => Ok(item),
         Outcome::Fault { .. } => Err("a file".into()),
     }
@@ -85,8 +107,12 @@ fn number(outcome: &Outcome) -> (u32, u32) {
 }
 
 /// Returns the number of the outcome of fragments, and its stream.
-fn number_of(alloc: Global, parts: &[Part<'_>]) -> Result<(u32, u32), Fail> {
-    Ok(number(&made(alloc, parts)?))
+fn number_of(
+    threads: &(impl Threads + Sync),
+    alloc: Global,
+    parts: &[Part<'_>],
+) -> Result<(u32, u32), Fail> {
+    Ok(number(&made(threads, alloc, parts)?))
 }
 
 /// Fragments, and the number and the stream of the fault that they make.
@@ -172,9 +198,12 @@ const AB_AT_0: Part<'static> = Part(6, 10, b"\0\0\0\0\0\0\0\0ab");
 const C_AT_4: Part<'static> = Part(6, 9, b"\0\0\0\0\0\0\0\x04c");
 
 /// Returns the place and the fault of the first fragments that make another fault.
-fn wrong_fault(alloc: Global) -> Result<Option<(usize, (u32, u32))>, Fail> {
+fn wrong_fault(
+    threads: &(impl Threads + Sync),
+    alloc: Global,
+) -> Result<Option<(usize, (u32, u32))>, Fail> {
     for (place, (parts, wanted)) in FAULTS.iter().enumerate() {
-        let got = number_of(alloc, parts)?;
+        let got = number_of(threads, alloc, parts)?;
         if got != *wanted {
             return Ok(Some((place, got)));
         }
@@ -250,15 +279,21 @@ const FILES: &[(&[Part<'static>], &[u8], u64)] = &[
 ];
 
 /// Returns whether fragments make a file with this data and this number of records passed over.
-fn makes(alloc: Global, parts: &[Part<'_>], data: &[u8], skipped: u64) -> Result<bool, Fail> {
-    let item = file_of(alloc, parts)?;
+fn makes(
+    threads: &(impl Threads + Sync),
+    alloc: Global,
+    parts: &[Part<'_>],
+    data: &[u8],
+    skipped: u64,
+) -> Result<bool, Fail> {
+    let item = file_of(threads, alloc, parts)?;
     Ok(item.bytes.to_vec(alloc)?.as_slice() == data && item.skipped == skipped)
 }
 
 /// Returns the place of the first fragments that make another file.
-fn wrong_file(alloc: Global) -> Result<Option<usize>, Fail> {
+fn wrong_file(threads: &(impl Threads + Sync), alloc: Global) -> Result<Option<usize>, Fail> {
     for (place, (parts, data, skipped)) in FILES.iter().enumerate() {
-        if !makes(alloc, parts, data, *skipped)? {
+        if !makes(threads, alloc, parts, data, *skipped)? {
             return Ok(Some(place));
         }
     }
@@ -267,14 +302,14 @@ fn wrong_file(alloc: Global) -> Result<Option<usize>, Fail> {
 
 #[test]
 fn fragments_make_files_and_faults(rt: HostRuntime) -> Result<(), Fail> {
-    assert_eq!(rt; wrong_file(rt.alloc())?, None);
-    assert_eq!(rt; wrong_fault(rt.alloc())?, None);
+    assert_eq!(rt; wrong_file(&rt, rt.alloc())?, None);
+    assert_eq!(rt; wrong_fault(&rt, rt.alloc())?, None);
     Ok(())
 }
 
 #[test]
 fn a_file_has_its_attributes_and_data(rt: HostRuntime) -> Result<(), Fail> {
-    let item = file_of(rt.alloc(), HELLO)?;
+    let item = file_of(&rt, rt.alloc(), HELLO)?;
     assert_eq!(rt; item.path.bytes(), b"/a".as_slice());
     assert_eq!(rt;
         (item.kind, item.stat.mode(), item.stat.size()),
@@ -290,17 +325,22 @@ fn a_file_has_its_attributes_and_data(rt: HostRuntime) -> Result<(), Fail> {
 
 /// Returns the number of the outcome of fragments, and its stream, if a file of this path was
 /// planned.
-fn number_under(alloc: Global, path: &[u8], parts: &[Part<'_>]) -> Result<(u32, u32), Fail> {
-    let path = Path::new(alloc, path)?;
-    let outcome = made(alloc, parts)?;
-    Ok(number(&under_name(&path, outcome)))
+fn number_under(
+    threads: &(impl Threads + Sync),
+    alloc: Global,
+    path: &[u8],
+    parts: &[Part<'_>],
+) -> Result<(u32, u32), Fail> {
+    let mut names = Names::new(alloc);
+    names.insert(key(1)?, Path::new(alloc, path)?)?;
+    Ok(number(&made_under(threads, alloc, Some(names), parts)?))
 }
 
 #[test]
 fn a_planned_file_has_its_path(rt: HostRuntime) -> Result<(), Fail> {
     let parts = [Part(1, 38, FILE)];
-    assert_eq!(rt; number_under(rt.alloc(), b"/a", &parts)?, (0, 0));
-    assert_eq!(rt; number_under(rt.alloc(), b"/b", &parts)?, (69, 0));
-    assert_eq!(rt; number_under(rt.alloc(), b"/b", &[])?, (63, 0));
+    assert_eq!(rt; number_under(&rt, rt.alloc(), b"/a", &parts)?, (0, 0));
+    assert_eq!(rt; number_under(&rt, rt.alloc(), b"/b", &parts)?, (69, 0));
+    assert_eq!(rt; number_under(&rt, rt.alloc(), b"/b", &[])?, (63, 0));
     Ok(())
 }
