@@ -83,27 +83,59 @@ const ESCAPED: Content<'static> = (
 const ESCAPED_LINE: &[u8] =
     b"F 1 100 2147483647 4 /a\\x20b\\x5cc\\xff -1,0,-9223372036854775808,9223372036854775807,0,0,0,0,0,0,0,0,-64,0 =d\\x20e 0 d41d8cd98f00b204e9800998ecf8427e\ntotal 1 0 0\n";
 
-/// The manifest of a fault of the file with index 1.
-fn fault_line(rt: &HostRuntime, number: u32, stream: u32) -> Result<Vec<u8>, Fail> {
-    manifest_of(rt, with_key(1, fault(number, stream))?)
+/// Indexes of files, their contents and their manifests.
+const LINES: [(u32, Content<'static>, &[u8]); 3] = [
+    (1, HELLO, HELLO_LINE),
+    (2, LINK, LINK_LINE),
+    (2_147_483_647, ESCAPED, ESCAPED_LINE),
+];
+
+/// Returns whether this is the manifest of a file.
+fn is_line(
+    rt: &HostRuntime,
+    index: u32,
+    content: Content<'_>,
+    wanted: &[u8],
+) -> Result<bool, Fail> {
+    Ok(line_of(rt, index, content)?.as_slice() == wanted)
+}
+
+/// Returns the index of the first file with another manifest.
+fn wrong_line(rt: &HostRuntime, lines: &[(u32, Content<'_>, &[u8])]) -> Result<Option<u32>, Fail> {
+    for (index, content, wanted) in lines {
+        if !is_line(rt, *index, *content, wanted)? {
+            return Ok(Some(*index));
+        }
+    }
+    Ok(None)
+}
+
+/// Numbers and streams of faults of the file with index 1, and their manifests.
+const FAULT_LINES: [(u32, u32, &[u8]); 2] = [
+    (60, 0, b"X 1 100 1 60\ntotal 0 1 0\n"),
+    (65, 4, b"X 1 100 1 65 4\ntotal 0 1 0\n"),
+];
+
+/// Returns whether this is the manifest of a fault of the file with index 1.
+fn is_fault_line(rt: &HostRuntime, number: u32, stream: u32, wanted: &[u8]) -> Result<bool, Fail> {
+    let line = manifest_of(rt, with_key(1, fault(number, stream))?)?;
+    Ok(line.as_slice() == wanted)
+}
+
+/// Returns the number of the first fault with another manifest.
+fn wrong_fault_line(rt: &HostRuntime, lines: &[(u32, u32, &[u8])]) -> Result<Option<u32>, Fail> {
+    for (number, stream, wanted) in lines {
+        if !is_fault_line(rt, *number, *stream, wanted)? {
+            return Ok(Some(*number));
+        }
+    }
+    Ok(None)
 }
 
 #[test]
 fn files_and_faults_have_lines(rt: HostRuntime) -> Result<(), Fail> {
-    assert_eq!(rt; line_of(&rt, 1, HELLO)?.as_slice(), HELLO_LINE);
-    assert_eq!(rt; line_of(&rt, 2, LINK)?.as_slice(), LINK_LINE);
-    assert_eq!(rt;
-        line_of(&rt, 2_147_483_647, ESCAPED)?.as_slice(),
-        ESCAPED_LINE
-    );
-    assert_eq!(rt;
-        fault_line(&rt, 60, 0)?.as_slice(),
-        b"X 1 100 1 60\ntotal 0 1 0\n".as_slice()
-    );
-    assert_eq!(rt;
-        fault_line(&rt, 65, 4)?.as_slice(),
-        b"X 1 100 1 65 4\ntotal 0 1 0\n".as_slice()
-    );
+    assert_eq!(rt; wrong_line(&rt, &LINES)?, None);
+    assert_eq!(rt; wrong_fault_line(&rt, &FAULT_LINES)?, None);
     Ok(())
 }
 

@@ -294,6 +294,25 @@ fn refused_at(alloc: Global, fifth: u8, seventh: u8) -> Result<Option<(u32, u64)
     refused_on(alloc, &bytes, b"Volume=V1\n")
 }
 
+/// Numbers at the bytes 5 and 7 of a block's header, and the number and the address of the refusal.
+const SIZES: [(u8, u8, (u32, u64)); 3] = [
+    (0, 23, (11, 0)),
+    // 4,194,305.
+    (0x40, 1, (11, 0)),
+    // 24: the bytes after the header are no block.
+    (0, 24, (10, 24)),
+];
+
+/// Returns the first of the numbers with another refusal.
+fn wrong_size(alloc: Global, sizes: &[(u8, u8, (u32, u64))]) -> Result<Option<(u8, u8)>, Fail> {
+    for (fifth, seventh, wanted) in sizes {
+        if refused_at(alloc, *fifth, *seventh)? != Some(*wanted) {
+            return Ok(Some((*fifth, *seventh)));
+        }
+    }
+    Ok(None)
+}
+
 /// Returns whether a fault is that there is no volume Q.
 fn is_unknown(fault: &PieceFault) -> bool {
     fault.number() == 14
@@ -311,17 +330,25 @@ fn refuses_q(alloc: Global, text: &[u8]) -> Result<bool, Fail> {
     }
 }
 
+/// Bootstraps of the volume Q, which is not there.
+const UNKNOWN: [&[u8]; 2] = [b"Volume=Q\n", b"Volume=Q\nVolAddr=1000-2000\n"];
+
+/// Returns the place of the first bootstrap that is not refused since there is no volume Q.
+fn not_unknown(alloc: Global, texts: &[&[u8]]) -> Result<Option<usize>, Fail> {
+    for (place, text) in texts.iter().enumerate() {
+        if !refuses_q(alloc, text)? {
+            return Ok(Some(place));
+        }
+    }
+    Ok(None)
+}
+
 #[test]
 fn bad_volumes_are_refused(rt: HostRuntime) -> Result<(), Fail> {
     assert_eq!(rt; wrong_refusal(rt.alloc())?, None);
     assert_eq!(rt; not_refused(rt.alloc())?, 0);
-    assert_eq!(rt; refused_at(rt.alloc(), 0, 23)?, Some((11, 0)));
-    // 4,194,305.
-    assert_eq!(rt; refused_at(rt.alloc(), 0x40, 1)?, Some((11, 0)));
-    // 24: the bytes after the header are no block.
-    assert_eq!(rt; refused_at(rt.alloc(), 0, 24)?, Some((10, 24)));
-    assert!(rt; refuses_q(rt.alloc(), b"Volume=Q\n")?);
-    assert!(rt; refuses_q(rt.alloc(), b"Volume=Q\nVolAddr=1000-2000\n")?);
+    assert_eq!(rt; wrong_size(rt.alloc(), &SIZES)?, None);
+    assert_eq!(rt; not_unknown(rt.alloc(), &UNKNOWN)?, None);
     Ok(())
 }
 
