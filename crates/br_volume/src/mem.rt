@@ -113,7 +113,7 @@ fn copy_from(bytes: &[u8], addr: u64, size: u32, buf: &mut Vec<u8>) -> Result<Go
 
 /// Reads a block of a volume into the buffer.
 #[tactic(auto, unfolding(crate::specs::Drive::bytes_shown))]
-fn read_from(
+pub(crate) fn read_from(
     volumes: &[(VolName, Vec<u8>)],
     vol: &VolName,
     addr: u64,

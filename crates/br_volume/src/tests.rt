@@ -183,6 +183,69 @@ fn a_drive_over_memory_reads(rt: HostRuntime) -> Result<(), Fail> {
     Ok(())
 }
 
+/// Returns the address of the first of the reads of V that a drive does not give as wanted.
+fn wrong_read_of(
+    drive: &mut impl Drive,
+    vol: &VolName,
+    buf: &mut Vec<u8>,
+) -> Result<Option<u64>, DriveFault> {
+    for (addr, size, len, ends) in READS {
+        let got = read(drive, vol, addr, size, buf)?;
+        if got != Got::Block(len) || !is_run(buf, len as usize, ends) {
+            return Ok(Some(addr));
+        }
+    }
+    Ok(None)
+}
+
+/// Returns the first wrong reads of two drives that borrow the same volumes.
+fn wrong_reads_of_borrowers(
+    alloc: Global,
+    volumes: &[(VolName, Vec<u8>)],
+) -> Result<[Option<u64>; 2], Fail> {
+    let vol = VolName::new(alloc, b"V")?;
+    let mut buf = Vec::new(alloc);
+    let (mut first, mut second) = (BorrowedDrive::new(volumes), BorrowedDrive::new(volumes));
+    Ok([
+        wrong_read_of(&mut first, &vol, &mut buf)?,
+        wrong_read_of(&mut second, &vol, &mut buf)?,
+    ])
+}
+
+/// Returns what a drive that borrows its volumes reads of a volume at an address.
+fn borrowed_read(
+    alloc: Global,
+    volumes: &[(VolName, Vec<u8>)],
+    name: &[u8],
+    addr: u64,
+) -> Result<Result<Got, DriveFault>, Fail> {
+    let vol = VolName::new(alloc, name)?;
+    let mut buf = Vec::new(alloc);
+    Ok(BorrowedDrive::new(volumes).block_at(&vol, addr, 24, &mut buf))
+}
+
+/// Returns whether drives over borrowed volumes find the ends of V and E, and no volume `v`.
+fn borrowers_find_ends(alloc: Global, volumes: &[(VolName, Vec<u8>)]) -> Result<bool, Fail> {
+    let ends = [
+        borrowed_read(alloc, volumes, b"V", 172)?,
+        borrowed_read(alloc, volumes, b"E", 0)?,
+        borrowed_read(alloc, volumes, b"v", 0)?,
+    ];
+    Ok(ends == [Ok(Got::End), Ok(Got::End), Err(DriveFault::UnknownVolume)])
+}
+
+#[test]
+fn drives_over_borrowed_volumes_read(rt: HostRuntime) -> Result<(), Fail> {
+    let volumes = volumes(rt.alloc())?;
+    assert_eq!(rt;
+        wrong_reads_of_borrowers(rt.alloc(), &volumes)?,
+        [None, None]
+    );
+    assert!(rt; borrowers_find_ends(rt.alloc(), &volumes)?);
+    assert!(rt; are_volumes(&volumes));
+    Ok(())
+}
+
 /// Reads a volume that does not exist.
 fn unknown(alloc: Global, reader: &mut OpenDrive) -> Result<Result<Got, DriveFault>, Fail> {
     let vol = VolName::new(alloc, b"v")?;
