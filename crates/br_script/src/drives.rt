@@ -5,8 +5,8 @@ ghost use Rattle.br_volume.specs.Memory.{volumes_of};
 ghost use Rattle.br_pool.specs.Pool.{AreDrives};
 ghost use Rattle.br_script.specs.Drives.{EachShows, drives_in_range, drives_spelled, up_to_17};
 
-use crate::borrowed::BorrowedDrive;
 use br_types::{VolName, are_digits};
+use br_volume::BorrowedDrive;
 use std::alloc::{AllocError, Global};
 use std::marker::Model;
 

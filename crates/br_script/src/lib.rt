@@ -1,7 +1,6 @@
 //! Scripts, which fill volumes in memory line by line and run bootstraps over them.
 #![tactic(auto)]
 
-mod borrowed;
 mod drives;
 mod fields;
 mod input;
