@@ -2,3 +2,4 @@ pub mod BoolLaws
 pub mod ClashLaws
 pub mod RowLaws
 pub mod HistoryLaws
+pub mod SavingLaws

@@ -1,3 +1,4 @@
 pub mod Fault
 pub mod Seen
 pub mod Taken
+pub mod Saving

@@ -1,5 +1,6 @@
 ghost use Rattle.std.specs.Prelude.{◌≡◌};
 ghost use Rattle.br_history.specs.Fault.{fault_number};
+ghost use Rattle.br_history.specs.Saving.{saved_job_number};
 ghost use Rattle.br_history.specs.declared.fault.HistoryFault.TheVariants.{Memory};
 
 use std::alloc::AllocError;
@@ -38,5 +39,26 @@ impl From<AllocError> for HistoryFault {
 
     fn from(_e: AllocError) -> HistoryFault {
         HistoryFault::Memory
+    }
+}
+
+/// Why a job can't be committed, whatever the history and the volumes are.
+#[derive(Clone, Copy, Debug, PartialEq, Eq, Error)]
+pub enum SavedJobFault {
+    #[error("the files are out of order: a hard link must name an earlier file of type 2 or 3, and there must be fewer than 2^31 files")]
+    BadFileOrder,
+    #[error("the job starts after the year 9999")]
+    BadRow,
+}
+
+impl SavedJobFault {
+    /// Returns the number of the refusal: 16 files out of order, 42 a start after the year 9999.
+    pub fn number(self) -> u32
+        ensures { result ≡ saved_job_number self }
+    {
+        match self {
+            SavedJobFault::BadFileOrder => 16,
+            SavedJobFault::BadRow => 42,
+        }
     }
 }

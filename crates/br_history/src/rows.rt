@@ -15,7 +15,7 @@ use std::collections::{BTreeMap, BTreeSet};
 use std::marker::Model;
 
 /// The last second of the year 9999.
-const MAX_START: u64 = 253_402_300_799;
+pub(crate) const MAX_START: u64 = 253_402_300_799;
 
 /// The greatest address of a byte on a volume: 2^63 - 1.
 const MAX_ADDRESS: u64 = 9_223_372_036_854_775_807;
@@ -139,7 +139,7 @@ fn copied_span(alloc: Global, span: &Span) -> Result<Span, AllocError>
     })
 }
 
-fn copied_spans(alloc: Global, spans: &[Span]) -> Result<Vec<Span>, AllocError>
+pub(crate) fn copied_spans(alloc: Global, spans: &[Span]) -> Result<Vec<Span>, AllocError>
     ensures { IfOk result (λ copy. copy.items ≡ spans.now) }
 {
     let mut copy = Vec::new(alloc);

@@ -51,7 +51,7 @@ pub(crate) fn row_of(
 }
 
 /// Returns the row of a job of the client `mars` and the file set `home`, of a session of its own.
-fn job_row(alloc: Global, job: Job) -> Result<JobRow, Fail> {
+pub(crate) fn job_row(alloc: Global, job: Job) -> Result<JobRow, Fail> {
     let session = SessionKey { id: job.0, time: 7 };
     row_of(alloc, job, session, b"mars", b"home")
 }

@@ -13,6 +13,8 @@ mod mark_tests;
 #[cfg(test)]
 mod plan_tests;
 #[cfg(test)]
+mod saved_job_tests;
+#[cfg(test)]
 mod tree_tests;
 #[cfg(test)]
 mod view_tests;

@@ -22,6 +22,7 @@ mod spans;
 mod write;
 
 pub use fault::SessionFault;
+pub use order::check_order;
 pub use packing::{Record, pack};
 pub use place::Place;
 pub use saved::SavedFile;

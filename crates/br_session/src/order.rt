@@ -39,14 +39,14 @@ fn are_all_linked_back(files: &[SavedFile]) -> bool
     true
 }
 
-/// Tests the order of files.
+/// Tests the order of files, as `write_session` does first.
 ///
 /// # Errors
 ///
-/// `BadFileOrder` if a hard link does not name an earlier file with bytes, or there are 2^31 files
-/// or more.
+/// `BadFileOrder` if a hard link does not name an earlier file of type 2 or 3, or there are 2^31
+/// files or more.
 #[tactic(auto, unfolding(br_model::specs::Session::checked_order))]
-pub(crate) fn check_order(files: &[SavedFile]) -> Result<(), SessionFault>
+pub fn check_order(files: &[SavedFile]) -> Result<(), SessionFault>
     ensures same { AnswersAlways (λ _. files.now) fault_number result (checked_order files.now) }
     ensures few { OnOk result (length files.now < 2 ^ 31) }
 {

@@ -159,8 +159,8 @@ impl SavedFile {
         matches!(self.kind, 2 | 3)
     }
 
-    /// Returns whether a digest is written.
-    pub(crate) fn has_digest(&self) -> bool
+    /// Returns whether a digest of the bytes is written: one is wanted, and the type is 2 or 3.
+    pub fn has_digest(&self) -> bool
         ensures { result ≡ has_digest self.now }
     {
         self.has_bytes() && self.digest
