@@ -172,7 +172,7 @@ pub record AreGrown (volumes : List Volume) (commits : ℕ) (stages : List (List
   pub extend : (n : ℕ) (later : List Volume) → commits ≤ n → slice_get stages n ≡ Some later → Extends later volumes
 
 -- the volumes that a read goes over extend those of the plan
-seen_extend : (volumes : List Volume) (commits n : ℕ) (plan : model.Plan) (set : Hits) (w : World) (r : Restore) (seen : List Volume) → AreGrown volumes commits (stages_of w)
+pub seen_extend : (volumes : List Volume) (commits n : ℕ) (plan : model.Plan) (set : Hits) (w : World) (r : Restore) (seen : List Volume) → AreGrown volumes commits (stages_of w)
     → IsGoing volumes commits plan set r → AreAfter w r n seen → Extends seen r.volumes
 seen_extend volumes commits n plan set w r seen grown is after =
     subst (Extends seen) (sym is.volumes_are) (grown.extend n seen (omega (arith, is.commits_are, after.since)) after.are)

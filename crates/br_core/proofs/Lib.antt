@@ -7,6 +7,7 @@ pub mod StatusLaws
 pub mod GoingLaws
 pub mod PlannedLaws
 pub mod RunLaws
+pub mod ReachedLaws
 mod Computing
 mod JobExamples
 mod PlanExamples

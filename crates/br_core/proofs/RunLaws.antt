@@ -51,10 +51,10 @@ restore_is w restores number it e = rw e refl
 
 -- The number is given, the volumes only grew, and the restore under the number, if it is not over,
 -- is under way.
-record IsKept (volumes : List Volume) (commits : ℕ) (plan : model.Plan) (hits : Hits) (number : ℕ) (w : World) : Type 0 where
-  given : number < length w.restores
-  grown : AreGrown volumes commits (stages_of w)
-  going : (r : Restore) → restore_at w number ≡ Some r → IsGoing volumes commits plan hits r
+pub record IsKept (volumes : List Volume) (commits : ℕ) (plan : model.Plan) (hits : Hits) (number : ℕ) (w : World) : Type 0 where
+  pub given : number < length w.restores
+  pub grown : AreGrown volumes commits (stages_of w)
+  pub going : (r : Restore) → restore_at w number ≡ Some r → IsGoing volumes commits plan hits r
 
 -- where one restore becomes another, that is under way if it has the number
 kept_becomes : (volumes : List Volume) (commits : ℕ) (plan : model.Plan) (hits : Hits) (number n : ℕ) (w : World) (it : Option Restore) → IsKept volumes commits plan hits number w
@@ -164,11 +164,11 @@ planned_is history chosen q script plan is_chosen e =
 
 -- The chosen jobs are laid on the volumes of the moment, the plan is readable over these, and the
 -- restore is under way in the last state, if it is not over.
-record IsFollowed (number : ℕ) (moment last : World) (chosen : List JobRows) (script : List Command) (plan : model.Plan) : Type 0 where
-  laid : AllByRecursion (IsJobLaid moment.volumes) chosen
-  groups_are : plan_groups (selected_by chosen script) chosen ≡ plan.groups
-  readable : IsReadable moment.volumes plan.groups (hits_of (plan_hits moment.volumes (selected_by chosen script) chosen))
-  kept : IsKept moment.volumes (length moment.earlier) plan (hits_of (plan_hits moment.volumes (selected_by chosen script) chosen)) number last
+pub record IsFollowed (number : ℕ) (moment last : World) (chosen : List JobRows) (script : List Command) (plan : model.Plan) : Type 0 where
+  pub laid : AllByRecursion (IsJobLaid moment.volumes) chosen
+  pub groups_are : plan_groups (selected_by chosen script) chosen ≡ plan.groups
+  pub readable : IsReadable moment.volumes plan.groups (hits_of (plan_hits moment.volumes (selected_by chosen script) chosen))
+  pub kept : IsKept moment.volumes (length moment.earlier) plan (hits_of (plan_hits moment.volumes (selected_by chosen script) chosen)) number last
 
 -- the volumes of a moment are the last of its stages
 grown_itself : (w : World) → AreGrown w.volumes (length w.earlier) (stages_of w)
@@ -191,7 +191,7 @@ hold_then first last events replies number p old j among is_chosen =
     ]
 
 -- from its plan on a restore is so followed
-followed : (first last : World) (events : List Event) (replies : List Reply) (number : ℕ) (p : WasPlanned first last events replies number) → OldOnesHold first p.moment p.chosen
+pub followed : (first last : World) (events : List Event) (replies : List Reply) (number : ℕ) (p : WasPlanned first last events replies number) → OldOnesHold first p.moment p.chosen
     → IsFollowed number p.moment last p.chosen p.script p.plan
 followed first last events replies number p old = record { laid = laid; groups_are = groups_are; readable = readable; kept = kept }
   where

@@ -1,2 +1,4 @@
 pub mod Machine
 pub mod Laws
+pub mod Reached
+pub mod Reading

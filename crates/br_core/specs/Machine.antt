@@ -7,8 +7,8 @@ use Rattle.br_model.specs.Answer.{◌>>=◌}
 use Rattle.br_model.specs.Volume.{Volume, Extends}
 use Rattle.br_model.specs.Meaning.{Piece, Hit, Hits, pieces_of, with_hits}
 use Rattle.br_model.specs.Restored.{Restored, files}
-use Rattle.br_model.specs.Job.{JobRow, Span, JobRows, Job, IsJob, pushed, is_history}
-use Rattle.br_model.specs.Session.{ToSave, Place, Written, IsWritten, ArePacked, session_records, visits, checked_spans, rows_of}
+use Rattle.br_model.specs.Job.{Span, JobRows, Job, IsJob, pushed, is_history}
+use Rattle.br_model.specs.Session.{ToSave, Written, IsWritten, ArePacked, session_records, visits, checked_spans, rows_of}
 use Rattle.br_model.specs.Choice.{Request, choose}
 use Rattle.br_model.specs.View.{view_of}
 use Rattle.br_model.specs.Console.{Command, at_start, marks_after}
@@ -17,6 +17,7 @@ use Rattle.br_model.specs.Plan.{plan_of}
 use Rattle.br_model.specs.PlanMeaning.{rows_of_jobs}
 use Rattle.br_model.specs.Stored.{Holds}
 use Rattle.br_match.specs.Walk.{step_on}
+pub use Rattle.br_history.specs.Saving.{ToCommit}
 
 -- ---- states
 
@@ -50,15 +51,6 @@ pub record World : Type 0 where
   pub restores : List (Option Restore)
 
 -- ---- events and replies
-
--- a job that is to be committed, with its files, the paths that it notes as deleted, and the places
--- for its blocks
-pub record ToCommit : Type 0 where
-  pub row : JobRow
-  pub files : List ToSave
-  pub deleted : List (List ℕ)
-  pub limit : ℕ
-  pub places : List Place
 
 -- What can happen. All events but commits and plans are of the restore with the first number. The
 -- second number is that of a piece, or for `Take` the place of a batch among those on their way.
