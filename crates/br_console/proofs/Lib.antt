@@ -1,3 +1,4 @@
 pub mod TalkLaws
 pub mod RunLaws
 pub mod SelectingLaws
+pub mod StandingLaws

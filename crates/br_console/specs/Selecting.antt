@@ -1,5 +1,6 @@
 -- The theorem that a run of the console serves: what is marked comes back as it was saved.
-use Rattle.std.specs.Prelude.{◌≡◌, ℕ, Bool, true, false, List, ◌++◌, Some, Ok, Contains}
+use Rattle.std.specs.Prelude.{◌≡◌, ℕ, Bool, true, false, List, ◌++◌, Option, Some, None, Result, Ok, Err, Contains}
+use Rattle.std.specs.Io.KnownBytes.{Appends}
 use Rattle.std.specs.List.{AllByRecursion, AllZip}
 use Rattle.std.specs.List.Sorted.{IsPermutation}
 use Rattle.br_model.specs.Text.{is_empty}
@@ -13,7 +14,12 @@ use Rattle.br_model.specs.Console.{at_start, console_lines, marks_at_done}
 use Rattle.br_model.specs.Plan.{selection}
 use Rattle.br_model.specs.PlanMeaning.{IsCopy, by_key, rows_of_jobs}
 use Rattle.br_model.specs.Stored.{Holds}
-use Rattle.br_console.specs.Running.{Run, begun, console_run}
+use Rattle.br_volume.specs.Drive.{OnlyGrows}
+use Rattle.br_engine.specs.Restoring.{Told}
+use Rattle.br_console.specs.Fault.{cause}
+use Rattle.br_console.specs.Running.{Run, Shows, RunsOver, AllStandForPlan, begun, console_run}
+use Rattle.br_console.specs.declared.console_fault.ConsoleFault.{ConsoleFault}
+use Rattle.br_console.specs.declared.ending.ConsoleRun.{ConsoleRun}
 
 -- After dialogue and bootstrap a run wrote the manifest of these entries' copies in order of key, one for each entry and no others, and it
 -- returns that each outcome is a file.
@@ -24,6 +30,10 @@ pub record RestoresAll (jobs : List Job) (selected : List Entry) (before : List 
   pub are_copies : AllZip (IsCopy jobs) (by_key selected) copies
   pub are_all : IsPermutation selected (by_key selected)
 
+-- of these jobs those that are chosen stand on the volumes
+abbrev pub AllHold : List Volume → List Job → List JobRows → Type 0
+AllHold volumes jobs chosen = (j : Job) → Contains jobs j → Contains chosen j.rows → Holds volumes j
+
 -- Of jobs with what they saved: if the lines end by `done` with some paths of the view marked, and volumes hold the chosen jobs, the run over
 -- all volumes that extend these restores the marked entries of the view of the chosen jobs.
 abbrev pub RunsMeanSelection : Type 0
@@ -33,7 +43,59 @@ RunsMeanSelection =
     → choose (rows_of_jobs jobs) q ≡ Ok chosen
     → marks_at_done (view_of chosen) at_start (console_lines text) ≡ Some marks
     → is_empty (selection (view_of chosen) marks) ≡ false
-    → ((j : Job) → Contains jobs j → Contains chosen j.rows → Holds volumes j)
+    → AllHold volumes jobs chosen
     → Extends later volumes
     → RestoresAll jobs (selection (view_of chosen) marks) (begun (rows_of_jobs jobs) q text).text (console_run (rows_of_jobs jobs) q text later)
     (begun (rows_of_jobs jobs) q text).is_clean
+
+-- ---- over drives that show more
+
+-- a drive tells its volumes, and they extend these
+abbrev pub ShowsMore : List Volume → Option (List Volume) → Type 0
+ShowsMore volumes None = ⊥
+ShowsMore volumes (Some shown) = Extends shown volumes
+
+-- before a run each drive shows volumes that extend these, and meanwhile they only grow
+abbrev pub AllShowMore : List Volume → Told → Told → Type 0
+AllShowMore volumes earlier later = AllByRecursion (ShowsMore volumes) earlier × AllZip OnlyGrows earlier later
+
+-- Of jobs with what they saved: if volumes hold the chosen jobs, drives that show more than these volumes may be taken to show just these,
+-- for the pieces of whatever plan the lines make. So what was appended to the volumes, and what is appended meanwhile, changes nothing.
+abbrev pub DrivesStandForPlans : Type 0
+DrivesStandForPlans =
+    (jobs : List Job) (q : Request) (text : List ℕ) (volumes : List Volume) (earlier later : Told)
+    → ((chosen : List JobRows) → choose (rows_of_jobs jobs) q ≡ Ok chosen → AllHold volumes jobs chosen)
+    → AllShowMore volumes earlier later
+    → AllStandForPlan earlier later (begun (rows_of_jobs jobs) q text) volumes
+
+-- A run appended, after dialogue and bootstrap, the manifest of these entries' copies in order of key, one for each entry and no others,
+-- and returned that each outcome is a file.
+pub record ReturnsAll (jobs : List Job) (selected : List Entry) (text : List ℕ) (clean : Bool) (before after : Option (List ℕ))
+    (run : ConsoleRun) : Type 0 where
+  pub copies : List Restored
+  pub appended : Appends before after (text ++ manifest copies)
+  pub returned : Shows run (record { is_clean = clean; restored = Some true })
+  pub are_copies : AllZip (IsCopy jobs) (by_key selected) copies
+  pub are_all : IsPermutation selected (by_key selected)
+
+-- the run did so, unless memory ran out, no drive was left, or reading or writing failed
+abbrev pub ReturnsAllOrFails : List Job → List Entry → List ℕ → Bool → Option (List ℕ) → Option (List ℕ)
+    → Result ConsoleRun ConsoleFault → Type 0
+ReturnsAllOrFails jobs selected text clean before after (Ok run) = ReturnsAll jobs selected text clean before after run
+ReturnsAllOrFails jobs selected text clean before after (Err why) = cause why ≡ None
+
+-- Of jobs with what they saved: if the lines end by `done` with some paths of the view marked, volumes hold the chosen jobs, and each drive
+-- shows more than these volumes, then what the clause `runs` says of a run is that it restores the marked entries of the view.
+abbrev pub RunsRestoreSelection : Type 0
+RunsRestoreSelection =
+    (jobs : List Job) (q : Request) (text : List ℕ) (chosen : List JobRows) (marks : List (List ℕ)) (volumes : List Volume)
+    (earlier later : Told) (before after : Option (List ℕ)) (result : Result ConsoleRun ConsoleFault)
+    → is_history (rows_of_jobs jobs) ≡ true → AllByRecursion IsJob jobs
+    → choose (rows_of_jobs jobs) q ≡ Ok chosen
+    → marks_at_done (view_of chosen) at_start (console_lines text) ≡ Some marks
+    → is_empty (selection (view_of chosen) marks) ≡ false
+    → AllHold volumes jobs chosen
+    → AllShowMore volumes earlier later
+    → RunsOver (Some text) earlier later before after (rows_of_jobs jobs) q result
+    → ReturnsAllOrFails jobs (selection (view_of chosen) marks) (begun (rows_of_jobs jobs) q text).text
+    (begun (rows_of_jobs jobs) q text).is_clean before after result

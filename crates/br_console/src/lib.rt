@@ -12,5 +12,5 @@ mod talking;
 pub use console_fault::ConsoleFault;
 pub use ending::{ConsoleRun, End, Lines, Session, SessionEnd};
 pub use running::{JobSelection, run_console};
-pub use selecting::runs_mean_selection;
+pub use selecting::{drives_stand_for_plans, runs_mean_selection, runs_restore_selection};
 pub use talking::converse;

@@ -1,5 +1,5 @@
 //! What a run of the console is for.
-ghost use Rattle.br_console.specs.Selecting.{RunsMeanSelection};
+ghost use Rattle.br_console.specs.Selecting.{DrivesStandForPlans, RunsMeanSelection, RunsRestoreSelection};
 
 use br_model::plan_means_selection;
 
@@ -8,4 +8,18 @@ pub fn runs_mean_selection()
     ensures { RunsMeanSelection }
 {
     plan_means_selection();
+}
+
+/// Drives that show more than the volumes that hold the chosen jobs may be taken to show these.
+pub fn drives_stand_for_plans()
+    ensures { DrivesStandForPlans }
+{}
+
+/// A run of the console over drives that show more than the volumes that hold the chosen jobs
+/// restores what was marked, as it was saved.
+pub fn runs_restore_selection()
+    ensures { RunsRestoreSelection }
+{
+    drives_stand_for_plans();
+    runs_mean_selection();
 }
