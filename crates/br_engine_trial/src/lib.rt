@@ -1,4 +1,5 @@
-//! The engine and the console, tried over memory: restores by a bootstrap, sessions, and deliveries. There are only tests here.
+//! The engine, the console and scripts, tried over memory: restores by a bootstrap, sessions,
+//! deliveries, and scripts. There are only tests here.
 #![tactic(auto)]
 
 #[cfg(test)]
@@ -7,5 +8,7 @@ mod delivery_tests;
 mod engine_tests;
 #[cfg(test)]
 mod order_tests;
+#[cfg(test)]
+mod script_tests;
 #[cfg(test)]
 mod session_tests;

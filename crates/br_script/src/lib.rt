@@ -6,7 +6,5 @@ mod fields;
 mod input;
 mod line;
 mod script;
-#[cfg(test)]
-mod tests;
 
 pub use script::{ScriptEnd, run_script};

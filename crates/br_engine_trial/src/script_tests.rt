@@ -1,4 +1,5 @@
-use crate::script::{ScriptEnd, run_script};
+//! What scripts write, and how they end.
+use br_script::{ScriptEnd, run_script};
 use std::alloc::Global;
 use std::io::{self, BufReader, Error, ErrorKind, Read, Write};
 use std::process::Abort;
