@@ -14,3 +14,5 @@ mod packing_tests;
 mod piece_tests;
 #[cfg(test)]
 mod session_tests;
+#[cfg(test)]
+mod types_tests;

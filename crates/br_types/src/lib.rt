@@ -26,6 +26,3 @@ pub use name::{Name, VolName};
 pub use names::Names;
 pub use number::{FileIndex, JobId, Letter};
 pub use path::Path;
-
-#[cfg(test)]
-mod tests;

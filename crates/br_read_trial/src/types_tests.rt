@@ -1,4 +1,9 @@
-use super::*;
+//! Names, paths, keys and numbers, and how they are printed and read.
+use br_types::{
+    EscapeFault, FileIndex, FileKey, JobId, Letter, Name, NameFault, Names, Path, SessionKey,
+    VolName, are_digits, byte_by, has_no_nul, is_blank_byte, is_directory_path, push_escaped,
+    push_hexadecimal, push_number, push_wide, unescape,
+};
 use std::alloc::Global;
 use std::test::Fail;
 
@@ -417,7 +422,7 @@ fn numbers_are_printed_and_digits_are_read(rt: HostRuntime) -> Result<(), Fail> 
 #[test]
 fn bytes_are_tested(rt: HostRuntime) -> Result<(), Fail> {
     assert_eq!(rt;
-        [b' ', b'\t', b'\n', b'a'].map(is_blank_byte),
+        [b' ', b'\t', b'\n', b'a'].map(|byte| is_blank_byte(byte)),
         [true, true, false, false]
     );
     assert_eq!(rt; [has_no_nul(b"ab"), has_no_nul(b"a\0b")], [true, false]);
