@@ -6,8 +6,6 @@
 
 mod refusal;
 mod table;
-#[cfg(test)]
-mod tests;
 mod text;
 
 pub use refusal::{Refusal, explain};

@@ -1,5 +1,5 @@
-//! The formats that a restore reads, and the sessions that write them, tried. There are only tests
-//! here.
+//! The formats that a restore reads, the sessions that write them, and the table of refusals,
+//! tried. There are only tests here.
 #![tactic(auto)]
 
 #[cfg(test)]
@@ -8,6 +8,8 @@ mod attr_tests;
 mod block_tests;
 #[cfg(test)]
 mod bsr_tests;
+#[cfg(test)]
+mod explain_tests;
 #[cfg(test)]
 mod packing_tests;
 #[cfg(test)]

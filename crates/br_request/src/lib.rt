@@ -2,7 +2,5 @@
 #![tactic(auto)]
 
 mod request;
-#[cfg(test)]
-mod tests;
 
 pub use request::{RequestFault, read_request};

@@ -1,5 +1,5 @@
-//! The selection, tried: from the rows of jobs to the chosen jobs, their view, the marks in it and
-//! the plan for these. There are only tests here.
+//! The selection, tried: from the request and the rows of jobs to the chosen jobs, their view, the
+//! marks in it and the plan for these. There are only tests here.
 #![tactic(auto)]
 
 #[cfg(test)]
@@ -12,6 +12,8 @@ mod jobs;
 mod mark_tests;
 #[cfg(test)]
 mod plan_tests;
+#[cfg(test)]
+mod request_tests;
 #[cfg(test)]
 mod saved_job_tests;
 #[cfg(test)]

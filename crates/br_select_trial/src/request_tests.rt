@@ -1,4 +1,5 @@
-use crate::{RequestFault, read_request};
+//! How the words of a request are read.
+use br_request::{RequestFault, read_request};
 use std::alloc::Global;
 use std::test::Fail;
 

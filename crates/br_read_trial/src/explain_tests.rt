@@ -1,4 +1,5 @@
-use crate::{explain, push_refusals};
+//! How a number is explained.
+use br_explain::{explain, push_refusals};
 use std::alloc::Global;
 use std::test::Fail;
 
