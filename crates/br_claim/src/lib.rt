@@ -13,8 +13,6 @@ mod fault;
 mod kept;
 mod rule;
 mod seat;
-#[cfg(test)]
-mod tests;
 mod word;
 
 pub use claims::Claims;

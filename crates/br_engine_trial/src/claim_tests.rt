@@ -1,6 +1,7 @@
+//! Which numbers seats draw, in turn and in threads.
 ghost use Rattle.std.specs.Prelude.{◌≡◌, true};
 
-use super::*;
+use br_claim::{ClaimSeat, Claims};
 use std::alloc::{AllocError, Global};
 use std::test::Fail;
 use std::thread::join;
