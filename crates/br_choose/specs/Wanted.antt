@@ -26,6 +26,10 @@ is_wanted q level earlier j = is_candidate q j && (j.row.level == level) && come
 abbrev pub wanted_jobs : Request → ℕ → JobRows → List JobRows → List JobRows
 wanted_jobs q level earlier jobs = in_order job_rank (filter (is_wanted q level (Some earlier)) jobs)
 
+-- the jobs to which a vector points
+abbrev pub jobs_of : Vec (Bor JobRows) → List JobRows
+jobs_of jobs = map (λ (j : Bor JobRows). j.now) jobs.items
+
 -- a Full, then a Differential, if there is one, then Incrementals
 abbrev pub chain_of : JobRows → Option JobRows → List JobRows → List JobRows
 chain_of full differential incrementals = full ∷ option_to_list differential ++ incrementals
@@ -36,7 +40,7 @@ request_for client fileset moment = record { client = client; fileset = fileset;
 
 -- the result is what the model chooses, or its refusal
 abbrev pub Chooses : List JobRows → Request → Result (Vec (Bor JobRows)) ChooseFault → Type 0
-Chooses history q result = Answers (λ (jobs : Vec (Bor JobRows)). map (λ (j : Bor JobRows). j.now) jobs.items) cause result (choose history q)
+Chooses history q result = Answers jobs_of cause result (choose history q)
 
 -- the later of two jobs, the first if neither is
 abbrev pub later : JobRows → JobRows → JobRows

@@ -3,7 +3,7 @@ ghost use Rattle.std.specs.Option.{option_copied};
 ghost use Rattle.std.specs.List.{list_any, reduce};
 ghost use Rattle.br_model.specs.Job.{is_history, no_pair};
 ghost use Rattle.br_model.specs.Choice as model;
-ghost use Rattle.br_choose.specs.Wanted.{Chooses, chain_of, is_wanted, later, request_for, wanted_jobs};
+ghost use Rattle.br_choose.specs.Wanted.{Chooses, chain_of, is_wanted, jobs_of, later, request_for, wanted_jobs};
 
 use crate::criteria::{Criteria, later_of, rank};
 use crate::fault::ChooseFault;
@@ -46,7 +46,7 @@ fn wanted_after<'h>(
     earlier: &JobRows,
 ) -> Result<Vec<&'h JobRows>, AllocError>
     requires { is_history jobs.now ≡ true }
-    ensures { IfOk result (λ found. map (λ j. j.now) found.items ≡ wanted_jobs request.now level earlier.now jobs.now) }
+    ensures { IfOk result (λ found. jobs_of found ≡ wanted_jobs request.now level earlier.now jobs.now) }
 {
     let mut found: Vec<&JobRows> = jobs
         .iter()
@@ -63,7 +63,7 @@ fn joined<'h>(
     differential: Option<&'h JobRows>,
     incrementals: &[&'h JobRows],
 ) -> Result<Vec<&'h JobRows>, AllocError>
-    ensures { IfOk result (λ jobs. map (λ j. j.now) jobs.items ≡ chain_of full.now (option_copied differential.entry) (map (λ j. j.now) incrementals.now)) }
+    ensures { IfOk result (λ jobs. jobs_of jobs ≡ chain_of full.now (option_copied differential.entry) (map (λ j. j.now) incrementals.now)) }
 {
     let mut jobs = Vec::new(alloc);
     jobs.push(full)?;

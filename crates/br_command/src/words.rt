@@ -3,7 +3,10 @@ ghost use Rattle.std.specs.Prelude.{◌≡◌, ◌≤◌, codes, Some, true, fal
 ghost use Rattle.clap.specs.Walk.{first_of};
 ghost use Rattle.clap.specs.Words.{FailsBy, app_of, fault_of, found_of, rows_of, rule_of, subcommand_rows_of};
 ghost use Rattle.clap.specs.declared.builder.command.Command.TheViews.{out-Command as fields_of};
-ghost use Rattle.br_command.specs.Words.{AsksFor, HasDrives, asked, asked_by, console_app, console_asked, console_jobs_app, console_start_app, drives_asked, drives_rule, explain_app, explain_asked, extract_app, extract_asked, extracting_app, number_asked, number_rule, program_app, restoring_app, value_rule, with_run_rules, words_asked, words_fault};
+ghost use Rattle.br_command.specs.Words.{AsksFor, HasDrives, asked, asked_by, words_asked, words_fault, with_run_rules};
+ghost use Rattle.br_command.specs.Words.{console_asked, drives_asked, explain_asked, extract_asked, number_asked};
+ghost use Rattle.br_command.specs.Words.{console_app, console_jobs_app, console_start_app, explain_app, extract_app};
+ghost use Rattle.br_command.specs.Words.{drives_rule, extracting_app, number_rule, program_app, restoring_app, value_rule};
 
 use clap::builder::ValueParser;
 use clap::error::ErrorKind;

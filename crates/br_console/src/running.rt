@@ -6,7 +6,8 @@ ghost use Rattle.br_engine.specs.Fault.{IsNoLine};
 ghost use Rattle.br_engine.specs.Delivering.{CountsFailures};
 ghost use Rattle.br_console.specs.Fault.{IsNoPiece};
 ghost use Rattle.br_console.specs.Running.{BecomesFault, IsNoDriveLeft, WritesPlan, opening};
-ghost use Rattle.br_console.specs.Delivering.{BeginsInto, DeliversInto, IfUnchosen, IsViewOfAsked, RunStopIsCounted, RunsInto, TellsInto, plan_for};
+ghost use Rattle.br_console.specs.Delivering.{BeginsInto, DeliversInto, RunStopIsCounted, RunsInto, TellsInto};
+ghost use Rattle.br_console.specs.Delivering.{IfUnchosen, IsViewOfAsked, plan_for};
 
 use crate::console_fault::ConsoleFault;
 use crate::ending::{ConsoleRun, End, Lines, SessionEnd};
