@@ -1,0 +1,5 @@
+//! Pools of drives, tried over two volumes that two sessions share. There are only tests here.
+#![tactic(auto)]
+
+#[cfg(test)]
+mod failing_tests;
