@@ -134,7 +134,8 @@ impl Script {
     }
 
     fn refuse<W: Write>(&mut self, number: u32, writer: &mut W) -> io::Result<()>
-        ensures { self.new.drives ≡ self.old.drives }
+        ensures drives { self.new.drives ≡ self.old.drives }
+        ensures volumes { self.new.volumes ≡ self.old.volumes }
     {
         self.end = ScriptEnd::Refused;
         writeln!(writer, "refused {number}")
@@ -146,7 +147,8 @@ impl Script {
         number: u64,
         writer: &mut W,
     ) -> io::Result<()>
-        ensures { self.new.drives ≡ self.old.drives }
+        ensures drives { self.new.drives ≡ self.old.drives }
+        ensures volumes { self.new.volumes ≡ self.old.volumes }
     {
         match fault {
             LineFault::Memory => self.refuse(1, writer),
@@ -158,7 +160,8 @@ impl Script {
     }
 
     fn refuse_extract<W: Write>(&mut self, fault: ExtractFault, writer: &mut W) -> io::Result<()>
-        ensures { self.new.drives ≡ self.old.drives }
+        ensures drives { self.new.drives ≡ self.old.drives }
+        ensures volumes { self.new.volumes ≡ self.old.volumes }
     {
         if let ExtractFault::Io(e) = fault {
             return Err(e);
@@ -188,7 +191,8 @@ impl Script {
         lines: &mut Lines<R>,
         writer: &mut W,
     ) -> io::Result<()>
-        ensures { self.new.drives ≡ self.old.drives }
+        ensures drives { self.new.drives ≡ self.old.drives }
+        ensures volumes { self.new.volumes ≡ self.old.volumes }
     {
         let text = match read_bootstrap_lines(self.alloc, lines)? {
             BootstrapLines::Text(text) => text,
@@ -217,7 +221,8 @@ impl Script {
         number: u64,
         writer: &mut W,
     ) -> io::Result<()>
-        ensures { self.new.drives ≡ self.old.drives }
+        ensures drives { self.new.drives ≡ self.old.drives }
+        ensures volumes { self.new.volumes ≡ self.old.volumes }
     {
         let Some(bootstrap) = &self.kept else {
             return self.refuse_line(LineFault::BadScript, number, writer);
