@@ -1,5 +1,7 @@
-ghost use Rattle.std.specs.Prelude.{◌≡◌, bytes_eq, position, OnOk, OnErr};
+ghost use Rattle.std.specs.Prelude.{◌≡◌, bytes_eq, length, position, OnOk, OnErr};
 ghost use Rattle.br_volume.specs.Memory.{volumes_of};
+ghost use Rattle.br_pool.specs.Pool.{AreDrives};
+ghost use Rattle.br_script.specs.Drives.{EachShows};
 ghost use Rattle.br_script.specs.Line.{drives_after, drives_by, line_said, said};
 ghost use Rattle.br_script.specs.Store.{with_bytes};
 
@@ -10,6 +12,7 @@ use br_bsr::{Bootstrap, read_bootstrap};
 use br_engine::{ExtractFault, Outputs, RestoreEnd, extract};
 use br_sink::MemSink;
 use br_types::VolName;
+use br_volume::BorrowedDrive;
 use std::alloc::{AllocError, Global};
 use std::io::{self, BufRead, Write};
 use std::thread::Threads;
@@ -101,23 +104,6 @@ fn append(
             Ok(())
         }
     }
-}
-
-/// Runs a bootstrap over the volumes with `count` drives, and writes the manifest.
-fn restore<W: Write>(
-    rt: &(impl Threads + Sync),
-    alloc: Global,
-    bootstrap: &Bootstrap,
-    volumes: &[(VolName, Vec<u8>)],
-    count: DriveCount,
-    writer: &mut W,
-) -> Result<RestoreEnd, ExtractFault> {
-    let mut drives = drives_over(alloc, volumes, count)?;
-    let mut out = Outputs {
-        writer,
-        sink: None::<MemSink>,
-    };
-    extract(rt, alloc, bootstrap, &mut drives, &mut out)
 }
 
 impl Script {
@@ -214,6 +200,37 @@ impl Script {
         }
     }
 
+    /// Runs a bootstrap by drives over the volumes, as many as the script has said, and writes the
+    /// manifest.
+    fn restore_by<'v, W: Write>(
+        &self,
+        rt: &(impl Threads + Sync),
+        bootstrap: &Bootstrap,
+        drives: &mut Vec<BorrowedDrive<'v>>,
+        writer: &mut W,
+    ) -> Result<RestoreEnd, ExtractFault>
+        requires many { length drives.old.items ≡ self.now.drives }
+        requires few { AreDrives drives.old.items }
+        requires each { EachShows (volumes_of self.now.volumes.items) drives.old.items }
+    {
+        let mut out = Outputs {
+            writer,
+            sink: None::<MemSink>,
+        };
+        extract(rt, self.alloc, bootstrap, drives, &mut out)
+    }
+
+    /// Runs a bootstrap over the volumes, and writes the manifest.
+    fn restore<W: Write>(
+        &self,
+        rt: &(impl Threads + Sync),
+        bootstrap: &Bootstrap,
+        writer: &mut W,
+    ) -> Result<RestoreEnd, ExtractFault> {
+        let mut drives = drives_over(self.alloc, &self.volumes, self.drives)?;
+        self.restore_by(rt, bootstrap, &mut drives, writer)
+    }
+
     /// Runs the kept bootstrap over the volumes, and writes the manifest.
     fn run_kept<W: Write>(
         &mut self,
@@ -227,15 +244,7 @@ impl Script {
         let Some(bootstrap) = &self.kept else {
             return self.refuse_line(LineFault::BadScript, number, writer);
         };
-        let run = restore(
-            rt,
-            self.alloc,
-            bootstrap,
-            &self.volumes,
-            self.drives,
-            writer,
-        );
-        match run {
+        match self.restore(rt, bootstrap, writer) {
             Ok(RestoreEnd::AllFiles) => Ok(()),
             Ok(RestoreEnd::SomeFaults | RestoreEnd::Stopped(_)) => {
                 self.end = ScriptEnd::Refused;
