@@ -3,3 +3,4 @@ pub mod ClashLaws
 pub mod RowLaws
 pub mod HistoryLaws
 pub mod SavingLaws
+pub mod AdmittedLaws

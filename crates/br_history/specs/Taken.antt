@@ -1,10 +1,11 @@
 -- The numbers and sessions of the jobs of a history, which it keeps beside the jobs.
-use Rattle.std.specs.Prelude.{◌≡◌, ℕ, true, ◌==◌, ◌||◌, List}
+use Rattle.std.specs.Prelude.{◌≡◌, ℕ, true, ◌==◌, ◌||◌, List, [], ◌∷◌, ◌++◌, Result, Ok}
 use Rattle.std.specs.List.{list_any}
 use Rattle.std.specs.Ordering.{nat_cmp}
 use Rattle.std.specs.BTreeSet.{BTreeSet, contains}
 use Rattle.br_model.specs.Name.{SessionKey, same_session, session_cmp}
-use Rattle.br_model.specs.Job.{JobRows, is_history}
+use Rattle.br_model.specs.Answer.{◌>>=◌, refuse_if}
+use Rattle.br_model.specs.Job.{JobRow, JobRows, is_history, pushed}
 
 -- the sets have the numbers and the sessions of the jobs, which are a history
 pub record AreTaken (jobs : List JobRows) (ids : BTreeSet ℕ) (sessions : BTreeSet SessionKey) : Type 0 where
@@ -27,3 +28,16 @@ SameIds old new = (q : ℕ) → contains nat_cmp new q ≡ contains nat_cmp old 
 -- two sets have the same sessions
 abbrev pub SameSessions : BTreeSet SessionKey → BTreeSet SessionKey → Type 0
 SameSessions old new = (q : SessionKey) → contains session_cmp new q ≡ contains session_cmp old q
+
+-- the history, if a job with this row can be appended; or 40 if its number is there, or else 41 if
+-- its session is
+unfoldable pub admitted : List JobRows → JobRow → Result (List JobRows) ℕ
+admitted history row = do
+  _ ← refuse_if (list_any (λ (k : JobRows). k.row.id == row.id) history) 40
+  _ ← refuse_if (list_any (λ (k : JobRows). same_session k.row.session row.session) history) 41
+  Ok history
+
+-- a job is appended exactly if one with its row can be, and is refused for the same reason
+abbrev pub PushedIsAdmitted : Type 0
+PushedIsAdmitted =
+    (history : List JobRows) (j : JobRows) → pushed history j ≡ (admitted history j.row >>= λ h. Ok (h ++ j ∷ []))

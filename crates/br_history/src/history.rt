@@ -2,12 +2,13 @@ ghost use Rattle.std.specs.Prelude.{◌≡◌, true, false, ◌∷◌, ◌++◌,
 ghost use Rattle.std.specs.Option.{option_copied};
 ghost use Rattle.std.specs.Ordering.{nat_cmp};
 ghost use Rattle.std.specs.BTreeSet.{contains};
-ghost use Rattle.br_model.specs.Answer.{Answers};
+ghost use Rattle.br_model.specs.Answer.{Answers, AnswersAlways};
 ghost use Rattle.br_model.specs.Job.{is_history, pushed};
-ghost use Rattle.br_history.specs.Fault.{cause};
-ghost use Rattle.br_history.specs.Taken.{AddsId, AddsSession, SameIds, SameSessions};
+ghost use Rattle.br_history.specs.Fault.{cause, fault_number};
+ghost use Rattle.br_history.specs.Taken.{AddsId, AddsSession, SameIds, SameSessions, admitted};
 
 use crate::fault::HistoryFault;
+use crate::row::JobRow;
 use crate::rows::JobRows;
 use br_types::{JobId, SessionKey};
 use std::alloc::{AllocError, Global};
@@ -65,6 +66,24 @@ impl History {
             ids: BTreeSet::new(alloc),
             sessions: BTreeSet::new(alloc),
         }
+    }
+
+    /// Tests whether a job with this row can be appended. It takes no memory.
+    ///
+    /// # Errors
+    ///
+    /// `DuplicateJob` if its number is there, `DuplicateSession` if its session is.
+    #[tactic(auto, unfolding(crate::specs::Taken::admitted))]
+    pub fn check(&self, row: &JobRow) -> Result<(), HistoryFault>
+        ensures { AnswersAlways (λ _. self.now) fault_number result (admitted self.now row.now) }
+    {
+        if self.ids.contains(&row.id) {
+            return Err(HistoryFault::DuplicateJob);
+        }
+        if self.sessions.contains(&row.session) {
+            return Err(HistoryFault::DuplicateSession);
+        }
+        Ok(())
     }
 
     /// Appends a job. A refused job changes nothing, nor does one for which memory runs out.

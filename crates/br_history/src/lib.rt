@@ -6,12 +6,14 @@
 //! rows of its jobs. The columns are those of Bacula's Developer's Guide, "Catalog Services".
 #![tactic(auto)]
 
+mod facts;
 mod fault;
 mod history;
 mod row;
 mod rows;
 mod saved_job;
 
+pub use facts::pushed_is_admitted;
 pub use fault::{HistoryFault, SavedJobFault};
 pub use history::History;
 pub use row::{FileRow, JobRow};

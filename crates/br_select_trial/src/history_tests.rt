@@ -401,7 +401,23 @@ const PUSHED_TO_COPY: &[Push] = &[
     (6, (9, 9), "taken"),
 ];
 
-/// Adds a job without files, and returns what becomes of it.
+/// Returns what the check of a row tells of a job with it.
+fn checked(history: &History, row: &JobRow) -> &'static str {
+    match history.check(row) {
+        Ok(()) => "taken",
+        Err(fault) => refusal(&fault),
+    }
+}
+
+/// Adds a job, and returns what becomes of it.
+fn pushed(history: &mut History, rows: JobRows) -> &'static str {
+    match history.push(rows) {
+        Ok(()) => "taken",
+        Err(fault) => refusal(&fault),
+    }
+}
+
+/// Adds a job without files, and returns what becomes of it, if the check of its row told that.
 fn push(
     alloc: Global,
     history: &mut History,
@@ -410,10 +426,13 @@ fn push(
 ) -> Result<&'static str, Fail> {
     let row = full_row(alloc, id, 0, session)?;
     let rows = JobRows::new(row, Vec::new(alloc), Vec::new(alloc))?;
-    match history.push(rows) {
-        Ok(()) => Ok("taken"),
-        Err(fault) => Ok(refusal(&fault)),
-    }
+    let told = checked(history, rows.row());
+    let became = pushed(history, rows);
+    Ok(if told == became {
+        became
+    } else {
+        "checked otherwise"
+    })
 }
 
 /// Adds jobs, and returns a line for each that is taken or refused and should not be.
