@@ -3,4 +3,6 @@ pub mod ClashLaws
 pub mod RowLaws
 pub mod HistoryLaws
 pub mod SavingLaws
+pub mod StatLaws
+pub mod JobOfRowsLaws
 pub mod AdmittedLaws

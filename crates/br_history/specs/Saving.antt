@@ -1,7 +1,7 @@
 -- Jobs that are to be committed.
-use Rattle.std.specs.Prelude.{◌≡◌, ℕ, ◌≤◌, nat_lt, List, [], Result, Ok}
+use Rattle.std.specs.Prelude.{◌≡◌, ℕ, ◌≤◌, nat_lt, List, [], map, Result, Ok}
 use Rattle.br_model.specs.Answer.{◌>>=◌, refuse_if}
-use Rattle.br_model.specs.Job.{JobRow}
+use Rattle.br_model.specs.Job.{JobRow, JobRows, IsJob}
 use Rattle.br_model.specs.Session.{ToSave, Place, checked_order}
 use Rattle.br_block.specs.Building.{IsBlockLimit}
 use Rattle.br_session.specs.Outcome.{ArePlaces}
@@ -36,3 +36,7 @@ pub record IsToCommit (c : ToCommit) : Type 0 where
 abbrev pub saved_job_number : SavedJobFault → ℕ
 saved_job_number BadFileOrder = 16
 saved_job_number BadRow = 42
+
+-- the rows are those of a job that saved these files
+abbrev pub IsJobWith : List ToSave → JobRows → Type 0
+IsJobWith files rows = IsJob (record { rows = rows; saved = map (λ (f : ToSave). f.file) files })

@@ -1,5 +1,5 @@
-ghost use Rattle.std.specs.Prelude.{◌≡◌, ◌<◌, ◌^◌, ◌++◌, [], map, length, IfOk, Some, None, if◌then◌else◌};
-ghost use Rattle.std.specs.List.{enumerate_from};
+ghost use Rattle.std.specs.Prelude.{◌≡◌, ◌<◌, ◌^◌, ◌++◌, [], ◌⊎◌, map, length, IfErr, IfOk, Some, None, if◌then◌else◌};
+ghost use Rattle.std.specs.List.{AllByRecursion, enumerate_from};
 ghost use Rattle.std.specs.String.{string_bytes};
 ghost use Rattle.md5.specs.Md5.{md5};
 ghost use Rattle.br_block.specs.Building.{IsBlockLimit};
@@ -8,9 +8,11 @@ ghost use Rattle.br_model.specs.Attribute.{write_stat};
 ghost use Rattle.br_model.specs.Job.{checked_rows};
 ghost use Rattle.br_model.specs.Session as model;
 ghost use Rattle.br_model.specs.Session.{checked_order, rows_of};
+ghost use Rattle.br_model.specs.SessionHolds.{IsToSave};
 ghost use Rattle.br_session.specs.Outcome.{ArePlaces};
 ghost use Rattle.br_history.specs.Fault.{cause};
-ghost use Rattle.br_history.specs.Saving.{IsToCommit, checked_job, saved_job_number};
+ghost use Rattle.br_history.specs.Saving.{IsToCommit, IsJobWith, checked_job, saved_job_number};
+ghost use Rattle.br_history.specs.declared.fault.HistoryFault.TheVariants.{Memory};
 
 use crate::fault::{HistoryFault, SavedJobFault};
 use crate::row::{FileRow, JobRow};
@@ -46,7 +48,8 @@ fn digest_of(file: &SavedFile) -> Option<[u8; 16]>
 
 /// Returns the row of the saved file with this index.
 fn saved_row(alloc: Global, index: u32, file: &SavedFile) -> Result<FileRow, AllocError>
-    ensures { IfOk result (λ row. row ≡ model.file_row (index, file.now)) }
+    ensures same { IfOk result (λ row. row ≡ model.file_row (index, file.now)) }
+    ensures valid { IfOk result (λ row. IsToSave file.now) }
 {
     Ok(FileRow {
         path: file.path().copy(alloc)?,
@@ -59,7 +62,8 @@ fn saved_row(alloc: Global, index: u32, file: &SavedFile) -> Result<FileRow, All
 /// Returns the rows of saved files, numbered from 1.
 fn saved_rows(alloc: Global, files: &[SavedFile]) -> Result<Vec<FileRow>, AllocError>
     requires few { length files.now < 2 ^ 31 }
-    ensures { IfOk result (λ rows. rows.items ≡ map model.file_row (enumerate_from 1 files.now)) }
+    ensures same { IfOk result (λ rows. rows.items ≡ map model.file_row (enumerate_from 1 files.now)) }
+    ensures valid { IfOk result (λ rows. AllByRecursion IsToSave files.now) }
 {
     let mut rows = Vec::new(alloc);
     let mut index = 0;
@@ -100,8 +104,9 @@ fn file_rows(
     deleted: &[Path],
 ) -> Result<Vec<FileRow>, AllocError>
     requires few { length files.now < 2 ^ 31 }
-    ensures { IfOk result (λ rows. rows.items
+    ensures same { IfOk result (λ rows. rows.items
         ≡ map model.file_row (enumerate_from 1 files.now) ++ map model.deletion_row deleted.now) }
+    ensures valid { IfOk result (λ rows. AllByRecursion IsToSave files.now) }
 {
     let mut rows = saved_rows(alloc, files)?;
     let mut more = deletion_rows(alloc, deleted)?;
@@ -184,14 +189,17 @@ impl SavedJob {
     }
 
     /// Returns the job's rows in the catalogue, if its spans are these: the saved files in order of
-    /// index, and then the deletions in their order.
+    /// index, and then the deletions in their order. They say of each file what was saved.
     ///
     /// # Errors
     ///
     /// `BadRow` if the spans do not fit together.
     #[tactic(auto, unfolding(br_model::specs::Session::rows_of))]
     pub fn rows(&self, alloc: Global, spans: &[Span]) -> Result<JobRows, HistoryFault>
-        ensures { Answers (λ rows. rows) cause result (checked_rows (rows_of self.now.row self.now.files self.now.deleted spans.now)) }
+        ensures answers { Answers (λ rows. rows) cause result
+            (checked_rows (rows_of self.now.row self.now.files self.now.deleted spans.now)) }
+        ensures job { IfOk result (λ rows. IsJobWith self.now.files rows) }
+        ensures refused { IfErr result (λ why. (why ≡ Memory) ⊎ AllByRecursion IsToSave self.now.files) }
     {
         let row = self.row.copy(alloc)?;
         let files = file_rows(alloc, &self.files, &self.deleted)?;
