@@ -6,3 +6,7 @@ pub mod SavingLaws
 pub mod StatLaws
 pub mod JobOfRowsLaws
 pub mod AdmittedLaws
+pub mod WholeVisitLaws
+pub mod StayWholeLaws
+pub mod SpanFitLaws
+pub mod RowFitLaws

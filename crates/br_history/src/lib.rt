@@ -13,7 +13,9 @@ mod row;
 mod rows;
 mod saved_job;
 
-pub use facts::pushed_is_admitted;
+pub use facts::{
+    pushed_is_admitted, volumes_stay_whole, whole_volumes_are_ready, written_rows_fit,
+};
 pub use fault::{HistoryFault, SavedJobFault};
 pub use history::History;
 pub use row::{FileRow, JobRow};
