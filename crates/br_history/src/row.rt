@@ -35,7 +35,16 @@ impl Model for JobRow {
 
     ghost Value = { model.JobRow };
 
-    ghost view = { λ j. record { id = j.id; kind = j.kind; level = j.level; status = j.status; start = j.start; session = j.session; client = j.client; fileset = j.fileset } };
+    ghost view = { λ j. record {
+      id = j.id;
+      kind = j.kind;
+      level = j.level;
+      status = j.status;
+      start = j.start;
+      session = j.session;
+      client = j.client;
+      fileset = j.fileset;
+    } };
 }
 
 impl JobRow {
