@@ -49,12 +49,48 @@ impl MemStore {
         &self.volumes
     }
 
+    /// Returns a store with equal volumes. None of its calls has failed.
+    pub fn copy(&self, alloc: Global) -> Result<MemStore, AllocError>
+        ensures { IfOk result (λ store. store ≡ record { volumes = self.now.volumes; failures = 0 }) }
+    {
+        Ok(MemStore {
+            alloc,
+            volumes: copied(alloc, &self.volumes)?,
+            failures: Count::zero(),
+        })
+    }
+
     /// Returns the volumes, in the order in which they were made.
     pub fn into_volumes(self) -> Vec<(VolName, Vec<u8>)>
         ensures { volumes_of result.items ≡ self.volumes }
     {
         self.volumes
     }
+}
+
+/// Returns a volume with this name and these bytes.
+fn copied_volume(
+    alloc: Global,
+    vol: &VolName,
+    bytes: &[u8],
+) -> Result<(VolName, Vec<u8>), AllocError>
+    ensures { IfOk result (λ copy. (copy.0 ≡ vol.now) × (copy.1.items ≡ bytes.now)) }
+{
+    Ok((vol.copy(alloc)?, Vec::from_slice(alloc, bytes)?))
+}
+
+/// Returns equal volumes.
+fn copied(
+    alloc: Global,
+    volumes: &[(VolName, Vec<u8>)],
+) -> Result<Vec<(VolName, Vec<u8>)>, AllocError>
+    ensures { IfOk result (λ copy. volumes_of copy.items ≡ volumes_of volumes.now) }
+{
+    let mut copy = Vec::new(alloc);
+    for volume in volumes {
+        copy.push(copied_volume(alloc, &volume.0, &volume.1)?)?;
+    }
+    Ok(copy)
 }
 
 /// Returns the place of the first volume with this name.

@@ -378,6 +378,20 @@ fn store_is_filled(alloc: Global) -> Result<bool, Fail> {
     Ok(is_empty && are_filled(store.volumes()))
 }
 
+/// Fills a store, and returns a copy of it.
+fn copy_of_filled(alloc: Global, store: &mut MemStore) -> Result<MemStore, Fail> {
+    fill(alloc, store)?;
+    Ok(store.copy(alloc)?)
+}
+
+/// Returns whether a copy of a filled store has its volumes, and keeps them if the store grows.
+fn copy_stays(alloc: Global) -> Result<bool, Fail> {
+    let mut store = MemStore::new(alloc);
+    let copy = copy_of_filled(alloc, &mut store)?;
+    append_to(alloc, &mut store, b"V", b"f")?;
+    Ok(are_filled(copy.volumes()) && !are_filled(store.volumes()))
+}
+
 /// Returns the lengths of V, E, W and v in a filled store.
 fn lengths_in_store(alloc: Global) -> Result<[u64; 4], Fail> {
     let mut store = MemStore::new(alloc);
@@ -401,6 +415,7 @@ fn drive_reads_store(alloc: Global) -> Result<bool, Fail> {
 #[test]
 fn a_store_over_memory_appends(rt: HostRuntime) -> Result<(), Fail> {
     assert!(rt; store_is_filled(rt.alloc())?);
+    assert!(rt; copy_stays(rt.alloc())?);
     assert_eq!(rt; lengths_in_store(rt.alloc())?, [5, 0, 1, 0]);
     assert!(rt; drive_reads_store(rt.alloc())?);
     Ok(())
