@@ -53,10 +53,12 @@ impl MemStore {
     pub fn copy(&self, alloc: Global) -> Result<MemStore, AllocError>
         ensures { IfOk result (λ store. store ≡ record { volumes = self.now.volumes; failures = 0 }) }
     {
+        let volumes = copied(alloc, &self.volumes)?;
+        let failures = Count::zero();
         Ok(MemStore {
             alloc,
-            volumes: copied(alloc, &self.volumes)?,
-            failures: Count::zero(),
+            volumes,
+            failures,
         })
     }
 
