@@ -1,5 +1,5 @@
-//! The formats that a restore reads, the sessions that write them, and the table of refusals,
-//! tried. There are only tests here.
+//! The formats that a restore reads, the sessions that write them, drives and stores over memory,
+//! and the table of refusals, tried. There are only tests here.
 #![tactic(auto)]
 
 #[cfg(test)]
@@ -18,3 +18,5 @@ mod piece_tests;
 mod session_tests;
 #[cfg(test)]
 mod types_tests;
+#[cfg(test)]
+mod volume_tests;

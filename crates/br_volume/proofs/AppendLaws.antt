@@ -85,7 +85,7 @@ appended_extends volume bytes earlier later is name own e =
       | false ↦ λ other now. ([], now ∙ e ∙ ap (λ (bs : List ℕ). Some bs) (sym (append-nil own)))
     ] refl (is name)
 
-extends_itself : (vs : List Volume) → Extends vs vs
+pub extends_itself : (vs : List Volume) → Extends vs vs
 extends_itself vs name own e = ([], e ∙ ap (λ (bs : List ℕ). Some bs) (sym (append-nil own)))
 
 extends_further : (first second third : List Volume) → Extends second first → Extends third second → Extends third first

@@ -2,3 +2,4 @@ pub mod DriveLaws
 pub mod KeptLaws
 pub mod AppendLaws
 pub mod PlaceLaws
+pub mod GrowingLaws

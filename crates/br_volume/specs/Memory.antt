@@ -1,18 +1,26 @@
 -- A drive over memory.
-use Rattle.std.specs.Prelude.{ℕ, zero, suc, ◌+◌, Bool, true, false, if◌then◌else◌, List, map, Vec, Option, Some, None, Result, Err}
+use Rattle.std.specs.Prelude.{ℕ, zero, suc, ◌+◌, Bool, true, false, if◌then◌else◌, List, [], ◌∷◌, map, Vec, Option, Some, None, Result, Err}
 use Rattle.br_model.specs.Volume.{Volume}
 use Rattle.br_volume.specs.Drive.{bytes_shown}
+use Rattle.br_volume.specs.MemStore.{with_appended}
 
 -- the volumes that are kept as pairs of a name and bytes, in their order
 abbrev pub volumes_of : {A : Type 0} → List (List ℕ × Vec ℕ A) → List Volume
 volumes_of {A} kept = map (λ (v : List ℕ × Vec ℕ A). record { name = v.0; bytes = v.1.items }) kept
 
--- its volumes, the number of calls before it fails, if it is to fail, and the number of failed
--- calls
+-- its volumes, the tails that it is to append, the next one first, whether it was called before, the
+-- number of calls before it fails, if it is to fail, and the number of failed calls
 pub record Held : Type 0 where
   pub volumes : List Volume
+  pub tails : List Volume
+  pub has_begun : Bool
   pub calls_left : Option ℕ
   pub failures : ℕ
+
+-- a drive that was not called yet
+abbrev pub unused : List Volume → List Volume → Option ℕ → Held
+unused volumes tails calls_left =
+    record { volumes = volumes; tails = tails; has_begun = false; calls_left = calls_left; failures = 0 }
 
 -- no call is left before it fails
 abbrev pub is_out : Option ℕ → Bool
@@ -26,14 +34,51 @@ one_fewer None = None
 one_fewer (Some zero) = Some zero
 one_fewer (Some (suc n)) = Some n
 
+-- the volumes with the first of these tails appended to its volume
+abbrev pub grown_by : List Volume → List Volume → List Volume
+grown_by [] volumes = volumes
+grown_by (tail ∷ tails) volumes = with_appended tail.name tail.bytes volumes
+
+-- the tails after the first
+abbrev pub without_first : List Volume → List Volume
+without_first [] = []
+without_first (tail ∷ tails) = tails
+
+-- the drive as a call reads it: at each call but the first the next tail is appended
+abbrev pub grown : Held → Held
+grown drive = record {
+  volumes = if drive.has_begun then grown_by drive.tails drive.volumes else drive.volumes;
+  tails = if drive.has_begun then without_first drive.tails else drive.tails;
+  has_begun = true;
+  calls_left = drive.calls_left;
+  failures = drive.failures;
+}
+
+-- the drive after a call that it read for
+abbrev pub after_read : Held → Held
+after_read drive = record {
+  volumes = drive.volumes;
+  tails = drive.tails;
+  has_begun = drive.has_begun;
+  calls_left = one_fewer drive.calls_left;
+  failures = drive.failures;
+}
+
+-- the drive after a call that failed
+abbrev pub after_fault : Held → Held
+after_fault drive = record {
+  volumes = drive.volumes;
+  tails = drive.tails;
+  has_begun = drive.has_begun;
+  calls_left = drive.calls_left;
+  failures = drive.failures + 1;
+}
+
 -- the drive after a call
 abbrev pub after_call : Held → Held
-after_call drive = record {
-  volumes = drive.volumes;
-  calls_left = one_fewer drive.calls_left;
-  failures = if is_out drive.calls_left then drive.failures + 1 else drive.failures;
-}
+after_call drive = if is_out drive.calls_left then after_fault drive else after_read (grown drive)
 
 -- the result of a call: 13 if none is left, else the bytes shown
 abbrev pub bytes_held : Held → List ℕ → ℕ → ℕ → Result (Option (List ℕ)) ℕ
-bytes_held drive name address size = if is_out drive.calls_left then Err 13 else bytes_shown drive.volumes name address size
+bytes_held drive name address size =
+    if is_out drive.calls_left then Err 13 else bytes_shown (grown drive).volumes name address size

@@ -22,6 +22,3 @@ pub use fault::{DriveFault, VolumeFault};
 pub use mem::MemDrive;
 pub use mem_store::MemStore;
 pub use store::{VolumeStore, appends_add_up};
-
-#[cfg(test)]
-mod tests;

@@ -1,22 +1,27 @@
-ghost use Rattle.std.specs.Prelude.{◌≡◌, ◌-◌, ◌^◌, ◌<◌, ◌≤◌, length, option_map, bytes_eq, find, Ok, Err, IfOk, true, vec_capacity};
+ghost use Rattle.std.specs.Prelude.{◌≡◌, ◌-◌, ◌^◌, ◌<◌, ◌≤◌, ◌⊎◌, [], length, option_map, bytes_eq, find, Ok, Err, OnOk, OnErr, IfOk, true, vec_capacity};
 ghost use Rattle.std.specs.Option.{option_copied};
 ghost use Rattle.br_model.specs.Answer.{Answers};
 ghost use Rattle.br_model.specs.Volume.{Volume, volume_bytes};
 ghost use Rattle.br_volume.specs.Drive.{AnswersOver, OnlyGrows, IsSized, bytes_got, bytes_from, bytes_shown};
 ghost use Rattle.br_volume.specs.Fault.{cause, failing_cause};
 ghost use Rattle.br_volume.specs.declared.fault.DriveFault.TheVariants.{Memory, Fault};
-ghost use Rattle.br_volume.specs.Memory.{Held, volumes_of, bytes_held, after_call, is_out};
+ghost use Rattle.br_volume.specs.Memory.{Held, volumes_of, unused, bytes_held, after_call, is_out};
+ghost use Rattle.br_volume.specs.Memory.{grown, grown_by, without_first};
 
 use crate::count::Count;
 use crate::drive::{Drive, Got};
 use crate::fault::DriveFault;
+use crate::mem_store::append_to;
 use br_types::VolName;
+use std::alloc::AllocError;
 use std::marker::Model;
 
-/// A drive over memory. Its volumes never change.
+/// A drive over memory. Its volumes change only if it was made with tails to append.
 #[derive(Debug, Drop)]
 pub struct MemDrive {
     volumes: Vec<(VolName, Vec<u8>)>,
+    tails: Vec<(VolName, Vec<u8>)>,
+    has_begun: bool,
     calls_left: Option<u64>,
     failures: Count,
 }
@@ -28,6 +33,8 @@ impl Model for MemDrive {
 
     ghost view = { λ d. record {
       volumes = volumes_of d.volumes.items;
+      tails = volumes_of d.tails.items;
+      has_begun = d.has_begun;
       calls_left = d.calls_left;
       failures = d.failures.number;
     } };
@@ -37,23 +44,38 @@ impl MemDrive {
     /// Returns a drive that shows these volumes and never fails. Of two volumes with one name it
     /// shows the first.
     pub fn new(volumes: Vec<(VolName, Vec<u8>)>) -> MemDrive
-        ensures { result ≡ record { volumes = volumes_of volumes.items; calls_left = None; failures = 0 } }
+        ensures { result ≡ unused (volumes_of volumes.items) [] None }
     {
-        MemDrive {
-            volumes,
-            calls_left: None,
-            failures: Count::zero(),
-        }
+        let tails = Vec::new(*volumes.allocator());
+        MemDrive::growing(volumes, tails)
     }
 
     /// Returns a drive that shows these volumes and whose calls fail from the `k`-th on, counted
     /// from 1. For `k` of 0 all calls fail.
     pub fn failing_from(volumes: Vec<(VolName, Vec<u8>)>, k: u64) -> MemDrive
-        ensures { result ≡ record { volumes = volumes_of volumes.items; calls_left = Some (k - 1); failures = 0 } }
+        ensures { result ≡ unused (volumes_of volumes.items) [] (Some (k - 1)) }
+    {
+        let tails = Vec::new(*volumes.allocator());
+        MemDrive {
+            volumes,
+            tails,
+            has_begun: false,
+            calls_left: Some(k.saturating_sub(1)),
+            failures: Count::zero(),
+        }
+    }
+
+    /// Returns a drive that shows these volumes, grows, and never fails. Before its call `n + 1`
+    /// it appends the `n`-th tail to the first volume of the tail's name, or makes one if there is
+    /// none. A call that finds no memory for its tail appends nothing and does not count.
+    pub fn growing(volumes: Vec<(VolName, Vec<u8>)>, tails: Vec<(VolName, Vec<u8>)>) -> MemDrive
+        ensures { result ≡ unused (volumes_of volumes.items) (volumes_of tails.items) None }
     {
         MemDrive {
             volumes,
-            calls_left: Some(k.saturating_sub(1)),
+            tails,
+            has_begun: false,
+            calls_left: None,
             failures: Count::zero(),
         }
     }
@@ -70,6 +92,41 @@ impl MemDrive {
         ensures { result ≡ is_out self.now.calls_left }
     {
         self.calls_left == Some(0)
+    }
+
+    /// Appends the first tail, unless this is the first call. A refusal changes nothing.
+    fn grow(&mut self) -> Result<(), AllocError>
+        ensures ok { OnOk result (self.new ≡ grown self.old) }
+        ensures err { OnErr result (self.new ≡ self.old) }
+        ensures has_room { self.old.tails ≡ [] → OnErr result ⊥ }
+    {
+        if !self.has_begun {
+            self.has_begun = true;
+            return Ok(());
+        }
+        append_first(&mut self.volumes, &mut self.tails)
+    }
+}
+
+/// Appends the first of the tails to its volume, and removes it from them. A refusal changes
+/// nothing.
+fn append_first(
+    volumes: &mut Vec<(VolName, Vec<u8>)>,
+    tails: &mut Vec<(VolName, Vec<u8>)>,
+) -> Result<(), AllocError>
+    ensures grown { OnOk result (volumes_of volumes.new.items ≡ grown_by (volumes_of tails.old.items) (volumes_of volumes.old.items)) }
+    ensures left { OnOk result (volumes_of tails.new.items ≡ without_first (volumes_of tails.old.items)) }
+    ensures kept { OnErr result (volumes_of volumes.new.items ≡ volumes_of volumes.old.items) }
+    ensures kept_tails { OnErr result (volumes_of tails.new.items ≡ volumes_of tails.old.items) }
+    ensures has_room { volumes_of tails.old.items ≡ [] → OnErr result ⊥ }
+{
+    match tails.first() {
+        None => Ok(()),
+        Some(tail) => {
+            append_to(*tail.1.allocator(), volumes, &tail.0, &tail.1)?;
+            tails.remove(0);
+            Ok(())
+        }
     }
 }
 
@@ -139,8 +196,8 @@ impl Drive for MemDrive {
 
     ghost failures = { λ d. d.failures };
 
-    /// Reads a block, unless the drive is to fail from this call on. Takes no memory if `buf` has
-    /// room for `size` bytes.
+    /// Reads a block, unless the drive is to fail from this call on. A drive that has no tail left
+    /// takes no memory if `buf` has room for `size` bytes.
     fn block_at(
         &mut self,
         vol: &VolName,
@@ -155,14 +212,16 @@ impl Drive for MemDrive {
         ensures failed { result ≡ Err Fault → self.old.failures < self.new.failures }
         ensures exact { Answers (bytes_got buf.new.items) failing_cause result (bytes_held self.old vol.now addr size) }
         ensures out { is_out self.old.calls_left ≡ true → result ≡ Err Fault }
-        ensures after { self.new ≡ after_call self.old }
+        ensures after { (self.new ≡ after_call self.old) ⊎ (result ≡ Err Memory) × (self.new ≡ self.old) }
+        ensures steady { self.old.tails ≡ [] → self.new ≡ after_call self.old }
         ensures keeps_room { vec_capacity buf.old ≤ vec_capacity buf.new }
-        ensures has_room { size ≤ vec_capacity buf.old → result ≡ Err Memory → ⊥ }
+        ensures has_room { self.old.tails ≡ [] → size ≤ vec_capacity buf.old → result ≡ Err Memory → ⊥ }
     {
         if self.is_out() {
             self.failures = self.failures.next();
             return Err(DriveFault::Fault);
         }
+        self.grow()?;
         self.calls_left = self.calls_left.map(|n| n.saturating_sub(1));
         read_from(&self.volumes, vol, addr, size, buf)
     }

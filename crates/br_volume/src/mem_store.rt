@@ -103,7 +103,7 @@ fn position_of(volumes: &[(VolName, Vec<u8>)], vol: &VolName) -> Option<usize>
 }
 
 /// Appends bytes to a volume, or makes a volume of them. A refusal changes nothing.
-fn append_to(
+pub(crate) fn append_to(
     alloc: Global,
     volumes: &mut Vec<(VolName, Vec<u8>)>,
     vol: &VolName,

@@ -1,5 +1,7 @@
-use super::*;
 use br_types::VolName;
+use br_volume::{
+    BorrowedDrive, Drive, DriveFault, Got, MemDrive, MemStore, VolumeFault, VolumeStore,
+};
 use std::alloc::Global;
 use std::test::Fail;
 
@@ -310,6 +312,72 @@ fn numbers() -> [u32; 4] {
 fn a_failing_drive_fails_from_its_kth_call_for_ever(rt: HostRuntime) -> Result<(), Fail> {
     assert_eq!(rt; wrong_failing(rt.alloc())?, None);
     assert_eq!(rt; numbers(), [1, 13, 14, 44]);
+    Ok(())
+}
+
+/// A call of a drive that grows: the volume that it reads, from which address, and the result.
+type GrowingCall<'s> = (&'s [u8], u64, Result<Got, DriveFault>);
+
+/// The calls of a drive over the volumes of the tests, whose tails are three bytes for V, two for N,
+/// which is not there, and one for V.
+const GROWING: &[GrowingCall<'static>] = &[
+    (b"V", 172, Ok(Got::End)),
+    (b"N", 0, Err(DriveFault::UnknownVolume)),
+    (b"V", 172, Ok(Got::Block(3))),
+    (b"V", 172, Ok(Got::Block(4))),
+    (b"N", 0, Ok(Got::Block(2))),
+    (b"V", 172, Ok(Got::Block(4))),
+];
+
+/// Returns the tails of these calls.
+fn tails(alloc: Global) -> Result<Vec<(VolName, Vec<u8>)>, Fail> {
+    let mut tails = Vec::new(alloc);
+    tails.push(volume(alloc, b"V", 3)?)?;
+    tails.push(volume(alloc, b"N", 2)?)?;
+    tails.push(volume(alloc, b"V", 1)?)?;
+    Ok(tails)
+}
+
+/// Returns the place of the first of these calls that has another result.
+fn wrong_growing(
+    alloc: Global,
+    drive: &mut impl Drive,
+    calls: &[GrowingCall<'_>],
+) -> Result<Option<usize>, Fail> {
+    let mut buf = Vec::new(alloc);
+    for (place, (name, addr, wanted)) in calls.iter().enumerate() {
+        let vol = VolName::new(alloc, name)?;
+        if read(drive, &vol, *addr, 24, &mut buf) != *wanted {
+            return Ok(Some(place));
+        }
+    }
+    Ok(None)
+}
+
+/// Returns whether these are the volumes of the tests with all tails.
+fn are_grown(volumes: &[(VolName, Vec<u8>)]) -> bool {
+    match volumes {
+        [a, b, c, d] => {
+            is_volume(a, b"V", 176)
+                && is_volume(b, b"E", 0)
+                && is_volume(c, b"V", 3)
+                && is_volume(d, b"N", 2)
+        }
+        _ => false,
+    }
+}
+
+/// Returns the first wrong call of a drive that grows, and whether it has its tails in the end.
+fn growing(alloc: Global) -> Result<(Option<usize>, bool), Fail> {
+    let mut drive = MemDrive::growing(volumes(alloc)?, tails(alloc)?);
+    let wrong = wrong_growing(alloc, &mut drive, GROWING)?;
+    let volumes = drive.into_volumes();
+    Ok((wrong, are_grown(&volumes)))
+}
+
+#[test]
+fn a_growing_drive_appends_before_each_call_but_the_first(rt: HostRuntime) -> Result<(), Fail> {
+    assert_eq!(rt; growing(rt.alloc())?, (None, true));
     Ok(())
 }
 
