@@ -26,12 +26,13 @@ const SECOND: [&[u8]; 3] = [
 ];
 
 /// The bootstrap of both files. One drive takes 12 calls for it: two for each block.
-const TEXT: &[u8] = b"Volume=\"A\"\nVolSessionId=1\nVolSessionTime=100\nVolAddr=0-63\nFileIndex=1\n\
+pub(crate) const TEXT: &[u8] =
+    b"Volume=\"A\"\nVolSessionId=1\nVolSessionTime=100\nVolAddr=0-63\nFileIndex=1\n\
     Volume=\"B\"\nVolSessionId=1\nVolSessionTime=100\nVolAddr=0-107\nFileIndex=1\n\
     Volume=\"B\"\nVolSessionId=2\nVolSessionTime=200\nVolAddr=108-171\nFileIndex=1\n\
     Volume=\"A\"\nVolSessionId=2\nVolSessionTime=200\nVolAddr=64-171\nFileIndex=1\n";
 
-const MANIFEST: &[u8] =
+pub(crate) const MANIFEST: &[u8] =
     b"F 1 100 1 3 /a 0,0,33188,1,0,0,0,14,0,0,0,0,0,0 = 14 f96b697d7cb7938d525a2f31aaf161d0\n\
     F 2 200 1 3 /b 0,0,33188,1,0,0,0,14,0,0,0,0,0,0 = 14 f96b697d7cb7938d525a2f31aaf161d0\ntotal 2 0 0\n";
 
@@ -45,7 +46,7 @@ fn volume(alloc: Global, name: &[u8], blocks: [&[u8]; 3]) -> Result<(VolName, Ve
 }
 
 /// Returns the volumes A and B. The first session begins on A, and the second on B.
-fn volumes(alloc: Global) -> Result<Vec<(VolName, Vec<u8>)>, Fail> {
+pub(crate) fn volumes(alloc: Global) -> Result<Vec<(VolName, Vec<u8>)>, Fail> {
     let [first, second, third] = FIRST;
     let [fourth, fifth, sixth] = SECOND;
     let mut volumes = Vec::new(alloc);
