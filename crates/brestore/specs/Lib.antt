@@ -1,2 +1,4 @@
+pub mod Asked
 pub mod Ending
 pub mod ConsoleEnding
+pub mod ScriptEnding

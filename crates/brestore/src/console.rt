@@ -1,6 +1,10 @@
 //! The command `console`.
-ghost use Rattle.std.specs.Prelude.{◌≡◌, ◌<◌, ◌≤◌, ◌++◌, IfOk, OnOk};
+ghost use Rattle.std.specs.Prelude.{◌≡◌, ◌<◌, ◌≤◌, ◌++◌, is_some, Ok, IfOk, OnOk};
+ghost use Rattle.br_model.specs.Answer.{Answers};
+ghost use Rattle.br_request.specs.Asking.{cause};
+ghost use Rattle.brestore.specs.Asked.{request_asked};
 ghost use Rattle.brestore.specs.ConsoleEnding.{end_line, run_refusal, run_status, status_by};
+ghost use Rattle.brestore.specs.declared.console.StartFault.TheVariants as start;
 
 use crate::extract::{BAD_STREAM, CLEAN, Ending, REFUSED, drives_over, sink_over};
 use br_command::ConsoleOptions;
@@ -15,7 +19,7 @@ use br_store::Store;
 use sqlite::Connection;
 use std::alloc::{AllocError, Global};
 use std::fs;
-use std::io::{self, BufReader, BufWriter, ErrorKind};
+use std::io::{self, BufRead, BufReader, BufWriter, ErrorKind};
 use std::thread::Threads;
 
 /// Returns the exit status of a run that was not refused.
@@ -91,6 +95,22 @@ pub(crate) enum StartFault {
     Catalogue(StoreFault),
 }
 
+impl From<RequestFault> for StartFault {
+    ghost from_gives = { λ fault e. e ≡ start.Request fault };
+
+    fn from(fault: RequestFault) -> StartFault {
+        StartFault::Request(fault)
+    }
+}
+
+impl From<FolderFault> for StartFault {
+    ghost from_gives = { λ fault e. e ≡ start.Folder fault };
+
+    fn from(fault: FolderFault) -> StartFault {
+        StartFault::Folder(fault)
+    }
+}
+
 impl StartFault {
     /// Returns the number of the refusal.
     pub(crate) fn number(&self) -> u32 {
@@ -137,16 +157,24 @@ pub(crate) struct Setup<'r> {
     history: History,
 }
 
+/// Reads the client, the file set and the moment that were given.
+fn request_of(alloc: Global, given: &ConsoleOptions<'_>) -> Result<Request, RequestFault>
+    ensures asked { Answers (λ request. request) cause result (request_asked given.now) }
+{
+    read_request(alloc, given.client, given.fileset, given.before)
+}
+
 /// Makes all that is there before a line is read: client and file set (2), moment (52), the folder to
 /// deliver into (81), and the catalogue (45, 47) are tested in this order.
 pub(crate) fn set_up<'r>(
     rt: &'r HostRuntime,
     given: &ConsoleOptions<'_>,
-) -> Result<Setup<'r>, StartFault> {
-    let request = read_request(rt.alloc(), given.client, given.fileset, given.before).map_err(
-        StartFault::Request,
-    )?;
-    let sink = sink_over(rt, given.into).map_err(StartFault::Folder)?;
+) -> Result<Setup<'r>, StartFault>
+    ensures asked { IfOk result (λ setup. request_asked given.now ≡ Ok setup.request) }
+    ensures into { IfOk result (λ setup. is_some setup.sink ≡ is_some given.now.into) }
+{
+    let request = request_of(rt.alloc(), given)?;
+    let sink = sink_over(rt, given.into)?;
     let history = jobs_in(rt, given.db)?;
     Ok(Setup {
         request,
@@ -155,7 +183,7 @@ pub(crate) fn set_up<'r>(
     })
 }
 
-/// Reads lines from standard input and answers them, over the jobs of a client's file set before a
+/// Reads lines and answers them on standard output, over the jobs of a client's file set before a
 /// moment in a catalogue. After `done` prints the bootstrap and the manifest, and puts the restored files
 /// into the folder `into`, if there is one. What is refused of a line is part of the answers; any other
 /// refusal goes to standard error, and so does the stop of a delivery.
@@ -165,15 +193,16 @@ pub(crate) fn set_up<'r>(
 /// anything is written into the folder.
 ///
 /// Returns the exit status: 0 if nothing was refused and each outcome is a file; 1 if something was
-/// refused or some outcome is not a file; 3 if standard input or output failed.
+/// refused or some outcome is not a file; 3 if the reader or standard output failed.
 ///
 /// # Errors
 ///
 /// If memory ran out or standard error failed.
-pub(crate) fn restore_marked(
+pub(crate) fn restore_by_lines<R: BufRead + Drop>(
     rt: &HostRuntime,
     threads: &(impl Threads + Sync),
     given: &ConsoleOptions<'_>,
+    reader: &mut R,
 ) -> io::Result<u8>
     requires few { (0 < given.now.drives) × (given.now.drives ≤ 16) }
 {
@@ -186,20 +215,24 @@ pub(crate) fn restore_marked(
         Err(fault) => return refuse(rt, &fault),
     };
     let mut drives = drives_over(rt, given.volumes, given.drives)?;
-    let mut reader = BufReader::new(rt.alloc(), rt.reader())?;
     let writer = BufWriter::new(rt.alloc(), io::writer(rt))?;
     let mut out = Outputs { writer, sink };
     let asked = JobSelection {
         history: &history,
         request: &request,
     };
-    let run = run_console(
-        threads,
-        rt.alloc(),
-        &asked,
-        &mut reader,
-        &mut drives,
-        &mut out,
-    );
+    let run = run_console(threads, rt.alloc(), &asked, reader, &mut drives, &mut out);
     report(rt, run)
+}
+
+/// Restores by the lines of standard input, as `restore_by_lines`.
+pub(crate) fn restore_marked(
+    rt: &HostRuntime,
+    threads: &(impl Threads + Sync),
+    given: &ConsoleOptions<'_>,
+) -> io::Result<u8>
+    requires few { (0 < given.now.drives) × (given.now.drives ≤ 16) }
+{
+    let mut reader = BufReader::new(rt.alloc(), rt.reader())?;
+    restore_by_lines(rt, threads, given, &mut reader)
 }

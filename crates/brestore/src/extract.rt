@@ -1,7 +1,8 @@
 //! The command `extract`.
-ghost use Rattle.std.specs.Prelude.{◌≡◌, ◌<◌, ◌≤◌, length, IfOk};
+ghost use Rattle.std.specs.Prelude.{◌≡◌, ◌<◌, ◌≤◌, is_some, length, IfOk};
 ghost use Rattle.brestore.specs.Ending.{run_refusal, run_status};
 
+use br_command::ExtractOptions;
 use br_engine::{ExtractFault, Outputs, RestoreEnd, extract_text};
 use br_files::HostDisk;
 use br_folder::FolderDrive;
@@ -102,16 +103,18 @@ pub(crate) fn drives_over<'r>(
 pub(crate) fn sink_over<'r>(
     rt: &'r HostRuntime,
     into: Option<&str>,
-) -> Result<Option<FolderSink<&'r HostRuntime>>, FolderFault> {
+) -> Result<Option<FolderSink<&'r HostRuntime>>, FolderFault>
+    ensures asked { IfOk result (λ sink. is_some sink ≡ is_some into.entry) }
+{
     let Some(folder) = into else {
         return Ok(None);
     };
     Ok(Some(FolderSink::new(rt.alloc(), rt, folder)?))
 }
 
-/// Restores by the bootstrap in the file `bsr` over the volumes in the folder `volumes`, which `drives`
-/// drives read at once. The manifest goes to standard output, and what is refused to standard error. If
-/// there is a folder `into`, the restored files are then put into it.
+/// Restores by the bootstrap in a file over the volumes in a folder. The manifest goes to standard
+/// output, and what is refused to standard error. If there is a folder `into`, the restored files are
+/// then put into it.
 ///
 /// The folder `into` has to exist and be empty, else it is refused (81) before anything is read. The
 /// manifest is printed before anything is written into it.
@@ -126,24 +129,21 @@ pub(crate) fn sink_over<'r>(
 pub(crate) fn extract_files(
     rt: &HostRuntime,
     threads: &(impl Threads + Sync),
-    bsr: &str,
-    volumes: &str,
-    into: Option<&str>,
-    drives: usize,
+    given: &ExtractOptions<'_>,
 ) -> io::Result<u8>
-    requires few { (0 < drives) × (drives ≤ 16) }
+    requires few { (0 < given.now.drives) × (given.now.drives ≤ 16) }
 {
-    let sink = match sink_over(rt, into) {
+    let sink = match sink_over(rt, given.into) {
         Ok(sink) => sink,
         Err(fault) => {
             eprintln!(rt; "refused {}", fault.number())?;
             return Ok(REFUSED);
         }
     };
-    let Some(text) = read_bsr(rt, bsr)? else {
+    let Some(text) = read_bsr(rt, given.bsr)? else {
         return Ok(BAD_STREAM);
     };
-    let mut drives = drives_over(rt, volumes, drives)?;
+    let mut drives = drives_over(rt, given.volumes, given.drives)?;
     let writer = BufWriter::new(rt.alloc(), io::writer(rt))?;
     let mut out = Outputs { writer, sink };
     let run = extract_text(threads, rt.alloc(), &text, &mut drives, &mut out);

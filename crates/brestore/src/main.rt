@@ -5,6 +5,9 @@
 //! Without a command the program runs a script from standard input over volumes in memory.
 #![tactic(auto)]
 
+ghost use Rattle.std.specs.Prelude.{◌≡◌};
+ghost use Rattle.brestore.specs.ScriptEnding.{script_status};
+
 mod console;
 mod explaining;
 mod extract;
@@ -16,7 +19,8 @@ use crate::explaining::{explain_all, explain_number};
 use crate::extract::{BAD_STREAM, CLEAN, REFUSED, extract_files};
 use br_command::{Invocation, read_words};
 use br_script::{ScriptEnd, run_script};
-use std::io::{self, BufReader, BufWriter, ErrorKind, Write};
+use std::alloc::Global;
+use std::io::{self, BufRead, BufReader, BufWriter, ErrorKind, Write};
 use std::process::ExitCode;
 use std::rt::Env;
 use std::thread::Threads;
@@ -33,6 +37,28 @@ fn words_of<R: Env + AllocGlobal>(rt: &R) -> io::Result<Option<Vec<String>>> {
     }
 }
 
+/// Returns the exit status of a script that ended so.
+fn status_of(end: ScriptEnd) -> u8
+    ensures { result ≡ script_status end }
+{
+    match end {
+        ScriptEnd::Clean => CLEAN,
+        ScriptEnd::Refused => REFUSED,
+    }
+}
+
+/// Runs a script, and writes and flushes its answers. Returns the exit status.
+fn answer<R: BufRead, W: Write>(
+    threads: &(impl Threads + Sync),
+    alloc: Global,
+    reader: &mut R,
+    writer: &mut W,
+) -> io::Result<u8> {
+    let end = run_script(threads, alloc, reader, writer);
+    writer.flush()?;
+    Ok(status_of(end?))
+}
+
 /// Runs the script of standard input, and writes its answers to standard output. Returns the exit status.
 fn run_input<R: Input + Print + AllocGlobal>(
     rt: &R,
@@ -40,12 +66,7 @@ fn run_input<R: Input + Print + AllocGlobal>(
 ) -> io::Result<u8> {
     let mut reader = BufReader::new(rt.alloc(), rt.reader())?;
     let mut writer = BufWriter::new(rt.alloc(), io::writer(rt))?;
-    let end = run_script(threads, rt.alloc(), &mut reader, &mut writer);
-    writer.flush()?;
-    match end? {
-        ScriptEnd::Clean => Ok(CLEAN),
-        ScriptEnd::Refused => Ok(REFUSED),
-    }
+    answer(threads, rt.alloc(), &mut reader, &mut writer)
 }
 
 /// Runs the script of standard input; an error for memory is a refusal of the script. Returns the exit status.
@@ -70,14 +91,7 @@ fn run(rt: &HostRuntime, threads: &(impl Threads + Sync)) -> io::Result<u8> {
     };
     match read_words(rt.alloc(), &words) {
         Ok(Invocation::Serve) => serve(rt, threads),
-        Ok(Invocation::Extract(options)) => extract_files(
-            rt,
-            threads,
-            options.bsr,
-            options.volumes,
-            options.into,
-            options.drives,
-        ),
+        Ok(Invocation::Extract(options)) => extract_files(rt, threads, &options),
         Ok(Invocation::Console(options)) => restore_marked(rt, threads, &options),
         Ok(Invocation::Explain(number)) => explain_number(rt, number),
         Ok(Invocation::ExplainAll) => explain_all(rt),

@@ -1,5 +1,6 @@
 //! Deliveries into a folder, from volumes in a folder.
 use crate::extract::{Ending, REFUSED, drives_over, ending_of, extract_files};
+use br_command::ExtractOptions;
 use br_engine::{Outputs, extract_text};
 use br_folder_sink::FolderSink;
 use std::test::Fail;
@@ -190,14 +191,13 @@ fn a_folder_that_is_not_empty_is_refused_before_anything_is_read(
 ) -> Result<(), Fail> {
     let place = new_place(&rt, "full", b"/d/b")?;
     let volumes = format!(in rt.alloc(); "{place}/volumes")?;
-    let status = extract_files(
-        &rt,
-        &rt,
-        "/no/such.bsr",
-        volumes.as_str(),
-        Some(volumes.as_str()),
-        1,
-    )?;
+    let given = ExtractOptions {
+        bsr: "/no/such.bsr",
+        volumes: volumes.as_str(),
+        into: Some(volumes.as_str()),
+        drives: 1,
+    };
+    let status = extract_files(&rt, &rt, &given)?;
     assert_eq!(rt; status, REFUSED);
     let entries = fs::read_dir(&(&rt, rt.alloc()), volumes.as_str())?.count();
     assert_eq!(rt; entries, 1);
