@@ -2,3 +2,5 @@ mod bacula;
 mod console;
 mod console_into;
 mod into;
+mod serving;
+mod whole;

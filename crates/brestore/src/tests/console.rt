@@ -1,6 +1,6 @@
 //! The command `console`: what it refuses before a line is read, and a catalogue in a file.
 use crate::console::{restore_marked, set_up};
-use crate::tests::into::new_place;
+use crate::tests::into::{new_place, path_in};
 use br_command::ConsoleOptions;
 use std::test::Fail;
 use std::thread::Threads;
@@ -103,8 +103,8 @@ fn the_folder_is_tested_after_the_moment_and_before_the_catalogue(
     rt: HostRuntime,
 ) -> Result<(), Fail> {
     let place = new_place(&rt, "tested", b"/d/b")?;
-    let filled = format!(in rt.alloc(); "{place}/volumes")?;
-    let empty = format!(in rt.alloc(); "{place}/into")?;
+    let filled = path_in(&rt, place.as_str(), "volumes")?;
+    let empty = path_in(&rt, place.as_str(), "into")?;
     assert_eq!(rt; refusals_into(&rt, &rt, filled.as_str())?, (52, 81, 1));
     assert_eq!(rt; refusals_into(&rt, &rt, empty.as_str())?, (52, 45, 1));
     fs::remove_dir_all(&rt, place.as_str())?;

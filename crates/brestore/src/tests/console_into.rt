@@ -1,7 +1,7 @@
 //! Deliveries of what was marked into a folder, from volumes in a folder.
 use crate::console::ending_of;
 use crate::extract::{Ending, drives_over};
-use crate::tests::into::{has, new_place};
+use crate::tests::into::{has, new_place, path_in};
 use br_console::{JobSelection, run_console};
 use br_engine::Outputs;
 use br_folder_sink::FolderSink;
@@ -116,7 +116,7 @@ fn spans(alloc: Global) -> Result<Vec<Span>, Fail> {
 }
 
 /// Returns the job that wrote the volume.
-fn rows(alloc: Global, second: &[u8]) -> Result<JobRows, Fail> {
+pub(super) fn rows(alloc: Global, second: &[u8]) -> Result<JobRows, Fail> {
     Ok(JobRows::new(job_row(alloc)?, file_rows(alloc, second)?, spans(alloc)?)?)
 }
 
@@ -173,8 +173,8 @@ fn ends(
     case: &Case,
 ) -> Result<bool, Fail> {
     let history = history_of(rt.alloc(), case.second)?;
-    let volumes = format!(in rt.alloc(); "{place}/volumes")?;
-    let into = format!(in rt.alloc(); "{place}/into")?;
+    let volumes = path_in(rt, place, "volumes")?;
+    let into = path_in(rt, place, "into")?;
     let mut text = Vec::new(rt.alloc());
     let ending = ended(
         rt,

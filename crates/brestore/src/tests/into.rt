@@ -28,6 +28,11 @@ fn new_folders(rt: &HostRuntime, name: &str) -> Result<String, Fail> {
     Ok(place)
 }
 
+/// Returns the path of a file or folder in a place.
+pub(super) fn path_in(rt: &HostRuntime, place: &str, name: &str) -> Result<String, Fail> {
+    Ok(format!(in rt.alloc(); "{place}/{name}")?)
+}
+
 /// Writes a volume of these parts into a place.
 fn put_volume(rt: &HostRuntime, place: &str, name: &str, parts: [&[u8]; 3]) -> Result<(), Fail> {
     let mut bytes = Vec::new(rt.alloc());
@@ -80,8 +85,8 @@ fn delivered(
     place: &str,
     text: &[u8],
 ) -> Result<(Ending, Vec<u8>), Fail> {
-    let volumes = format!(in rt.alloc(); "{place}/volumes")?;
-    let into = format!(in rt.alloc(); "{place}/into")?;
+    let volumes = path_in(rt, place, "volumes")?;
+    let into = path_in(rt, place, "into")?;
     let mut drives = drives_over(rt, volumes.as_str(), 3)?;
     let mut out = Outputs {
         writer: Vec::new(rt.alloc()),
@@ -111,7 +116,7 @@ fn ends(
 
 /// Returns if a file of a place has these bytes.
 pub(super) fn has(rt: &HostRuntime, place: &str, name: &str, bytes: &[u8]) -> Result<bool, Fail> {
-    let path = format!(in rt.alloc(); "{place}/{name}")?;
+    let path = path_in(rt, place, name)?;
     let found = fs::read(rt, path.as_str())?;
     Ok(found.as_slice() == bytes)
 }
@@ -190,7 +195,7 @@ fn a_folder_that_is_not_empty_is_refused_before_anything_is_read(
     rt: HostRuntime,
 ) -> Result<(), Fail> {
     let place = new_place(&rt, "full", b"/d/b")?;
-    let volumes = format!(in rt.alloc(); "{place}/volumes")?;
+    let volumes = path_in(&rt, place.as_str(), "volumes")?;
     let given = ExtractOptions {
         bsr: "/no/such.bsr",
         volumes: volumes.as_str(),
