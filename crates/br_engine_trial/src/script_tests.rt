@@ -441,6 +441,32 @@ fn bytes_are_appended_to_their_volume(rt: HostRuntime) -> Result<(), Fail> {
     parts_are_appended(&rt, &digits)
 }
 
+/// Returns a script of `count` lines `drives 1`, a bootstrap of as many lines, and a line that is refused.
+fn long_script(alloc: Global, count: u32) -> Result<Vec<u8>, Fail> {
+    let mut script = Vec::new(alloc);
+    for _ in 0..count {
+        script.extend_from_slice(b"drives 1\n")?;
+    }
+    script.extend_from_slice(b"bsr\n")?;
+    for _ in 0..count {
+        script.extend_from_slice(b"Volume=V\n")?;
+    }
+    script.extend_from_slice(b".\nunknown\n")?;
+    Ok(script)
+}
+
+/// Each byte takes a turn of reading.
+#[test]
+fn a_script_may_have_thousands_of_lines(rt: HostRuntime) -> Result<(), Fail> {
+    let script = long_script(rt.alloc(), 2000)?;
+    let mut reader = BufReader::with_capacity(rt.alloc(), 1, script.as_slice())?;
+    let mut written = Vec::new(rt.alloc());
+    let end = run_script(&rt, rt.alloc(), &mut reader, &mut written)?;
+    assert_eq!(rt; end, ScriptEnd::Refused);
+    assert_eq!(rt; written.as_slice(), b"refused 90 line 4003\n".as_slice());
+    Ok(())
+}
+
 /// A stream that can be neither read nor written.
 #[derive(Drop)]
 struct Broken;
