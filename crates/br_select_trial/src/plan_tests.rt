@@ -264,6 +264,43 @@ fn plans_follow_links_once(rt: HostRuntime) -> Result<(), Fail> {
     Ok(())
 }
 
+/// Makes `count` spans of file 1, of 100 bytes each.
+fn many_spans(alloc: Global, count: u32) -> Result<Vec<Span>, Fail> {
+    let mut spans = Vec::new(alloc);
+    for before in 0..count {
+        let start = 100 * u64::from(before);
+        spans.push(Span {
+            vol: VolName::new(alloc, b"A")?,
+            first: 1,
+            last: 1,
+            start,
+            end: start + 99,
+            vol_index: before + 1,
+        })?;
+    }
+    Ok(spans)
+}
+
+/// Makes a history of a Full with one file in `count` spans.
+fn many_visits(alloc: Global, count: u32) -> Result<History, Fail> {
+    let mut history = History::new(alloc);
+    history.push(JobRows::new(
+        job_row(alloc, FULL)?,
+        file_rows(alloc, &[(b"/a", 1, SAVED)])?,
+        many_spans(alloc, count)?,
+    )?)?;
+    Ok(history)
+}
+
+/// Only 2^32 groups are too many.
+#[test]
+fn a_plan_may_have_thousands_of_groups(rt: HostRuntime) -> Result<(), Fail> {
+    let plan = plan(rt.alloc(), &many_visits(rt.alloc(), 3000)?, &[b"/a"])?;
+    assert_eq!(rt; plan.bootstrap().groups().len(), 3000);
+    assert_eq!(rt; plan.names().iter().count(), 1);
+    Ok(())
+}
+
 /// Client, file set and moment of a request.
 type Asked<'s> = (&'s [u8], &'s [u8], u64);
 
