@@ -231,6 +231,40 @@ impl Write for Broken {
     }
 }
 
+/// A stream that gives one byte at a time.
+#[derive(Drop)]
+struct Drip<'t> {
+    left: &'t [u8],
+}
+
+impl Read for Drip<'_> {
+    fn read(&mut self, buf: &mut [u8]) -> io::Result<usize> {
+        let count = buf.len().min(1);
+        self.left.read(&mut buf[..count])
+    }
+}
+
+/// Returns a bootstrap of V1 after `count` lines of two bytes.
+fn after_lines(alloc: Global, count: u32) -> Result<Vec<u8>, Fail> {
+    let mut text = Vec::new(alloc);
+    for _ in 0..count {
+        text.extend_from_slice(b"#\n")?;
+    }
+    text.extend_from_slice(b"Volume=V1\n")?;
+    Ok(text)
+}
+
+#[test]
+fn a_bootstrap_is_read_to_its_end(rt: HostRuntime) -> Result<(), Fail> {
+    let mut out = manifest_only(rt.alloc());
+    let text = after_lines(rt.alloc(), 20_000)?;
+    let mut drip = Drip { left: &text };
+    let end = run_extract(&rt, rt.alloc(), &mut drip, &mut drives(&rt)?, &mut out)?;
+    assert!(rt; matches!(end, RestoreEnd::AllFiles));
+    assert_eq!(rt; out.writer.as_slice(), MANIFEST);
+    Ok(())
+}
+
 #[test]
 fn reading_fails(rt: HostRuntime) -> Result<(), Fail> {
     let mut out = manifest_only(rt.alloc());

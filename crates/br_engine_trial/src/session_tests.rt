@@ -245,6 +245,28 @@ fn a_line_ends_at_its_line_feed(rt: HostRuntime) -> Result<(), Fail> {
     Ok(())
 }
 
+/// Returns a text that is `count` times this one.
+fn repeated(alloc: Global, text: &[u8], count: u32) -> Result<Vec<u8>, Fail> {
+    let mut all = Vec::new(alloc);
+    for _ in 0..count {
+        all.extend_from_slice(text)?;
+    }
+    Ok(all)
+}
+
+/// Returns if each of `count` lines is answered.
+fn are_all_answered(alloc: Global, count: u32) -> Result<bool, Fail> {
+    let lines = repeated(alloc, b"pwd\n", count)?;
+    let answers = repeated(alloc, b"cwd is: /\n", count)?;
+    is_told(alloc, FILES, &lines, &answers)
+}
+
+#[test]
+fn a_session_may_have_thousands_of_lines(rt: HostRuntime) -> Result<(), Fail> {
+    assert!(rt; are_all_answered(rt.alloc(), 20_000)?);
+    Ok(())
+}
+
 /// Returns if ways are refused or followed.
 fn ways_are_told(alloc: Global) -> Result<bool, Fail> {
     is_told(
