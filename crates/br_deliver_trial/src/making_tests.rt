@@ -10,6 +10,13 @@ use std::thread::Threads;
 /// The attributes of a file of type 3: /a, mode 33188, size 5.
 const FILE: &[u8] = b"1 3 /a\0A A IGk B A A A F A A A A A A\0\0";
 
+/// Attributes of which one field is bad: the type, the path, and the index, which is another one.
+const BAD_TYPE: &[u8] = b"1 x /a\0A A IGk B A A A F A A A A A A\0\0";
+
+const BAD_PATH: &[u8] = b"1 3 xa\0A A IGk B A A A F A A A A A A\0\0";
+
+const OTHER_INDEX: &[u8] = b"2 3 /a\0A A IGk B A A A F A A A A A A\0\0";
+
 /// The attributes of a directory: /d/.
 const DIRECTORY: &[u8] = b"1 5 /d/\0A A IGk B A A A F A A A A A A\0\0";
 
@@ -185,6 +192,10 @@ const FAULTS: &[(&[Part<'static>], (u32, u32))] = &[
     (&[Part(2, 5, b"hello"), Part(4, 1, b"x")], (63, 0)),
     (&[Part(1, 38, FILE), Part(1, 38, FILE)], (64, 0)),
     (&[Part(1, 1, b"x")], (64, 0)),
+    // Attributes with a bad type, with a path that does not begin with `/`, and of another index.
+    (&[Part(1, 38, BAD_TYPE)], (64, 0)),
+    (&[Part(1, 38, BAD_PATH)], (64, 0)),
+    (&[Part(1, 38, OTHER_INDEX)], (64, 0)),
     // A stream that is not supported.
     (
         &[Part(1, 38, FILE), Part(2, 5, b"hello"), Part(4, 1, b"x")],
