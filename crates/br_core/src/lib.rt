@@ -1,7 +1,15 @@
 //! The machine of restores and backups, over which the main theorem is proved for every schedule.
 #![tactic(auto)]
 
+mod event;
+mod fault;
+#[cfg(test)]
+mod tests;
+
 ghost use Rattle.br_core.specs.Laws.{Headline, HitsOfARun, JobsHold};
+
+pub use event::{Event, Reply};
+pub use fault::StepFault;
 
 /// States that at every point of every run the hits of a restore are those that its bootstrap
 /// means.
