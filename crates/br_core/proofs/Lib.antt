@@ -8,6 +8,7 @@ pub mod GoingLaws
 pub mod PlannedLaws
 pub mod RunLaws
 pub mod ReachedLaws
+pub mod NextLaws
 mod Computing
 mod JobExamples
 mod PlanExamples

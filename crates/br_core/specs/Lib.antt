@@ -4,3 +4,4 @@ pub mod Reached
 pub mod Reading
 pub mod Fault
 pub mod Happening
+pub mod Statuses

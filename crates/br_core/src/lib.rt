@@ -3,6 +3,8 @@
 
 mod event;
 mod fault;
+mod reading;
+mod status;
 #[cfg(test)]
 mod tests;
 
