@@ -8,7 +8,12 @@ pub mod GoingLaws
 pub mod PlannedLaws
 pub mod RunLaws
 pub mod ReachedLaws
+pub mod PartLaws
 pub mod NextLaws
+pub mod MoveLaws
+pub mod ViewLaws
+pub mod WholeLaws
+pub mod FirstLaws
 mod Computing
 mod JobExamples
 mod PlanExamples

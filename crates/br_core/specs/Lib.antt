@@ -5,3 +5,5 @@ pub mod Reading
 pub mod Fault
 pub mod Happening
 pub mod Statuses
+pub mod Parts
+pub mod View

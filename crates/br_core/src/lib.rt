@@ -4,6 +4,7 @@
 mod event;
 mod fault;
 mod reading;
+mod restore;
 mod status;
 #[cfg(test)]
 mod tests;

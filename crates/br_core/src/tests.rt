@@ -1,9 +1,23 @@
-//! The numbers of refusals.
+//! The moves of a restore, over one volume of one block, and the numbers of refusals.
 use crate::fault::StepFault;
-use br_history::HistoryFault;
-use br_plan::PlanFault;
-use std::alloc::AllocError;
+use crate::restore::Restore;
+use br_history::{FileRow, History, HistoryFault, JobRow, JobRows};
+use br_join::Outcome;
+use br_plan::{Plan, PlanFault, Request};
+use br_session::Span;
+use br_types::{FileKey, JobId, Letter, Name, Path, SessionKey, VolName};
+use std::alloc::{AllocError, Global};
 use std::test::Fail;
+
+/// A block of two whole records of file 1 of session 1, 100: attributes of 38 bytes and data of 5
+/// bytes.
+const BLOCK: &[u8; 91] =
+    b"\0\0\0\0\0\0\0\x5b\0\0\0\0BB02\0\0\0\x01\0\0\0\x64\0\0\0\x01\0\0\0\x01\0\0\0\x261 3 /a\0A A IGk B A A A F A A A A A A\0\0\0\0\0\x01\0\0\0\x02\0\0\0\x05hello";
+
+/// The MD5 of `hello`.
+const DIGEST: [u8; 16] = [
+    0x5d, 0x41, 0x40, 0x2a, 0xbc, 0x4b, 0x2a, 0x76, 0xb9, 0x71, 0x9d, 0x91, 0x10, 0x17, 0xc5, 0x92,
+];
 
 /// Refusals with their numbers.
 const NUMBERS: &[(StepFault, u32)] = &[
@@ -34,5 +48,178 @@ fn each_refusal_has_its_number(rt: HostRuntime) -> Result<(), Fail> {
     assert_eq!(rt; StepFault::from(AllocError), StepFault::Memory);
     assert_eq!(rt; StepFault::from(HistoryFault::Memory), StepFault::Memory);
     assert_eq!(rt; StepFault::from(PlanFault::Memory), StepFault::Memory);
+    Ok(())
+}
+
+fn letter(byte: u8) -> Result<Letter, Fail> {
+    Ok(Letter::new(byte).ok_or("a letter")?)
+}
+
+/// Returns the row of a Full of the session of the block.
+fn job_row(alloc: Global) -> Result<JobRow, Fail> {
+    Ok(JobRow {
+        id: JobId::new(1).ok_or("a number")?,
+        kind: letter(b'B')?,
+        level: letter(b'F')?,
+        status: letter(b'T')?,
+        start: 100,
+        session: SessionKey { id: 1, time: 100 },
+        client: Name::new(alloc, b"mars")?,
+        fileset: Name::new(alloc, b"home")?,
+    })
+}
+
+fn file_rows(alloc: Global) -> Result<Vec<FileRow>, Fail> {
+    let mut rows = Vec::new(alloc);
+    rows.push(FileRow {
+        path: Path::new(alloc, b"/a")?,
+        index: 1,
+        lstat: String::from_str(alloc, "A A IGk B A A A F A A A A A A")?,
+        md5: None,
+    })?;
+    Ok(rows)
+}
+
+fn spans(alloc: Global) -> Result<Vec<Span>, Fail> {
+    let mut spans = Vec::new(alloc);
+    spans.push(Span {
+        vol: VolName::new(alloc, b"A")?,
+        first: 1,
+        last: 1,
+        start: 0,
+        end: 90,
+        vol_index: 1,
+    })?;
+    Ok(spans)
+}
+
+/// Returns the history of that job.
+fn history(alloc: Global) -> Result<History, Fail> {
+    let mut history = History::new(alloc);
+    history.push(JobRows::new(job_row(alloc)?, file_rows(alloc)?, spans(alloc)?)?)?;
+    Ok(history)
+}
+
+fn request(alloc: Global) -> Result<Request, Fail> {
+    Ok(Request {
+        client: Name::new(alloc, b"mars")?,
+        fileset: Name::new(alloc, b"home")?,
+        moment: 250,
+    })
+}
+
+fn marks(alloc: Global) -> Result<Vec<Path>, Fail> {
+    let mut marks = Vec::new(alloc);
+    marks.push(Path::new(alloc, b"/a")?)?;
+    Ok(marks)
+}
+
+fn plan(alloc: Global, request: &Request, marks: &[Path]) -> Result<Plan, Fail> {
+    let history = history(alloc)?;
+    Ok(Plan::make(alloc, &history, request, marks)?)
+}
+
+/// Returns the restore of the path /a, planned after one commit.
+fn restore(alloc: Global) -> Result<Restore, Fail> {
+    let request = request(alloc)?;
+    let marks = marks(alloc)?;
+    let plan = plan(alloc, &request, &marks)?;
+    Ok(Restore::new(alloc, 1, request, marks, plan)?)
+}
+
+/// Returns the volume A, which is the block.
+fn volumes(alloc: Global) -> Result<Vec<(VolName, Vec<u8>)>, Fail> {
+    let mut volumes = Vec::new(alloc);
+    volumes.push((VolName::new(alloc, b"A")?, Vec::from_slice(alloc, BLOCK)?))?;
+    Ok(volumes)
+}
+
+/// What is done with piece 0, or with the batch at a place.
+#[derive(Clone, Copy, Debug)]
+enum Move {
+    Claim,
+    Fail,
+    Read,
+    Finish,
+    Take(u64),
+}
+
+/// Moves with the number of the refusal of each, 0 if it is not refused.
+const MOVES: &[(Move, u32)] = &[
+    (Move::Finish, 59),
+    (Move::Read, 59),
+    (Move::Fail, 59),
+    (Move::Take(0), 59),
+    (Move::Claim, 0),
+    (Move::Claim, 59),
+    (Move::Finish, 59),
+    (Move::Read, 0),
+    (Move::Fail, 0),
+    (Move::Read, 59),
+    (Move::Claim, 0),
+    (Move::Read, 0),
+    (Move::Read, 59),
+    (Move::Finish, 0),
+    (Move::Fail, 59),
+    (Move::Take(2), 59),
+    (Move::Take(1), 0),
+    (Move::Take(1), 59),
+    (Move::Take(0), 0),
+];
+
+/// Makes a move, and returns the number of the refusal, 0 if it is not refused.
+fn number_of(
+    alloc: Global,
+    restore: &mut Restore,
+    volumes: &[(VolName, Vec<u8>)],
+    what: Move,
+) -> u32 {
+    let result = match what {
+        Move::Claim => restore.claim(0),
+        Move::Fail => restore.fail(0),
+        Move::Read => restore.read(alloc, 0, volumes),
+        Move::Finish => restore.finish(alloc, 0, volumes),
+        Move::Take(place) => restore.take(place),
+    };
+    match result {
+        Ok(()) => 0,
+        Err(fault) => fault.number(),
+    }
+}
+
+/// Makes some moves, and returns the place of the first that gives another number.
+fn wrong_move(
+    alloc: Global,
+    restore: &mut Restore,
+    volumes: &[(VolName, Vec<u8>)],
+    moves: &[(Move, u32)],
+) -> Option<usize> {
+    for (place, (what, number)) in moves.iter().enumerate() {
+        if restore.is_whole() || number_of(alloc, restore, volumes, *what) != *number {
+            return Some(place);
+        }
+    }
+    None
+}
+
+/// Returns whether it is one file of the bytes `hello`.
+fn is_hello(files: &[(FileKey, Outcome)]) -> bool {
+    match files {
+        [(_, Outcome::File(item))] => item.bytes.len() == 5 && item.bytes.digest() == DIGEST,
+        _ => false,
+    }
+}
+
+#[test]
+fn a_piece_is_read_again_and_delivered(rt: HostRuntime) -> Result<(), Fail> {
+    let alloc = rt.alloc();
+    let volumes = volumes(alloc)?;
+    let mut restore = restore(alloc)?;
+    assert_eq!(rt; wrong_move(alloc, &mut restore, &volumes, MOVES), None);
+    assert!(rt; restore.is_whole());
+    if restore.is_whole() {
+        let files = restore.deliver(&rt).ok().ok_or("memory")?;
+        assert!(rt; is_hello(&files));
+    }
     Ok(())
 }
