@@ -2,3 +2,4 @@ pub mod PlaceLaws
 pub mod KeptLaws
 pub mod AppendLaws
 pub mod ReadLaws
+pub mod MakingLaws

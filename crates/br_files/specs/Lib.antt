@@ -3,3 +3,5 @@ pub mod Calls
 pub mod Read
 pub mod Append
 pub mod Memory
+pub mod Making
+pub mod MemMaker

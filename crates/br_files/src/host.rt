@@ -4,12 +4,13 @@ ghost use Rattle.std.specs.Prelude.{◌≡◌, IfOk};
 use crate::disk::Disk;
 use crate::fault::DiskFault;
 use crate::kind::{Found, Kind};
+use crate::maker::FileMaker;
 use crate::path::FilePath;
 use std::alloc::Global;
-use std::fs::{FileType, OpenOptions};
+use std::fs::{DirBuilder, FileType, OpenOptions};
 use std::io::{ErrorKind, Write};
 use std::marker::Model;
-use std::os::unix::fs::{FileExt, OpenOptionsExt};
+use std::os::unix::fs::{DirBuilderExt, FileExt, OpenOptionsExt};
 use std::rt::Files;
 use std::{fs, io};
 
@@ -52,7 +53,7 @@ impl<F: Files + Drop> HostDisk<F> {
 }
 
 /// Returns the fault that stands for an error of the system.
-fn fault_of(error: io::Error) -> DiskFault {
+pub(crate) fn fault_of(error: io::Error) -> DiskFault {
     match error.kind() {
         ErrorKind::NotFound => DiskFault::NotFound,
         ErrorKind::AlreadyExists => DiskFault::Exists,
@@ -129,5 +130,39 @@ where
 
     fn write(&mut self, file: &mut HostFile<F::File>, bytes: &[u8]) -> Result<usize, DiskFault> {
         file.file.write(bytes).map_err(fault_of)
+    }
+}
+
+impl<F: Files + Drop> FileMaker for HostDisk<F> {
+    ghost use Rattle.std.specs.Prelude.{None};
+
+    type New = F::File;
+
+    ghost nodes = { λ _. None };
+
+    fn look(&mut self, path: &str) -> Result<Kind, DiskFault> {
+        let metadata = fs::symlink_metadata(&self.files, path).map_err(fault_of)?;
+        Ok(kind_of(metadata.file_type()))
+    }
+
+    fn make_folder(&mut self, path: &str) -> Result<(), DiskFault> {
+        let mut how = DirBuilder::new();
+        how.mode(0o700);
+        how.create(&self.files, path).map_err(fault_of)
+    }
+
+    fn make_file(&mut self, path: &str) -> Result<F::File, DiskFault> {
+        let mut how = OpenOptions::new();
+        how.write(true).create_new(true).mode(0o600);
+        how.open(&self.files, path).map_err(fault_of)
+    }
+
+    /// Closes the file, by dropping it.
+    fn finish(&mut self, _path: &str, _file: F::File) -> Result<(), DiskFault> {
+        Ok(())
+    }
+
+    fn remove(&mut self, path: &str) -> Result<(), DiskFault> {
+        fs::remove_file(&self.files, path).map_err(fault_of)
     }
 }

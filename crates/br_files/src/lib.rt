@@ -1,8 +1,13 @@
-//! Files and folders, behind a trait whose clauses say what each call does.
+//! Files and folders, behind two traits whose clauses say what each call does.
 //!
-//! `Disk` is the trait. `MemDisk` is a disk over memory, which tells its files, and `HostDisk` is
-//! the system's, as thin as it can be. `read_from` and `append` are generic over the trait: the
-//! first reads just the bytes that the file has, the second appends all bytes or the first of them.
+//! `Disk` reads files and appends to them. `MemDisk` is a disk over memory, which tells its files,
+//! and `HostDisk` is the system's, as thin as it can be. `read_from` and `append` are generic over
+//! the trait: the first reads just the bytes that the file has, the second appends all bytes or the
+//! first of them.
+//!
+//! `FileMaker` makes files and folders, whose new files can be written side by side. `MemMaker` is
+//! one over memory, and `HostDisk` that of the system. `enter_folder`, `clear_path` and `put_file`
+//! are generic over it.
 #![tactic(auto)]
 
 mod appending;
@@ -10,7 +15,10 @@ mod disk;
 mod fault;
 mod host;
 mod kind;
+mod maker;
+mod making;
 mod mem;
+mod mem_maker;
 mod path;
 mod read;
 
@@ -19,9 +27,14 @@ pub use disk::Disk;
 pub use fault::DiskFault;
 pub use host::{HostDisk, HostFile};
 pub use kind::{Found, Kind};
+pub use maker::FileMaker;
+pub use making::{clear_path, enter_folder, put_file};
 pub use mem::MemDisk;
+pub use mem_maker::{MemMaker, MemNew};
 pub use path::FilePath;
 pub use read::read_from;
 
+#[cfg(test)]
+mod maker_tests;
 #[cfg(test)]
 mod tests;

@@ -1,0 +1,152 @@
+use crate::*;
+use std::alloc::Global;
+use std::os::unix::fs::{PermissionsExt, symlink};
+use std::test::Fail;
+use std::{fs, process};
+
+/// Returns what a call finds at the path, if anything is there.
+fn kind_of<M: FileMaker>(maker: &mut M, path: &str) -> Result<Option<Kind>, DiskFault> {
+    match maker.look(path) {
+        Ok(kind) => Ok(Some(kind)),
+        Err(DiskFault::NotFound) => Ok(None),
+        Err(fault) => Err(fault),
+    }
+}
+
+/// Replaces a file, and makes a folder twice.
+fn steps<M: FileMaker>(maker: &mut M, folder: &str, path: &str) -> Result<(), DiskFault> {
+    enter_folder(maker, folder)?;
+    enter_folder(maker, folder)?;
+    clear_path(maker, path)?;
+    put_file(maker, path, b"first")?;
+    clear_path(maker, path)?;
+    put_file(maker, path, b"second")
+}
+
+/// Returns whether every call is refused where a link is, and a link can be removed.
+fn refuses_links<M: FileMaker>(maker: &mut M, link: &str) -> Result<bool, DiskFault> {
+    let refused = enter_folder(maker, link) == Err(DiskFault::Exists)
+        && clear_path(maker, link) == Err(DiskFault::Exists)
+        && maker.make_folder(link) == Err(DiskFault::Exists)
+        && maker.make_file(link).is_err();
+    let seen = kind_of(maker, link)? == Some(Kind::Link);
+    maker.remove(link)?;
+    Ok(refused && seen && kind_of(maker, link)? == None)
+}
+
+/// Returns whether the calls make what they are to make, beside a link.
+fn makes<M: FileMaker>(maker: &mut M, path: &str) -> Result<bool, DiskFault> {
+    let again = maker.make_folder("d") == Err(DiskFault::Exists);
+    let gone = maker.remove("none") == Err(DiskFault::NotFound);
+    Ok(again && gone && kind_of(maker, path)? == Some(Kind::File))
+}
+
+/// Returns whether a maker over memory meets all that is tested of makers.
+fn works_in_memory(maker: &mut MemMaker) -> Result<bool, Fail> {
+    maker.plant("link", Kind::Link)?;
+    maker.shorten(2, 3, 100);
+    steps(maker, "d", "d/f")?;
+    let links = refuses_links(maker, "link")?;
+    let made = makes(maker, "d/f")?;
+    Ok(links && made && maker.bytes("d/f") == Some(b"second".as_slice()))
+}
+
+#[test]
+fn files_made_in_memory(rt: HostRuntime) -> Result<(), Fail> {
+    let mut maker = MemMaker::new(rt.alloc());
+    assert!(rt; works_in_memory(&mut maker)?);
+    Ok(())
+}
+
+/// Returns whether a maker that fails after this many calls tells its failure and leaves the file
+/// either whole or without bytes that are told. The steps are ten calls.
+fn fails_soundly(alloc: Global, calls: u64) -> bool {
+    let mut maker = MemMaker::new(alloc);
+    maker.fail_after(calls);
+    let done = steps(&mut maker, "d", "d/f").is_ok();
+    let left: Option<&[u8]> = maker.bytes("d/f");
+    let whole = match calls {
+        0..=5 | 8 | 9 => left == None,
+        6 | 7 => left == Some(b"first".as_slice()),
+        _ => left == Some(b"second".as_slice()),
+    };
+    whole && done == (calls >= 10)
+}
+
+/// Returns the first number of calls after which a failure is not sound.
+fn first_unsound(alloc: Global) -> Option<u64> {
+    for calls in 0..12 {
+        if !fails_soundly(alloc, calls) {
+            return Some(calls);
+        }
+    }
+    None
+}
+
+/// Returns whether a file that has room for `room` bytes is put just if all six fit.
+fn fits(alloc: Global, room: usize) -> bool {
+    let mut maker = MemMaker::new(alloc);
+    maker.shorten(4, 1, room);
+    let done = put_file(&mut maker, "f", b"abcdef").is_ok();
+    let left: Option<&[u8]> = maker.bytes("f");
+    if room < 6 {
+        !done && left == None
+    } else {
+        done && left == Some(b"abcdef".as_slice())
+    }
+}
+
+/// Returns the first room for which a file is put wrongly.
+fn first_unfit(alloc: Global) -> Option<usize> {
+    for room in 0..8 {
+        if !fits(alloc, room) {
+            return Some(room);
+        }
+    }
+    None
+}
+
+#[test]
+fn failures_and_full_files(rt: HostRuntime) -> Result<(), Fail> {
+    assert!(rt; first_unsound(rt.alloc()) == None);
+    assert!(rt; first_unfit(rt.alloc()) == None);
+    Ok(())
+}
+
+/// Returns the permissions of what is at the path.
+fn mode_of(rt: &HostRuntime, path: &str) -> Result<u32, Fail> {
+    Ok(fs::metadata(rt, path)?.permissions().mode() & 0o777)
+}
+
+/// Returns whether the system's maker meets what is tested of makers, in an empty folder.
+fn works_in(rt: &HostRuntime, folder: &str) -> Result<bool, Fail> {
+    let mut maker = HostDisk::new(rt.alloc(), rt);
+    let inner = format!(in rt.alloc(); "{folder}/d")?;
+    let path = format!(in rt.alloc(); "{folder}/d/f")?;
+    let link = format!(in rt.alloc(); "{folder}/link")?;
+    symlink(rt, inner.as_str(), link.as_str())?;
+    steps(&mut maker, inner.as_str(), path.as_str())?;
+    let links = refuses_links(&mut maker, link.as_str())?;
+    let bytes = fs::read(rt, path.as_str())?;
+    Ok(links && bytes.as_slice() == b"second".as_slice())
+}
+
+/// Returns the permissions of the folder and of the file that were made.
+fn modes_in(rt: &HostRuntime, folder: &str) -> Result<(u32, u32), Fail> {
+    let inner = format!(in rt.alloc(); "{folder}/d")?;
+    let path = format!(in rt.alloc(); "{folder}/d/f")?;
+    Ok((mode_of(rt, inner.as_str())?, mode_of(rt, path.as_str())?))
+}
+
+#[test]
+fn files_made_in_the_system(rt: HostRuntime) -> Result<(), Fail> {
+    let id = process::id(rt.process());
+    let folder = format!(in rt.alloc(); "br_files_made_{id}")?;
+    fs::create_dir(&rt, folder.as_str())?;
+    let works = works_in(&rt, folder.as_str())?;
+    let modes = modes_in(&rt, folder.as_str())?;
+    fs::remove_dir_all(&rt, folder.as_str())?;
+    assert!(rt; works);
+    assert!(rt; modes == (0o700, 0o600));
+    Ok(())
+}
