@@ -1,5 +1,6 @@
 //! The files of the system. Each method is one call of std: no clause can say what a disk does.
-ghost use Rattle.std.specs.Prelude.{◌≡◌, IfOk};
+ghost use Rattle.std.specs.Prelude.{◌≡◌, true, IfOk};
+ghost use Rattle.std.specs.Fs.{asks_append, asks_create_new, asks_write, new_options, with_append, with_read};
 
 use crate::disk::Disk;
 use crate::fault::DiskFault;
@@ -63,6 +64,46 @@ pub(crate) fn fault_of(error: io::Error) -> DiskFault {
     }
 }
 
+/// Returns how a file is opened to be read, and for nothing else.
+fn to_read() -> OpenOptions
+    ensures { result ≡ with_read new_options true }
+{
+    let mut how = OpenOptions::new();
+    how.read(true);
+    how
+}
+
+/// Returns how a file that exists is opened to append to it.
+fn to_append() -> OpenOptions
+    ensures { result ≡ with_append new_options true }
+{
+    let mut how = OpenOptions::new();
+    how.append(true);
+    how
+}
+
+/// Returns how a file is made, for its owner alone and only where nothing is.
+fn to_make() -> OpenOptions
+    ensures new { asks_create_new result ≡ true }
+    ensures write { asks_write result ≡ true }
+{
+    let mut how = OpenOptions::new();
+    how.mode(0o600);
+    how.write(true);
+    how.create_new(true);
+    how
+}
+
+/// Returns how a file is made to append to it, for its owner alone and only where nothing is.
+fn to_make_and_append() -> OpenOptions
+    ensures new { asks_create_new result ≡ true }
+    ensures append { asks_append result ≡ true }
+{
+    let mut how = to_make();
+    how.append(true);
+    how
+}
+
 fn kind_of(kind: FileType) -> Kind {
     if kind.is_file() {
         Kind::File
@@ -98,21 +139,15 @@ where
     }
 
     fn open(&mut self, path: &str) -> Result<HostFile<F::File>, DiskFault> {
-        let mut how = OpenOptions::new();
-        how.read(true);
-        self.opened(&how, path)
+        self.opened(&to_read(), path)
     }
 
     fn open_to_append(&mut self, path: &str) -> Result<HostFile<F::File>, DiskFault> {
-        let mut how = OpenOptions::new();
-        how.append(true);
-        self.opened(&how, path)
+        self.opened(&to_append(), path)
     }
 
     fn create(&mut self, path: &str) -> Result<HostFile<F::File>, DiskFault> {
-        let mut how = OpenOptions::new();
-        how.append(true).create_new(true).mode(0o600);
-        self.opened(&how, path)
+        self.opened(&to_make_and_append(), path)
     }
 
     fn is_at(&self, file: &HostFile<F::File>, path: &str) -> bool {
@@ -152,9 +187,7 @@ impl<F: Files + Drop> FileMaker for HostDisk<F> {
     }
 
     fn make_file(&mut self, path: &str) -> Result<F::File, DiskFault> {
-        let mut how = OpenOptions::new();
-        how.write(true).create_new(true).mode(0o600);
-        how.open(&self.files, path).map_err(fault_of)
+        to_make().open(&self.files, path).map_err(fault_of)
     }
 
     /// Closes the file, by dropping it.
