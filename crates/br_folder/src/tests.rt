@@ -248,14 +248,22 @@ fn refuses_in_folder(rt: &HostRuntime, folder: &str) -> Result<bool, Fail> {
     Ok(faults_of(rt.alloc(), &mut drive)? == FAULTS)
 }
 
+/// Returns whether a drive over a path that is a file fails.
+fn fails_over_file(rt: &HostRuntime, folder: &str) -> Result<bool, Fail> {
+    let path = format!(in rt.alloc(); "{folder}/V")?;
+    let mut drive = FolderDrive::new(rt.alloc(), rt, path.as_str())?;
+    Ok(fault_of(rt.alloc(), &mut drive, b"U")? == Some(DriveFault::Fault))
+}
+
 /// The refusals of a volume without a file, and of one whose path is a folder.
 const FAULTS: [Option<DriveFault>; 2] = [Some(DriveFault::UnknownVolume), Some(DriveFault::Fault)];
 
-/// Returns whether a drive over the filled folder goes through its volumes and refuses, a store
-/// appends to V, the files are those that were appended, and a store refuses without the folder.
+/// Returns whether a drive over the filled folder goes through its volumes and refuses, as does one
+/// over a file, a store appends to V, the files are those that were appended, and a store refuses
+/// without the folder.
 fn folder_is_kept(rt: &HostRuntime, folder: &str) -> Result<[bool; 5], Fail> {
     let goes_through = goes_through_folder(rt, folder)?;
-    let refuses = refuses_in_folder(rt, folder)?;
+    let refuses = refuses_in_folder(rt, folder)? && fails_over_file(rt, folder)?;
     let appends = length_after_f(rt, folder)? == 6;
     let holds = holds_files(rt, folder)? == [true; 3];
     fs::remove_dir_all(rt, folder)?;
