@@ -12,6 +12,8 @@ mod manifest_tests;
 #[cfg(test)]
 mod match_tests;
 #[cfg(test)]
+mod memory_tests;
+#[cfg(test)]
 mod sink_tests;
 #[cfg(test)]
 mod window_tests;

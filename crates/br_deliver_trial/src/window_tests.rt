@@ -89,6 +89,10 @@ impl<'p, R: Files<File = File> + Drop> Files for Spoilt<'p, R> {
         self.files.create_dir(path)
     }
 
+    fn create_dir_with_mode(&self, path: &str, mode: u32) -> io::Result<()> {
+        self.files.create_dir_with_mode(path, mode)
+    }
+
     fn remove_dir(&self, path: &str) -> io::Result<()> {
         self.files.remove_dir(path)
     }

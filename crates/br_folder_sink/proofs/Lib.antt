@@ -1,1 +1,2 @@
+pub mod BelowLaws
 pub mod WindowLaws

@@ -1,5 +1,9 @@
 -- The numbers of refusals.
 use Rattle.std.specs.Prelude.{ℕ}
+use Rattle.br_files.specs.declared.fault.DiskFault.{DiskFault}
+use Rattle.br_files.specs.declared.fault.DiskFault.TheVariants as disk
+use Rattle.br_sink.specs.declared.fault.SinkFault.{SinkFault}
+use Rattle.br_sink.specs.declared.fault.SinkFault.TheVariants as sink
 use Rattle.br_folder_sink.specs.declared.fault.FolderFault.{FolderFault}
 use Rattle.br_folder_sink.specs.declared.fault.FolderFault.TheVariants.{Memory, NotEmpty}
 
@@ -7,3 +11,11 @@ use Rattle.br_folder_sink.specs.declared.fault.FolderFault.TheVariants.{Memory, 
 abbrev pub folder_fault_number : FolderFault → ℕ
 folder_fault_number Memory = 1
 folder_fault_number NotEmpty = 81
+
+-- the sink's fault for that of its files: want of memory is no failure of the sink
+abbrev pub sink_fault : DiskFault → SinkFault
+sink_fault disk.Memory = sink.Memory
+sink_fault disk.NotFound = sink.Fault
+sink_fault disk.Exists = sink.Fault
+sink_fault disk.Interrupted = sink.Fault
+sink_fault disk.Failed = sink.Fault

@@ -3,15 +3,14 @@ use Rattle.std.specs.Prelude.{◌≡◌, ℕ, ◌+◌, Bool, true, false, ◌||�
 use Rattle.std.specs.Str.{IsUtf8}
 use Rattle.br_model.specs.File.{Item, has_bytes}
 use Rattle.br_model.specs.Name.{is_directory}
+use Rattle.br_files.specs.Making.{Nodes}
+use Rattle.br_folder_sink.specs.Below.{PutsBelow}
 
--- the folder's path, and the number of times that the sink has failed
+-- what its files' maker tells, the folder's path, and the number of times that the sink has failed
 pub record InFolder : Type 0 where
+  pub nodes : Option Nodes
   pub path : List ℕ
   pub failures : ℕ
-
--- the sink after one more failure
-abbrev pub one_more_failure : InFolder → InFolder
-one_more_failure sink = record { path = sink.path; failures = sink.failures + 1 }
 
 -- it tells no files
 abbrev pub told : Option (List Item)
@@ -28,3 +27,7 @@ HasText item = is_on_disk item.kind ≡ true → IsUtf8 item.path
 -- and what has bytes has one that is no folder's
 abbrev pub HasName : Item → Type 0
 HasName item = has_bytes item.kind ≡ true → is_directory item.path ≡ false
+
+-- what is put of a file that has bytes: folders on its way, and a new file of these
+abbrev pub PutsItem : List ℕ → Item → Option Nodes → Option Nodes → Type 0
+PutsItem root item earlier later = has_bytes item.kind ≡ true → PutsBelow root item.path item.bytes earlier later

@@ -1,3 +1,4 @@
+pub mod Below
 pub mod Fault
 pub mod FolderSink
 pub mod Window

@@ -1,13 +1,19 @@
 //! Files that were made on disk one after another, and are written in threads.
-ghost use Rattle.std.specs.Prelude.{◌≡◌, ℕ, ◌<◌, [], IfErr};
+ghost use Rattle.std.specs.Prelude.{◌≡◌, ℕ, ◌+◌, ◌<◌, [], false, length, IfErr, OnOk};
+ghost use Rattle.std.specs.Thread.{IsSync};
 ghost use Rattle.br_sink.specs.Delivery.{IsStopBelow};
+ghost use Rattle.br_folder_sink.specs.Below.{KeepsOutside};
 ghost use Rattle.br_folder_sink.specs.Window.{AreBelow};
 
-use crate::disk::fault_of;
+use crate::place::{known_path_of, remove_item};
+use crate::way::{finish, write_fault};
+use br_files::{FileMaker, HostDisk, MemMaker, MemNew};
 use br_join::Item;
 use br_sink::{SinkFault, SinkStop};
 use std::alloc::{AllocError, Global};
+use std::fs::File;
 use std::io::Write;
+use std::rt::Files;
 use std::thread;
 use std::thread::Threads;
 
@@ -17,13 +23,60 @@ const MOST: usize = 16;
 /// The number of bytes from which on threads are worth their start.
 const MANY_BYTES: u64 = 1 << 20;
 
-/// A new file on disk, the item whose bytes it is to contain, and the number of files before it.
+/// A new file on disk, the item whose bytes it is to contain, and the number of files before it. The
+/// file is none once it is finished.
 #[derive(Drop)]
-pub(crate) struct Made<'i, W: Write + Drop> {
-    pub(crate) file: W,
+pub struct Made<'i, W: Write + Drop> {
+    pub(crate) file: Option<W>,
     pub(crate) item: &'i Item,
     pub(crate) place: u64,
     pub(crate) answer: Result<(), SinkFault>,
+}
+
+/// Writes the bytes of an item to its file, if there is one.
+fn write_bytes<W: Write>(file: &mut Option<W>, item: &Item) -> Result<(), SinkFault> {
+    match file {
+        None => Ok(()),
+        Some(file) => match item.bytes.write_to(file) {
+            Ok(()) => Ok(()),
+            Err(error) => Err(write_fault(error)),
+        },
+    }
+}
+
+/// Closes the file of an item, unless it could not be written.
+#[tactic(auto, using(crate::proofs::BelowLaws::outside_set, crate::proofs::BelowLaws::outside_same))]
+fn close<M: FileMaker>(
+    alloc: Global,
+    maker: &mut M,
+    root: &str,
+    item: &Item,
+    file: M::New,
+    written: Result<(), SinkFault>,
+) -> Result<(), SinkFault>
+    ensures { KeepsOutside root.now (M.nodes maker.old) (M.nodes maker.new) }
+{
+    written?;
+    let path = known_path_of(alloc, root, item)?;
+    finish(maker, path.as_str(), file)
+}
+
+/// Closes the file of an item, if there is one.
+#[tactic(auto, using(crate::proofs::BelowLaws::outside_same))]
+fn close_some<M: FileMaker>(
+    alloc: Global,
+    maker: &mut M,
+    root: &str,
+    item: &Item,
+    file: Option<M::New>,
+    written: Result<(), SinkFault>,
+) -> Result<(), SinkFault>
+    ensures { KeepsOutside root.now (M.nodes maker.old) (M.nodes maker.new) }
+{
+    match file {
+        Some(file) => close(alloc, maker, root, item, file, written),
+        None => written,
+    }
 }
 
 impl<'i, W: Write + Drop> Made<'i, W> {
@@ -31,8 +84,16 @@ impl<'i, W: Write + Drop> Made<'i, W> {
     fn write(&mut self)
         ensures { self.new.place ≡ self.old.place }
     {
-        let item = self.item;
-        self.answer = item.bytes.write_to(&mut self.file).map_err(fault_of);
+        self.answer = write_bytes(&mut self.file, self.item);
+    }
+
+    /// Closes the file, and keeps the answer, unless one was kept already.
+    fn finish<M: FileMaker<New = W>>(&mut self, alloc: Global, maker: &mut M, root: &str)
+        ensures place { self.new.place ≡ self.old.place }
+        ensures outside { KeepsOutside root.now (M.nodes maker.old) (M.nodes maker.new) }
+    {
+        let file = self.file.take();
+        self.answer = close_some(alloc, maker, root, self.item, file, self.answer);
     }
 }
 
@@ -43,16 +104,72 @@ fn thread_count(bytes: u64) -> usize
     if bytes < MANY_BYTES { 1 } else { MOST }
 }
 
+/// A maker of files, and how several of its new files are written. A method of a trait may not send
+/// to threads what it knows by its bounds alone, so each maker says it for its own files.
+pub trait ManyWriter: FileMaker {
+    /// Writes the files, in this number of threads.
+    fn write_each<T: Threads + Sync>(threads: &T, made: &mut [Made<'_, Self::New>], count: usize)
+        requires threads { IsSync T.row }
+        requires some { 0 < count }
+        ensures below { (n : ℕ) → AreBelow n made.old → AreBelow n made.new };
+}
+
+impl<F: Files<File = File> + Drop> ManyWriter for HostDisk<F> {
+    fn write_each<T: Threads + Sync>(threads: &T, made: &mut [Made<'_, File>], count: usize) {
+        write_in_threads(threads, made, count);
+    }
+}
+
+impl ManyWriter for MemMaker {
+    fn write_each<T: Threads + Sync>(threads: &T, made: &mut [Made<'_, MemNew>], count: usize) {
+        write_in_threads(threads, made, count);
+    }
+}
+
 /// Writes the files in this number of threads.
-fn write_each<W: Write + Drop + Send, T: Threads + Sync>(
+fn write_in_threads<W: Write + Drop + Send, T: Threads + Sync>(
     threads: &T,
     made: &mut [Made<'_, W>],
     count: usize,
 )
     requires { 0 < count }
-    ensures { (n : ℕ) → AreBelow n made.old → AreBelow n made.new }
+    ensures below { (n : ℕ) → AreBelow n made.old → AreBelow n made.new }
 {
     thread::for_each_mut(threads, made, count, &|_, one| one.write());
+}
+
+/// Closes the files.
+#[tactic(auto, using(crate::proofs::WindowLaws::below_set, crate::proofs::BelowLaws::outside_more, crate::proofs::BelowLaws::outside_same))]
+fn finish_each<W: Write + Drop, M: FileMaker<New = W>>(
+    alloc: Global,
+    maker: &mut M,
+    root: &str,
+    made: &mut [Made<'_, W>],
+)
+    ensures below { (n : ℕ) → AreBelow n made.old → AreBelow n made.new }
+    ensures outside { KeepsOutside root.now (M.nodes maker.old) (M.nodes maker.new) }
+{
+    for i in 0..made.len() {
+        made[i].finish(alloc, maker, root);
+    }
+}
+
+/// Takes the files after this place away again, as far as that works.
+#[tactic(auto, using(crate::proofs::BelowLaws::outside_more, crate::proofs::BelowLaws::outside_same))]
+fn remove_after<W: Write + Drop, M: FileMaker<New = W>>(
+    alloc: Global,
+    maker: &mut M,
+    root: &str,
+    made: &[Made<'_, W>],
+    place: u64,
+)
+    ensures outside { KeepsOutside root.now (M.nodes maker.old) (M.nodes maker.new) }
+{
+    for one in made {
+        if place < one.place {
+            remove_item(alloc, maker, root, one.item);
+        }
+    }
 }
 
 /// Stops at the first file that could not be written.
@@ -67,9 +184,49 @@ fn settle<W: Write + Drop>(made: &[Made<'_, W>]) -> Result<(), SinkStop>
     Ok(())
 }
 
-/// Files that are held open.
+/// Closes the files that were written. If one could not be written, those after it are removed
+/// again.
+#[tactic(auto, using(crate::proofs::BelowLaws::outside_more))]
+fn close_all<W: Write + Drop, M: FileMaker<New = W>>(
+    alloc: Global,
+    maker: &mut M,
+    root: &str,
+    made: &mut [Made<'_, W>],
+) -> Result<(), SinkStop>
+    ensures stopped { (n : ℕ) → AreBelow n made.old → IfErr result (IsStopBelow n) }
+    ensures outside { KeepsOutside root.now (M.nodes maker.old) (M.nodes maker.new) }
+{
+    finish_each(alloc, maker, root, made);
+    match settle(made) {
+        Ok(()) => Ok(()),
+        Err(stop) => {
+            remove_after(alloc, maker, root, made, stop.done());
+            Err(stop)
+        }
+    }
+}
+
+/// Writes the files, in this number of threads, and closes them.
+fn write_and_close<W: Write + Drop, M: ManyWriter<New = W>, T: Threads + Sync>(
+    alloc: Global,
+    maker: &mut M,
+    threads: &T,
+    root: &str,
+    made: &mut [Made<'_, W>],
+    count: usize,
+) -> Result<(), SinkStop>
+    requires { 0 < count }
+    ensures stopped { (n : ℕ) → AreBelow n made.old → IfErr result (IsStopBelow n) }
+    ensures outside { KeepsOutside root.now (M.nodes maker.old) (M.nodes maker.new) }
+{
+    M::write_each(threads, made, count);
+    close_all(alloc, maker, root, made)
+}
+
+/// Files that are held open, at most 16.
 #[derive(Drop)]
 pub(crate) struct Window<'i, W: Write + Drop> {
+    pub(crate) alloc: Global,
     made: Vec<Made<'i, W>>,
     bytes: u64,
 }
@@ -80,13 +237,16 @@ impl<'i, W: Write + Drop> Window<'i, W> {
         ensures { result.made.items ≡ [] }
     {
         Window {
+            alloc,
             made: Vec::new(alloc),
             bytes: 0,
         }
     }
 
     /// Returns if it holds as many as it may.
-    pub(crate) fn is_full(&self) -> bool {
+    pub(crate) fn is_full(&self) -> bool
+        ensures { result ≡ false → length self.now.made.items < 16 }
+    {
         self.made.len() >= MOST
     }
 
@@ -100,7 +260,9 @@ impl<'i, W: Write + Drop> Window<'i, W> {
 
     /// Holds one more.
     pub(crate) fn hold(&mut self, one: Made<'i, W>) -> Result<(), AllocError>
-        ensures { (n : ℕ) → AreBelow n self.old.made.items → one.entry.place < n → AreBelow n self.new.made.items }
+        requires { length self.old.made.items < 16 }
+        ensures few { OnOk result (length self.new.made.items ≡ length self.old.made.items + 1) }
+        ensures below { (n : ℕ) → AreBelow n self.old.made.items → one.entry.place < n → AreBelow n self.new.made.items }
     {
         let item = one.item;
         let bytes = item.bytes.len();
@@ -109,26 +271,22 @@ impl<'i, W: Write + Drop> Window<'i, W> {
         Ok(())
     }
 
-    /// The files that it holds.
-    pub(crate) fn made(&self) -> &[Made<'i, W>] {
-        &self.made
-    }
-
-    /// Writes all files. It stops at the first that could not be written.
-    pub(crate) fn write<T: Threads + Sync>(&mut self, threads: &T) -> Result<(), SinkStop>
-    where
-        W: Send,
-        ensures { (n : ℕ) → AreBelow n self.old.made.items → IfErr result (IsStopBelow n) }
+    /// Writes all files and closes them, and holds none. It stops at the first that could not be
+    /// written, and those after it are removed again.
+    pub(crate) fn write<M: ManyWriter<New = W>, T: Threads + Sync>(
+        &mut self,
+        maker: &mut M,
+        threads: &T,
+        root: &str,
+    ) -> Result<(), SinkStop>
+        ensures stopped { (n : ℕ) → AreBelow n self.old.made.items → IfErr result (IsStopBelow n) }
+        ensures empty { self.new.made.items ≡ [] }
+        ensures outside { KeepsOutside root.now (M.nodes maker.old) (M.nodes maker.new) }
     {
-        write_each(threads, &mut self.made, thread_count(self.bytes));
-        settle(&self.made)
-    }
-
-    /// Closes all files, and holds none.
-    pub(crate) fn clear(&mut self)
-        ensures { self.new.made.items ≡ [] }
-    {
+        let count = thread_count(self.bytes);
+        let answer = write_and_close(self.alloc, maker, threads, root, &mut self.made, count);
         self.made.clear();
         self.bytes = 0;
+        answer
     }
 }

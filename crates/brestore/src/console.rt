@@ -10,6 +10,7 @@ use crate::extract::{BAD_STREAM, CLEAN, Ending, REFUSED, drives_over, sink_over}
 use br_command::ConsoleOptions;
 use br_console::{ConsoleFault, ConsoleRun, End, JobSelection, Lines, run_console};
 use br_engine::{Outputs, RestoreEnd};
+use br_files::HostDisk;
 use br_folder_sink::{FolderFault, FolderSink};
 use br_history::History;
 use br_plan::Request;
@@ -153,7 +154,7 @@ fn jobs_in(rt: &HostRuntime, db: &str) -> Result<History, StartFault> {
 #[derive(Drop)]
 pub(crate) struct Setup<'r> {
     request: Request,
-    sink: Option<FolderSink<&'r HostRuntime>>,
+    sink: Option<FolderSink<HostDisk<&'r HostRuntime>>>,
     history: History,
 }
 

@@ -103,7 +103,7 @@ pub(crate) fn drives_over<'r>(
 pub(crate) fn sink_over<'r>(
     rt: &'r HostRuntime,
     into: Option<&str>,
-) -> Result<Option<FolderSink<&'r HostRuntime>>, FolderFault>
+) -> Result<Option<FolderSink<HostDisk<&'r HostRuntime>>>, FolderFault>
     ensures asked { IfOk result (λ sink. is_some sink ≡ is_some into.entry) }
 {
     let Some(folder) = into else {

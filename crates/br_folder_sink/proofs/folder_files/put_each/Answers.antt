@@ -1,4 +1,4 @@
-use Rattle.std.proofs.Common.{◌≡◌, ℕ, ◌+◌, List, [], ◌∷◌, ◌++◌, take, drop, length, ap, sym, subst, ◌∙◌, arith, append-nil, length-append, All}
+use Rattle.std.proofs.Common.{◌≡◌, ℕ, ◌+◌, List, [], ◌∷◌, ◌++◌, take, drop, length, ap, sym, subst, ◌∙◌, arith, rules, append-nil, length-append, All}
 use Rattle.std.proofs.lemmas.List.{take_all}
 use Rattle.std.proofs.lemmas.Result.{err_from_is_err_and}
 use Rattle.br_model.specs.File.{Item}
@@ -6,9 +6,10 @@ use Rattle.br_sink.specs.Delivery.{items_in}
 use Rattle.std.proofs.lemmas.List.Elements.{All-push}
 use Rattle.br_folder_sink.specs.FolderSink.{HasName, HasText}
 use Rattle.br_sink.proofs.DeliveryLaws.{items_at, items_file, items_fault, items_one_more, some_behind}
+use Rattle.br_folder_sink.proofs.BelowLaws.{outside_more}
 use Rattle.br_folder_sink.proofs.WindowLaws.{below_more, on_ok_known}
-use Rattle.br_folder_sink.proofs.folder_sink.FolderSink.put_each.Goals as goal
-use Rattle.br_folder_sink.proofs.folder_sink.FolderSink.put_each.Goals.{in-File+in_ok-put_next, in_default}
+use Rattle.br_folder_sink.proofs.folder_files.put_each.Goals as goal
+use Rattle.br_folder_sink.proofs.folder_files.put_each.Goals.{in-File+in_ok-put_next, in_default}
 
 pub returns-in_err-put_next-clause-stopped : goal.returns-in_err-put_next-clause-stopped
 returns-in_err-put_next-clause-stopped g c =
@@ -44,6 +45,8 @@ loop-outcome-preserved g c =
             below =
                 rw (w.window-is, w.done-is)
                 (w.in_ok-put_next.ensures.below next (below_more c.loop-outcome.done next c.loop-outcome.window.made.items (omega arith) l.below) (omega arith));
+            room = rw w.window-is w.in_ok-put_next.ensures.few;
+            outside = rw w.maker-is (outside_more _ _ _ _ l.outside w.in_ok-put_next.ensures.outside);
             text = subst (All HasText) (sym more) (All-push HasText before item l.text w.in_ok-put_next.ensures.text);
             name = subst (All HasName) (sym more) (All-push HasName before item l.name w.in_ok-put_next.ensures.name);
           }
@@ -54,6 +57,8 @@ loop-outcome-preserved g c =
             done = w.done-is ∙ l.done ∙ sym (ap length same);
             few = omega (arith, l.few, w.done-is);
             below = rw (w.window-is, w.done-is) l.below;
+            room = rw w.window-is l.room;
+            outside = rw w.maker-is l.outside;
             text = subst (All HasText) (sym same) l.text;
             name = subst (All HasName) (sym same) l.name;
           }
@@ -63,10 +68,10 @@ pub returns-clause-text : goal.returns-clause-text
 returns-clause-text g c =
     let os = c.args.outcomes.now in
     let all : take c.loop-outcome.outcome-index os ≡ os = take_all c.loop-outcome.outcome-index os c.loop-outcome-test.false in
-    on_ok_known c.write_window.result (rw all at c.loop-outcome.invariant.text)
+    on_ok_known c.write.result (rw all at c.loop-outcome.invariant.text)
 
 pub returns-clause-name : goal.returns-clause-name
 returns-clause-name g c =
     let os = c.args.outcomes.now in
     let all : take c.loop-outcome.outcome-index os ≡ os = take_all c.loop-outcome.outcome-index os c.loop-outcome-test.false in
-    on_ok_known c.write_window.result (rw all at c.loop-outcome.invariant.name)
+    on_ok_known c.write.result (rw all at c.loop-outcome.invariant.name)

@@ -1,8 +1,9 @@
-use Rattle.std.proofs.Common.{◌≡◌, ◌≤◌, length, take, All}
+use Rattle.std.proofs.Common.{◌≡◌, ◌≤◌, ◌<◌, length, take, All}
 use Rattle.br_sink.specs.Delivery.{items_in}
 use Rattle.br_folder_sink.specs.FolderSink.{HasName, HasText}
 use Rattle.br_folder_sink.specs.Window.{AreBelow}
-use Rattle.br_folder_sink.proofs.folder_sink.FolderSink.put_each.Given as goal
+use Rattle.br_folder_sink.specs.Below.{KeepsOutside}
+use Rattle.br_folder_sink.proofs.folder_files.put_each.Given as goal
 
 -- the files so far are counted, and those that are held open stand among them
 abbrev pub invariant-loop-outcome : goal.invariant-loop-outcome
@@ -10,7 +11,9 @@ invariant-loop-outcome g l =
     record {
       done : l.done ≡ length (items_in (take l.outcome-index l.outcomes));
       few : l.done ≤ l.outcome-index;
+      room : length l.window.made.items < 16;
       below : AreBelow l.done l.window.made.items;
+      outside : KeepsOutside l.root (g.M.FileMaker.nodes l.initial.maker) (g.M.FileMaker.nodes l.maker);
       text : All HasText (items_in (take l.outcome-index l.outcomes));
       name : All HasName (items_in (take l.outcome-index l.outcomes));
     }

@@ -1,0 +1,221 @@
+ghost use Rattle.std.specs.Prelude.{None};
+
+use crate::sink_tests::{Shape, Stop, files, stop_of};
+use br_files::{DiskFault, FileMaker, Kind, MemMaker, MemNew};
+use br_folder_sink::{FolderSink, Made, ManyWriter};
+use br_sink::Sink;
+use std::test::Fail;
+use std::thread::Threads;
+
+/// A small restore.
+const SMALL: &[Shape<'static>] = &[
+    (b"/a", 3, b"hello"),
+    (b"/d/b", 3, b"more"),
+    (b"/d/e/", 5, b""),
+    (b"/d/e/c", 2, b"letters"),
+];
+
+/// The number of calls that it takes if none fails.
+const CALLS: u64 = 13;
+
+/// The paths of its files on disk, their bytes, and the number of files before each.
+const LEFT: &[(&str, &[u8], u64)] = &[
+    ("/into/a", b"hello", 0),
+    ("/into/d/b", b"more", 1),
+    ("/into/d/e/c", b"letters", 3),
+];
+
+/// Puts the small restore, and returns the stop and the maker.
+fn put_small<M: ManyWriter + Drop>(
+    rt: &HostRuntime,
+    threads: &(impl Threads + Sync),
+    maker: M,
+) -> Result<(Stop, M), Fail> {
+    let outcomes = files(rt, SMALL)?;
+    let mut sink = FolderSink::over(rt.alloc(), maker, "/into")?;
+    let stop = stop_of(&sink.put_all(threads, &outcomes));
+    Ok((stop, sink.into_maker()))
+}
+
+/// Returns whether the files before a stop are there with their bytes, and no file after it.
+fn are_left(maker: &MemMaker, done: u64) -> bool {
+    LEFT.iter().all(|(path, bytes, place)| {
+        let wanted = if *place < done { Some(*bytes) } else { None };
+        maker.bytes(path) == wanted
+    })
+}
+
+/// Returns the stop of a maker, and whether just the files before it are there.
+fn end_of(
+    rt: &HostRuntime,
+    threads: &(impl Threads + Sync),
+    maker: MemMaker,
+) -> Result<(Stop, bool), Fail> {
+    let (stop, maker) = put_small(rt, threads, maker)?;
+    let done = match stop {
+        None => 4,
+        Some((_, done)) => done,
+    };
+    Ok((stop, are_left(&maker, done)))
+}
+
+/// Returns whether a maker that fails after this many calls stops with 80 and leaves just the files
+/// before the stop.
+fn fails_soundly(
+    rt: &HostRuntime,
+    threads: &(impl Threads + Sync),
+    calls: u64,
+) -> Result<bool, Fail> {
+    let mut maker = MemMaker::new(rt.alloc());
+    maker.fail_after(calls);
+    let (stop, left) = end_of(rt, threads, maker)?;
+    Ok(match stop {
+        None => left && calls >= CALLS,
+        Some((number, _)) => left && number == 80 && calls < CALLS,
+    })
+}
+
+/// Returns the first number of calls after which a failure is not sound.
+fn first_unsound(rt: &HostRuntime, threads: &(impl Threads + Sync)) -> Result<Option<u64>, Fail> {
+    for calls in 0..15 {
+        if !fails_soundly(rt, threads, calls)? {
+            return Ok(Some(calls));
+        }
+    }
+    Ok(None)
+}
+
+#[test]
+fn a_failure_at_every_call(rt: HostRuntime) -> Result<(), Fail> {
+    assert_eq!(rt; first_unsound(&rt, &rt)?, None);
+    Ok(())
+}
+
+/// The stop of files that take no more than this number of bytes each.
+fn stop_of_room(room: usize) -> Stop {
+    match room {
+        0..=4 => Some((80, 0)),
+        5 | 6 => Some((80, 3)),
+        _ => None,
+    }
+}
+
+/// Returns the first number of bytes at which a full disk is not sound.
+fn first_overfull(
+    rt: &HostRuntime,
+    threads: &(impl Threads + Sync),
+) -> Result<Option<usize>, Fail> {
+    for room in 0..9 {
+        let mut maker = MemMaker::new(rt.alloc());
+        maker.shorten(2, 1, room);
+        if end_of(rt, threads, maker)? != (stop_of_room(room), true) {
+            return Ok(Some(room));
+        }
+    }
+    Ok(None)
+}
+
+#[test]
+fn a_full_disk_at_every_byte(rt: HostRuntime) -> Result<(), Fail> {
+    assert_eq!(rt; first_overfull(&rt, &rt)?, None);
+    Ok(())
+}
+
+/// A maker over memory in which somebody puts a link at a path after a number of calls.
+#[derive(Drop)]
+struct Trap {
+    maker: MemMaker,
+    path: &'static str,
+    calls: u64,
+}
+
+impl Trap {
+    /// Counts a call.
+    fn count(&mut self) -> Result<(), DiskFault> {
+        if self.calls == 0 {
+            self.maker.plant(self.path, Kind::Link)?;
+        }
+        self.calls = self.calls.wrapping_sub(1);
+        Ok(())
+    }
+}
+
+impl FileMaker for Trap {
+    type New = MemNew;
+
+    ghost nodes = { λ _. None };
+
+    fn look(&mut self, path: &str) -> Result<Kind, DiskFault> {
+        self.count()?;
+        self.maker.look(path)
+    }
+
+    fn make_folder(&mut self, path: &str) -> Result<(), DiskFault> {
+        self.count()?;
+        self.maker.make_folder(path)
+    }
+
+    fn make_file(&mut self, path: &str) -> Result<MemNew, DiskFault> {
+        self.count()?;
+        self.maker.make_file(path)
+    }
+
+    fn finish(&mut self, path: &str, file: MemNew) -> Result<(), DiskFault> {
+        self.count()?;
+        self.maker.finish(path, file)
+    }
+
+    fn remove(&mut self, path: &str) -> Result<(), DiskFault> {
+        self.count()?;
+        self.maker.remove(path)
+    }
+}
+
+impl ManyWriter for Trap {
+    fn write_each<T: Threads + Sync>(threads: &T, made: &mut [Made<'_, MemNew>], count: usize) {
+        MemMaker::write_each(threads, made, count);
+    }
+}
+
+/// Paths at which a link is put, and the number of calls before it: at a folder and at a file that
+/// are to be made.
+const TRAPS: &[(&str, u64)] = &[
+    ("/into/d", 0),
+    ("/into/d", 1),
+    ("/into/d", 2),
+    ("/into/d/b", 0),
+    ("/into/d/b", 1),
+    ("/into/d/b", 2),
+    ("/into/d/b", 3),
+];
+
+/// Returns whether the link stays and stops the restore behind its first file.
+fn is_refused(
+    rt: &HostRuntime,
+    threads: &(impl Threads + Sync),
+    (path, calls): (&'static str, u64),
+) -> Result<bool, Fail> {
+    let maker = MemMaker::new(rt.alloc());
+    let (stop, mut trap) = put_small(rt, threads, Trap { maker, path, calls })?;
+    let stays = trap.maker.look(path) == Ok(Kind::Link);
+    Ok(stays && stop == Some((80, 1)) && are_left(&trap.maker, 1))
+}
+
+/// Returns the first link that is not refused.
+fn first_passed(
+    rt: &HostRuntime,
+    threads: &(impl Threads + Sync),
+) -> Result<Option<(&'static str, u64)>, Fail> {
+    for trap in TRAPS {
+        if !is_refused(rt, threads, *trap)? {
+            return Ok(Some(*trap));
+        }
+    }
+    Ok(None)
+}
+
+#[test]
+fn a_link_between_two_calls(rt: HostRuntime) -> Result<(), Fail> {
+    assert_eq!(rt; first_passed(&rt, &rt)?, None);
+    Ok(())
+}

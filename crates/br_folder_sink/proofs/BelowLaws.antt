@@ -1,0 +1,156 @@
+-- What is below a folder after several changes.
+use Rattle.std.proofs.Common.{◌≡◌, ℕ, ◌⊎◌, Bool, true, false, cond, Option, Some, None, Result, Ok, Err, OnOk, OnErr, List, [], ◌∷◌, ◌++◌, inl, inr, refl, ap, sym, ◌∙◌}
+use Rattle.std.specs.Prelude.{bytes_eq}
+use Rattle.std.proofs.lemmas.Slice.Eq.{bytes_eq-Decides}
+use Rattle.std.proofs.lemmas.List.{append_assoc}
+use Rattle.std.specs.Io.KnownBytes.{Appends}
+use Rattle.br_files.specs.Making.{Node, Nodes, Bytes, Else, IsFileOrFree, IsFinished, IsFolderNow, KeepsOthers, MakesFile, Opened, Sets, node_at}
+use Rattle.br_files.specs.declared.kind.Kind.TheVariants.{Folder}
+use Rattle.br_files.proofs.MakingLaws.{opened_still, put_whole, same_keeps, set_keeps, set_over}
+use Rattle.br_folder_sink.specs.Below.{AddsFolders, IsBelow, IsOnWay, IsNewFolder, KeepsOutside, PutsBelow, PutsNew, SetsBytes}
+
+-- paths that begin with the folder's
+
+pub below_root : (root path rest : List ℕ) → path ≡ 47 ∷ rest → IsBelow root (root ++ path)
+below_root root path rest is = (rest, ap (λ (p : List ℕ). root ++ p) is)
+
+-- a name in a folder on the way is below
+pub on_way_below : (root folder name next : List ℕ) → IsOnWay root folder → next ≡ folder ++ 47 ∷ name → IsBelow root next
+on_way_below root folder name next (inl is) next_is = (name, next_is ∙ ap (λ (f : List ℕ). f ++ 47 ∷ name) is)
+on_way_below root folder name next (inr (rest, is)) next_is =
+    (rest ++ 47 ∷ name, next_is ∙ ap (λ (f : List ℕ). f ++ 47 ∷ name) is ∙ append_assoc root (47 ∷ rest) (47 ∷ name))
+
+pub root_on_way : (root path : List ℕ) → path ≡ root → IsOnWay root path
+root_on_way root path is = inl is
+
+pub below_on_way : (root path : List ℕ) → IsBelow root path → IsOnWay root path
+below_on_way root path below = inr below
+
+-- folders that are added
+
+pub adds_same : (root : List ℕ) (earlier later : Option Nodes) → later ≡ earlier → AddsFolders root earlier later
+adds_same root None None same = tt
+adds_same root None (Some l) same = absurd cc
+adds_same root (Some e) None same = absurd cc
+adds_same root (Some e) (Some l) same = let is : l ≡ e = cc in λ other. inl (ap (λ (nodes : Nodes). node_at nodes other) is)
+
+sets_folder : (root path : List ℕ) (earlier later : Nodes) (other : List ℕ) → IsBelow root path → node_at earlier path ≡ None
+    → (is : Bool) → bytes_eq path other ≡ is → node_at later other ≡ cond is (Some (Else Folder)) (node_at earlier other)
+    → (node_at later other ≡ node_at earlier other) ⊎ IsNewFolder root other earlier later
+sets_folder root path earlier later other below free true same set =
+    let is : path ≡ other = (bytes_eq-Decides path other).0 same in inr (rw is at below, rw is at free, set)
+sets_folder root path earlier later other below free false same set = inl set
+
+pub adds_folder : (root path : List ℕ) (earlier later : Option Nodes) → IsBelow root path
+    → IsFolderNow path earlier later → AddsFolders root earlier later
+adds_folder root path earlier later below (inl (was, same)) = adds_same root earlier later same
+adds_folder root path None None below (inr (free, set)) = tt
+adds_folder root path None (Some l) below (inr (free, set)) = absurd set
+adds_folder root path (Some e) None below (inr (free, set)) = absurd set
+adds_folder root path (Some e) (Some l) below (inr (free, set)) =
+    λ other. sets_folder root path e l other below free (bytes_eq path other) refl (set other)
+
+adds_both : (root other : List ℕ) (a b c : Nodes) → (node_at b other ≡ node_at a other) ⊎ IsNewFolder root other a b
+    → (node_at c other ≡ node_at b other) ⊎ IsNewFolder root other b c
+    → (node_at c other ≡ node_at a other) ⊎ IsNewFolder root other a c
+adds_both root other a b c (inl same) (inl again) = inl (again ∙ same)
+adds_both root other a b c (inl same) (inr (below, free, is)) = inr (below, sym same ∙ free, is)
+adds_both root other a b c (inr (below, free, is)) (inl again) = inr (below, free, again ∙ is)
+adds_both root other a b c (inr (below, free, is)) (inr (also, none, folder)) = let never : None ≡ Some (Else Folder) = sym none ∙ is in absurd cc
+
+pub adds_more : (root : List ℕ) (a b c : Option Nodes) → AddsFolders root a b → AddsFolders root b c → AddsFolders root a c
+adds_more root None None None f g = tt
+adds_more root None None (Some c) f g = absurd g
+adds_more root None (Some b) c f g = absurd f
+adds_more root (Some a) None c f g = absurd f
+adds_more root (Some a) (Some b) None f g = absurd g
+adds_more root (Some a) (Some b) (Some c) f g = λ other. adds_both root other a b c (f other) (g other)
+
+-- one path that is changed
+
+-- two laws of br_files under names of this crate, since a tactic takes only those
+pub same_others : (path : List ℕ) (earlier later : Option Nodes) → later ≡ earlier → KeepsOthers path earlier later
+same_others path earlier later same = same_keeps path earlier later same
+
+pub set_others : (path : List ℕ) (left : Option Node) (earlier later : Option Nodes) → Sets path left earlier later → KeepsOthers path earlier later
+set_others path left earlier later set = set_keeps path left earlier later set
+
+pub keeps_more : (path : List ℕ) (a b c : Option Nodes) → KeepsOthers path a b → KeepsOthers path b c → KeepsOthers path a c
+keeps_more path None None None f g = tt
+keeps_more path None None (Some c) f g = absurd g
+keeps_more path None (Some b) c f g = absurd f
+keeps_more path (Some a) None c f g = absurd f
+keeps_more path (Some a) (Some b) None f g = absurd g
+keeps_more path (Some a) (Some b) (Some c) f g = λ other apart. g other apart ∙ f other apart
+
+pub removed_keeps : {A E : Type 0} (result : Result A E) (path : List ℕ) (left : Option Node) (a b : Option Nodes)
+    → OnOk result (Sets path left a b) → OnErr result (b ≡ a) → KeepsOthers path a b
+removed_keeps (Ok x) path left a b set same = set_keeps path left a b set
+removed_keeps (Err e) path left a b set same = same_keeps path a b same
+
+-- a new file, finished or not
+pub made_keeps : (path : List ℕ) (contents : Option (List ℕ)) (a b : Option Nodes) → MakesFile path contents a b → KeepsOthers path a b
+made_keeps path contents None None made = tt
+made_keeps path contents None (Some b) made = absurd made
+made_keeps path contents (Some a) None made = absurd made
+made_keeps path contents (Some a) (Some b) made = set_keeps path (Some (Opened made.0)) (Some a) (Some b) made.2
+
+pub new_done : {A E : Type 0} (result : Result A E) (path bytes : List ℕ) (before after : Option (List ℕ)) (a b c : Option Nodes)
+    → MakesFile path before a b → Appends before after bytes → OnOk result (IsFinished path after b c)
+    → OnOk result (SetsBytes path bytes a c)
+new_done (Ok x) path bytes before after a b c made more put =
+    put_whole path bytes before after a b c made more (put (opened_still path bytes before after a b made more))
+new_done (Err e) path bytes before after a b c made more put = tt
+
+-- an earlier file is removed, and a new one is made
+pub put_over : (path bytes : List ℕ) (a b c : Option Nodes) → IsFileOrFree a path → Sets path None a b → SetsBytes path bytes b c
+    → PutsNew path bytes a c
+put_over path bytes a b c file cleared put = (file, set_over path None (Some (Bytes bytes)) a b c cleared put)
+
+-- what a folder has beside what is below it
+
+pub outside_more : (root : List ℕ) (a b c : Option Nodes) → KeepsOutside root a b → KeepsOutside root b c → KeepsOutside root a c
+outside_more root None None None f g = tt
+outside_more root None None (Some c) f g = absurd g
+outside_more root None (Some b) c f g = absurd f
+outside_more root (Some a) None c f g = absurd f
+outside_more root (Some a) (Some b) None f g = absurd g
+outside_more root (Some a) (Some b) (Some c) f g = λ other apart. g other apart ∙ f other apart
+
+pub outside_same : (root : List ℕ) (earlier later : Option Nodes) → later ≡ earlier → KeepsOutside root earlier later
+outside_same root None None same = tt
+outside_same root None (Some l) same = absurd cc
+outside_same root (Some e) None same = absurd cc
+outside_same root (Some e) (Some l) same = let is : l ≡ e = cc in λ other apart. ap (λ (nodes : Nodes). node_at nodes other) is
+
+added_at : (root other : List ℕ) (a b : Nodes) → (IsBelow root other → ⊥) → (node_at b other ≡ node_at a other) ⊎ IsNewFolder root other a b
+    → node_at b other ≡ node_at a other
+added_at root other a b apart (inl same) = same
+added_at root other a b apart (inr (below, free, is)) = absurd (apart below)
+
+pub outside_added : (root : List ℕ) (a b : Option Nodes) → AddsFolders root a b → KeepsOutside root a b
+outside_added root None None f = tt
+outside_added root None (Some b) f = absurd f
+outside_added root (Some a) None f = absurd f
+outside_added root (Some a) (Some b) f = λ other apart. added_at root other a b apart (f other)
+
+differs : (path other : List ℕ) → (path ≡ other → ⊥) → (is : Bool) → bytes_eq path other ≡ is → is ≡ false
+differs path other apart true is = absurd (apart ((bytes_eq-Decides path other).0 is))
+differs path other apart false is = refl
+
+pub outside_set : (root path : List ℕ) (a b : Option Nodes) → IsBelow root path → KeepsOthers path a b → KeepsOutside root a b
+outside_set root path None None below f = tt
+outside_set root path None (Some b) below f = absurd f
+outside_set root path (Some a) None below f = absurd f
+outside_set root path (Some a) (Some b) below f =
+    λ other apart. f other (differs path other (λ is. apart (rw is at below)) (bytes_eq path other) refl)
+
+-- something below the folder is changed after that
+pub outside_then : (root path : List ℕ) (a b c : Option Nodes) → KeepsOutside root a b → IsBelow root path → KeepsOthers path b c
+    → KeepsOutside root a c
+outside_then root path a b c f below others = outside_more root a b c f (outside_set root path b c below others)
+
+-- folders are made, and then the file
+pub put_below : (root path whole bytes : List ℕ) (a b c : Option Nodes) → whole ≡ root ++ path → AddsFolders root a b
+    → PutsNew whole bytes b c → PutsBelow root path bytes a c
+put_below root path whole bytes a b c is added put = (b, added, rw is at put)

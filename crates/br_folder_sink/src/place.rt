@@ -1,0 +1,158 @@
+//! Where a file is put below a folder, and how one is put alone.
+ghost use Rattle.std.specs.Prelude.{◌≡◌, ◌++◌, true, false, OnOk, IfOk, Ok, string_bytes};
+ghost use Rattle.std.specs.Str.{IsUtf8};
+ghost use Rattle.br_model.specs.File.{has_bytes};
+ghost use Rattle.br_model.specs.Name.{is_directory};
+ghost use Rattle.br_folder_sink.specs.Below.{AddsFolders, IsBelow, KeepsOutside, PutsBelow};
+ghost use Rattle.br_folder_sink.specs.FolderSink.{PutsItem, is_on_disk};
+
+use crate::way::{make_way, path_below, remove, write_new};
+use br_files::FileMaker;
+use br_join::Item;
+use br_sink::SinkFault;
+use br_types::is_directory_path;
+use std::alloc::Global;
+
+/// Returns the path of an item as text. `Fault` if it is not UTF-8.
+fn text_of(item: &Item) -> Result<&str, SinkFault>
+    ensures text { OnOk result (IsUtf8 item.now.path) }
+    ensures same { IfOk result (λ text. text.now ≡ item.now.path) }
+{
+    match str::from_utf8(item.path.bytes()) {
+        Ok(path) => Ok(path),
+        Err(_) => Err(SinkFault::Fault),
+    }
+}
+
+/// Returns the path of a file as text. `Fault` if it is not UTF-8, or a folder's.
+fn file_text_of(item: &Item) -> Result<&str, SinkFault>
+    ensures text { OnOk result (IsUtf8 item.now.path) }
+    ensures name { OnOk result (is_directory item.now.path ≡ false) }
+    ensures same { IfOk result (λ text. text.now ≡ item.now.path) }
+{
+    if is_directory_path(item.path.bytes()) {
+        return Err(SinkFault::Fault);
+    }
+    text_of(item)
+}
+
+/// Makes the folders on the way to the file of this path.
+fn make_way_to<M: FileMaker>(
+    alloc: Global,
+    maker: &mut M,
+    root: &str,
+    path: &str,
+) -> Result<(), SinkFault>
+    ensures added { AddsFolders root.now (M.nodes maker.old) (M.nodes maker.new) }
+{
+    match path.rsplit_once('/') {
+        None => Err(SinkFault::Fault),
+        Some((way, _)) => make_way(alloc, maker, root, way),
+    }
+}
+
+/// Returns the path of a file below the folder. It makes the folders on its way.
+#[tactic(auto, using(crate::proofs::BelowLaws::outside_added, crate::proofs::BelowLaws::adds_same))]
+pub(crate) fn path_of<M: FileMaker>(
+    alloc: Global,
+    maker: &mut M,
+    root: &str,
+    item: &Item,
+) -> Result<String, SinkFault>
+    ensures text { OnOk result (IsUtf8 item.now.path) }
+    ensures name { OnOk result (is_directory item.now.path ≡ false) }
+    ensures path { IfOk result (λ path. string_bytes path ≡ root.now ++ item.now.path) }
+    ensures below { IfOk result (λ path. IsBelow root.now (string_bytes path)) }
+    ensures added { AddsFolders root.now (M.nodes maker.old) (M.nodes maker.new) }
+    ensures outside { KeepsOutside root.now (M.nodes maker.old) (M.nodes maker.new) }
+{
+    let text = file_text_of(item)?;
+    make_way_to(alloc, maker, root, text)?;
+    path_below(alloc, root, text)
+}
+
+/// Returns the path below the folder of a file that was made there.
+pub(crate) fn known_path_of(alloc: Global, root: &str, item: &Item) -> Result<String, SinkFault>
+    ensures { IfOk result (λ path. IsBelow root.now (string_bytes path)) }
+{
+    let text = text_of(item)?;
+    path_below(alloc, root, text)
+}
+
+/// Takes the file away. The names on its way are tested anew.
+#[tactic(auto, using(crate::proofs::BelowLaws::outside_then))]
+fn take_away<M: FileMaker>(
+    alloc: Global,
+    maker: &mut M,
+    root: &str,
+    item: &Item,
+) -> Result<(), SinkFault>
+    ensures { KeepsOutside root.now (M.nodes maker.old) (M.nodes maker.new) }
+{
+    let path = path_of(alloc, maker, root, item)?;
+    remove(maker, path.as_str());
+    Ok(())
+}
+
+/// Takes the file away, as far as that works.
+pub(crate) fn remove_item<M: FileMaker>(alloc: Global, maker: &mut M, root: &str, item: &Item)
+    ensures { KeepsOutside root.now (M.nodes maker.old) (M.nodes maker.new) }
+{
+    let _ = take_away(alloc, maker, root, item);
+}
+
+/// Writes the file, and makes the folders on its way.
+#[tactic(auto, using(crate::proofs::BelowLaws::outside_then, crate::proofs::BelowLaws::put_below))]
+fn write_file<M: FileMaker>(
+    alloc: Global,
+    maker: &mut M,
+    root: &str,
+    item: &Item,
+) -> Result<(), SinkFault>
+    ensures text { OnOk result (IsUtf8 item.now.path) }
+    ensures name { OnOk result (is_directory item.now.path ≡ false) }
+    ensures put { OnOk result (PutsBelow root.now item.now.path item.now.bytes (M.nodes maker.old) (M.nodes maker.new)) }
+    ensures outside { KeepsOutside root.now (M.nodes maker.old) (M.nodes maker.new) }
+{
+    let path = path_of(alloc, maker, root, item)?;
+    write_new(maker, path.as_str(), &item.bytes)?;
+    Ok(())
+}
+
+/// Makes the folder, and those on its way.
+#[tactic(auto, using(crate::proofs::BelowLaws::adds_same))]
+fn write_folder<M: FileMaker>(
+    alloc: Global,
+    maker: &mut M,
+    root: &str,
+    item: &Item,
+) -> Result<(), SinkFault>
+    ensures text { OnOk result (IsUtf8 item.now.path) }
+    ensures added { AddsFolders root.now (M.nodes maker.old) (M.nodes maker.new) }
+{
+    let text = text_of(item)?;
+    make_way(alloc, maker, root, text)
+}
+
+/// Puts the item on disk, as its type says.
+#[tactic(auto, using(crate::proofs::BelowLaws::outside_added, crate::proofs::BelowLaws::outside_same))]
+pub(crate) fn write_item<M: FileMaker>(
+    alloc: Global,
+    maker: &mut M,
+    root: &str,
+    item: &Item,
+) -> Result<(), SinkFault>
+    ensures other { is_on_disk item.now.kind ≡ false → result ≡ Ok tt }
+    ensures text { OnOk result (is_on_disk item.now.kind ≡ true → IsUtf8 item.now.path) }
+    ensures name { OnOk result (has_bytes item.now.kind ≡ true → is_directory item.now.path ≡ false) }
+    ensures file { OnOk result (PutsItem root.now item.now (M.nodes maker.old) (M.nodes maker.new)) }
+    ensures folders { has_bytes item.now.kind ≡ false → AddsFolders root.now (M.nodes maker.old) (M.nodes maker.new) }
+    ensures nothing { is_on_disk item.now.kind ≡ false → M.nodes maker.new ≡ M.nodes maker.old }
+    ensures outside { KeepsOutside root.now (M.nodes maker.old) (M.nodes maker.new) }
+{
+    match item.kind {
+        2 | 3 => write_file(alloc, maker, root, item),
+        5 => write_folder(alloc, maker, root, item),
+        _ => Ok(()),
+    }
+}

@@ -1,0 +1,172 @@
+//! Files below a folder, and the folders on their ways.
+ghost use Rattle.std.specs.Prelude.{◌≡◌, ℕ, List, ◌++◌, ◌∷◌, Some, None, OnOk, OnErr, IfOk, string_bytes};
+ghost use Rattle.br_files.specs.Making.{IsFileOrFree, IsFinished, IsFree, KeepsOthers, MakesFile, Sets};
+ghost use Rattle.br_folder_sink.specs.Below.{AddsFolders, IsBelow, IsOnWay, PutsNew, SetsBytes};
+ghost use Rattle.br_folder_sink.specs.Fault.{sink_fault};
+
+use br_files::{DiskFault, FileMaker, clear_path, enter_folder};
+use br_join::FileBytes;
+use br_sink::SinkFault;
+use std::alloc::Global;
+use std::io;
+use std::io::ErrorKind;
+
+/// Returns the sink's fault for that of its files.
+pub(crate) fn fault_of(fault: DiskFault) -> SinkFault
+    ensures { result ≡ sink_fault fault }
+{
+    match fault {
+        DiskFault::Memory => SinkFault::Memory,
+        DiskFault::NotFound | DiskFault::Exists | DiskFault::Interrupted | DiskFault::Failed => {
+            SinkFault::Fault
+        }
+    }
+}
+
+/// Returns the sink's fault for that of a write.
+pub(crate) fn write_fault(error: io::Error) -> SinkFault {
+    match error.kind() {
+        ErrorKind::OutOfMemory => SinkFault::Memory,
+        _ => SinkFault::Fault,
+    }
+}
+
+/// Makes the folder unless it exists.
+#[tactic(auto, using(crate::proofs::BelowLaws::adds_folder, crate::proofs::BelowLaws::adds_same))]
+fn make_folder<M: FileMaker>(maker: &mut M, path: &str) -> Result<(), SinkFault>
+    ensures added { (root : List ℕ) → IsBelow root path.now → AddsFolders root (M.nodes maker.old) (M.nodes maker.new) }
+{
+    match enter_folder(maker, path) {
+        Ok(()) => Ok(()),
+        Err(fault) => Err(fault_of(fault)),
+    }
+}
+
+/// Goes on from a folder to the one of this name in it.
+fn add_name(folder: &mut String, name: &str) -> Result<(), SinkFault>
+    ensures { OnOk result (string_bytes folder.new ≡ string_bytes folder.old ++ 47 ∷ name.now) }
+{
+    folder.push('/')?;
+    folder.push_str(name)?;
+    Ok(())
+}
+
+/// Makes the folder of this name in another one unless it exists, and goes on to it.
+#[tactic(auto, using(crate::proofs::BelowLaws::on_way_below, crate::proofs::BelowLaws::below_on_way, crate::proofs::BelowLaws::adds_same))]
+fn enter_next<M: FileMaker>(maker: &mut M, folder: &mut String, name: &str) -> Result<(), SinkFault>
+    ensures added { (top : List ℕ) → IsOnWay top (string_bytes folder.old) → AddsFolders top (M.nodes maker.old) (M.nodes maker.new) }
+    ensures below { (top : List ℕ) → IsOnWay top (string_bytes folder.old) → OnOk result (IsOnWay top (string_bytes folder.new)) }
+{
+    add_name(folder, name)?;
+    make_folder(maker, folder.as_str())?;
+    Ok(())
+}
+
+/// Makes the folders of this path that are missing below the folder.
+#[tactic(auto, using(crate::proofs::BelowLaws::adds_more, crate::proofs::BelowLaws::adds_same, crate::proofs::BelowLaws::root_on_way))]
+pub(crate) fn make_way<M: FileMaker>(
+    alloc: Global,
+    maker: &mut M,
+    root: &str,
+    way: &str,
+) -> Result<(), SinkFault>
+    ensures added { AddsFolders root.now (M.nodes maker.old) (M.nodes maker.new) }
+{
+    let mut folder = String::from_str(alloc, root)?;
+    for name in way.split('/') {
+        if !name.is_empty() {
+            enter_next(maker, &mut folder, name)?;
+        }
+    }
+    Ok(())
+}
+
+/// Returns the path below the folder. `Fault` if it does not begin with `/`.
+#[tactic(auto, using(crate::proofs::BelowLaws::below_root))]
+pub(crate) fn path_below(alloc: Global, root: &str, path: &str) -> Result<String, SinkFault>
+    ensures path { IfOk result (λ whole. string_bytes whole ≡ root.now ++ path.now) }
+    ensures below { IfOk result (λ whole. IsBelow root.now (string_bytes whole)) }
+{
+    match path.as_bytes() {
+        [b'/', ..] => {
+            let mut whole = String::from_str(alloc, root)?;
+            whole.push_str(path)?;
+            Ok(whole)
+        }
+        _ => Err(SinkFault::Fault),
+    }
+}
+
+/// Makes a file. `Fault` if anything has its name.
+#[tactic(auto, using(crate::proofs::BelowLaws::made_keeps, crate::proofs::BelowLaws::same_others))]
+pub(crate) fn make_file<M: FileMaker>(maker: &mut M, path: &str) -> Result<M::New, SinkFault>
+    ensures free { OnOk result (IsFree (M.nodes maker.old) path.now) }
+    ensures made { IfOk result (λ file. MakesFile path.now (M.New.contents file) (M.nodes maker.old) (M.nodes maker.new)) }
+    ensures refused { OnErr result (M.nodes maker.new ≡ M.nodes maker.old) }
+    ensures others { KeepsOthers path.now (M.nodes maker.old) (M.nodes maker.new) }
+{
+    match maker.make_file(path) {
+        Ok(file) => Ok(file),
+        Err(fault) => Err(fault_of(fault)),
+    }
+}
+
+/// Closes a file that was written.
+pub(crate) fn finish<M: FileMaker>(maker: &mut M, path: &str, file: M::New) -> Result<(), SinkFault>
+    ensures put { OnOk result (IsFinished path.now (M.New.contents file) (M.nodes maker.old) (M.nodes maker.new)) }
+    ensures others { KeepsOthers path.now (M.nodes maker.old) (M.nodes maker.new) }
+{
+    match maker.finish(path, file) {
+        Ok(()) => Ok(()),
+        Err(fault) => Err(fault_of(fault)),
+    }
+}
+
+/// Makes a file of these bytes.
+#[tactic(auto, using(crate::proofs::BelowLaws::new_done, crate::proofs::BelowLaws::keeps_more))]
+fn put_new<M: FileMaker>(maker: &mut M, path: &str, bytes: &FileBytes) -> Result<(), SinkFault>
+    ensures put { OnOk result (SetsBytes path.now bytes.now (M.nodes maker.old) (M.nodes maker.new)) }
+    ensures others { KeepsOthers path.now (M.nodes maker.old) (M.nodes maker.new) }
+{
+    let mut file = make_file(maker, path)?;
+    match bytes.write_to(&mut file) {
+        Ok(()) => finish(maker, path, file),
+        Err(error) => Err(write_fault(error)),
+    }
+}
+
+/// Removes an earlier file, if there is one. `Fault` if something else has its name.
+#[tactic(auto, using(crate::proofs::BelowLaws::set_others, crate::proofs::BelowLaws::same_others))]
+fn clear<M: FileMaker>(maker: &mut M, path: &str) -> Result<(), SinkFault>
+    ensures file { OnOk result (IsFileOrFree (M.nodes maker.old) path.now) }
+    ensures cleared { OnOk result (Sets path.now None (M.nodes maker.old) (M.nodes maker.new)) }
+    ensures others { KeepsOthers path.now (M.nodes maker.old) (M.nodes maker.new) }
+{
+    match clear_path(maker, path) {
+        Ok(()) => Ok(()),
+        Err(fault) => Err(fault_of(fault)),
+    }
+}
+
+/// Makes a file of these bytes, in the place of an earlier one.
+#[tactic(auto, using(crate::proofs::BelowLaws::put_over, crate::proofs::BelowLaws::keeps_more))]
+pub(crate) fn write_new<M: FileMaker>(
+    maker: &mut M,
+    path: &str,
+    bytes: &FileBytes,
+) -> Result<(), SinkFault>
+    ensures put { OnOk result (PutsNew path.now bytes.now (M.nodes maker.old) (M.nodes maker.new)) }
+    ensures others { KeepsOthers path.now (M.nodes maker.old) (M.nodes maker.new) }
+{
+    clear(maker, path)?;
+    put_new(maker, path, bytes)?;
+    Ok(())
+}
+
+/// Takes the file away, as far as that works.
+#[tactic(auto, using(crate::proofs::BelowLaws::removed_keeps))]
+pub(crate) fn remove<M: FileMaker>(maker: &mut M, path: &str)
+    ensures { KeepsOthers path.now (M.nodes maker.old) (M.nodes maker.new) }
+{
+    let _ = maker.remove(path);
+}
