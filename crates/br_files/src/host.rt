@@ -53,7 +53,7 @@ impl<F: Files + Drop> HostDisk<F> {
     }
 }
 
-/// Returns the fault that stands for an error of the system.
+/// Returns the fault of an error of the system.
 pub(crate) fn fault_of(error: io::Error) -> DiskFault {
     match error.kind() {
         ErrorKind::NotFound => DiskFault::NotFound,

@@ -1,4 +1,4 @@
-//! Files and folders, behind two traits whose clauses say what each call does.
+//! Files and folders, by two traits whose clauses say what each call does.
 //!
 //! `Disk` reads files and appends to them. `MemDisk` is a disk over memory, which tells its files,
 //! and `HostDisk` is the system's, as thin as it can be. `read_from` and `append` are generic over

@@ -1,4 +1,5 @@
-ghost use Rattle.std.specs.Prelude.{◌≡◌, ℕ, ◌-◌, ◌^◌, ◌<◌, ◌≤◌, List, [], length, take, Option, option_map, bytes_eq, find, position, IfOk, OnOk, OnErr, None, Some, true, false};
+ghost use Rattle.std.specs.Prelude.{◌≡◌, ℕ, ◌-◌, ◌^◌, ◌<◌, ◌≤◌, List, [], length, take, bytes_eq, find, position, true, false};
+ghost use Rattle.std.specs.Prelude.{Option, option_map, IfOk, OnOk, OnErr, None, Some};
 ghost use Rattle.std.specs.Option.{option_copied};
 ghost use Rattle.br_model.specs.Volume.{volume_bytes};
 ghost use Rattle.br_files.specs.Calls.{IsPartAt};
@@ -201,8 +202,8 @@ fn append_to(
     }
 }
 
-/// Copies bytes from a place on to the front of the buffer: at most so many, but at least one if
-/// there is one.
+/// Copies bytes from a place on to the front of the buffer: no more than `at_most`, but at least one
+/// if there is one.
 fn copy_part(bytes: &[u8], buf: &mut [u8], at: u64, at_most: usize) -> usize
     ensures fits { result ≤ length buf.new }
     ensures part { length bytes.now < 2 ^ 63 → IsPartAt bytes.now at buf.new result }

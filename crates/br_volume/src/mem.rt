@@ -1,4 +1,5 @@
-ghost use Rattle.std.specs.Prelude.{◌≡◌, ◌-◌, ◌^◌, ◌<◌, ◌≤◌, ◌⊎◌, [], length, option_map, bytes_eq, find, Ok, Err, OnOk, OnErr, IfOk, true, vec_capacity};
+ghost use Rattle.std.specs.Prelude.{◌≡◌, ◌-◌, ◌^◌, ◌<◌, ◌≤◌, ◌⊎◌, [], length, bytes_eq, find, true, vec_capacity};
+ghost use Rattle.std.specs.Prelude.{option_map, Ok, Err, OnOk, OnErr, IfOk};
 ghost use Rattle.std.specs.Option.{option_copied};
 ghost use Rattle.br_model.specs.Answer.{Answers};
 ghost use Rattle.br_model.specs.Volume.{Volume, volume_bytes};
