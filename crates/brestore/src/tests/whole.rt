@@ -1,11 +1,7 @@
-//! The commands `extract` and `console`, from their options to the files in the folder.
-use crate::console::restore_by_lines;
+//! The command `extract`, from its options to the files in the folder.
 use crate::extract::{CLEAN, extract_files};
-use crate::tests::console_into::rows;
 use crate::tests::into::{has, new_place, path_in};
-use br_command::{ConsoleOptions, ExtractOptions};
-use br_store::Store;
-use sqlite::Connection;
+use br_command::ExtractOptions;
 use std::fs;
 use std::test::Fail;
 use std::thread::Threads;
@@ -52,46 +48,6 @@ fn extract_delivers_only_if_asked(rt: HostRuntime) -> Result<(), Fail> {
         extracted(&rt, &rt, place.as_str(), Some(into.as_str()))?,
         CLEAN
     );
-    assert!(rt; has_both(&rt, place.as_str())?);
-    fs::remove_dir_all(&rt, place.as_str())?;
-    Ok(())
-}
-
-/// Makes a catalogue of the job that wrote the volume.
-fn put_catalogue(rt: &HostRuntime, db: &str) -> Result<(), Fail> {
-    let mut store = Store::open(rt.alloc(), Connection::open(rt, db)?)?;
-    store.insert_job(&rows(rt.alloc(), b"/d/b")?)?;
-    Ok(())
-}
-
-/// Marks all paths of a catalogue and restores them in a place. Returns the status of `console`.
-fn restored(
-    rt: &HostRuntime,
-    threads: &(impl Threads + Sync),
-    db: &str,
-    place: &str,
-) -> Result<u8, Fail> {
-    let volumes = path_in(rt, place, "volumes")?;
-    let into = path_in(rt, place, "into")?;
-    let given = ConsoleOptions {
-        db,
-        volumes: volumes.as_str(),
-        client: "mars",
-        fileset: "home",
-        before: "2100-01-01 00:00:00",
-        into: Some(into.as_str()),
-        drives: 2,
-    };
-    let mut lines = b"mark *\ndone\n".as_slice();
-    Ok(restore_by_lines(rt, threads, &given, &mut lines)?)
-}
-
-#[test]
-fn console_delivers_what_was_marked(rt: HostRuntime) -> Result<(), Fail> {
-    let place = new_place(&rt, "console", b"/d/b")?;
-    let db = path_in(&rt, place.as_str(), "one.db")?;
-    put_catalogue(&rt, db.as_str())?;
-    assert_eq!(rt; restored(&rt, &rt, db.as_str(), place.as_str())?, CLEAN);
     assert!(rt; has_both(&rt, place.as_str())?);
     fs::remove_dir_all(&rt, place.as_str())?;
     Ok(())
