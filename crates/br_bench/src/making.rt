@@ -136,24 +136,15 @@ fn span_of(alloc: Global, number: u32, count: u32) -> Result<Span, BenchFault> {
     })
 }
 
-/// Returns the spans of a job: one span.
-fn spans_of(alloc: Global, number: u32, count: u32) -> Result<Vec<Span>, BenchFault> {
-    let mut spans = Vec::new(alloc);
-    let span = span_of(alloc, number, count)?;
-    spans.push(span).map_err(AllocError::from)?;
-    Ok(spans)
-}
-
 /// Returns all rows of a job: of the Full if its number is 0, else of that Incremental.
 fn job_of(alloc: Global, size: Size, job: u32) -> Result<JobRows, BenchFault> {
+    let files = rows_of(alloc, size, job)?;
     let number = job.saturating_add(1);
-    let level = if job == 0 { b'F' } else { b'I' };
-    let count = size.paths.max(size.rows);
-    Ok(JobRows::new(
-        job_row(alloc, number, level)?,
-        rows_of(alloc, size, job)?,
-        spans_of(alloc, number, count)?,
-    )?)
+    let row = job_row(alloc, number, if job == 0 { b'F' } else { b'I' })?;
+    let span = span_of(alloc, number, size.paths.max(size.rows))?;
+    let mut spans = Vec::new(alloc);
+    spans.push(span).map_err(AllocError::from)?;
+    Ok(JobRows::new(row, files, spans)?)
 }
 
 /// Makes the history of this size.
