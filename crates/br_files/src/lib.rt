@@ -33,8 +33,3 @@ pub use mem::MemDisk;
 pub use mem_maker::{MemMaker, MemNew};
 pub use path::FilePath;
 pub use read::read_from;
-
-#[cfg(test)]
-mod maker_tests;
-#[cfg(test)]
-mod tests;

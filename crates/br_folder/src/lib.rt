@@ -10,6 +10,3 @@ mod folder_store;
 
 pub use folder_drive::FolderDrive;
 pub use folder_store::FolderStore;
-
-#[cfg(test)]
-mod tests;

@@ -11,8 +11,6 @@ mod pool;
 mod readers;
 mod rounds;
 mod slots;
-#[cfg(test)]
-mod tests;
 mod worker;
 mod workers;
 

@@ -1,4 +1,4 @@
-//! Pools of drives that fail or grow, tried over two volumes that two sessions share. There are only
+//! Tests of pools of drives, of which some fail or grow, and of restores by them. There are only
 //! tests here.
 #![tactic(auto)]
 
@@ -6,3 +6,5 @@
 mod failing_tests;
 #[cfg(test)]
 mod growing_tests;
+#[cfg(test)]
+mod pool_tests;

@@ -1,4 +1,4 @@
-use crate::*;
+use br_files::{Disk, DiskFault, FilePath, Found, HostDisk, Kind, MemDisk, append, read_from};
 use std::alloc::Global;
 use std::os::unix::fs::PermissionsExt;
 use std::test::Fail;

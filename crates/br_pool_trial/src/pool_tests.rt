@@ -1,10 +1,10 @@
 ghost use Rattle.std.specs.Prelude.{◌≡◌, length, IfOk};
 ghost use Rattle.br_pool.specs.Pool.{AreNumbered, IsDriveCount};
 
-use super::*;
 use br_bsr::{BsrFault, read_bootstrap};
 use br_match::Found;
 use br_piece::{Piece, split};
+use br_pool::{Gate, OpenGate, PoolFault, run_pool};
 use br_types::VolName;
 use br_volume::MemDrive;
 use std::alloc::Global;

@@ -1,5 +1,5 @@
-use super::*;
 use br_files::{FilePath, Kind, MemDisk};
+use br_folder::{FolderDrive, FolderStore};
 use br_types::VolName;
 use br_volume::{Drive, DriveFault, Got, VolumeFault, VolumeStore};
 use std::alloc::Global;

@@ -1,4 +1,6 @@
-use crate::*;
+use br_files::{
+    DiskFault, FileMaker, HostDisk, Kind, MemMaker, clear_path, enter_folder, put_file,
+};
 use std::alloc::Global;
 use std::os::unix::fs::{PermissionsExt, symlink};
 use std::test::Fail;
