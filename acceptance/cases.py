@@ -3,7 +3,7 @@
 
     acceptance/cases.py [EXECUTABLE] [CASE..]
 
-Without an executable it is crates/brestore/out/brestore, which `rt run` in crates/brestore makes. Each case is run once for its
+Without an executable it is crates/brestore/out/brestore, which tools/prove_all makes. Each case is run once for its
 manifest alone, once by sixteen drives, and once with `--into` and a new folder. The folder is then compared with the expected
 manifest: each file's length and digest, and each folder. A last run, into the same folder, has to be refused and to change
 nothing. The status is 0 if each case has the expected exit status, standard output and standard error, byte for byte, and the

@@ -3,7 +3,7 @@
 
     acceptance/explain.py [EXECUTABLE]
 
-Without an executable it is crates/brestore/out/brestore, which `rt run` in crates/brestore makes. The table is printed whole, and
+Without an executable it is crates/brestore/out/brestore, which tools/prove_all makes. The table is printed whole, and
 each number alone. A number that the table lacks has to be refused with status 1, a word that is no number with status 2, and
 `--help` has to name the command. The status is 0 if all is as expected, else 1.
 """

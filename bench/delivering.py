@@ -247,7 +247,7 @@ def main():
         list_in_child(options.list)
         return 0
     if not os.access(options.program, os.X_OK):
-        print(f"there is no program {options.program}: `rt run` in crates/brestore makes it")
+        print(f"there is no program {options.program}: tools/prove_all makes it")
         return 1
     if not options.bextract or not os.access(options.bextract, os.X_OK):
         print("there is no bextract: it is in Debian's package bacula-sd")

@@ -209,7 +209,7 @@ def main():
         make_in_child(options.make)
         return 0
     if not options.no_run and not os.access(options.program, os.X_OK):
-        print(f"there is no program {options.program}: `rt run` in crates/brestore makes it")
+        print(f"there is no program {options.program}: tools/prove_all makes it")
         return 1
     folder = options.folder or tempfile.mkdtemp(prefix="brestore-bench-")
     os.makedirs(folder, exist_ok=True)

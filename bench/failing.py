@@ -111,7 +111,7 @@ def measure(folder, options):
 def main():
     options = read_options()
     if not os.access(options.program, os.X_OK):
-        print(f"there is no program {options.program}: `rt run` in crates/brestore makes it")
+        print(f"there is no program {options.program}: tools/prove_all makes it")
         return 1
     folder = options.folder or tempfile.mkdtemp(prefix="brestore-bench-")
     os.makedirs(folder, exist_ok=True)
