@@ -1,4 +1,5 @@
 pub mod Tree
+pub mod Fault
 pub mod Calls
 pub mod Read
 pub mod Append

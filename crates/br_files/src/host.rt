@@ -1,6 +1,8 @@
 //! The files of the system. Each method is one call of std: no clause can say what a disk does.
 ghost use Rattle.std.specs.Prelude.{◌≡◌, true, IfOk};
+ghost use Rattle.std.specs.IoError.{error_kind};
 ghost use Rattle.std.specs.Fs.{asks_append, asks_create_new, asks_write, new_options, with_append, with_read};
+ghost use Rattle.br_files.specs.Fault.{IsFaultOf};
 
 use crate::disk::Disk;
 use crate::fault::DiskFault;
@@ -54,7 +56,9 @@ impl<F: Files + Drop> HostDisk<F> {
 }
 
 /// Returns the fault of an error of the system.
-pub(crate) fn fault_of(error: io::Error) -> DiskFault {
+pub(crate) fn fault_of(error: io::Error) -> DiskFault
+    ensures { IsFaultOf (error_kind error) result }
+{
     match error.kind() {
         ErrorKind::NotFound => DiskFault::NotFound,
         ErrorKind::AlreadyExists => DiskFault::Exists,
