@@ -1,5 +1,5 @@
 -- The volumes of a folder.
-use Rattle.std.proofs.Common.{◌≡◌, ℕ, ◌+◌, true, false, cond, Option, Some, None, List, [], ◌∷◌, ◌++◌, length, take, drop, refl, ap, sym, ◌∙◌, arith, append_assoc, append-nil, length-append, length-drop, ◌-◌, ◌<◌, ◌≤◌, ◌^◌, min, inl, inr, Result, Ok, Err, IfOk}
+use Rattle.std.proofs.Common.{◌≡◌, ℕ, ◌+◌, true, false, cond, Option, Some, None, List, [], ◌∷◌, ◌++◌, length, take, drop, refl, ap, sym, ◌∙◌, arith, append_assoc, append-nil, length-append, length-drop, ◌-◌, ◌<◌, ◌≤◌, ◌^◌, min, inl, inr, Result, Ok, Err, IfOk, IfErr}
 use Rattle.std.specs.Prelude.{bytes_eq}
 use Rattle.std.proofs.lemmas.List.{take_at, drop_at, take-append-drop, length-take, take-take, take_all}
 use Rattle.std.proofs.lemmas.Slice.Eq.{bytes_eq-Decides}
@@ -125,9 +125,18 @@ pub same_grows : (folder : List ℕ) (first second : Option Tree) → second ≡
 same_grows folder None second same = rw same tt
 same_grows folder (Some tree) second same = rw same (extends_itself (volumes_in folder tree.files))
 
--- what is found to be a file is one
-pub kind_is : (told : Option Tree) (path : List ℕ) (kind : Kind) (n : ℕ) → kind ≡ File → IsFound told path kind n → IsFound told path File n
-kind_is told path kind n is found = rw is at found
+-- what is found to be a file is one of this length
+pub len_is : (result : Result ℕ DriveFault) (told : Option Tree) (path : List ℕ) (kind : Kind) (len : ℕ)
+    → IfOk result (λ n. (kind ≡ File) × (n ≡ len)) → IsFound told path kind len → IfOk result (λ n. IsFound told path File n)
+len_is (Ok n) told path kind len is found = rw is.1 (rw is.0 at found)
+len_is (Err fault) told path kind len is found = tt
+
+-- what is found and is no file is not missing
+pub never_unknown : (result : Result ℕ DriveFault) (told : Option Tree) (path : List ℕ) → IfErr result (λ fault. fault ≡ Fault)
+    → result ≡ Err UnknownVolume → IsNoFile told path
+never_unknown (Ok n) told path other is = absurd cc
+never_unknown (Err fault) told path other is =
+    let same : fault ≡ UnknownVolume = cc in let never : Fault ≡ UnknownVolume = sym other ∙ same in absurd cc
 
 pub file_of : (told : Option Tree) (path : List ℕ) (n : ℕ) → IsFound told path File n → IsFile told path
 file_of None path n found = tt

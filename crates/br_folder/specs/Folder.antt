@@ -5,8 +5,20 @@ use Rattle.br_files.specs.Tree.{Tree}
 use Rattle.br_files.specs.Calls.{Appends, HasFile}
 use Rattle.br_volume.specs.Drive.{bytes_from, bytes_got}
 use Rattle.br_volume.specs.Store.{AppendsTo, AppendsInPartTo}
+use Rattle.br_files.specs.declared.fault.DiskFault.{DiskFault}
+use Rattle.br_files.specs.declared.fault.DiskFault.TheVariants as disk
 use Rattle.br_volume.specs.declared.drive.Got.{Got}
 use Rattle.br_volume.specs.declared.drive.Got.TheVariants.{Block, End}
+use Rattle.br_volume.specs.declared.fault.DriveFault.{DriveFault}
+use Rattle.br_volume.specs.declared.fault.DriveFault.TheVariants.{Memory, Fault, UnknownVolume}
+
+-- the drive's fault for that of its disk
+abbrev pub drive_fault : DiskFault → DriveFault
+drive_fault disk.NotFound = UnknownVolume
+drive_fault disk.Memory = Memory
+drive_fault disk.Exists = Fault
+drive_fault disk.Interrupted = Fault
+drive_fault disk.Failed = Fault
 
 -- a drive or a store over a folder: what its disk tells, the folder's path, and the number of failed
 -- calls

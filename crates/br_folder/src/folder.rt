@@ -3,10 +3,10 @@ ghost use Rattle.std.specs.Prelude.{◌≡◌, IfOk, IfErr, Err, string_bytes};
 ghost use Rattle.br_files.specs.Calls.{IsFound, IsNoFile};
 ghost use Rattle.br_files.specs.declared.kind.Kind.TheVariants.{File};
 ghost use Rattle.br_files.specs.declared.fault.DiskFault.TheVariants.{NotFound};
-ghost use Rattle.br_folder.specs.Folder.{file_path};
-ghost use Rattle.br_volume.specs.declared.fault.DriveFault.TheVariants.{UnknownVolume};
+ghost use Rattle.br_folder.specs.Folder.{drive_fault, file_path};
+ghost use Rattle.br_volume.specs.declared.fault.DriveFault.TheVariants.{Fault, UnknownVolume};
 
-use br_files::{Disk, DiskFault, Kind};
+use br_files::{Disk, DiskFault, Found, Kind};
 use br_types::VolName;
 use br_volume::DriveFault;
 use std::alloc::{AllocError, Global};
@@ -54,7 +54,8 @@ impl Folder {
 
 /// Returns the drive's fault for that of a disk.
 pub(crate) fn fault_of(fault: DiskFault) -> DriveFault
-    ensures { result ≡ UnknownVolume → fault ≡ NotFound }
+    ensures is { result ≡ drive_fault fault }
+    ensures missing { result ≡ UnknownVolume → fault ≡ NotFound }
 {
     match fault {
         DiskFault::NotFound => DriveFault::UnknownVolume,
@@ -63,21 +64,27 @@ pub(crate) fn fault_of(fault: DiskFault) -> DriveFault
     }
 }
 
+/// Returns the length of a file, and `Fault` of anything else.
+fn len_of(found: Found) -> Result<u64, DriveFault>
+    ensures file { IfOk result (λ n. (found.kind ≡ File) × (n ≡ found.len)) }
+    ensures other { IfErr result (λ fault. fault ≡ Fault) }
+{
+    if found.kind == Kind::File {
+        Ok(found.len)
+    } else {
+        Err(DriveFault::Fault)
+    }
+}
+
 /// Finds the file at the path. Returns its length, and `Fault` if what is there is no file.
-#[tactic(auto, using(crate::proofs::FolderLaws::kind_is))]
+#[tactic(auto, using(crate::proofs::FolderLaws::len_is, crate::proofs::FolderLaws::never_unknown))]
 pub(crate) fn find_file<D: Disk>(disk: &mut D, path: &str) -> Result<u64, DriveFault>
     ensures found { IfOk result (λ n. IsFound (D.told disk.new) path.now File n) }
     ensures missing { result ≡ Err UnknownVolume → IsNoFile (D.told disk.new) path.now }
     ensures same { D.told disk.new ≡ D.told disk.old }
 {
     match disk.find(path) {
-        Ok(found) => {
-            if found.kind == Kind::File {
-                Ok(found.len)
-            } else {
-                Err(DriveFault::Fault)
-            }
-        }
+        Ok(found) => len_of(found),
         Err(fault) => Err(fault_of(fault)),
     }
 }
