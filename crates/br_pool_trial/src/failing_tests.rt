@@ -56,7 +56,7 @@ pub(crate) fn volumes(alloc: Global) -> Result<Vec<(VolName, Vec<u8>)>, Fail> {
 }
 
 /// The call from which a drive fails, counted from 1, if it is to fail.
-type FailsFrom = Option<u64>;
+pub(crate) type FailsFrom = Option<u64>;
 
 /// Returns a drive over the volumes.
 fn drive(alloc: Global, from: FailsFrom) -> Result<MemDrive, Fail> {
@@ -68,7 +68,7 @@ fn drive(alloc: Global, from: FailsFrom) -> Result<MemDrive, Fail> {
 }
 
 /// Returns a drive over the volumes for each of these.
-fn drives(alloc: Global, froms: &[FailsFrom]) -> Result<Vec<MemDrive>, Fail>
+pub(crate) fn drives(alloc: Global, froms: &[FailsFrom]) -> Result<Vec<MemDrive>, Fail>
     ensures { IfOk result (λ drives. length drives.items ≡ length froms.now) }
 {
     let mut drives = Vec::new(alloc);

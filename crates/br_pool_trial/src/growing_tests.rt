@@ -1,6 +1,6 @@
 //! Drives whose volumes grow while they are read find what sound drives find.
 ghost use Rattle.std.specs.Prelude.{◌≡◌, length, IfOk};
-ghost use Rattle.br_pool.specs.Pool.{AreDrives, IsDriveCount};
+ghost use Rattle.br_pool.specs.Pool.{AreDrives, AreNumbered, IsDriveCount};
 
 use crate::failing_tests::{MANIFEST, TEXT, volumes};
 use br_bsr::{BsrFault, read_bootstrap};
@@ -9,7 +9,7 @@ use br_match::{Found, Hit, PieceFault, match_piece};
 use br_piece::{Piece, split};
 use br_sink::MemSink;
 use br_types::VolName;
-use br_volume::MemDrive;
+use br_volume::{Drive, MemDrive};
 use std::alloc::Global;
 use std::test::Fail;
 use std::thread::Threads;
@@ -39,9 +39,12 @@ fn drive(alloc: Global, names: &[u8]) -> Result<MemDrive, Fail> {
 }
 
 /// Returns the pieces of a bootstrap's text.
-fn pieces_of(alloc: Global, text: &[u8]) -> Result<Vec<Piece>, BsrFault> {
+pub(crate) fn pieces_of(alloc: Global, text: &[u8]) -> Result<Vec<Piece>, BsrFault>
+    ensures { IfOk result (λ pieces. AreNumbered pieces.items) }
+{
     let bootstrap = read_bootstrap(alloc, text)?;
-    Ok(split(alloc, &bootstrap)?)
+    let pieces = split(alloc, &bootstrap)?;
+    Ok(pieces)
 }
 
 /// Matches the first piece of a bootstrap.
@@ -57,10 +60,10 @@ fn found_by(
 
 /// A hit: its session, its group, its address and its ordinal, and its stream, its size and its
 /// bytes.
-type Case<'s> = ((u32, u32, u64, u32), (i32, u32, &'s [u8]));
+pub(crate) type Case<'s> = ((u32, u32, u64, u32), (i32, u32, &'s [u8]));
 
 /// The hits on A of the bootstrap of both files.
-const ON_A: &[Case<'static>] = &[
+pub(crate) const ON_A: &[Case<'static>] = &[
     ((1, 0, 0, 0), (1, 38, b"1 3 /a\0A A IGk B A A A O A A")),
     ((2, 3, 64, 0), (-1, 10, b" A A A A\0\0")),
     ((2, 3, 64, 1), (2, 14, b"messag")),
@@ -81,7 +84,7 @@ fn has(hit: &Hit, (stream, size, bytes): (i32, u32, &[u8])) -> bool {
 }
 
 /// Returns the place of the first hit that differs from these.
-fn first_wrong(hits: &[Hit], cases: &[Case<'_>]) -> Option<usize> {
+pub(crate) fn first_wrong(hits: &[Hit], cases: &[Case<'_>]) -> Option<usize> {
     for (place, (hit, (at, data))) in hits.iter().zip(cases).enumerate() {
         if !is_at(hit, *at) || !has(hit, *data) {
             return Some(place);
@@ -127,11 +130,11 @@ fn drives(alloc: Global, grow: &[&[u8]]) -> Result<Vec<MemDrive>, Fail>
 }
 
 /// Returns the manifest by these drives, or the line of the refusal.
-fn printed(
+pub(crate) fn printed<D: Drive + Send>(
     rt: &(impl Threads + Sync),
     alloc: Global,
     text: &[u8],
-    drives: &mut Vec<MemDrive>,
+    drives: &mut Vec<D>,
 ) -> Result<Vec<u8>, Fail>
     requires { AreDrives drives.old.items }
 {
@@ -148,10 +151,10 @@ fn printed(
 }
 
 /// The text of a bootstrap, and what is printed.
-type Print<'s> = (&'s [u8], &'s [u8]);
+pub(crate) type Print<'s> = (&'s [u8], &'s [u8]);
 
 /// Returns whether these drives print this.
-fn print(
+pub(crate) fn print(
     rt: &(impl Threads + Sync),
     alloc: Global,
     grow: &[&[u8]],

@@ -5,6 +5,10 @@
 #[cfg(test)]
 mod failing_tests;
 #[cfg(test)]
+mod folder_tests;
+#[cfg(test)]
 mod growing_tests;
+#[cfg(test)]
+mod list_tests;
 #[cfg(test)]
 mod pool_tests;

@@ -1,9 +1,8 @@
 ghost use Rattle.std.specs.Prelude.{◌≡◌, length, IfOk};
-ghost use Rattle.br_pool.specs.Pool.{AreNumbered, IsDriveCount};
+ghost use Rattle.br_pool.specs.Pool.{IsDriveCount};
 
-use br_bsr::{BsrFault, read_bootstrap};
+use crate::growing_tests::pieces_of;
 use br_match::Found;
-use br_piece::{Piece, split};
 use br_pool::{Gate, OpenGate, PoolFault, run_pool};
 use br_types::VolName;
 use br_volume::MemDrive;
@@ -22,15 +21,6 @@ const BLOCK: &[u8; 91] =
 const THREE: &[u8] = b"Volume=A\nFileIndex=1\nVolume=B\nFileIndex=1\nVolume=C\nFileIndex=1\n";
 
 const MISSING: &[u8] = b"Volume=A\nFileIndex=1\nVolume=Q\nFileIndex=1\nVolume=B\nFileIndex=1\n";
-
-/// Returns the pieces of a bootstrap's text.
-fn pieces_of_text(alloc: Global, text: &[u8]) -> Result<Vec<Piece>, BsrFault>
-    ensures { IfOk result (λ pieces. AreNumbered pieces.items) }
-{
-    let bootstrap = read_bootstrap(alloc, text)?;
-    let pieces = split(alloc, &bootstrap)?;
-    Ok(pieces)
-}
 
 /// Returns a volume of `blocks` of the blocks.
 fn volume(alloc: Global, name: &[u8], blocks: usize) -> Result<(VolName, Vec<u8>), Fail> {
@@ -90,7 +80,7 @@ fn found_beside<R: Threads + Sync>(
 ) -> Result<Result<Vec<Found>, PoolFault>, Fail>
     requires { IsDriveCount (length froms.now) }
 {
-    let pieces = pieces_of_text(alloc, text)?;
+    let pieces = pieces_of(alloc, text)?;
     let mut drives = failing(alloc, froms)?;
     Ok(run_pool(rt, alloc, &pieces, &mut drives, &OpenGate))
 }
@@ -105,7 +95,7 @@ fn found_by<R: Threads + Sync, G: Gate + Sync>(
 ) -> Result<Result<Vec<Found>, PoolFault>, Fail>
     requires { IsDriveCount count }
 {
-    let pieces = pieces_of_text(alloc, text)?;
+    let pieces = pieces_of(alloc, text)?;
     let mut drives = drives(alloc, count)?;
     Ok(run_pool(rt, alloc, &pieces, &mut drives, gate))
 }

@@ -2,7 +2,7 @@ use Rattle.std.proofs.Common.{List, sym, subst}
 use Rattle.br_model.specs.Meaning.{Piece}
 use Rattle.br_pool.specs.Pool.{AreNumbered}
 use Rattle.br_pool.proofs.NumberLaws.{are_numbered}
-use Rattle.br_pool_trial.proofs.pool_tests.pieces_of_text.Goals as goal
+use Rattle.br_pool_trial.proofs.growing_tests.pieces_of.Goals as goal
 
 pub returns : goal.returns
 returns c = subst (λ (l : List Piece). AreNumbered l) (sym c.in_ok-pieces.ensures) (are_numbered c.in_ok-bootstrap.bootstrap)
