@@ -14,6 +14,7 @@ pub mod MoveLaws
 pub mod ViewLaws
 pub mod WholeLaws
 pub mod FirstLaws
+pub mod ScriptLaws
 mod Computing
 mod JobExamples
 mod PlanExamples

@@ -7,3 +7,4 @@ pub mod Happening
 pub mod Statuses
 pub mod Parts
 pub mod View
+pub mod Planning

@@ -3,6 +3,7 @@
 
 mod event;
 mod fault;
+mod planning;
 mod reading;
 mod restore;
 mod status;
