@@ -15,6 +15,8 @@ pub mod ViewLaws
 pub mod WholeLaws
 pub mod FirstLaws
 pub mod ScriptLaws
+pub mod MovingLaws
+pub mod EventLaws
 mod Computing
 mod JobExamples
 mod PlanExamples

@@ -8,3 +8,5 @@ pub mod Statuses
 pub mod Parts
 pub mod View
 pub mod Planning
+pub mod Moving
+pub mod Stepping

@@ -6,6 +6,7 @@ mod fault;
 mod planning;
 mod reading;
 mod restore;
+mod restores;
 mod status;
 #[cfg(test)]
 mod tests;

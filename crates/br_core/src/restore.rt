@@ -30,6 +30,16 @@ pub(crate) struct Restore {
     ghost parts: { AreParts plan pieces.items statuses.items transit.items joiner },
 }
 
+/// A move of a restore. Reads and ends of walks are over these volumes.
+#[derive(Clone, Copy, Debug)]
+pub(crate) enum Move<'v> {
+    Claim(u32),
+    Read(u32, &'v [(VolName, Vec<u8>)]),
+    Fail(u32),
+    Finish(u32, &'v [(VolName, Vec<u8>)]),
+    Take(u64),
+}
+
 /// Returns the pieces of a plan, each waiting, and the joiner of what will be found of them.
 fn parts_of(alloc: Global, plan: &Plan) -> Result<(Vec<Piece>, Vec<Status>, Joiner), AllocError>
     ensures { IfOk result (λ parts. AreFirst plan.now parts.0.items parts.1.items parts.2) }
@@ -46,6 +56,7 @@ impl Restore {
     ghost use Rattle.br_core.specs.Machine.{IsRead, IsTaken};
     ghost use Rattle.br_core.specs.Reading.{CanBeRead};
     ghost use Rattle.br_core.specs.View.{Claims, Fails, Finishes, IsPlanned, IsSeenAs, MovesIf, TellsWhole};
+    ghost use Rattle.br_core.specs.Moving.{asked, moved};
     ghost use Rattle.std.specs.Prelude.{true, map, Some, IfErr};
     ghost use Rattle.br_model.specs.Restored.{files};
     ghost use Rattle.br_join.specs.Outcome.{restored};
@@ -159,6 +170,19 @@ impl Restore {
                 let _ = self.transit.insert(place as usize, (piece, refused.value));
                 Err(StepFault::Memory)
             }
+        }
+    }
+
+    /// Makes a move.
+    pub(crate) fn go(&mut self, alloc: Global, what: Move<'_>) -> Result<(), StepFault>
+        ensures { MovesIf (asked what.entry) (moved what.entry) self.old self.new result }
+    {
+        match what {
+            Move::Claim(piece) => self.claim(piece),
+            Move::Read(piece, volumes) => self.read(alloc, piece, volumes),
+            Move::Fail(piece) => self.fail(piece),
+            Move::Finish(piece, volumes) => self.finish(alloc, piece, volumes),
+            Move::Take(place) => self.take(place),
         }
     }
 

@@ -1,6 +1,7 @@
-//! The moves of a restore, over one volume of one block, and the numbers of refusals.
+//! Restores under their numbers, over one volume of one block, and the numbers of refusals.
 use crate::fault::StepFault;
-use crate::restore::Restore;
+use crate::restore::{Move, Restore};
+use crate::restores::{add, commits_of, deliver, step_of_one};
 use br_history::{FileRow, History, HistoryFault, JobRow, JobRows};
 use br_join::Outcome;
 use br_plan::{Plan, PlanFault, Request};
@@ -8,6 +9,7 @@ use br_session::Span;
 use br_types::{FileKey, JobId, Letter, Name, Path, SessionKey, VolName};
 use std::alloc::{AllocError, Global};
 use std::test::Fail;
+use std::thread::Threads;
 
 /// A block of two whole records of file 1 of session 1, 100: attributes of 38 bytes and data of 5
 /// bytes.
@@ -136,7 +138,7 @@ fn volumes(alloc: Global) -> Result<Vec<(VolName, Vec<u8>)>, Fail> {
 
 /// What is done with piece 0, or with the batch at a place.
 #[derive(Clone, Copy, Debug)]
-enum Move {
+enum What {
     Claim,
     Fail,
     Read,
@@ -144,58 +146,69 @@ enum Move {
     Take(u64),
 }
 
-/// Moves with the number of the refusal of each, 0 if it is not refused.
-const MOVES: &[(Move, u32)] = &[
-    (Move::Finish, 59),
-    (Move::Read, 59),
-    (Move::Fail, 59),
-    (Move::Take(0), 59),
-    (Move::Claim, 0),
-    (Move::Claim, 59),
-    (Move::Finish, 59),
-    (Move::Read, 0),
-    (Move::Fail, 0),
-    (Move::Read, 59),
-    (Move::Claim, 0),
-    (Move::Read, 0),
-    (Move::Read, 59),
-    (Move::Finish, 0),
-    (Move::Fail, 59),
-    (Move::Take(2), 59),
-    (Move::Take(1), 0),
-    (Move::Take(1), 59),
-    (Move::Take(0), 0),
+/// What is done, with the number of the refusal of each, 0 if it is not refused.
+const DEEDS: &[(What, u32)] = &[
+    (What::Finish, 59),
+    (What::Read, 59),
+    (What::Fail, 59),
+    (What::Take(0), 59),
+    (What::Claim, 0),
+    (What::Claim, 59),
+    (What::Finish, 59),
+    (What::Read, 0),
+    (What::Fail, 0),
+    (What::Read, 59),
+    (What::Claim, 0),
+    (What::Read, 0),
+    (What::Read, 59),
+    (What::Finish, 0),
+    (What::Fail, 59),
+    (What::Take(2), 59),
+    (What::Take(1), 0),
+    (What::Take(1), 59),
+    (What::Take(0), 0),
 ];
 
-/// Makes a move, and returns the number of the refusal, 0 if it is not refused.
-fn number_of(
-    alloc: Global,
-    restore: &mut Restore,
-    volumes: &[(VolName, Vec<u8>)],
-    what: Move,
-) -> u32 {
-    let result = match what {
-        Move::Claim => restore.claim(0),
-        Move::Fail => restore.fail(0),
-        Move::Read => restore.read(alloc, 0, volumes),
-        Move::Finish => restore.finish(alloc, 0, volumes),
-        Move::Take(place) => restore.take(place),
-    };
-    match result {
-        Ok(()) => 0,
+/// Returns the number of a refusal, 0 if there is none.
+fn number_of<T: Drop>(answer: Result<T, StepFault>) -> u32 {
+    match answer {
+        Ok(_) => 0,
         Err(fault) => fault.number(),
     }
 }
 
-/// Makes some moves, and returns the place of the first that gives another number.
-fn wrong_move(
+/// Does it with the restore of this number, and returns the number of the refusal.
+fn done(
     alloc: Global,
-    restore: &mut Restore,
+    restores: &mut Vec<Option<Restore>>,
+    number: u64,
     volumes: &[(VolName, Vec<u8>)],
-    moves: &[(Move, u32)],
+    what: What,
+) -> u32 {
+    let movement = match what {
+        What::Claim => Move::Claim(0),
+        What::Fail => Move::Fail(0),
+        What::Read => Move::Read(0, volumes),
+        What::Finish => Move::Finish(0, volumes),
+        What::Take(place) => Move::Take(place),
+    };
+    number_of(step_of_one(alloc, restores, number, movement))
+}
+
+/// Does it all with the first restore, which can't be delivered before any of it, and returns the
+/// place of the first deed that gives another number. There is no second restore.
+fn wrong_deed(
+    rt: &(impl Threads + Sync),
+    alloc: Global,
+    restores: &mut Vec<Option<Restore>>,
+    volumes: &[(VolName, Vec<u8>)],
+    deeds: &[(What, u32)],
 ) -> Option<usize> {
-    for (place, (what, number)) in moves.iter().enumerate() {
-        if restore.is_whole() || number_of(alloc, restore, volumes, *what) != *number {
+    for (place, (what, number)) in deeds.iter().enumerate() {
+        let early = number_of(deliver(rt, restores, 0));
+        let stranger = done(alloc, restores, 1, volumes, *what);
+        let given = done(alloc, restores, 0, volumes, *what);
+        if early != 59 || stranger != 59 || given != *number {
             return Some(place);
         }
     }
@@ -214,12 +227,24 @@ fn is_hello(files: &[(FileKey, Outcome)]) -> bool {
 fn a_piece_is_read_again_and_delivered(rt: HostRuntime) -> Result<(), Fail> {
     let alloc = rt.alloc();
     let volumes = volumes(alloc)?;
-    let mut restore = restore(alloc)?;
-    assert_eq!(rt; wrong_move(alloc, &mut restore, &volumes, MOVES), None);
-    assert!(rt; restore.is_whole());
-    if restore.is_whole() {
-        let files = restore.deliver(&rt).ok().ok_or("memory")?;
-        assert!(rt; is_hello(&files));
-    }
+    let mut restores = Vec::new(alloc);
+    assert_eq!(rt; add(&mut restores, restore(alloc)?)?, 0);
+    assert_eq!(rt;
+        wrong_deed(&rt, alloc, &mut restores, &volumes, DEEDS),
+        None
+    );
+    assert_eq!(rt;
+        (commits_of(&restores, 0), commits_of(&restores, 1)),
+        (Some(1), None)
+    );
+    let files = deliver(&rt, &mut restores, 0)?;
+    assert!(rt; is_hello(&files));
+    assert_eq!(rt;
+        (
+            number_of(deliver(&rt, &mut restores, 0)),
+            commits_of(&restores, 0)
+        ),
+        (59, None)
+    );
     Ok(())
 }

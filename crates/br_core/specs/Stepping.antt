@@ -1,0 +1,58 @@
+-- The machine that runs: its state, and what a step of it is.
+use Rattle.std.specs.Prelude.{◌≡◌, ℕ, List, map, option_map, Option, Some, IfSome, Result, Ok, Err}
+use Rattle.br_model.specs.Choice.{Request}
+use Rattle.br_model.specs.Console.{Command}
+use Rattle.br_model.specs.Plan as model
+use Rattle.br_model.specs.PlanMeaning.{rows_of_jobs}
+use Rattle.br_core.specs.Fault.{cause}
+use Rattle.br_core.specs.Happening.{reply_of}
+use Rattle.br_core.specs.Machine as machine
+use Rattle.br_core.specs.Machine.{World, Event, Can, Goes, IsEnabled, IsStep, Moves, plan_for, planned, restore_at, stages_of}
+use Rattle.br_core.specs.Machine.Reply.{Refused}
+use Rattle.br_core.specs.View.{restore_of}
+use Rattle.br_core.specs.declared.event.Reply.{Reply}
+use Rattle.br_core.specs.declared.event.Reply.TheVariants as given
+use Rattle.br_core.specs.declared.fault.StepFault.{StepFault}
+use Rattle.br_core.specs.declared.restore.Restore.{Restore}
+
+-- the state of these jobs and volumes with some restores
+abbrev pub world_with : World → List (Option Restore) → World
+world_with backups restores = record backups { restores = map (option_map (restore_of backups.jobs (stages_of backups))) restores }
+
+-- The step is one of the relation, with its reply. A refusal changes nothing, and the relation has
+-- it too, unless memory ran out.
+abbrev pub TakesStep : World → Event → World → Result Reply StepFault → Type 0
+TakesStep before event after (Ok reply) = IsStep before event (reply_of reply) after
+TakesStep before event after (Err fault) = (after ≡ before) × IfSome (cause fault) (λ n. IsStep before event (Refused n) before)
+
+-- In this state the event is that the restore of this number moves so. The restore is as the
+-- premise asks.
+pub record IsEventOf
+    (w : World) (number : ℕ) (event : Event) (Premise : machine.Restore → Type 0) (Move : machine.Restore → machine.Restore → Type 0)
+    : Type 0 where
+  pub steps : (reply : machine.Reply) (after : World) → Goes w number event reply after → IsStep w event reply after
+  pub can : IsEnabled w event → Can w number event
+  pub is_move : (r after : machine.Restore) → restore_at w number ≡ Some r → Moves w event r after → Move r after
+  pub moves : (r after : machine.Restore) → restore_at w number ≡ Some r → Move r after → Moves w event r after
+  pub asked : (r : machine.Restore) → restore_at w number ≡ Some r → Premise r
+
+-- in every state of these restores the event that the one of this number moves so takes a step
+abbrev pub StepsOfOne :
+    (machine.Restore → Type 0) → (machine.Restore → machine.Restore → Type 0) → ℕ → List (Option Restore) → List (Option Restore)
+    → Result Reply StepFault → Type 0
+StepsOfOne Premise Move number before after result =
+    (backups : World) (event : Event) → IsEventOf (world_with backups before) number event Premise Move
+    → TakesStep (world_with backups before) event (world_with backups after) result
+
+-- What becomes of a plan before it has a number: the restore, planned now of what the script marks,
+-- or the relation's refusal, unless memory ran out.
+abbrev pub PlansRestore : World → Request → List Command → Result Restore StepFault → Type 0
+PlansRestore w q script (Ok r) =
+    (marks : List (List ℕ)) × (plan : model.Plan) × (plan_for (rows_of_jobs w.jobs) q script ≡ Ok (marks, plan))
+    × (restore_of w.jobs (stages_of w) r ≡ planned w q marks plan)
+PlansRestore w q script (Err fault) = IfSome (cause fault) (λ n. plan_for (rows_of_jobs w.jobs) q script ≡ Err n)
+
+-- the reply to a step: its refusal is one
+abbrev pub IsReply : Result Reply StepFault → Reply → Type 0
+IsReply (Ok taken) reply = reply ≡ taken
+IsReply (Err fault) reply = (number : ℕ) × (cause fault ≡ Some number) × (reply ≡ given.Refused number)
