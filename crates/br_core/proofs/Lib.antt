@@ -17,6 +17,7 @@ pub mod FirstLaws
 pub mod ScriptLaws
 pub mod MovingLaws
 pub mod EventLaws
+pub mod BackupLaws
 mod Computing
 mod JobExamples
 mod PlanExamples

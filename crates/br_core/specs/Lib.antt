@@ -10,3 +10,5 @@ pub mod View
 pub mod Planning
 pub mod Moving
 pub mod Stepping
+pub mod Backups
+pub mod Committing

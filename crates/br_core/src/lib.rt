@@ -1,6 +1,10 @@
 //! The machine of restores and backups, over which the main theorem is proved for every schedule.
 #![tactic(auto)]
 
+#[cfg(test)]
+mod backup_tests;
+mod backups;
+mod committing;
 mod event;
 mod fault;
 mod planning;

@@ -13,7 +13,7 @@ use std::thread::Threads;
 
 /// A block of two whole records of file 1 of session 1, 100: attributes of 38 bytes and data of 5
 /// bytes.
-const BLOCK: &[u8; 91] =
+pub(crate) const BLOCK: &[u8; 91] =
     b"\0\0\0\0\0\0\0\x5b\0\0\0\0BB02\0\0\0\x01\0\0\0\x64\0\0\0\x01\0\0\0\x01\0\0\0\x261 3 /a\0A A IGk B A A A F A A A A A A\0\0\0\0\0\x01\0\0\0\x02\0\0\0\x05hello";
 
 /// The MD5 of `hello`.
@@ -58,7 +58,7 @@ fn letter(byte: u8) -> Result<Letter, Fail> {
 }
 
 /// Returns the row of a Full of the session of the block.
-fn job_row(alloc: Global) -> Result<JobRow, Fail> {
+pub(crate) fn job_row(alloc: Global) -> Result<JobRow, Fail> {
     Ok(JobRow {
         id: JobId::new(1).ok_or("a number")?,
         kind: letter(b'B')?,

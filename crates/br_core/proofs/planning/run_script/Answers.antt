@@ -1,4 +1,4 @@
-use Rattle.std.proofs.Common.{◌≡◌, ◌≤◌, List, length, map, ap, ◌∙◌, rules}
+use Rattle.std.proofs.Common.{◌≤◌, List, length, map, ap, ◌∙◌, rules}
 use Rattle.std.proofs.lemmas.List.{take_all}
 use Rattle.br_mark.specs.Said.{said}
 use Rattle.br_mark.specs.declared.command.Command.{Command}

@@ -1,0 +1,293 @@
+-- Jobs that were committed, and one more.
+use Rattle.std.proofs.Common.{◌≡◌, ℕ, zero, suc, ◌+◌, ◌<◌, ◌^◌, ◌⊎◌, List, [], ◌∷◌, ◌++◌, length, take, get_or, map, Option, Some, None, Result, Ok, Err, IfOk, OnErr, OnOk, refl, sym, ap, subst, ◌∙◌, inl, inr, arith}
+use Rattle.std.proofs.lemmas.List.{length-append, length-map, take_more, map-append}
+use Rattle.std.specs.Prelude.{IfSome, slice_get}
+use Rattle.std.specs.Global.{Vec}
+use Rattle.std.specs.List.{AllByRecursion}
+use Rattle.br_model.specs.Answer.{◌>>=◌, Answers, IsRefusal}
+use Rattle.br_model.specs.Name.{SessionKey}
+use Rattle.br_model.specs.Volume.{Volume, volume_bytes, Extends}
+use Rattle.br_model.specs.Job.{Span, JobRows, Job, are_rows, checked_rows, pushed}
+use Rattle.br_model.specs.Session.{Place, ToSave, Written, checked_spans, rows_of, visits}
+use Rattle.br_model.specs.SessionHolds.{IsToSave, IsReady, AreAppended}
+use Rattle.br_model.specs.PlanMeaning.{rows_of_jobs}
+use Rattle.br_model.proofs.AnswerLaws.{chosen, err_is_not_ok, ok_is}
+use Rattle.br_match.proofs.GrowthLaws.{extends_itself}
+use Rattle.br_volume.specs.Store.{AreAppendedInTurn, IsAppended}
+use Rattle.br_session.specs.Outcome.{IsOutcome, SessionHolds}
+use Rattle.br_session.specs.declared.fault.SessionFault.{SessionFault}
+use Rattle.br_history.specs.Committing.{AreWhole}
+use Rattle.br_history.specs.Fault.{cause, fault_number}
+use Rattle.br_history.specs.Saving.{ToCommit, IsToCommit, IsJobWith}
+use Rattle.br_history.specs.Taken.{admitted}
+use Rattle.br_history.specs.declared.fault.HistoryFault.{HistoryFault}
+use Rattle.br_history.specs.declared.fault.HistoryFault.TheVariants.{Memory, DuplicateJob, DuplicateSession, BadRow}
+use Rattle.br_history.proofs.AdmittedLaws.{pushed_is_admitted_lem}
+use Rattle.br_history.proofs.RowFitLaws.{written_rows_fit_lem}
+use Rattle.br_history.proofs.StayWholeLaws.{volumes_stay_whole_lem, whole_volumes_are_ready_lem}
+use Rattle.br_core.specs.Machine.{World, IsCommitted, IsRefusedFor, job_rows, lengths_of}
+use Rattle.br_core.specs.Backups.{Committed, AreBackups, IsAdded, backups_of, job_with, jobs_of}
+use Rattle.br_core.specs.Committing.{CommitsTo, IsInRange, IsJobWritten, IsPrepared, Prepares, WritesJob}
+
+-- ---- a job is prepared
+
+-- the numbers of its session are those of the key
+pub in_range : (c : ToCommit) (key : SessionKey) → key ≡ c.row.session → IsToCommit c → key.id < 2 ^ 32 → key.time < 2 ^ 32 → IsInRange c
+in_range c key same is id_fits time_fits = record {
+  commits = is;
+  id_fits = subst (λ (k : SessionKey). k.id < 2 ^ 32) same id_fits;
+  time_fits = subst (λ (k : SessionKey). k.time < 2 ^ 32) same time_fits;
+}
+
+-- the rows of a job have its own row
+row_stays : (c : ToCommit) (spans : List Span) → (job_rows c spans).row ≡ c.row
+unfolding rows_of
+row_stays c spans = refl
+
+-- what is said of any rows with the row of the job
+pushed_as : (history : List JobRows) (c : ToCommit) (spans : List Span) (r : Result (List JobRows) ℕ) → admitted history c.row ≡ r
+    → pushed history (job_rows c spans) ≡ (r >>= λ h. Ok (h ++ job_rows c spans ∷ []))
+pushed_as history c spans r e =
+    pushed_is_admitted_lem history (job_rows c spans)
+    ∙ ap (λ (a : Result (List JobRows) ℕ). a >>= λ h. Ok (h ++ job_rows c spans ∷ [])) (ap (admitted history) (row_stays c spans) ∙ e)
+
+-- a job that can't be among the others
+not_among : (history : List JobRows) (c : ToCommit) (starts : List (List ℕ × ℕ)) (n : ℕ) → admitted history c.row ≡ Err n
+    → (w : World) (found : List Volume) → rows_of_jobs w.jobs ≡ history → lengths_of found ≡ starts → IsRefusedFor w c found n
+not_among history c starts n e w found same lengths = inl (ap (λ (h : List JobRows). pushed h (job_rows c [])) same ∙ pushed_as history c [] (Err n) e)
+
+pub refused_row : (history : List JobRows) (c : ToCommit) (starts : List (List ℕ × ℕ)) (why : HistoryFault) → admitted history c.row ≡ Err (fault_number why) → Prepares history c starts (Err why)
+refused_row history c starts Memory e = tt
+refused_row history c starts DuplicateJob e = not_among history c starts 40 e
+refused_row history c starts DuplicateSession e = not_among history c starts 41 e
+refused_row history c starts BadRow e = not_among history c starts 42 e
+
+-- its session is not written
+pub refused_spans : (history : List JobRows) (c : ToCommit) (starts : List (List ℕ × ℕ)) (why : HistoryFault) → admitted history c.row ≡ Ok history → WritesJob c starts (Err why)
+    → Prepares history c starts (Err why)
+refused_spans history c starts Memory ok h = tt
+refused_spans history c starts DuplicateJob ok (inl e) = absurd cc
+refused_spans history c starts DuplicateJob ok (inr (e, spans)) = absurd cc
+refused_spans history c starts DuplicateSession ok (inl e) = absurd cc
+refused_spans history c starts DuplicateSession ok (inr (e, spans)) = absurd cc
+refused_spans history c starts BadRow ok (inl e) = absurd cc
+refused_spans history c starts BadRow ok (inr (e, spans)) =
+    λ w found same lengths. inr (
+      refl,
+      record {
+        blocks = spans.blocks;
+        accepted = history ++ job_rows c [] ∷ [];
+        fits = ap (λ (h : List JobRows). pushed h (job_rows c [])) same ∙ pushed_as history c [] (Ok history) ok;
+        packed = spans.packed;
+        refused = ap (λ (s : List (List ℕ × ℕ)). checked_spans s (visits c.places spans.blocks)) lengths ∙ spans.refused;
+      },
+    )
+
+-- once its session is written, its rows fit together
+fit : (c : ToCommit) (starts : List (List ℕ × ℕ)) (written : Written) → IsInRange c → IsJobWritten c starts written → AllByRecursion IsToSave c.files
+    → checked_rows (job_rows c written.spans) ≡ Ok (job_rows c written.spans)
+fit c starts written is was all =
+    written_rows_fit_lem c.row c.files c.deleted c.limit c.places starts written all is.commits.in_order is.commits.early is.id_fits is.time_fits is.commits.bounds.1 was.is_written
+
+-- so nothing but want of memory refuses them
+only_memory : {X : Type 0} (why : HistoryFault) (r : Result X ℕ) (x : X) → r ≡ Ok x → IsRefusal (cause why) r → why ≡ Memory
+only_memory Memory r x ok e = refl
+only_memory DuplicateJob r x ok e = absurd (err_is_not_ok 40 x (sym e ∙ ok))
+only_memory DuplicateSession r x ok e = absurd (err_is_not_ok 41 x (sym e ∙ ok))
+only_memory BadRow r x ok e = absurd (err_is_not_ok 42 x (sym e ∙ ok))
+
+pub refused_rows : (history : List JobRows) (c : ToCommit) (starts : List (List ℕ × ℕ)) (written : Written) (why : HistoryFault) → IsInRange c → IsJobWritten c starts written
+    → IsRefusal (cause why) (checked_rows (job_rows c written.spans)) → (why ≡ Memory) ⊎ AllByRecursion IsToSave c.files → Prepares history c starts (Err why)
+refused_rows history c starts written why is was e (inl memory) = subst (λ (f : HistoryFault). Prepares history c starts (Err f)) (sym memory) tt
+refused_rows history c starts written why is was e (inr all) =
+    let rows = job_rows c written.spans in
+    subst (λ (f : HistoryFault). Prepares history c starts (Err f)) (sym (only_memory why (checked_rows rows) rows (fit c starts written is was all) e)) tt
+
+-- rows that are not refused are those that were given
+same_rows : (rows other : JobRows) → checked_rows rows ≡ Ok other → rows ≡ other
+unfolding checked_rows
+same_rows rows other e =
+    elim (chosen (are_rows rows) (Ok rows) (Err 42) (Ok other) e) [
+      | inl p ↦ ok_is rows other p.1
+      | inr p ↦ absurd (err_is_not_ok 42 other p.1)
+    ]
+
+-- the job is prepared
+pub is_prepared : (history : List JobRows) (c : ToCommit) (starts : List (List ℕ × ℕ)) (written : Written) (rows : JobRows) → IsInRange c → admitted history c.row ≡ Ok history
+    → IsJobWritten c starts written → checked_rows (job_rows c written.spans) ≡ Ok rows → IsJobWith c.files rows → IsPrepared history c starts rows written.blocks
+is_prepared history c starts written rows is ok was made of_files =
+    let same = same_rows (job_rows c written.spans) rows made in
+    record {
+      written = written;
+      is_written = was;
+      blocks_are = refl;
+      rows_are = sym same;
+      fits = subst (λ (r : JobRows). pushed history r ≡ Ok (history ++ r ∷ [])) same (pushed_as history c written.spans (Ok history) ok);
+      is_job = subst (IsJobWith c.files) (sym same) of_files;
+      in_range = is;
+    }
+
+-- ---- a session is written
+
+-- what comes of writing the session of the job to volumes of these lengths
+pub record ComesOf (c : ToCommit) (starts : List (List ℕ × ℕ)) (r : Result Written SessionFault) : Type 0 where
+  pub outcome : IsOutcome c.files c.row.session c.limit c.places starts r
+  pub holds : IfOk r (λ written. SessionHolds c.files c.row.session c.places starts written)
+
+pub comes_of : (c : ToCommit) (starts : List (List ℕ × ℕ)) (r : Result Written SessionFault) (files : List ToSave) (key : SessionKey) (limit : ℕ) (places : List Place)
+    → files ≡ c.files → key ≡ c.row.session → limit ≡ c.limit → places ≡ c.places
+    → IsOutcome files key limit places starts r → IfOk r (λ written. SessionHolds files key places starts written) → ComesOf c starts r
+comes_of c starts r files key limit places files_are key_is limit_is places_are outcome holds = record {
+  outcome = rw (files_are, key_is, limit_is, places_are) at outcome;
+  holds = rw (files_are, key_is, places_are) at holds;
+}
+
+-- ---- blocks are appended one after another
+
+pub in_turn_more : (blocks : List (List ℕ × List ℕ)) (block : List ℕ × List ℕ) (earlier middle later : List Volume) → AreAppendedInTurn blocks earlier middle
+    → IsAppended block.0 block.1 middle later → AreAppendedInTurn (blocks ++ block ∷ []) earlier later
+in_turn_more [] block earlier middle later is one = (later, subst (λ (m : List Volume). IsAppended block.0 block.1 m later) is one, refl)
+in_turn_more (b ∷ bs) block earlier middle later is one = (is.0, is.1, in_turn_more bs block is.0 middle later is.2 one)
+
+-- the first blocks, and one more
+pub turn_more : (blocks : List (List ℕ × Vec ℕ)) (i : ℕ) (block : List ℕ × Vec ℕ) (earlier middle later : List Volume) → i < length blocks → block ≡ get_or blocks i block
+    → AreAppendedInTurn (map (λ (b : List ℕ × Vec ℕ). (b.0, b.1.items)) (take i blocks)) earlier middle → IsAppended block.0 block.1.items middle later
+    → AreAppendedInTurn (map (λ (b : List ℕ × Vec ℕ). (b.0, b.1.items)) (take (i + 1) blocks)) earlier later
+turn_more blocks i block earlier middle later lt is before one =
+    let seen : List ℕ × Vec ℕ → List ℕ × List ℕ = λ b. (b.0, b.1.items) in
+    let first = take i blocks in
+    let more : take (i + 1) blocks ≡ first ++ block ∷ [] = take_more blocks i block lt ∙ ap (λ (b : List ℕ × Vec ℕ). first ++ b ∷ []) (sym is) in
+    subst (λ (bs : List (List ℕ × List ℕ)). AreAppendedInTurn bs earlier later) (sym (ap (map seen) more ∙ map-append seen first (block ∷ [])))
+    (in_turn_more (map seen first) (seen block) earlier middle later before one)
+
+-- ---- a job more
+
+-- the rows of the jobs are the history
+rows_back : (history : List JobRows) (commits : List Committed) → length commits ≡ length history → rows_of_jobs (jobs_of history commits) ≡ history
+rows_back [] commits e = refl
+rows_back (j ∷ js) [] e = absurd (omega (arith, e))
+rows_back (j ∷ js) (c ∷ cs) e = ap (λ (rest : List JobRows). j ∷ rest) (rows_back js cs (omega (arith, e)))
+
+-- there are as many jobs as commits
+jobs_length : (history : List JobRows) (commits : List Committed) → length commits ≡ length history → length (jobs_of history commits) ≡ length commits
+jobs_length [] [] e = refl
+jobs_length [] (c ∷ cs) e = absurd (omega (arith, e))
+jobs_length (j ∷ js) [] e = refl
+jobs_length (j ∷ js) (c ∷ cs) e = ap suc (jobs_length js cs (omega (arith, e)))
+
+-- one job more
+jobs_more : (history : List JobRows) (commits : List Committed) (rows : JobRows) (c : Committed) → length commits ≡ length history
+    → jobs_of (history ++ rows ∷ []) (commits ++ c ∷ []) ≡ jobs_of history commits ++ job_with (rows, c) ∷ []
+jobs_more [] [] rows c e = refl
+jobs_more [] (d ∷ ds) rows c e = absurd (omega (arith, e))
+jobs_more (j ∷ js) [] rows c e = absurd (omega (arith, e))
+jobs_more (j ∷ js) (d ∷ ds) rows c e = ap (λ (rest : List Job). job_with (j, d) ∷ rest) (jobs_more js ds rows c (omega (arith, e)))
+
+-- each place is ready, if all volumes consist of whole blocks
+all_ready : (volumes : List Volume) (places : List Place) → AreWhole volumes → AllByRecursion (λ (p : Place). IsReady volumes (lengths_of volumes) p.volume) places
+all_ready volumes [] whole = tt
+all_ready volumes (p ∷ ps) whole = (whole_volumes_are_ready_lem volumes p.volume whole, all_ready volumes ps whole)
+
+-- a job that was prepared is committed once its blocks are appended
+committed : (history : List JobRows) (commits : List Committed) (volumes later : List Volume) (c : ToCommit) (rows : JobRows) (blocks : List (List ℕ × List ℕ))
+    → AreBackups history commits volumes → IsPrepared history c (lengths_of volumes) rows blocks → AreAppended blocks volumes later → Extends later volumes
+    → IsCommitted (backups_of history commits volumes) c volumes (backups_of (history ++ rows ∷ []) (commits ++ record { job = c; before = volumes } ∷ []) later)
+committed history commits volumes later c rows blocks are is appended extends =
+    let more : List Committed = commits ++ record { job = c; before = volumes } ∷ [] in
+    let longer : length more ≡ length (history ++ rows ∷ []) = omega (arith, are.each, length-append history (rows ∷ []), length-append commits (record { job = c; before = volumes } ∷ [])) in
+    record {
+      written = is.written;
+      is_written = is.is_written.is_written;
+      fits =
+          ap (λ (h : List JobRows). pushed h (job_rows c is.written.spans)) (rows_back history commits are.each) ∙ ap (pushed history) (sym is.rows_are) ∙ is.fits
+          ∙ ap Ok (sym (rows_back (history ++ rows ∷ []) more longer));
+      is_job = is.is_job;
+      jobs_are =
+          jobs_more history commits rows (record { job = c; before = volumes }) are.each
+          ∙ ap (λ (r : JobRows). jobs_of history commits ++ job_with (r, record { job = c; before = volumes }) ∷ []) is.rows_are;
+      extend = extends;
+      holds =
+          is.is_written.holds c.row c.deleted volumes later later refl (all_ready volumes c.places are.whole)
+          (subst (λ (bs : List (List ℕ × List ℕ)). AreAppended bs volumes later) is.blocks_are appended) (extends_itself later);
+      earlier_are = map-append (λ (d : Committed). d.before) commits (record { job = c; before = volumes } ∷ []);
+      restores_are = refl;
+    }
+
+-- and the volumes still consist of whole blocks
+still_backups : (history : List JobRows) (commits : List Committed) (volumes later : List Volume) (c : ToCommit) (rows : JobRows) (blocks : List (List ℕ × List ℕ))
+    → AreBackups history commits volumes → IsPrepared history c (lengths_of volumes) rows blocks → AreAppended blocks volumes later
+    → AreBackups (history ++ rows ∷ []) (commits ++ record { job = c; before = volumes } ∷ []) later
+still_backups history commits volumes later c rows blocks are is appended = record {
+  each = omega (arith, are.each, length-append history (rows ∷ []), length-append commits (record { job = c; before = volumes } ∷ []));
+  whole =
+      volumes_stay_whole_lem c.files c.row.session c.limit c.places (lengths_of volumes) is.written volumes later is.in_range.id_fits is.in_range.time_fits is.in_range.commits.bounds.1 is.is_written.is_written are.whole
+      (subst (λ (bs : List (List ℕ × List ℕ)). AreAppended bs volumes later) is.blocks_are appended);
+}
+
+-- a job that is not prepared is refused
+pub refuses : (w : World) (history : List JobRows) (commits : List Committed) (volumes : List Volume) (c : ToCommit) (starts : List (List ℕ × ℕ)) (why : HistoryFault)
+    → backups_of history commits volumes ≡ w → AreBackups history commits volumes → starts ≡ lengths_of volumes → Prepares history c starts (Err why) → CommitsTo w c w (Err why)
+refuses w history commits volumes c starts why same are starts_are refused =
+    subst (λ (it : World). CommitsTo it c it (Err why)) same (refl, go (cause why) (subst (λ (s : List (List ℕ × ℕ)). Prepares history c s (Err why)) starts_are refused))
+  where
+    go : (o : Option ℕ)
+        → IfSome o (λ n. (w : World) (found : List Volume) → rows_of_jobs w.jobs ≡ history → lengths_of found ≡ lengths_of volumes → IsRefusedFor w c found n)
+        → IfSome o (IsRefusedFor (backups_of history commits volumes) c volumes)
+    go None h = tt
+    go (Some n) h = h (backups_of history commits volumes) volumes (rows_back history commits are.each) refl
+
+-- what is seen of blocks
+abbrev seen : List ℕ × Vec ℕ → List ℕ × List ℕ
+seen b = (b.0, b.1.items)
+
+-- one that is prepared is added, or memory ran out
+pub adds : (r : Result (Unit {0}) HistoryFault) (history history' : List JobRows) (commits commits' : List Committed) (volumes later volumes' : List Volume) (c : ToCommit) (rows : JobRows)
+    (starts : List (List ℕ × ℕ)) (blocks given : List (List ℕ × Vec ℕ)) → AreBackups history commits volumes → starts ≡ lengths_of volumes → given ≡ blocks
+    → IsPrepared history c starts rows (map seen blocks) → AreAppended (map seen given) volumes later → Extends later volumes
+    → Answers (λ (u : Unit {0}). history') cause r (pushed history rows) → OnOk r (IsAdded history commits rows (record { job = c; before = volumes }) later history' commits' volumes')
+    → OnErr r ((history' ≡ history) × (commits' ≡ commits) × (volumes' ≡ volumes))
+    → CommitsTo (backups_of history commits volumes) c (backups_of history' commits' volumes') r × AreBackups history' commits' volumes'
+adds (Ok u) history history' commits commits' volumes later volumes' c rows starts blocks given are starts_are given_are is appended extends answers ok err =
+    let prepared = subst (λ (s : List (List ℕ × ℕ)). IsPrepared history c s rows (map seen blocks)) starts_are is in
+    let all = subst (λ (bs : List (List ℕ × Vec ℕ)). AreAppended (map seen bs) volumes later) given_are appended in
+    rw (ok.history_is, ok.commits_are, ok.volumes_are)
+    (committed history commits volumes later c rows (map seen blocks) are prepared all extends, still_backups history commits volumes later c rows (map seen blocks) are prepared all)
+adds (Err why) history history' commits commits' volumes later volumes' c rows starts blocks given are starts_are given_are is appended extends answers ok err =
+    let memory : why ≡ Memory = only_memory why (pushed history rows) (history ++ rows ∷ []) is.fits answers in
+    rw (err.0, err.1, err.2, memory) ((refl, tt), are)
+
+-- ---- what is seen of the jobs and volumes
+
+-- there is a state before each commit
+pub as_many : (w : World) (history : List JobRows) (commits : List Committed) (volumes : List Volume) → backups_of history commits volumes ≡ w → AreBackups history commits volumes
+    → length w.jobs ≡ length w.earlier
+as_many w history commits volumes same are =
+    subst (λ (it : World). length it.jobs ≡ length it.earlier) same (jobs_length history commits are.each ∙ sym (length-map commits (λ (c : Committed). c.before)))
+
+-- there are as many commits as jobs
+pub commits_length : (w : World) (history : List JobRows) (commits : List Committed) (volumes : List Volume) → backups_of history commits volumes ≡ w → AreBackups history commits volumes
+    → length commits ≡ length w.jobs
+commits_length w history commits volumes same are = subst (λ (it : World). length commits ≡ length it.jobs) same (sym (jobs_length history commits are.each))
+
+-- the history has the rows of the jobs
+pub rows_are : (w : World) (history : List JobRows) (commits : List Committed) (volumes : List Volume) → backups_of history commits volumes ≡ w → AreBackups history commits volumes
+    → history ≡ rows_of_jobs w.jobs
+rows_are w history commits volumes same are = subst (λ (it : World). history ≡ rows_of_jobs it.jobs) same (sym (rows_back history commits are.each))
+
+-- the volumes consist of whole blocks
+pub are_whole : (w : World) (history : List JobRows) (commits : List Committed) (volumes : List Volume) → backups_of history commits volumes ≡ w → AreBackups history commits volumes → AreWhole w.volumes
+are_whole w history commits volumes same are = subst (λ (it : World). AreWhole it.volumes) same are.whole
+
+-- no jobs and no volumes
+pub no_backups : AreBackups [] [] []
+unfolding volume_bytes
+no_backups = record { each = refl; whole = λ name. ([], inl refl) }
+
+-- ---- stages
+
+-- what is at a place of a list with one element more
+pub stage_at : {X : Type 0} (xs : List X) (x : X) (n : ℕ) → (n ≡ length xs → ⊥) → slice_get (xs ++ x ∷ []) n ≡ slice_get xs n
+stage_at [] x zero apart = absurd (apart refl)
+stage_at [] x (suc n) apart = refl
+stage_at (y ∷ ys) x zero apart = refl
+stage_at (y ∷ ys) x (suc n) apart = stage_at ys x n (λ e. apart (ap suc e))
