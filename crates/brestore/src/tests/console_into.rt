@@ -116,7 +116,7 @@ fn spans(alloc: Global) -> Result<Vec<Span>, Fail> {
 }
 
 /// Returns the job that wrote the volume.
-fn rows(alloc: Global, second: &[u8]) -> Result<JobRows, Fail> {
+pub(super) fn rows(alloc: Global, second: &[u8]) -> Result<JobRows, Fail> {
     Ok(JobRows::new(job_row(alloc)?, file_rows(alloc, second)?, spans(alloc)?)?)
 }
 

@@ -1,7 +1,12 @@
-//! The command `extract`, from its options to the files in the folder.
+//! The commands `extract` and `console`, from their options to the files in the folder.
+use crate::console::restore_by_lines;
 use crate::extract::{CLEAN, extract_files};
+use crate::tests::console_into::rows;
 use crate::tests::into::{has, new_place, path_in};
-use br_command::ExtractOptions;
+use br_command::{ConsoleOptions, ExtractOptions};
+use br_store::Store;
+use sqlite::{Alter, Connection};
+use std::alloc::Global;
 use std::fs;
 use std::test::Fail;
 use std::thread::Threads;
@@ -46,6 +51,54 @@ fn extract_delivers_only_if_asked(rt: HostRuntime) -> Result<(), Fail> {
     assert!(rt; is_empty(&rt, into.as_str())?);
     assert_eq!(rt;
         extracted(&rt, &rt, place.as_str(), Some(into.as_str()))?,
+        CLEAN
+    );
+    assert!(rt; has_both(&rt, place.as_str())?);
+    fs::remove_dir_all(&rt, place.as_str())?;
+    Ok(())
+}
+
+/// Adds the job that wrote the volume.
+fn put_job<S: Alter>(alloc: Global, store: &mut Store<S>) -> Result<(), Fail> {
+    store.insert_job(&rows(alloc, b"/d/b")?)?;
+    Ok(())
+}
+
+/// Makes a catalogue of the job that wrote the volume.
+fn put_catalogue(rt: &HostRuntime, db: &str) -> Result<(), Fail> {
+    let mut store = Store::open(rt.alloc(), Connection::open(rt, db)?)?;
+    put_job(rt.alloc(), &mut store)
+}
+
+/// Marks all paths of a catalogue and restores them from a place. Returns the status of `console`.
+fn restored(
+    rt: &HostRuntime,
+    threads: &(impl Threads + Sync),
+    place: &str,
+    into: Option<&str>,
+) -> Result<u8, Fail> {
+    let db = path_in(rt, place, "one.db")?;
+    let volumes = path_in(rt, place, "volumes")?;
+    put_catalogue(rt, db.as_str())?;
+    let given = ConsoleOptions {
+        db: db.as_str(),
+        volumes: volumes.as_str(),
+        client: "mars",
+        fileset: "home",
+        before: "2100-01-01 00:00:00",
+        into,
+        drives: 2,
+    };
+    let mut lines = b"mark *\ndone\n".as_slice();
+    Ok(restore_by_lines(rt, threads, &given, &mut lines)?)
+}
+
+#[test]
+fn console_delivers_what_was_marked(rt: HostRuntime) -> Result<(), Fail> {
+    let place = new_place(&rt, "console", b"/d/b")?;
+    let into = path_in(&rt, place.as_str(), "into")?;
+    assert_eq!(rt;
+        restored(&rt, &rt, place.as_str(), Some(into.as_str()))?,
         CLEAN
     );
     assert!(rt; has_both(&rt, place.as_str())?);
