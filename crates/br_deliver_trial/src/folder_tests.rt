@@ -165,8 +165,12 @@ fn end_of(
 type End = (&'static str, Stop, Option<&'static str>);
 
 /// Returns how the first of the cases ended that ended otherwise.
-fn wrong_case(rt: &HostRuntime, threads: &(impl Threads + Sync)) -> Result<Option<End>, Fail> {
-    for case in CASES {
+fn wrong_case(
+    rt: &HostRuntime,
+    threads: &(impl Threads + Sync),
+    cases: &[Case],
+) -> Result<Option<End>, Fail> {
+    for case in cases {
         let (stop, wrong) = end_of(rt, threads, case)?;
         if stop != case.2 || wrong.is_some() {
             return Ok(Some((case.0, stop, wrong)));
@@ -177,7 +181,7 @@ fn wrong_case(rt: &HostRuntime, threads: &(impl Threads + Sync)) -> Result<Optio
 
 #[test]
 fn a_folder_has_the_files_before_a_stop_whole(rt: HostRuntime) -> Result<(), Fail> {
-    assert_eq!(rt; wrong_case(&rt, &rt)?, None);
+    assert_eq!(rt; wrong_case(&rt, &rt, CASES)?, None);
     Ok(())
 }
 

@@ -123,7 +123,9 @@ fn number_of(
 }
 
 /// Fragments, and the number and the stream of the fault that they make.
-const FAULTS: &[(&[Part<'static>], (u32, u32))] = &[
+type Faulty = (&'static [Part<'static>], (u32, u32));
+
+const FAULTS: &[Faulty] = &[
     // `hullo` with the digest of `hello`, and `hello` with two digests.
     (
         &[
@@ -212,8 +214,9 @@ const C_AT_4: Part<'static> = Part(6, 9, b"\0\0\0\0\0\0\0\x04c");
 fn wrong_fault(
     threads: &(impl Threads + Sync),
     alloc: Global,
+    faults: &[Faulty],
 ) -> Result<Option<(usize, (u32, u32))>, Fail> {
-    for (place, (parts, wanted)) in FAULTS.iter().enumerate() {
+    for (place, (parts, wanted)) in faults.iter().enumerate() {
         let got = number_of(threads, alloc, parts)?;
         if got != *wanted {
             return Ok(Some((place, got)));
@@ -234,7 +237,9 @@ const FILE_FRONT: &[u8] = b"1 3 /a\0";
 const FILE_BACK: &[u8] = b"A A IGk B A A A F A A A A A A\0\0";
 
 /// Fragments, and the data and the number of records passed over of the file that they make.
-const FILES: &[(&[Part<'static>], &[u8], u64)] = &[
+type Whole = (&'static [Part<'static>], &'static [u8], u64);
+
+const FILES: &[Whole] = &[
     (HELLO, b"hello", 0),
     (
         &[
@@ -302,8 +307,12 @@ fn makes(
 }
 
 /// Returns the place of the first fragments that make another file.
-fn wrong_file(threads: &(impl Threads + Sync), alloc: Global) -> Result<Option<usize>, Fail> {
-    for (place, (parts, data, skipped)) in FILES.iter().enumerate() {
+fn wrong_file(
+    threads: &(impl Threads + Sync),
+    alloc: Global,
+    files: &[Whole],
+) -> Result<Option<usize>, Fail> {
+    for (place, (parts, data, skipped)) in files.iter().enumerate() {
         if !makes(threads, alloc, parts, data, *skipped)? {
             return Ok(Some(place));
         }
@@ -313,8 +322,8 @@ fn wrong_file(threads: &(impl Threads + Sync), alloc: Global) -> Result<Option<u
 
 #[test]
 fn fragments_make_files_and_faults(rt: HostRuntime) -> Result<(), Fail> {
-    assert_eq!(rt; wrong_file(&rt, rt.alloc())?, None);
-    assert_eq!(rt; wrong_fault(&rt, rt.alloc())?, None);
+    assert_eq!(rt; wrong_file(&rt, rt.alloc(), FILES)?, None);
+    assert_eq!(rt; wrong_fault(&rt, rt.alloc(), FAULTS)?, None);
     Ok(())
 }
 

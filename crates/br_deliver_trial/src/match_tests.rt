@@ -100,8 +100,10 @@ fn found_in(alloc: Global, case: Case<'_>) -> Result<Result<Found, PieceFault>, 
     found_on(alloc, &bytes, case.2)
 }
 
-/// Cases, and the group, the address and the ordinal of each hit.
-const FOUND: &[(Case<'static>, &[(u32, u64, u32)])] = &[
+/// A case, and the group, the address and the ordinal of each hit.
+type Hits = (Case<'static>, &'static [(u32, u64, u32)]);
+
+const FOUND: &[Hits] = &[
     (
         (1, 91, b"Volume=V1\nFileIndex=1\n"),
         &[(0, 0, 0), (0, 0, 1)],
@@ -211,8 +213,8 @@ const FOUND: &[(Case<'static>, &[(u32, u64, u32)])] = &[
 ];
 
 /// Returns the first of the cases with another hit, and the place of that hit.
-fn wrong_found(alloc: Global) -> Result<Option<(usize, usize)>, Fail> {
-    for (row, (case, spots)) in FOUND.iter().enumerate() {
+fn wrong_found(alloc: Global, cases: &[Hits]) -> Result<Option<(usize, usize)>, Fail> {
+    for (row, (case, spots)) in cases.iter().enumerate() {
         let found = found_in(alloc, *case)??;
         if let Some(place) = first_wrong(&found, spots) {
             return Ok(Some((row, place)));
@@ -241,15 +243,17 @@ fn are_both(hits: &[Hit]) -> bool {
 
 #[test]
 fn hits_are_found(rt: HostRuntime) -> Result<(), Fail> {
-    assert_eq!(rt; wrong_found(rt.alloc())?, None);
+    assert_eq!(rt; wrong_found(rt.alloc(), FOUND)?, None);
     let found = found_on(rt.alloc(), BLOCK, b"Volume=V1\nFileIndex=1\n")??;
     assert_eq!(rt; found.piece, 0);
     assert!(rt; are_both(&found.hits));
     Ok(())
 }
 
-/// Cases, and the number and the address of the refusal.
-const REFUSED: &[(Case<'static>, (u32, u64))] = &[
+/// A case, and the number and the address of the refusal.
+type Refusal = (Case<'static>, (u32, u64));
+
+const REFUSED: &[Refusal] = &[
     ((2, 300, b"Volume=V1\nVolAddr=182\n"), (10, 182)),
     // Only one of the groups has addresses.
     ((2, 300, b"Volume=V1\nVolAddr=0\nVolume=V1\n"), (10, 182)),
@@ -265,8 +269,11 @@ const REFUSED: &[(Case<'static>, (u32, u64))] = &[
 ];
 
 /// Returns the first of the cases with another refusal, and that refusal.
-fn wrong_refusal(alloc: Global) -> Result<Option<(usize, Option<(u32, u64)>)>, Fail> {
-    for (row, (case, wanted)) in REFUSED.iter().enumerate() {
+fn wrong_refusal(
+    alloc: Global,
+    cases: &[Refusal],
+) -> Result<Option<(usize, Option<(u32, u64)>)>, Fail> {
+    for (row, (case, wanted)) in cases.iter().enumerate() {
         let got = refused(&found_in(alloc, *case)?);
         if got != Some(*wanted) {
             return Ok(Some((row, got)));
@@ -345,7 +352,7 @@ fn not_unknown(alloc: Global, texts: &[&[u8]]) -> Result<Option<usize>, Fail> {
 
 #[test]
 fn bad_volumes_are_refused(rt: HostRuntime) -> Result<(), Fail> {
-    assert_eq!(rt; wrong_refusal(rt.alloc())?, None);
+    assert_eq!(rt; wrong_refusal(rt.alloc(), REFUSED)?, None);
     assert_eq!(rt; not_refused(rt.alloc())?, 0);
     assert_eq!(rt; wrong_size(rt.alloc(), &SIZES)?, None);
     assert_eq!(rt; not_unknown(rt.alloc(), &UNKNOWN)?, None);
@@ -456,8 +463,10 @@ fn calls_in(alloc: Global, case: Case<'_>) -> Result<Option<u64>, Fail> {
     calls_of(alloc, &bytes, piece)
 }
 
-/// Cases, and the number of calls of the drive: only covered blocks are read.
-const CALLS: &[(Case<'static>, u64)] = &[
+/// A case, and the number of calls of the drive: only covered blocks are read.
+type Calls = (Case<'static>, u64);
+
+const CALLS: &[Calls] = &[
     ((1, 91, b"Volume=V1\n"), 3),
     ((2, 182, b"Volume=V1\n"), 5),
     ((2, 182, b"Volume=V1\nFileIndex=7\n"), 5),
@@ -468,8 +477,8 @@ const CALLS: &[(Case<'static>, u64)] = &[
 ];
 
 /// Returns the first of the cases with another number of calls, and that number.
-fn wrong_calls(alloc: Global) -> Result<Option<(usize, Option<u64>)>, Fail> {
-    for (row, (case, wanted)) in CALLS.iter().enumerate() {
+fn wrong_calls(alloc: Global, cases: &[Calls]) -> Result<Option<(usize, Option<u64>)>, Fail> {
+    for (row, (case, wanted)) in cases.iter().enumerate() {
         let got = calls_in(alloc, *case)?;
         if got != Some(*wanted) {
             return Ok(Some((row, got)));
@@ -491,7 +500,7 @@ fn refused_from(alloc: Global, k: u64) -> Result<Option<(u32, u64)>, Fail> {
 fn a_drive_is_called_for_covered_blocks_and_its_failure_has_an_address(
     rt: HostRuntime,
 ) -> Result<(), Fail> {
-    assert_eq!(rt; wrong_calls(rt.alloc())?, None);
+    assert_eq!(rt; wrong_calls(rt.alloc(), CALLS)?, None);
     assert_eq!(rt; refused_from(rt.alloc(), 1)?, Some((13, 0)));
     assert_eq!(rt; refused_from(rt.alloc(), 2)?, Some((13, 0)));
     assert_eq!(rt; refused_from(rt.alloc(), 3)?, Some((13, 91)));

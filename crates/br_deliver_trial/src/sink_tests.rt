@@ -90,7 +90,9 @@ fn delivered_at(
 
 /// The put at which a sink fails, if not 0, the paths of the files that are delivered into it, and
 /// what it gets of them.
-const DELIVERIES: &[(u64, &[&[u8]], Delivered)] = &[
+type Delivery = (u64, &'static [&'static [u8]], Delivered);
+
+const DELIVERIES: &[Delivery] = &[
     // A file on the way of another.
     (0, &[b"/a", b"/a/b"], (1, Some((81, 1)))),
     (0, &[b"/x", b"/a/b/c", b"/a"], (2, Some((81, 2)))),
@@ -110,8 +112,9 @@ const DELIVERIES: &[(u64, &[&[u8]], Delivered)] = &[
 fn wrong_delivery(
     rt: &HostRuntime,
     threads: &(impl Threads + Sync),
+    deliveries: &[Delivery],
 ) -> Result<Option<(usize, Delivered)>, Fail> {
-    for (place, (k, paths, wanted)) in DELIVERIES.iter().enumerate() {
+    for (place, (k, paths, wanted)) in deliveries.iter().enumerate() {
         let got = delivered_at(rt, threads, *k, paths)?;
         if got != *wanted {
             return Ok(Some((place, got)));
@@ -193,7 +196,7 @@ fn last_bytes(alloc: Global, items: &[Item]) -> Result<Vec<u8>, Fail> {
 
 #[test]
 fn a_delivery_stops_at_a_conflict_and_at_a_failure(rt: HostRuntime) -> Result<(), Fail> {
-    assert_eq!(rt; wrong_delivery(&rt, &rt)?, None);
+    assert_eq!(rt; wrong_delivery(&rt, &rt, DELIVERIES)?, None);
     let five = five(&rt)?;
     assert_eq!(rt; wrong_at_once(&rt, rt.alloc(), &five)?, None);
     Ok(())

@@ -100,9 +100,9 @@ fn choice(alloc: Global, jobs: &[Job], moment: u64) -> Result<String, Fail> {
 }
 
 /// Returns a line for each choice that is not the one wanted.
-fn wrong_choices(alloc: Global) -> Result<String, Fail> {
+fn wrong_choices(alloc: Global, choices: &[Choice]) -> Result<String, Fail> {
     let mut wrong = String::new(alloc);
-    for (case, jobs, moment, wanted) in CHOICES {
+    for (case, jobs, moment, wanted) in choices {
         let given = choice(alloc, jobs, *moment)?;
         compare(&mut wrong, case, &given, wanted)?;
     }
@@ -111,7 +111,7 @@ fn wrong_choices(alloc: Global) -> Result<String, Fail> {
 
 #[test]
 fn the_moment_the_start_and_the_status_decide(rt: HostRuntime) -> Result<(), Fail> {
-    assert_eq!(rt; wrong_choices(rt.alloc())?.as_str(), "");
+    assert_eq!(rt; wrong_choices(rt.alloc(), CHOICES)?.as_str(), "");
     Ok(())
 }
 
@@ -131,7 +131,9 @@ fn two_clients(alloc: Global) -> Result<History, Fail> {
 }
 
 /// A client, a file set, and what is chosen for them.
-const NAMES: &[(&str, &str, &str)] = &[
+type Named = (&'static str, &'static str, &'static str);
+
+const NAMES: &[Named] = &[
     ("mars", "home", "1 "),
     ("pluto", "home", "refused 53"),
     ("mars", "data", "refused 54"),
@@ -139,10 +141,10 @@ const NAMES: &[(&str, &str, &str)] = &[
 ];
 
 /// Returns a line for each client that does not get what is wanted.
-fn wrong_names(alloc: Global) -> Result<String, Fail> {
+fn wrong_names(alloc: Global, names: &[Named]) -> Result<String, Fail> {
     let history = two_clients(alloc)?;
     let mut wrong = String::new(alloc);
-    for (client, fileset, wanted) in NAMES {
+    for (client, fileset, wanted) in names {
         let given = chosen(alloc, &history, client, fileset, 101)?;
         compare(&mut wrong, client, &given, wanted)?;
     }
@@ -151,6 +153,6 @@ fn wrong_names(alloc: Global) -> Result<String, Fail> {
 
 #[test]
 fn names_are_known_or_refused(rt: HostRuntime) -> Result<(), Fail> {
-    assert_eq!(rt; wrong_names(rt.alloc())?.as_str(), "");
+    assert_eq!(rt; wrong_names(rt.alloc(), NAMES)?.as_str(), "");
     Ok(())
 }

@@ -99,7 +99,9 @@ fn made(alloc: Global, job: Job, saves: &[Save]) -> Result<Result<SavedJob, Save
 const LATEST: u64 = 253_402_300_799;
 
 /// The start of a job, the files that it saves, and the number of the refusal, 0 if it is made.
-const CASES: &[(u64, &[Save], u32)] = &[
+type Case = (u64, &'static [Save], u32);
+
+const CASES: &[Case] = &[
     (LATEST, &[FILE, FOLDER, LINK], 0),
     (0, &[], 0),
     (0, &[LINK, FILE], 16),
@@ -118,8 +120,8 @@ fn refusal(alloc: Global, start: u64, saves: &[Save]) -> Result<u32, Fail> {
 }
 
 /// Returns the place of the first case that is answered otherwise, and the answer.
-fn wrong_case(alloc: Global) -> Result<Option<(usize, u32)>, Fail> {
-    for (place, (start, saves, wanted)) in CASES.iter().enumerate() {
+fn wrong_case(alloc: Global, cases: &[Case]) -> Result<Option<(usize, u32)>, Fail> {
+    for (place, (start, saves, wanted)) in cases.iter().enumerate() {
         let number = refusal(alloc, *start, saves)?;
         if number != *wanted {
             return Ok(Some((place, number)));
@@ -130,7 +132,7 @@ fn wrong_case(alloc: Global) -> Result<Option<(usize, u32)>, Fail> {
 
 #[test]
 fn files_out_of_order_and_late_starts_are_refused(rt: HostRuntime) -> Result<(), Fail> {
-    assert_eq!(rt; wrong_case(rt.alloc())?, None);
+    assert_eq!(rt; wrong_case(rt.alloc(), CASES)?, None);
     Ok(())
 }
 

@@ -238,9 +238,9 @@ fn compare_calls(alloc: Global, wrong: &mut String, calls: &Calls) -> Result<(),
 }
 
 /// Returns a line for each call that does not return what is wanted.
-fn wrong_calls(alloc: Global) -> Result<String, Fail> {
+fn wrong_calls(alloc: Global, all: &[Calls]) -> Result<String, Fail> {
     let mut wrong = String::new(alloc);
-    for calls in CALLS {
+    for calls in all {
         compare_calls(alloc, &mut wrong, calls)?;
     }
     Ok(wrong)
@@ -248,7 +248,7 @@ fn wrong_calls(alloc: Global) -> Result<String, Fail> {
 
 #[test]
 fn marks_take_what_is_meant(rt: HostRuntime) -> Result<(), Fail> {
-    assert_eq!(rt; wrong_calls(rt.alloc())?.as_str(), "");
+    assert_eq!(rt; wrong_calls(rt.alloc(), CALLS)?.as_str(), "");
     Ok(())
 }
 
