@@ -189,7 +189,7 @@ const TRAPS: &[(&str, u64)] = &[
     ("/into/d/b", 3),
 ];
 
-/// Returns whether the link stays and stops the restore behind its first file.
+/// Returns whether the link stays and the restore stops after its first file.
 fn is_refused(
     rt: &HostRuntime,
     threads: &(impl Threads + Sync),
