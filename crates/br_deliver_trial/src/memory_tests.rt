@@ -177,9 +177,11 @@ impl ManyWriter for Trap {
     }
 }
 
-/// Paths at which a link is put, and the number of calls before it: at a folder and at a file that
-/// are to be made.
-const TRAPS: &[(&str, u64)] = &[
+/// The path at which a link is put, and the number of calls before it.
+type Planted = (&'static str, u64);
+
+/// At a folder and at a file that are to be made.
+const TRAPS: &[Planted] = &[
     ("/into/d", 0),
     ("/into/d", 1),
     ("/into/d", 2),
@@ -193,7 +195,7 @@ const TRAPS: &[(&str, u64)] = &[
 fn is_refused(
     rt: &HostRuntime,
     threads: &(impl Threads + Sync),
-    (path, calls): (&'static str, u64),
+    (path, calls): Planted,
 ) -> Result<bool, Fail> {
     let maker = MemMaker::new(rt.alloc());
     let (stop, mut trap) = put_small(rt, threads, Trap { maker, path, calls })?;
@@ -205,8 +207,9 @@ fn is_refused(
 fn first_passed(
     rt: &HostRuntime,
     threads: &(impl Threads + Sync),
-) -> Result<Option<(&'static str, u64)>, Fail> {
-    for trap in TRAPS {
+    traps: &[Planted],
+) -> Result<Option<Planted>, Fail> {
+    for trap in traps {
         if !is_refused(rt, threads, *trap)? {
             return Ok(Some(*trap));
         }
@@ -216,6 +219,6 @@ fn first_passed(
 
 #[test]
 fn a_link_between_two_calls(rt: HostRuntime) -> Result<(), Fail> {
-    assert_eq!(rt; first_passed(&rt, &rt)?, None);
+    assert_eq!(rt; first_passed(&rt, &rt, TRAPS)?, None);
     Ok(())
 }

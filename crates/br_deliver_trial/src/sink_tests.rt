@@ -140,11 +140,14 @@ fn outcome(rt: &HostRuntime, shape: Option<Shape<'_>>) -> Result<(FileKey, Outco
     }
 }
 
-/// Five outcomes, of which the third is a fault.
-fn five(rt: &HostRuntime) -> Result<Vec<(FileKey, Outcome)>, Fail> {
+/// Files of these shapes, and a fault where there is none.
+fn outcomes_of(
+    rt: &HostRuntime,
+    shapes: &[Option<Shape<'_>>],
+) -> Result<Vec<(FileKey, Outcome)>, Fail> {
     let mut all = Vec::new(rt.alloc());
-    for shape in FIVE {
-        all.push(outcome(rt, shape)?)?;
+    for shape in shapes {
+        all.push(outcome(rt, *shape)?)?;
     }
     Ok(all)
 }
@@ -178,11 +181,12 @@ fn wrong_at_once(
     threads: &(impl Threads + Sync),
     alloc: Global,
     outcomes: &[(FileKey, Outcome)],
+    ends: &[(u64, Delivered)],
 ) -> Result<Option<(u64, Delivered)>, Fail> {
-    for (k, wanted) in AT_ONCE {
-        let got = put_at_once(threads, alloc, outcomes, k)?;
-        if got != wanted {
-            return Ok(Some((k, got)));
+    for (k, wanted) in ends {
+        let got = put_at_once(threads, alloc, outcomes, *k)?;
+        if got != *wanted {
+            return Ok(Some((*k, got)));
         }
     }
     Ok(None)
@@ -197,8 +201,8 @@ fn last_bytes(alloc: Global, items: &[Item]) -> Result<Vec<u8>, Fail> {
 #[test]
 fn a_delivery_stops_at_a_conflict_and_at_a_failure(rt: HostRuntime) -> Result<(), Fail> {
     assert_eq!(rt; wrong_delivery(&rt, &rt, DELIVERIES)?, None);
-    let five = five(&rt)?;
-    assert_eq!(rt; wrong_at_once(&rt, rt.alloc(), &five)?, None);
+    let five = outcomes_of(&rt, &FIVE)?;
+    assert_eq!(rt; wrong_at_once(&rt, rt.alloc(), &five, &AT_ONCE)?, None);
     Ok(())
 }
 
@@ -214,7 +218,7 @@ fn report_of(
 
 #[test]
 fn faults_are_passed_over(rt: HostRuntime) -> Result<(), Fail> {
-    let five = five(&rt)?;
+    let five = outcomes_of(&rt, &FIVE)?;
     let mut sink = MemSink::new(rt.alloc());
     let wanted = Report {
         files: 4,

@@ -115,7 +115,8 @@ fn the_moment_the_start_and_the_status_decide(rt: HostRuntime) -> Result<(), Fai
     Ok(())
 }
 
-/// Returns a history of a Full of the client `mars` and the file set `home`, and of one of `venus` and `data` that failed.
+/// Returns a history of a Full of the client `mars` and the file set `home`, and of one of `venus`
+/// and `data` that failed.
 fn two_clients(alloc: Global) -> Result<History, Fail> {
     let mut history = history(alloc, &[(1, b'B', b'F', b'T', 100)])?;
     let session = SessionKey { id: 2, time: 7 };

@@ -9,7 +9,8 @@ use std::test::Fail;
 /// A span: volume, first and last index, first and last byte, number.
 type Visit = (&'static [u8], (u32, u32), (u64, u64), u32);
 
-/// Rows that are given: what they show, the start of the job, its files and its spans, and what becomes of them.
+/// Rows that are given: what they show, the start of the job, its files and its spans, and what
+/// becomes of them.
 type Given = (
     &'static str,
     u64,
@@ -453,7 +454,8 @@ fn wrong_pushes(alloc: Global, history: &mut History, pushes: &[Push]) -> Result
     Ok(wrong)
 }
 
-/// Returns the number of the job at a place and the number and time of its session, zeros if there is none.
+/// Returns the number of the job at a place and the number and time of its session, zeros if there
+/// is none.
 fn numbers_at(history: &History, place: usize) -> (u32, u32, u32) {
     match history.get(place) {
         Some(rows) => {
@@ -479,7 +481,8 @@ fn a_history_has_no_number_or_session_twice(rt: HostRuntime) -> Result<(), Fail>
     Ok(())
 }
 
-/// Adds jobs of sessions of their own, with the numbers from 1 to `count`. Returns if all are taken.
+/// Adds jobs of sessions of their own, with the numbers from 1 to `count`. Returns if all are
+/// taken.
 fn are_all_taken(alloc: Global, history: &mut History, count: u32) -> Result<bool, Fail> {
     for before in 0..count {
         let id = before + 1;

@@ -17,7 +17,8 @@ const FILES: &[File] = &[
     (b"/home/u/x", 4, EMPTY),
 ];
 
-/// Files, lines one after the other, each with its answer, and the paths that are marked after them.
+/// Files, lines one after the other, each with its answer, and the paths that are marked after
+/// them.
 type Dialogue = (
     &'static [File],
     &'static [(&'static str, &'static str)],
@@ -215,7 +216,8 @@ fn lines_are_answered(rt: HostRuntime) -> Result<(), Fail> {
     Ok(())
 }
 
-/// Returns the number of the refusal of a line that has `blanks` blanks before `pwd`, 0 if it is read.
+/// Returns the number of the refusal of a line that has `blanks` blanks before `pwd`, 0 if it is
+/// read.
 fn refusal_of_long(alloc: Global, blanks: usize) -> Result<u32, Fail> {
     let mut line = vec![in alloc; b' '; blanks]?;
     line.extend_from_slice(b"pwd")?;

@@ -5,7 +5,9 @@ use std::alloc::{AllocError, Global};
 use std::test::Fail;
 
 /// A pattern, a name, and whether it matches.
-const MATCHES: &[(&[u8], &[u8], bool)] = &[
+type Match = (&'static [u8], &'static [u8], bool);
+
+const MATCHES: &[Match] = &[
     (b"*", b"", true),
     (b"a*c", b"abcbc", true),
     (b"a*c", b"abcb", false),
@@ -14,8 +16,8 @@ const MATCHES: &[(&[u8], &[u8], bool)] = &[
 ];
 
 /// Returns the first pattern that matches and should not, or should and does not, with the name.
-fn wrong_match() -> Option<(&'static [u8], &'static [u8])> {
-    for (pattern, name, wanted) in MATCHES {
+fn wrong_match(cases: &[Match]) -> Option<(&'static [u8], &'static [u8])> {
+    for (pattern, name, wanted) in cases {
         if matches(pattern, name) != *wanted {
             return Some((pattern, name));
         }
@@ -42,7 +44,7 @@ fn many_stars_match(alloc: Global) -> Result<bool, AllocError> {
 
 #[test]
 fn stars_match_any_bytes(rt: HostRuntime) -> Result<(), Fail> {
-    assert_eq!(rt; wrong_match(), None);
+    assert_eq!(rt; wrong_match(MATCHES), None);
     assert_eq!(rt; many_stars_match(rt.alloc())?, false);
     assert_eq!(rt; bare_name(b"etc/"), b"etc".as_slice());
     Ok(())

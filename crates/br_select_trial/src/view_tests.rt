@@ -32,7 +32,8 @@ const BARE: Backup = ((9, b'B', b'I', b'T', 900), &[]);
 /// Another one.
 const BARER: Backup = ((8, b'B', b'I', b'T', 900), &[]);
 
-/// A view: what it shows, three jobs in the order in which they are named, and each path with its job and its index.
+/// A view: what it shows, three jobs in the order in which they are named, and each path with its
+/// job and its index.
 type Shown = (&'static str, &'static [Backup], &'static str);
 
 static SHOWN: &[Shown] = &[
@@ -155,7 +156,8 @@ fn the_last_job_and_the_greatest_index_count(rt: HostRuntime) -> Result<(), Fail
     Ok(())
 }
 
-/// A Full, an Incremental before the Differential, which deletes /a, and an Incremental that saves it again.
+/// A Full, an Incremental before the Differential, which deletes /a, and an Incremental that saves
+/// it again.
 const FOUR_JOBS: &[Backup] = &[
     TWO_FILES,
     ((2, b'B', b'I', b'T', 150), &[(b"/c", 1, SAVED)]),
@@ -172,7 +174,8 @@ const LINKED: &[Backup] = &[
     ),
 ];
 
-/// Jobs, a moment, and of the view of the jobs that are chosen its entries and what it has of /a, /b and /d.
+/// Jobs, a moment, and of the view of the jobs that are chosen its entries and what it has of /a, /b
+/// and /d.
 type Chosen = (&'static [Backup], u64, &'static str, &'static str);
 
 static CHOSEN: &[Chosen] = &[
