@@ -1,3 +1,6 @@
+ghost use Rattle.std.specs.Prelude.{◌≡◌, true};
+ghost use Rattle.br_pool.specs.Pool.{AreDrives};
+
 use crate::session_tests::{file_rows, job_row};
 use br_console::{ConsoleFault, ConsoleRun, End, JobSelection, Lines, run_console};
 use br_engine::{Outputs, RestoreEnd};
@@ -171,12 +174,33 @@ fn world_of(alloc: Global, case: &Case<'_>) -> Result<World, Fail> {
     })
 }
 
+/// Returns whether a console runs over this number of drives.
+fn are_drives(drives: &[MemDrive]) -> bool
+    ensures { result ≡ true → AreDrives drives.now }
+{
+    !drives.is_empty() && drives.len() <= 16
+}
+
+/// Runs the console over these drives.
+fn ran_over<W: Write + Drop>(
+    rt: &(impl Threads + Sync),
+    alloc: Global,
+    asked: &JobSelection<'_>,
+    drives: &mut Vec<MemDrive>,
+    mut lines: &[u8],
+    out: &mut Outputs<W, MemSink>,
+) -> Result<ConsoleRun, ConsoleFault>
+    requires { AreDrives drives.old.items }
+{
+    run_console(rt, alloc, asked, &mut lines, drives, out)
+}
+
 /// Runs the console on these lines.
 fn ran<W: Write + Drop>(
     rt: &(impl Threads + Sync),
     alloc: Global,
     world: &mut World,
-    mut lines: &[u8],
+    lines: &[u8],
     out: &mut Outputs<W, MemSink>,
 ) -> Result<ConsoleRun, ConsoleFault> {
     let World {
@@ -184,11 +208,11 @@ fn ran<W: Write + Drop>(
         request,
         drives,
     } = world;
-    if drives.is_empty() || drives.len() > 16 {
+    if !are_drives(drives) {
         return Err(ConsoleFault::Memory);
     }
     let asked = JobSelection { history, request };
-    run_console(rt, alloc, &asked, &mut lines, drives, out)
+    ran_over(rt, alloc, &asked, drives, lines, out)
 }
 
 /// Returns how a run ended, if it is one of the ends that cases expect.

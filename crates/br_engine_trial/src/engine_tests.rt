@@ -12,6 +12,7 @@ use br_volume::MemDrive;
 use std::alloc::Global;
 use std::io::{self, Error, ErrorKind, Read, Write};
 use std::test::Fail;
+use std::thread::Threads;
 
 /// A block of 91 bytes, with `hello` as file 1 of session 1, 100.
 const BLOCK: &[u8] = b"\0\0\0\0\0\0\0\x5b\0\0\0\0BB02\0\0\0\x01\0\0\0\x64\
@@ -95,12 +96,34 @@ fn with_sink(alloc: Global, sink: MemSink) -> Memory {
     }
 }
 
+/// Runs what a reader gives over two drives.
+fn extracted<R: Read + Drop, W: Write + Drop>(
+    rt: &HostRuntime,
+    threads: &(impl Threads + Sync),
+    text: &mut R,
+    out: &mut Outputs<W, MemSink>,
+) -> Result<Result<RestoreEnd, ExtractFault>, Fail> {
+    let mut drives = drives(rt)?;
+    Ok(run_extract(threads, rt.alloc(), text, &mut drives, out))
+}
+
+/// Runs a text over two drives.
+fn extracted_text<W: Write + Drop>(
+    rt: &HostRuntime,
+    threads: &(impl Threads + Sync),
+    text: &[u8],
+    out: &mut Outputs<W, MemSink>,
+) -> Result<Result<RestoreEnd, ExtractFault>, Fail> {
+    let mut drives = drives(rt)?;
+    Ok(extract_text(threads, rt.alloc(), text, &mut drives, out))
+}
+
 #[test]
 fn the_manifest_is_appended(rt: HostRuntime) -> Result<(), Fail> {
     let mut out = manifest_only(rt.alloc());
     out.writer.extend_from_slice(b"before\n")?;
     let mut text = b"Volume=V1\n".as_slice();
-    let end = run_extract(&rt, rt.alloc(), &mut text, &mut drives(&rt)?, &mut out)?;
+    let end = extracted(&rt, &rt, &mut text, &mut out)??;
     assert!(rt; matches!(end, RestoreEnd::AllFiles));
     let appended = out.writer.get(7..).ok_or("too short")?;
     assert_eq!(rt; appended, MANIFEST);
@@ -111,7 +134,7 @@ fn the_manifest_is_appended(rt: HostRuntime) -> Result<(), Fail> {
 fn an_outcome_without_a_file_is_a_fault(rt: HostRuntime) -> Result<(), Fail> {
     let mut out = manifest_only(rt.alloc());
     let text = b"Volume=V1\nStream=2\n";
-    let end = extract_text(&rt, rt.alloc(), text, &mut drives(&rt)?, &mut out)?;
+    let end = extracted_text(&rt, &rt, text, &mut out)??;
     assert!(rt; matches!(end, RestoreEnd::SomeFaults));
     assert_eq!(rt;
         out.writer.as_slice(),
@@ -147,7 +170,7 @@ fn the_files_are_delivered_after_the_manifest(rt: HostRuntime) -> Result<(), Fai
 fn a_delivery_stops_after_the_manifest(rt: HostRuntime) -> Result<(), Fail> {
     let mut text = b"Volume=V1\n".as_slice();
     let mut out = with_sink(rt.alloc(), MemSink::failing_at(rt.alloc(), 1));
-    let end = run_extract(&rt, rt.alloc(), &mut text, &mut drives(&rt)?, &mut out)?;
+    let end = extracted(&rt, &rt, &mut text, &mut out)??;
     let mut line = Vec::new(rt.alloc());
     end.push_line(&mut line)?;
     assert_eq!(rt; line.as_slice(), b"refused 80\n".as_slice());
@@ -259,7 +282,7 @@ fn a_bootstrap_is_read_to_its_end(rt: HostRuntime) -> Result<(), Fail> {
     let mut out = manifest_only(rt.alloc());
     let text = after_lines(rt.alloc(), 20_000)?;
     let mut drip = Drip { left: &text };
-    let end = run_extract(&rt, rt.alloc(), &mut drip, &mut drives(&rt)?, &mut out)?;
+    let end = extracted(&rt, &rt, &mut drip, &mut out)??;
     assert!(rt; matches!(end, RestoreEnd::AllFiles));
     assert_eq!(rt; out.writer.as_slice(), MANIFEST);
     Ok(())
@@ -269,7 +292,7 @@ fn a_bootstrap_is_read_to_its_end(rt: HostRuntime) -> Result<(), Fail> {
 fn reading_fails(rt: HostRuntime) -> Result<(), Fail> {
     let mut out = manifest_only(rt.alloc());
     let mut text = b"Volume=V1\n".as_slice().chain(Broken);
-    let run = run_extract(&rt, rt.alloc(), &mut text, &mut drives(&rt)?, &mut out);
+    let run = extracted(&rt, &rt, &mut text, &mut out)?;
     assert!(rt; matches!(&run, Err(ExtractFault::Io(_))));
     assert!(rt; out.writer.is_empty());
     Ok(())
@@ -281,7 +304,7 @@ fn writing_fails(rt: HostRuntime) -> Result<(), Fail> {
         writer: Broken,
         sink: Some(MemSink::new(rt.alloc())),
     };
-    let run = extract_text(&rt, rt.alloc(), b"Volume=V1\n", &mut drives(&rt)?, &mut out);
+    let run = extracted_text(&rt, &rt, b"Volume=V1\n", &mut out)?;
     assert!(rt; matches!(&run, Err(ExtractFault::Io(_))));
     Ok(())
 }
@@ -306,7 +329,7 @@ fn nothing_is_delivered_if_the_manifest_is_not_flushed(rt: HostRuntime) -> Resul
         writer: Clogged,
         sink: Some(MemSink::new(rt.alloc())),
     };
-    let run = extract_text(&rt, rt.alloc(), b"Volume=V1\n", &mut drives(&rt)?, &mut out);
+    let run = extracted_text(&rt, &rt, b"Volume=V1\n", &mut out)?;
     assert!(rt; matches!(&run, Err(ExtractFault::Io(_))));
     let sink = out.sink.as_ref().ok_or("a sink")?;
     assert!(rt; sink.items().is_empty());

@@ -1,4 +1,7 @@
 //! Sessions that were written are restored, whatever the order in which their pieces are read.
+ghost use Rattle.std.specs.Prelude.{◌≡◌, true, []};
+ghost use Rattle.br_session.specs.Outcome.{ArePlaces};
+
 use br_attr::Stat;
 use br_bsr::read_bootstrap;
 use br_engine::{Outputs, RestoreEnd, extract_text};
@@ -6,7 +9,7 @@ use br_folder_sink::FolderSink;
 use br_join::Joiner;
 use br_match::match_piece;
 use br_piece::{Piece, split};
-use br_session::{Place, SavedFile, write_session};
+use br_session::{Place, SavedFile, Written, write_session};
 use br_sink::manifest;
 use br_types::{Path, SessionKey, VolName};
 use br_volume::{MemDrive, MemStore, VolumeStore};
@@ -17,43 +20,98 @@ use std::test::Fail;
 use std::thread::Threads;
 use std::{env, fs, process};
 
-/// Writes a session of `message digest` under a path, in blocks of at most 64 bytes: one on the first
-/// volume, the others on the second.
-fn write(
-    alloc: Global,
-    store: &mut MemStore,
-    session: SessionKey,
-    path: &[u8],
-    volumes: [(&[u8], u64); 2],
-) -> Result<(), Fail> {
-    let file = SavedFile::new(
+/// Returns the file of `message digest` that is saved under a path.
+fn saved(alloc: Global, path: &[u8]) -> Result<SavedFile, Fail> {
+    Ok(SavedFile::new(
         Path::new(alloc, path)?,
         3,
         Stat::read(b"A A IGk B A A A O A A A A A A")?,
         Vec::new(alloc),
         Vec::from_slice(alloc, b"message digest")?,
         false,
-    )?;
-    let [(first, first_start), (last, last_start)] = volumes;
-    let places = [
-        Place {
-            vol: VolName::new(alloc, first)?,
-            blocks: 1,
-        },
-        Place {
-            vol: VolName::new(alloc, last)?,
-            blocks: 0,
-        },
-    ];
-    let starts = [
-        (VolName::new(alloc, first)?, first_start),
-        (VolName::new(alloc, last)?, last_start),
-    ];
-    let written = write_session(alloc, &[file], session, 64, &places, &starts)?;
-    for (vol, block) in &written.blocks {
+    )?)
+}
+
+/// Two volumes, each with the address at which it ends.
+type Ends<'v> = [(&'v [u8], u64); 2];
+
+fn place(alloc: Global, vol: &[u8], blocks: u32) -> Result<Place, Fail> {
+    Ok(Place {
+        vol: VolName::new(alloc, vol)?,
+        blocks,
+    })
+}
+
+/// Returns two places: one block goes to the first, the others to the second.
+fn places_of(alloc: Global, [first, last]: Ends<'_>) -> Result<[Place; 2], Fail> {
+    Ok([place(alloc, first.0, 1)?, place(alloc, last.0, 0)?])
+}
+
+/// Returns the ends with the names of the volumes.
+fn starts_of(alloc: Global, [first, last]: Ends<'_>) -> Result<[(VolName, u64); 2], Fail> {
+    Ok([
+        (VolName::new(alloc, first.0)?, first.1),
+        (VolName::new(alloc, last.0)?, last.1),
+    ])
+}
+
+/// Returns whether these are two places, of which the first takes a block.
+fn are_places(places: &[Place]) -> bool
+    ensures some { result ≡ true → places.now ≡ [] → ⊥ }
+    ensures are { result ≡ true → ArePlaces places.now }
+{
+    match places {
+        [first, _last] => first.blocks >= 1,
+        _ => false,
+    }
+}
+
+/// Makes a session of files in blocks of at most 64 bytes, at these places.
+fn session_of(
+    alloc: Global,
+    files: &[SavedFile],
+    session: SessionKey,
+    places: &[Place],
+    starts: &[(VolName, u64)],
+) -> Result<Written, Fail> {
+    if !are_places(places) {
+        return Err(Fail::new("other places"));
+    }
+    Ok(write_session(alloc, files, session, 64, places, starts)?)
+}
+
+/// Makes a session of files, one block of which goes to the first of two volumes.
+fn written(
+    alloc: Global,
+    files: &[SavedFile],
+    session: SessionKey,
+    ends: Ends<'_>,
+) -> Result<Written, Fail> {
+    let places = places_of(alloc, ends)?;
+    let starts = starts_of(alloc, ends)?;
+    session_of(alloc, files, session, &places, &starts)
+}
+
+/// Appends blocks to their volumes.
+fn append_all(store: &mut MemStore, blocks: &[(VolName, Vec<u8>)]) -> Result<(), Fail> {
+    for (vol, block) in blocks {
         store.append(vol, block)?;
     }
     Ok(())
+}
+
+/// Writes a session of `message digest` under a path: one block on the first volume, the others on
+/// the second.
+fn write(
+    alloc: Global,
+    store: &mut MemStore,
+    session: SessionKey,
+    path: &[u8],
+    ends: Ends<'_>,
+) -> Result<(), Fail> {
+    let file = saved(alloc, path)?;
+    let written = written(alloc, &[file], session, ends)?;
+    append_all(store, &written.blocks)
 }
 
 /// Returns a drive with the volumes A and B, over both of which each of two sessions goes.
