@@ -241,29 +241,53 @@ fn are_put(alloc: Global, items: &[Item], put: &[Put<'_>]) -> Result<bool, Fail>
     Ok(items.len() == put.len())
 }
 
-/// Returns if a run over this world returns and writes as expected.
+/// Runs the console on a case's lines, over a world of its own.
+fn ran_alone<W: Write + Drop>(
+    rt: &(impl Threads + Sync),
+    alloc: Global,
+    case: &Case<'_>,
+    out: &mut Outputs<W, MemSink>,
+) -> Result<Result<ConsoleRun, ConsoleFault>, Fail> {
+    let mut world = world_of(alloc, case)?;
+    Ok(ran(rt, alloc, &mut world, case.lines, out))
+}
+
+/// Returns if a run returned what is expected.
+fn is_expected(run: &ConsoleRun, case: &Case<'_>) -> bool {
+    run.lines == case.lines_are && end_of(run) == Some(case.end)
+}
+
+/// Returns if a run returns what is expected.
 fn is_told(
     rt: &(impl Threads + Sync),
     alloc: Global,
-    world: &mut World,
     case: &Case<'_>,
     out: &mut Outputs<Vec<u8>, MemSink>,
 ) -> Result<bool, Fail> {
-    let run = ran(rt, alloc, world, case.lines, out)?;
-    Ok(run.lines == case.lines_are && end_of(&run) == Some(case.end))
+    let run = ran_alone(rt, alloc, case, out)??;
+    Ok(is_expected(&run, case))
+}
+
+/// Returns if the text and the files in the sink are as expected.
+fn are_given(
+    alloc: Global,
+    out: &Outputs<Vec<u8>, MemSink>,
+    case: &Case<'_>,
+) -> Result<bool, Fail> {
+    let sink = out.sink.as_ref().ok_or("a sink")?;
+    let are_put = are_put(alloc, sink.items(), case.put)?;
+    Ok(are_put && out.writer.as_slice() == case.text)
 }
 
 /// Returns if a run is as expected, and its text and the files in its sink are.
 fn holds(rt: &(impl Threads + Sync), alloc: Global, case: &Case<'_>) -> Result<bool, Fail> {
-    let mut world = world_of(alloc, case)?;
     let mut out = Outputs {
         writer: Vec::new(alloc),
         sink: Some(MemSink::failing_at(alloc, case.fails_at)),
     };
-    let is_told = is_told(rt, alloc, &mut world, case, &mut out)?;
-    let is_written = out.writer.as_slice() == case.text;
-    let sink = out.sink.as_ref().ok_or("a sink")?;
-    Ok(are_put(alloc, sink.items(), case.put)? && is_told && is_written)
+    let is_told = is_told(rt, alloc, case, &mut out)?;
+    let are_given = are_given(alloc, &out, case)?;
+    Ok(is_told && are_given)
 }
 
 #[test]
@@ -304,12 +328,11 @@ fn put_with(
     alloc: Global,
     flushes: u32,
 ) -> Result<(bool, usize), Fail> {
-    let mut world = world_of(alloc, &DELIVERED)?;
     let mut out = Outputs {
         writer: Clogging(flushes),
         sink: Some(MemSink::new(alloc)),
     };
-    let run = ran(rt, alloc, &mut world, DELIVERED.lines, &mut out);
+    let run = ran_alone(rt, alloc, &DELIVERED, &mut out)?;
     let sink = out.sink.as_ref().ok_or("a sink")?;
     Ok((run.is_ok(), sink.items().len()))
 }

@@ -7,10 +7,11 @@ use br_join::Outcome;
 use br_match::{PieceCause, PieceFault};
 use br_pool::PoolFault;
 use br_sink::{Item, MemSink};
-use br_types::VolName;
+use br_types::{FileKey, VolName};
 use br_volume::MemDrive;
 use std::alloc::Global;
 use std::io::{self, Error, ErrorKind, Read, Write};
+use std::process::Abort;
 use std::test::Fail;
 use std::thread::Threads;
 
@@ -44,16 +45,18 @@ fn bootstrap(rt: &HostRuntime, text: &[u8]) -> Result<Bootstrap, Fail> {
     Ok(read_bootstrap(rt.alloc(), text)?)
 }
 
-#[test]
-fn a_file_is_restored(rt: HostRuntime) -> Result<(), Fail> {
-    let bootstrap = bootstrap(&rt, b"Volume=V1\nFileIndex=1\n")?;
-    let outcomes = restore(&rt, rt.alloc(), &bootstrap, None, &mut drives(&rt)?)?;
-    assert_eq!(rt; outcomes.len(), 1);
-    let (key, outcome) = &outcomes[0];
-    assert_eq!(rt;
-        (key.session.id, key.session.time, key.index.get()),
-        (1, 100, 1)
-    );
+/// Restores by a bootstrap over two drives.
+fn restored(
+    rt: &HostRuntime,
+    threads: &(impl Threads + Sync),
+    bootstrap: &Bootstrap,
+) -> Result<Result<Vec<(FileKey, Outcome)>, PoolFault>, Fail> {
+    let mut drives = drives(rt)?;
+    Ok(restore(threads, rt.alloc(), bootstrap, None, &mut drives))
+}
+
+/// Asserts that this is the file `/a` with the bytes `hello`.
+fn is_hello<R: Abort + AllocGlobal>(rt: &R, outcome: &Outcome) -> Result<(), Fail> {
     match outcome {
         Outcome::File(item) => {
             assert_eq!(rt; item.path.bytes(), b"/a".as_slice());
@@ -66,13 +69,30 @@ fn a_file_is_restored(rt: HostRuntime) -> Result<(), Fail> {
 }
 
 #[test]
+fn a_file_is_restored(rt: HostRuntime) -> Result<(), Fail> {
+    let bootstrap = bootstrap(&rt, b"Volume=V1\nFileIndex=1\n")?;
+    let outcomes = restored(&rt, &rt, &bootstrap)??;
+    assert_eq!(rt; outcomes.len(), 1);
+    let (key, outcome) = &outcomes[0];
+    assert_eq!(rt;
+        (key.session.id, key.session.time, key.index.get()),
+        (1, 100, 1)
+    );
+    is_hello(&rt, outcome)
+}
+
+/// Returns the line of a fault.
+fn line_of(alloc: Global, fault: &ExtractFault) -> Result<Vec<u8>, Fail> {
+    let mut line = Vec::new(alloc);
+    fault.push_line(&mut line)?;
+    Ok(line)
+}
+
+#[test]
 fn a_restore_stops_at_the_first_piece_that_is_refused(rt: HostRuntime) -> Result<(), Fail> {
     let bootstrap = bootstrap(&rt, b"Volume=V1\nVolume=Q\nVolume=P\n")?;
-    let fault = restore(&rt, rt.alloc(), &bootstrap, None, &mut drives(&rt)?)
-        .err()
-        .ok_or("a refusal")?;
-    let mut line = Vec::new(rt.alloc());
-    ExtractFault::Piece(fault).push_line(&mut line)?;
+    let fault = restored(&rt, &rt, &bootstrap)?.err().ok_or("a refusal")?;
+    let line = line_of(rt.alloc(), &ExtractFault::Piece(fault))?;
     assert_eq!(rt; line.as_slice(), b"refused 14 Q 0\n".as_slice());
     Ok(())
 }
@@ -154,11 +174,22 @@ fn are_hello(alloc: Global, items: &[Item]) -> Result<bool, Fail> {
     }
 }
 
+/// Restores by a bootstrap over two drives, into outputs.
+fn extracted_by(
+    rt: &HostRuntime,
+    threads: &(impl Threads + Sync),
+    bootstrap: &Bootstrap,
+    out: &mut Memory,
+) -> Result<RestoreEnd, Fail> {
+    let mut drives = drives(rt)?;
+    Ok(extract(threads, rt.alloc(), bootstrap, &mut drives, out)?)
+}
+
 #[test]
 fn the_files_are_delivered_after_the_manifest(rt: HostRuntime) -> Result<(), Fail> {
     let bootstrap = bootstrap(&rt, b"Volume=V1\n")?;
     let mut out = with_sink(rt.alloc(), MemSink::new(rt.alloc()));
-    let end = extract(&rt, rt.alloc(), &bootstrap, &mut drives(&rt)?, &mut out)?;
+    let end = extracted_by(&rt, &rt, &bootstrap, &mut out)?;
     assert!(rt; matches!(end, RestoreEnd::AllFiles));
     assert_eq!(rt; out.writer.as_slice(), MANIFEST);
     let sink = out.sink.as_ref().ok_or("a sink")?;
@@ -166,13 +197,19 @@ fn the_files_are_delivered_after_the_manifest(rt: HostRuntime) -> Result<(), Fai
     Ok(())
 }
 
+/// Returns the line of an end.
+fn end_line(alloc: Global, end: &RestoreEnd) -> Result<Vec<u8>, Fail> {
+    let mut line = Vec::new(alloc);
+    end.push_line(&mut line)?;
+    Ok(line)
+}
+
 #[test]
 fn a_delivery_stops_after_the_manifest(rt: HostRuntime) -> Result<(), Fail> {
     let mut text = b"Volume=V1\n".as_slice();
     let mut out = with_sink(rt.alloc(), MemSink::failing_at(rt.alloc(), 1));
     let end = extracted(&rt, &rt, &mut text, &mut out)??;
-    let mut line = Vec::new(rt.alloc());
-    end.push_line(&mut line)?;
+    let line = end_line(rt.alloc(), &end)?;
     assert_eq!(rt; line.as_slice(), b"refused 80\n".as_slice());
     assert_eq!(rt; out.writer.as_slice(), MANIFEST);
     Ok(())

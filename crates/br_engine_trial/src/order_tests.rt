@@ -10,11 +10,12 @@ use br_join::Joiner;
 use br_match::match_piece;
 use br_piece::{Piece, split};
 use br_session::{Place, SavedFile, Written, write_session};
-use br_sink::manifest;
+use br_sink::{Sink, manifest};
 use br_types::{Path, SessionKey, VolName};
 use br_volume::{MemDrive, MemStore, VolumeStore};
 use std::alloc::Global;
 use std::fs::File;
+use std::process::Abort;
 use std::rt::Files;
 use std::test::Fail;
 use std::thread::Threads;
@@ -124,6 +125,58 @@ fn drive(alloc: Global) -> Result<MemDrive, Fail> {
     Ok(MemDrive::new(store.into_volumes()))
 }
 
+/// Takes what a drive gives of a piece.
+fn take_piece(
+    alloc: Global,
+    joiner: &mut Joiner,
+    drive: &mut MemDrive,
+    piece: &Piece,
+) -> Result<(), Fail> {
+    let found = match_piece(alloc, piece, drive)?;
+    match joiner.take(found) {
+        Ok(()) => Ok(()),
+        Err(_) => Err(Fail::new("a refused piece")),
+    }
+}
+
+/// Takes what a drive gives of the pieces, in this order.
+fn take_all(
+    alloc: Global,
+    joiner: &mut Joiner,
+    drive: &mut MemDrive,
+    pieces: &[Piece],
+    order: &[usize],
+) -> Result<(), Fail> {
+    for place in order {
+        take_piece(alloc, joiner, drive, pieces.get(*place).ok_or("a piece")?)?;
+    }
+    Ok(())
+}
+
+/// Takes the pieces from a new drive, in this order.
+fn take_from_drive(
+    alloc: Global,
+    joiner: &mut Joiner,
+    pieces: &[Piece],
+    order: &[usize],
+) -> Result<(), Fail> {
+    let mut drive = drive(alloc)?;
+    take_all(alloc, joiner, &mut drive, pieces, order)
+}
+
+/// Returns the manifest of what was taken.
+fn manifest_of(
+    rt: &(impl Threads + Sync),
+    alloc: Global,
+    joiner: &mut Joiner,
+) -> Result<Vec<u8>, Fail> {
+    if !joiner.ready() {
+        return Err(Fail::new("an open piece"));
+    }
+    let outcomes = joiner.finish(rt)?;
+    Ok(manifest(alloc, &outcomes)?)
+}
+
 /// Returns the manifest of the pieces, taken in this order.
 fn restored(
     rt: &(impl Threads + Sync),
@@ -131,20 +184,9 @@ fn restored(
     pieces: &[Piece],
     order: &[usize],
 ) -> Result<Vec<u8>, Fail> {
-    let mut drive = drive(alloc)?;
     let mut joiner = Joiner::new(alloc, pieces, None)?;
-    for place in order {
-        let piece = pieces.get(*place).ok_or("a piece")?;
-        let found = match_piece(alloc, piece, &mut drive)?;
-        if joiner.take(found).is_err() {
-            return Err(Fail::new("a refused piece"));
-        }
-    }
-    if !joiner.ready() {
-        return Err(Fail::new("an open piece"));
-    }
-    let outcomes = joiner.finish(rt)?;
-    Ok(manifest(alloc, &outcomes)?)
+    take_from_drive(alloc, &mut joiner, pieces, order)?;
+    manifest_of(rt, alloc, &mut joiner)
 }
 
 const TEXT: &[u8] =
@@ -154,16 +196,43 @@ const MANIFEST: &[u8] =
     b"F 1 100 1 3 /a 0,0,33188,1,0,0,0,14,0,0,0,0,0,0 = 14 f96b697d7cb7938d525a2f31aaf161d0\n\
     F 2 200 1 3 /b 0,0,33188,1,0,0,0,14,0,0,0,0,0,0 = 14 f96b697d7cb7938d525a2f31aaf161d0\ntotal 2 0 0\n";
 
+/// Returns the pieces of both sessions.
+fn pieces(alloc: Global) -> Result<Vec<Piece>, Fail> {
+    let bootstrap = read_bootstrap(alloc, TEXT)?;
+    Ok(split(alloc, &bootstrap)?)
+}
+
+/// Asserts that the pieces are restored if they are taken in this order.
+fn are_restored<R: Abort + AllocGlobal + Threads + Sync>(
+    rt: &R,
+    pieces: &[Piece],
+    order: &[usize],
+) -> Result<(), Fail> {
+    let text = restored(rt, rt.alloc(), pieces, order)?;
+    assert_eq!(rt; text.as_slice(), MANIFEST);
+    Ok(())
+}
+
 #[test]
 fn pieces_are_taken_in_any_order(rt: HostRuntime) -> Result<(), Fail> {
-    let alloc = rt.alloc();
-    let bootstrap = read_bootstrap(alloc, TEXT)?;
-    let pieces = split(alloc, &bootstrap)?;
+    let pieces = pieces(rt.alloc())?;
     assert_eq!(rt; pieces.len(), 2);
-    let text = restored(&rt, alloc, &pieces, &[1, 0])?;
-    assert_eq!(rt; text.as_slice(), MANIFEST);
-    let text = restored(&rt, alloc, &pieces, &[0, 1, 0])?;
-    assert_eq!(rt; text.as_slice(), MANIFEST);
+    are_restored(&rt, &pieces, &[1, 0])?;
+    are_restored(&rt, &pieces, &[0, 1, 0])
+}
+
+/// Delivers the files of both sessions into a sink.
+fn deliver<S: Sink>(
+    rt: &(impl Threads + Sync),
+    alloc: Global,
+    out: &mut Outputs<Vec<u8>, S>,
+) -> Result<(), Fail> {
+    let mut drives = Vec::new(alloc);
+    drives.push(drive(alloc)?)?;
+    let end = extract_text(rt, alloc, TEXT, &mut drives, out)?;
+    if !matches!(end, RestoreEnd::AllFiles) {
+        return Err(Fail::new("not all files"));
+    }
     Ok(())
 }
 
@@ -173,17 +242,11 @@ fn delivered(
     folder: &str,
 ) -> Result<Vec<u8>, Fail> {
     fs::create_dir(rt, folder)?;
-    let sink = FolderSink::new(rt.alloc(), rt, folder)?;
-    let mut drives = Vec::new(rt.alloc());
-    drives.push(drive(rt.alloc())?)?;
     let mut out = Outputs {
         writer: Vec::new(rt.alloc()),
-        sink: Some(sink),
+        sink: Some(FolderSink::new(rt.alloc(), rt, folder)?),
     };
-    let end = extract_text(rt, rt.alloc(), TEXT, &mut drives, &mut out)?;
-    if !matches!(end, RestoreEnd::AllFiles) {
-        return Err(Fail::new("not all files"));
-    }
+    deliver(rt, rt.alloc(), &mut out)?;
     let Outputs { writer, .. } = out;
     Ok(writer)
 }
@@ -195,11 +258,16 @@ fn has_saved(rt: &HostRuntime, folder: &str, name: &str) -> Result<bool, Fail> {
     Ok(found.as_slice() == b"message digest".as_slice())
 }
 
+/// Returns the path of a folder that no other process makes.
+fn own_folder(rt: &HostRuntime) -> Result<String, Fail> {
+    let temporary = env::temp_dir(rt)?;
+    let id = process::id(rt.process());
+    Ok(format!(in rt.alloc(); "{}/br_engine_trial_saved_{id}", temporary.display())?)
+}
+
 #[test]
 fn what_was_saved_is_delivered_into_a_folder(rt: HostRuntime) -> Result<(), Fail> {
-    let temporary = env::temp_dir(&rt)?;
-    let id = process::id(rt.process());
-    let folder = format!(in rt.alloc(); "{}/br_engine_trial_saved_{id}", temporary.display())?;
+    let folder = own_folder(&rt)?;
     let written = delivered(&rt, folder.as_str())?;
     assert_eq!(rt; written.as_slice(), MANIFEST);
     assert!(rt; has_saved(&rt, folder.as_str(), "a")?);

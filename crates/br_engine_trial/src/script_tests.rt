@@ -455,13 +455,22 @@ fn long_script(alloc: Global, count: u32) -> Result<Vec<u8>, Fail> {
     Ok(script)
 }
 
-/// Each byte takes a turn of reading.
+/// Runs a script of which each byte takes a turn of reading.
+fn run_slowly(
+    rt: &(impl Threads + Sync),
+    alloc: Global,
+    script: &[u8],
+    written: &mut Vec<u8>,
+) -> Result<ScriptEnd, Fail> {
+    let mut reader = BufReader::with_capacity(alloc, 1, script)?;
+    Ok(run_script(rt, alloc, &mut reader, written)?)
+}
+
 #[test]
 fn a_script_may_have_thousands_of_lines(rt: HostRuntime) -> Result<(), Fail> {
     let script = long_script(rt.alloc(), 2000)?;
-    let mut reader = BufReader::with_capacity(rt.alloc(), 1, script.as_slice())?;
     let mut written = Vec::new(rt.alloc());
-    let end = run_script(&rt, rt.alloc(), &mut reader, &mut written)?;
+    let end = run_slowly(&rt, rt.alloc(), &script, &mut written)?;
     assert_eq!(rt; end, ScriptEnd::Refused);
     assert_eq!(rt; written.as_slice(), b"refused 90 line 4003\n".as_slice());
     Ok(())
@@ -495,13 +504,29 @@ fn error_of(run: io::Result<ScriptEnd>) -> Option<ErrorKind> {
     }
 }
 
+/// Returns a script that restores the block.
+fn sound_script(alloc: Global) -> Result<Vec<u8>, Fail> {
+    let digits = block(alloc, SOUND)?;
+    script_of(alloc, &digits, ALL_OF_V1)
+}
+
+/// Returns the kind of error that a run of a script ends with, if reading fails after it.
+fn unread(
+    rt: &(impl Threads + Sync),
+    alloc: Global,
+    script: &[u8],
+    written: &mut Vec<u8>,
+) -> Result<Option<ErrorKind>, Fail> {
+    let mut reader = BufReader::new(alloc, script.chain(Broken))?;
+    Ok(error_of(run_script(rt, alloc, &mut reader, written)))
+}
+
 #[test]
 fn a_reader_that_fails_ends_the_run(rt: HostRuntime) -> Result<(), Fail> {
-    let whole = script_of(rt.alloc(), &block(rt.alloc(), SOUND)?, ALL_OF_V1)?;
-    let mut reader = BufReader::new(rt.alloc(), whole.as_slice().chain(Broken))?;
+    let script = sound_script(rt.alloc())?;
     let mut written = Vec::new(rt.alloc());
-    let run = run_script(&rt, rt.alloc(), &mut reader, &mut written);
-    assert_eq!(rt; error_of(run), Some(ErrorKind::BrokenPipe));
+    let error = unread(&rt, rt.alloc(), &script, &mut written)?;
+    assert_eq!(rt; error, Some(ErrorKind::BrokenPipe));
     assert_eq!(rt; written.as_slice(), HELLO);
     Ok(())
 }

@@ -122,12 +122,21 @@ fn is_marked(alloc: Global, console: &Console<'_>, path: &[u8]) -> Result<bool, 
     Ok(is_the_one(&marked, path))
 }
 
-/// Returns if a session is as expected, and the marks after it are.
+/// Returns if a session with this console is as expected, and the marks after it are.
+fn holds_with(alloc: Global, console: &mut Console<'_>, case: &Case<'_>) -> Result<bool, Fail> {
+    let is_held = is_held(alloc, console, case)?;
+    Ok(is_held && is_marked(alloc, console, case.marked)?)
+}
+
+/// Returns if a session over this job is as expected, and the marks after it are.
+fn holds_over(alloc: Global, job: &JobRows, case: &Case<'_>) -> Result<bool, Fail> {
+    let mut console = Console::new(alloc, tree_of(alloc, job)?)?;
+    holds_with(alloc, &mut console, case)
+}
+
 fn holds(alloc: Global, case: &Case<'_>) -> Result<bool, Fail> {
     let job = full(alloc, case.shapes)?;
-    let mut console = Console::new(alloc, tree_of(alloc, &job)?)?;
-    let is_held = is_held(alloc, &mut console, case)?;
-    Ok(is_held && is_marked(alloc, &console, case.marked)?)
+    holds_over(alloc, &job, case)
 }
 
 /// Lines up to `done`, three of them refused.
@@ -185,12 +194,21 @@ const NO_LINES: Case<'static> = Case {
     marked: b"",
 };
 
+const SESSIONS: &[Case<'static>] = &[TO_DONE, LINES_AFTER, QUIT, NO_LINES];
+
+/// Returns the lines of the first session that is not as expected.
+fn first_wrong(alloc: Global, cases: &[Case<'static>]) -> Result<Option<&'static [u8]>, Fail> {
+    for case in cases {
+        if !holds(alloc, case)? {
+            return Ok(Some(case.lines));
+        }
+    }
+    Ok(None)
+}
+
 #[test]
 fn a_session_ends_at_done_at_quit_or_at_the_end_of_input(rt: HostRuntime) -> Result<(), Fail> {
-    assert!(rt; holds(rt.alloc(), &TO_DONE)?);
-    assert!(rt; holds(rt.alloc(), &LINES_AFTER)?);
-    assert!(rt; holds(rt.alloc(), &QUIT)?);
-    assert!(rt; holds(rt.alloc(), &NO_LINES)?);
+    assert_eq!(rt; first_wrong(rt.alloc(), SESSIONS)?, None);
     Ok(())
 }
 
