@@ -6,16 +6,24 @@ use std::alloc::{AllocError, Global};
 use std::test::Fail;
 use std::thread::join;
 
+/// Draws with a seat of the claims, which it stays.
+fn drawn_by(claims: &Claims, seat: &mut ClaimSeat) -> Option<u32>
+    requires { seat.old.claims ≡ claims.now.claims }
+    ensures { seat.new.claims ≡ seat.old.claims }
+{
+    claims.draw(seat)
+}
+
 #[test]
 fn two_seats_draw_in_turn(rt: HostRuntime) -> Result<(), Fail> {
     let mut claims = Claims::new(rt.alloc(), 3)?;
     let mut s = claims.seat()?;
     let mut t = claims.seat()?;
-    let first = claims.draw(&mut s);
-    let second = claims.draw(&mut t);
-    let third = claims.draw(&mut s);
-    let fourth = claims.draw(&mut t);
-    let fifth = claims.draw(&mut s);
+    let first = drawn_by(&claims, &mut s);
+    let second = drawn_by(&claims, &mut t);
+    let third = drawn_by(&claims, &mut s);
+    let fourth = drawn_by(&claims, &mut t);
+    let fifth = drawn_by(&claims, &mut s);
     let lists = gathered(rt.alloc(), claims, s, t)?;
     let drawn = [first, second, third, fourth, fifth];
     assert_eq!(rt; drawn, [Some(0), Some(1), Some(2), None, None]);
@@ -54,14 +62,23 @@ fn a_missing_seat_is_refused(rt: HostRuntime) -> Result<(), Fail> {
     Ok(())
 }
 
+/// Returns what the first draw of `n` numbers gives.
+fn first_of(alloc: Global, n: u32) -> Result<Option<u32>, Fail> {
+    let mut claims = Claims::new(alloc, n)?;
+    let mut seat = claims.seat()?;
+    Ok(claims.draw(&mut seat))
+}
+
+/// Returns the number of lists that claims of `n` numbers give without a seat.
+fn lists_of_no_seat(alloc: Global, n: u32) -> Result<usize, Fail> {
+    let claims = Claims::new(alloc, n)?;
+    Ok(claims.gather(Vec::new(alloc))?.len())
+}
+
 #[test]
 fn claims_of_nothing(rt: HostRuntime) -> Result<(), Fail> {
-    let mut claims = Claims::new(rt.alloc(), 0)?;
-    let mut s = claims.seat()?;
-    assert_eq!(rt; claims.draw(&mut s), None);
-    let unused = Claims::new(rt.alloc(), 5)?;
-    let none = unused.gather(Vec::new(rt.alloc()))?;
-    assert_eq!(rt; none.len(), 0);
+    assert_eq!(rt; first_of(rt.alloc(), 0)?, None);
+    assert_eq!(rt; lists_of_no_seat(rt.alloc(), 5)?, 0);
     Ok(())
 }
 
