@@ -339,15 +339,14 @@ fn lines_of(wish: Wish) -> &'static [u8] {
     }
 }
 
-/// Returns if a run for a wish has this answer, or is refused by this number, and writes this.
+/// Returns if a run for a wish is refused by this number, or restores if it is 0, and writes this.
 fn is_told(
     rt: &(impl Threads + Sync),
     alloc: Global,
     history: &History,
     drives: &mut Vec<MemDrive>,
     wish: Wish,
-    number: u32,
-    text: &str,
+    (number, text): (u32, &str),
 ) -> Result<bool, Fail> {
     let asked: Asked<'_> = (wish.client, "f", wish.moment);
     let told = tell(rt, alloc, history, drives, asked, lines_of(wish))?;
@@ -364,7 +363,8 @@ fn is_granted(
 ) -> Result<bool, Fail> {
     let mut text = String::new(alloc);
     let number = expected(alloc, &mut text, drawn.jobs, wish)?;
-    is_told(rt, alloc, drawn.history, drives, wish, number, &text)
+    let wanted = (number, text.as_str());
+    is_told(rt, alloc, drawn.history, drives, wish, wanted)
 }
 
 /// Returns if all files of a client, and those below `/l/` alone, are restored as expected before a moment.

@@ -1,5 +1,5 @@
 //! Jobs for the tests of whole restores: the files that they save, the volumes that they write, and their rows.
-ghost use Rattle.std.specs.Prelude.{◌≡◌, true, [], length, IfOk};
+ghost use Rattle.std.specs.Prelude.{◌≡◌, ◌<◌, ◌≤◌, true, [], length, IfOk};
 ghost use Rattle.br_session.specs.Outcome.{ArePlaces};
 
 use br_attr::Stat;
@@ -331,6 +331,27 @@ pub(crate) fn drives_over(
     Ok(drives)
 }
 
+/// Returns whether a console runs over this number of drives.
+fn are_drives(drives: &[MemDrive]) -> bool
+    ensures { result ≡ true → (0 < length drives.now) × (length drives.now ≤ 16) }
+{
+    !drives.is_empty() && drives.len() <= 16
+}
+
+/// Runs the console on lines. Returns what it returned, or the number of its refusal.
+fn console_result(
+    rt: &(impl Threads + Sync),
+    alloc: Global,
+    asked: &JobSelection<'_>,
+    drives: &mut Vec<MemDrive>,
+    lines: &mut &[u8],
+    out: &mut Outputs<Vec<u8>, MemSink>,
+) -> Result<Returned, u32>
+    requires { (0 < length drives.old.items) × (length drives.old.items ≤ 16) }
+{
+    result_of(run_console(rt, alloc, asked, lines, drives, out))
+}
+
 /// Runs the console on these lines for a request.
 fn ran<'a>(
     rt: &(impl Threads + Sync),
@@ -340,7 +361,7 @@ fn ran<'a>(
     request: &Request,
     lines: &'a [u8],
 ) -> Result<Told<'a>, Fail> {
-    if drives.is_empty() || drives.len() > 16 {
+    if !are_drives(drives) {
         return Err(Fail::new("1 to 16 drives"));
     }
     let mut left = lines;
@@ -349,10 +370,10 @@ fn ran<'a>(
         sink: None::<MemSink>,
     };
     let asked = JobSelection { history, request };
-    let run = run_console(rt, alloc, &asked, &mut left, drives, &mut out);
+    let run = console_result(rt, alloc, &asked, drives, &mut left, &mut out);
     let Outputs { writer, .. } = out;
     Ok(Told {
-        run: result_of(run),
+        run,
         text: writer,
         left,
     })
