@@ -4,8 +4,9 @@ use crate::test_data::{
     store_session, tell,
 };
 use br_console::Lines;
-use br_engine::{Outputs, extract_text};
-use br_history::History;
+use br_engine::{ExtractFault, Outputs, RestoreEnd, extract_text};
+use br_history::{History, JobRows};
+use br_session::Span;
 use br_sink::MemSink;
 use br_types::{SessionKey, VolName};
 use br_volume::{MemDrive, MemStore, VolumeStore};
@@ -27,45 +28,61 @@ fn empty(alloc: Global) -> World {
     }
 }
 
-/// A good backup of this number, level and start, which is its session's time too.
-fn shape(id: u32, level: u8, start: u32, limit: u32) -> Shape<'static> {
+/// A job that saves files.
+#[derive(Clone, Copy)]
+pub(crate) struct SaveJob {
+    id: u32,
+    level: u8,
+    /// Its start, which is its session's time too.
+    start: u32,
+    /// The limit of its blocks.
+    limit: u32,
+    files: &'static [Given<'static>],
+    /// The paths that it notes as deleted.
+    deleted: &'static [&'static str],
+    visits: Visits<'static>,
+}
+
+/// Returns the row of a good backup.
+fn shape(job: &SaveJob) -> Shape<'static> {
     Shape {
-        id,
+        id: job.id,
         kind: b'B',
-        level,
+        level: job.level,
         status: b'T',
-        start: u64::from(start),
-        session: SessionKey { id, time: start },
+        start: u64::from(job.start),
+        session: SessionKey {
+            id: job.id,
+            time: job.start,
+        },
         client: "c",
         fileset: "f",
-        limit,
+        limit: job.limit,
     }
 }
 
-/// Saves the files onto the volumes, and notes the job.
-fn commit(
-    alloc: Global,
-    world: &mut World,
-    shape: &Shape<'_>,
-    files: &[Given<'_>],
-    deleted: &[&str],
-    visits: Visits<'_>,
-) -> Result<(), Fail> {
-    let rows = save(alloc, &mut world.store, shape, files, deleted, visits)?;
+/// Saves a job's files onto the volumes, and notes the job.
+fn commit(alloc: Global, world: &mut World, job: &SaveJob) -> Result<(), Fail> {
+    let store = &mut world.store;
+    let rows = save(
+        alloc,
+        store,
+        &shape(job),
+        job.files,
+        job.deleted,
+        job.visits,
+    )?;
     world.history.push(rows)?;
     Ok(())
 }
 
-/// A regular file without a digest.
-fn file(path: &'static str, numbers: &'static str, bytes: &'static str) -> Given<'static> {
-    Given {
-        path,
-        kind: 3,
-        numbers,
-        link: "",
-        bytes,
-        digest: false,
+/// Returns the volumes that these jobs wrote, and their history.
+pub(crate) fn world_of(alloc: Global, jobs: &[SaveJob]) -> Result<World, Fail> {
+    let mut world = empty(alloc);
+    for job in jobs {
+        commit(alloc, &mut world, job)?;
     }
+    Ok(world)
 }
 
 /// Numbers of files of 1, 3 and 14 bytes.
@@ -74,6 +91,27 @@ const SIZE_1: &str = "A A IGk B A A A B A A A A A A";
 const SIZE_3: &str = "A A IGk B A A A D A A A A A A";
 
 const SIZE_14: &str = "A A IGk B A A A O A A A A A A";
+
+/// A regular file without a digest.
+const FILE: Given<'static> = Given {
+    path: "/a",
+    kind: 3,
+    numbers: SIZE_1,
+    link: "",
+    bytes: "a",
+    digest: false,
+};
+
+/// A Full of no files.
+const FULL: SaveJob = SaveJob {
+    id: 1,
+    level: b'F',
+    start: 100,
+    limit: 64_512,
+    files: &[],
+    deleted: &[],
+    visits: &[("V", 0)],
+};
 
 /// What is asked of a run, said to it, and expected of it.
 #[derive(Clone, Copy)]
@@ -100,41 +138,70 @@ pub(crate) fn runs(
     Ok(told.run == case.run && is_written && told.left == case.left)
 }
 
-/// Returns if a run is as expected.
+/// Returns if a run over three drives of these volumes is as expected.
+pub(crate) fn runs_over(
+    rt: &(impl Threads + Sync),
+    alloc: Global,
+    history: &History,
+    store: MemStore,
+    case: &Case,
+) -> Result<bool, Fail> {
+    let mut drives = drives_over(alloc, store.into_volumes())?;
+    runs(rt, alloc, history, &mut drives, case)
+}
+
+/// Returns if a run over what these jobs wrote is as expected.
 fn holds(
     rt: &(impl Threads + Sync),
     alloc: Global,
-    world: World,
+    jobs: &[SaveJob],
     case: &Case,
 ) -> Result<bool, Fail> {
-    let World { store, history } = world;
-    let mut drives = drives_over(alloc, store.into_volumes())?;
-    runs(rt, alloc, &history, &mut drives, case)
+    let World { store, history } = world_of(alloc, jobs)?;
+    runs_over(rt, alloc, &history, store, case)
+}
+
+/// Returns what is asked of the first run that is not as expected, and its lines.
+fn first_wrong(
+    rt: &(impl Threads + Sync),
+    alloc: Global,
+    cases: &[(&'static [SaveJob], Case)],
+) -> Result<Option<(Asked<'static>, &'static [u8])>, Fail> {
+    for (jobs, case) in cases {
+        if !holds(rt, alloc, jobs, case)? {
+            return Ok(Some((case.asked, case.lines)));
+        }
+    }
+    Ok(None)
 }
 
 /// A Full and an Incremental of a file each, in blocks of 64 bytes that both go over two volumes.
-pub(crate) fn two_jobs(alloc: Global) -> Result<World, Fail> {
-    let mut world = empty(alloc);
-    let files = [file("/a", SIZE_14, "message digest")];
-    commit(
-        alloc,
-        &mut world,
-        &shape(1, b'F', 100, 64),
-        &files,
-        &[],
-        &[("A", 1), ("B", 0)],
-    )?;
-    let files = [file("/b", SIZE_14, "message digest")];
-    commit(
-        alloc,
-        &mut world,
-        &shape(2, b'I', 200, 64),
-        &files,
-        &[],
-        &[("B", 1), ("A", 0)],
-    )?;
-    Ok(world)
-}
+pub(crate) const TWO: &[SaveJob] = &[
+    SaveJob {
+        limit: 64,
+        files: &[Given {
+            numbers: SIZE_14,
+            bytes: "message digest",
+            ..FILE
+        }],
+        visits: &[("A", 1), ("B", 0)],
+        ..FULL
+    },
+    SaveJob {
+        id: 2,
+        level: b'I',
+        start: 200,
+        limit: 64,
+        files: &[Given {
+            path: "/b",
+            numbers: SIZE_14,
+            bytes: "message digest",
+            ..FILE
+        }],
+        deleted: &[],
+        visits: &[("B", 1), ("A", 0)],
+    },
+];
 
 /// Client, file set and moment at which both jobs count.
 const BOTH: Asked<'static> = ("c", "f", 250);
@@ -154,57 +221,76 @@ F 2 200 1 3 /b 0,0,33188,1,0,0,0,14,0,0,0,0,0,0 = 14 f96b697d7cb7938d525a2f31aaf
 total 2 0 0\n",
 };
 
-/// Returns if a run over two jobs is as expected.
-fn holds_of_two(rt: &(impl Threads + Sync), alloc: Global, case: &Case) -> Result<bool, Fail> {
-    holds(rt, alloc, two_jobs(alloc)?, case)
-}
+/// A third job over both volumes.
+const THIRD: SaveJob = SaveJob {
+    id: 3,
+    level: b'I',
+    start: 300,
+    limit: 64,
+    files: &[Given {
+        path: "/c",
+        numbers: SIZE_14,
+        bytes: "message digest",
+        ..FILE
+    }],
+    visits: &[("A", 1), ("B", 0)],
+    ..FULL
+};
 
 /// Appends a spoilt block to both volumes, and a sound one of a third session after it.
-fn spoil(alloc: Global, world: &mut World) -> Result<(), Fail> {
+fn spoil(alloc: Global, store: &mut MemStore) -> Result<(), Fail> {
     let spoilt = [b'x'; 40];
-    world.store.append(&VolName::new(alloc, b"A")?, &spoilt)?;
-    world.store.append(&VolName::new(alloc, b"B")?, &spoilt)?;
-    let files = [file("/c", SIZE_14, "message digest")];
-    store_session(
-        alloc,
-        &mut world.store,
-        &shape(3, b'I', 300, 64),
-        &files,
-        &[("A", 1), ("B", 0)],
-    )?;
+    store.append(&VolName::new(alloc, b"A")?, &spoilt)?;
+    store.append(&VolName::new(alloc, b"B")?, &spoilt)?;
+    store_session(alloc, store, &shape(&THIRD), THIRD.files, THIRD.visits)?;
     Ok(())
 }
 
 /// Makes two jobs, and spoilt blocks after theirs.
 fn two_spoilt_jobs(alloc: Global) -> Result<World, Fail> {
-    let mut world = two_jobs(alloc)?;
-    spoil(alloc, &mut world)?;
+    let mut world = world_of(alloc, TWO)?;
+    spoil(alloc, &mut world.store)?;
     Ok(world)
 }
 
 /// Returns if what follows the planned bytes is not read.
 fn spoilt_blocks_are_not_read(rt: &(impl Threads + Sync), alloc: Global) -> Result<bool, Fail> {
-    holds(rt, alloc, two_spoilt_jobs(alloc)?, &TWO_JOBS)
+    let World { store, history } = two_spoilt_jobs(alloc)?;
+    runs_over(rt, alloc, &history, store, &TWO_JOBS)
 }
 
-/// Returns the number of the refusal of reading the spoilt volumes whole.
+/// Returns the number of a refusal, 0 if there is none.
+fn number_of(run: Result<RestoreEnd, ExtractFault>) -> u32 {
+    match run {
+        Ok(_) => 0,
+        Err(fault) => fault.number().unwrap_or(0),
+    }
+}
+
+/// Returns the number of the refusal of a volume that is read whole, 0 if it is read.
+fn refusal_of_a(
+    rt: &(impl Threads + Sync),
+    alloc: Global,
+    out: &mut Outputs<Vec<u8>, MemSink>,
+    volumes: Vec<(VolName, Vec<u8>)>,
+) -> Result<u32, Fail> {
+    let mut drives = drives_over(alloc, volumes)?;
+    Ok(number_of(extract_text(rt, alloc, b"Volume=A\n", &mut drives, out)))
+}
+
+/// Returns the number of the refusal of reading a spoilt volume whole.
 fn refusal_of_all(rt: &(impl Threads + Sync), alloc: Global) -> Result<u32, Fail> {
-    let world = two_spoilt_jobs(alloc)?;
-    let mut drives = drives_over(alloc, world.store.into_volumes())?;
+    let World { store, .. } = two_spoilt_jobs(alloc)?;
     let mut out = Outputs {
         writer: Vec::new(alloc),
         sink: None::<MemSink>,
     };
-    let run = extract_text(rt, alloc, b"Volume=A\n", &mut drives, &mut out);
-    match run {
-        Ok(_) => Ok(0),
-        Err(fault) => Ok(fault.number().unwrap_or(0)),
-    }
+    refusal_of_a(rt, alloc, &mut out, store.into_volumes())
 }
 
 #[test]
 fn the_planned_bytes_alone_of_two_volumes_are_read(rt: HostRuntime) -> Result<(), Fail> {
-    assert!(rt; holds_of_two(&rt, rt.alloc(), &TWO_JOBS)?);
+    assert!(rt; holds(&rt, rt.alloc(), TWO, &TWO_JOBS)?);
     assert!(rt; spoilt_blocks_are_not_read(&rt, rt.alloc())?);
     assert_eq!(rt; refusal_of_all(&rt, rt.alloc())?, 10);
     Ok(())
@@ -231,30 +317,38 @@ const ENDED: Case = Case {
     ..TWO_JOBS
 };
 
-/// Returns if a request is refused by this number with nothing read and nothing written.
-fn is_refused(
-    rt: &(impl Threads + Sync),
-    alloc: Global,
-    asked: Asked<'static>,
-    number: u32,
-) -> Result<bool, Fail> {
-    let case = Case {
-        asked,
-        lines: b"mark *\ndone\n",
-        left: b"mark *\ndone\n",
-        run: Err(number),
-        text: b"",
-    };
-    holds_of_two(rt, alloc, &case)
-}
+/// A request that is refused with nothing read and nothing written.
+const REFUSED: Case = Case {
+    asked: ("d", "f", 250),
+    lines: b"mark *\ndone\n",
+    left: b"mark *\ndone\n",
+    run: Err(53),
+    text: b"",
+};
+
+const OTHER_FILES: Case = Case {
+    asked: ("c", "g", 250),
+    run: Err(54),
+    ..REFUSED
+};
+
+const TOO_EARLY: Case = Case {
+    asked: ("c", "f", 100),
+    run: Err(50),
+    ..REFUSED
+};
+
+const UNRESTORED_RUNS: &[(&[SaveJob], Case)] = &[
+    (TWO, QUIT),
+    (TWO, ENDED),
+    (TWO, REFUSED),
+    (TWO, OTHER_FILES),
+    (TWO, TOO_EARLY),
+];
 
 #[test]
 fn nothing_is_restored_without_done_or_without_jobs(rt: HostRuntime) -> Result<(), Fail> {
-    assert!(rt; holds_of_two(&rt, rt.alloc(), &QUIT)?);
-    assert!(rt; holds_of_two(&rt, rt.alloc(), &ENDED)?);
-    assert!(rt; is_refused(&rt, rt.alloc(), ("d", "f", 250), 53)?);
-    assert!(rt; is_refused(&rt, rt.alloc(), ("c", "g", 250), 54)?);
-    assert!(rt; is_refused(&rt, rt.alloc(), ("c", "f", 100), 50)?);
+    assert_eq!(rt; first_wrong(&rt, rt.alloc(), UNRESTORED_RUNS)?, None);
     Ok(())
 }
 
@@ -276,67 +370,49 @@ const FAILED: Case = Case {
 
 /// Returns if a run without volumes is refused after the bootstrap.
 fn runs_without_volumes(rt: &(impl Threads + Sync), alloc: Global) -> Result<bool, Fail> {
-    let World { history, .. } = two_jobs(alloc)?;
-    let mut drives = drives_over(alloc, Vec::new(alloc))?;
-    runs(rt, alloc, &history, &mut drives, &NO_VOLUMES)
+    let World { history, .. } = world_of(alloc, TWO)?;
+    runs_over(rt, alloc, &history, MemStore::new(alloc), &NO_VOLUMES)
+}
+
+/// Returns one drive over these volumes that fails at its third call.
+fn failing(alloc: Global, store: MemStore) -> Result<Vec<MemDrive>, Fail> {
+    let mut drives = Vec::new(alloc);
+    drives.push(MemDrive::failing_from(store.into_volumes(), 3))?;
+    Ok(drives)
 }
 
 /// Returns if a run with a drive that fails at its third call is refused after the bootstrap.
 fn runs_with_a_failing_drive(rt: &(impl Threads + Sync), alloc: Global) -> Result<bool, Fail> {
-    let World { store, history } = two_jobs(alloc)?;
-    let mut drives = Vec::new(alloc);
-    drives.push(MemDrive::failing_from(store.into_volumes(), 3))?;
+    let World { store, history } = world_of(alloc, TWO)?;
+    let mut drives = failing(alloc, store)?;
     runs(rt, alloc, &history, &mut drives, &FAILED)
 }
 
 /// A Full with `/a` and `/b`, an Incremental that notes `/a` as deleted, and one that has `/a` again.
-fn three_jobs(alloc: Global) -> Result<World, Fail> {
-    let mut world = empty(alloc);
-    let files = [file("/a", SIZE_1, "a"), file("/b", SIZE_1, "a")];
-    commit(
-        alloc,
-        &mut world,
-        &shape(1, b'F', 100, 64_512),
-        &files,
-        &[],
-        &[("V", 0)],
-    )?;
-    commit(
-        alloc,
-        &mut world,
-        &shape(2, b'I', 200, 64_512),
-        &[],
-        &["/a"],
-        &[("V", 0)],
-    )?;
-    let files = [file("/a", SIZE_3, "abc")];
-    commit(
-        alloc,
-        &mut world,
-        &shape(3, b'I', 300, 64_512),
-        &files,
-        &[],
-        &[("V", 0)],
-    )?;
-    Ok(world)
-}
-
-/// Returns if all of the three jobs before a moment are restored so.
-fn are_restored(
-    rt: &(impl Threads + Sync),
-    alloc: Global,
-    moment: u64,
-    text: &'static [u8],
-) -> Result<bool, Fail> {
-    let case = Case {
-        asked: ("c", "f", moment),
-        lines: b"find *\nmark *\ndone\n",
-        left: b"",
-        run: Ok(RESTORED),
-        text,
-    };
-    holds(rt, alloc, three_jobs(alloc)?, &case)
-}
+const THREE: &[SaveJob] = &[
+    SaveJob {
+        files: &[FILE, Given { path: "/b", ..FILE }],
+        ..FULL
+    },
+    SaveJob {
+        id: 2,
+        level: b'I',
+        start: 200,
+        deleted: &["/a"],
+        ..FULL
+    },
+    SaveJob {
+        id: 3,
+        level: b'I',
+        start: 300,
+        files: &[Given {
+            numbers: SIZE_3,
+            bytes: "abc",
+            ..FILE
+        }],
+        ..FULL
+    },
+];
 
 const BEFORE_DELETION: &[u8] = b" /a\n /b\n2 marked\n\
 Volume=\"V\"\nVolSessionId=1\nVolSessionTime=100\nVolAddr=0-149\nFileIndex=1-2\n\
@@ -356,36 +432,58 @@ F 1 100 2 3 /b 0,0,33188,1,0,0,0,1,0,0,0,0,0,0 = 1 0cc175b9c0f1b6a831c399e269772
 F 3 300 1 3 /a 0,0,33188,1,0,0,0,3,0,0,0,0,0,0 = 3 900150983cd24fb0d6963f7d28e17f72\n\
 total 2 0 0\n";
 
+const SINCE_THE_FULL: Case = Case {
+    asked: ("c", "f", 200),
+    lines: b"find *\nmark *\ndone\n",
+    left: b"",
+    run: Ok(RESTORED),
+    text: BEFORE_DELETION,
+};
+
+const SINCE_THE_DELETION: Case = Case {
+    asked: ("c", "f", 250),
+    text: DELETED,
+    ..SINCE_THE_FULL
+};
+
+const AT_LAST: Case = Case {
+    asked: ("c", "f", 301),
+    text: SAVED_AGAIN,
+    ..SINCE_THE_FULL
+};
+
+const NEWEST: &[(&[SaveJob], Case)] = &[
+    (THREE, SINCE_THE_FULL),
+    (THREE, SINCE_THE_DELETION),
+    (THREE, AT_LAST),
+];
+
 #[test]
 fn the_newest_copies_before_the_moment_are_restored(rt: HostRuntime) -> Result<(), Fail> {
-    assert!(rt; are_restored(&rt, rt.alloc(), 200, BEFORE_DELETION)?);
-    assert!(rt; are_restored(&rt, rt.alloc(), 250, DELETED)?);
-    assert!(rt; are_restored(&rt, rt.alloc(), 301, SAVED_AGAIN)?);
+    assert_eq!(rt; first_wrong(&rt, rt.alloc(), NEWEST)?, None);
     Ok(())
 }
 
 /// A file of three bytes and a hard link to it.
-fn linked(alloc: Global) -> Result<World, Fail> {
-    let link = Given {
-        path: "/y",
-        kind: 1,
-        numbers: "A A IGk B A A A D A A A A A B",
-        link: "/x",
-        bytes: "",
-        digest: false,
-    };
-    let mut world = empty(alloc);
-    let files = [file("/x", SIZE_3, "abc"), link];
-    commit(
-        alloc,
-        &mut world,
-        &shape(1, b'F', 100, 64_512),
-        &files,
-        &[],
-        &[("V", 0)],
-    )?;
-    Ok(world)
-}
+const LINK: &[SaveJob] = &[SaveJob {
+    files: &[
+        Given {
+            path: "/x",
+            numbers: SIZE_3,
+            bytes: "abc",
+            ..FILE
+        },
+        Given {
+            path: "/y",
+            kind: 1,
+            numbers: "A A IGk B A A A D A A A A A B",
+            link: "/x",
+            bytes: "",
+            digest: false,
+        },
+    ],
+    ..FULL
+}];
 
 const LINKED: Case = Case {
     lines: b"mark y\nestimate\ndone\n",
@@ -397,38 +495,30 @@ total 2 0 0\n",
     ..TWO_JOBS
 };
 
-/// Returns if a hard link brings its file.
-fn a_link_brings_its_file(rt: &(impl Threads + Sync), alloc: Global) -> Result<bool, Fail> {
-    holds(rt, alloc, linked(alloc)?, &LINKED)
-}
-
 /// A Full with two directories and three files.
-fn directories(alloc: Global) -> Result<World, Fail> {
-    let etc = Given {
-        path: "/etc/",
-        kind: 5,
-        numbers: SIZE_1,
-        link: "",
-        bytes: "",
-        digest: false,
-    };
-    let mut world = empty(alloc);
-    let files = [
-        file("/home/u/x", SIZE_1, "a"),
-        etc,
-        file("/etc/hosts", SIZE_1, "a"),
-        file("/etc/passwd", SIZE_1, "a"),
-    ];
-    commit(
-        alloc,
-        &mut world,
-        &shape(1, b'F', 100, 64_512),
-        &files,
-        &[],
-        &[("V", 0)],
-    )?;
-    Ok(world)
-}
+const DIRECTORIES: &[SaveJob] = &[SaveJob {
+    files: &[
+        Given {
+            path: "/home/u/x",
+            ..FILE
+        },
+        Given {
+            path: "/etc/",
+            kind: 5,
+            bytes: "",
+            ..FILE
+        },
+        Given {
+            path: "/etc/hosts",
+            ..FILE
+        },
+        Given {
+            path: "/etc/passwd",
+            ..FILE
+        },
+    ],
+    ..FULL
+}];
 
 const UNMARKED: Case = Case {
     lines: b"mark *\nmark nil\ncd etc\nunmark passwd\nlsmark\nls\ncount\n\
@@ -453,36 +543,42 @@ total 1 0 0\n",
     ..TWO_JOBS
 };
 
-/// Returns if a run over the directories is as expected.
-fn holds_of_directories(
-    rt: &(impl Threads + Sync),
-    alloc: Global,
-    case: &Case,
-) -> Result<bool, Fail> {
-    holds(rt, alloc, directories(alloc)?, case)
-}
+/// A hard link brings its file.
+const MARKED: &[(&[SaveJob], Case)] = &[
+    (LINK, LINKED),
+    (DIRECTORIES, UNMARKED),
+    (DIRECTORIES, DIRECTORY),
+];
 
 #[test]
 fn what_is_marked_is_restored(rt: HostRuntime) -> Result<(), Fail> {
-    assert!(rt; a_link_brings_its_file(&rt, rt.alloc())?);
-    assert!(rt; holds_of_directories(&rt, rt.alloc(), &UNMARKED)?);
-    assert!(rt; holds_of_directories(&rt, rt.alloc(), &DIRECTORY)?);
+    assert_eq!(rt; first_wrong(&rt, rt.alloc(), MARKED)?, None);
     Ok(())
 }
 
-/// A session of one file, and the rows of a job that has it under another path and one file more.
-fn disagreeing(alloc: Global) -> Result<World, Fail> {
-    let mut world = empty(alloc);
-    let shape = shape(1, b'F', 100, 64_512);
-    let files = [file("/a", SIZE_1, "a")];
-    let mut spans = store_session(alloc, &mut world.store, &shape, &files, &[("V", 0)])?;
+/// Writes a session of one file. Returns spans of two files.
+fn spans_of_two(alloc: Global, store: &mut MemStore) -> Result<Vec<Span>, Fail> {
+    let mut spans = store_session(alloc, store, &shape(&FULL), &[FILE], FULL.visits)?;
     for span in &mut spans {
         span.last = 2;
     }
-    let files = [file("/b", SIZE_1, "a"), file("/c", SIZE_1, "a")];
-    world
-        .history
-        .push(rows_of(alloc, &shape, &files, &[], spans)?)?;
+    Ok(spans)
+}
+
+/// Files that a session does not have.
+const OTHERS: &[Given<'static>] = &[Given { path: "/b", ..FILE }, Given { path: "/c", ..FILE }];
+
+/// Writes a session of one file. Returns the rows of a job that has it under another path and one
+/// file more.
+fn disagreeing_rows(alloc: Global, store: &mut MemStore) -> Result<JobRows, Fail> {
+    let spans = spans_of_two(alloc, store)?;
+    rows_of(alloc, &shape(&FULL), OTHERS, &[], spans)
+}
+
+fn disagreeing(alloc: Global) -> Result<World, Fail> {
+    let mut world = empty(alloc);
+    let rows = disagreeing_rows(alloc, &mut world.store)?;
+    world.history.push(rows)?;
     Ok(world)
 }
 
@@ -499,7 +595,8 @@ X 1 100 1 69\nX 1 100 2 63\ntotal 0 2 0\n",
 
 /// Returns if volumes that differ from the rows are told in the manifest.
 fn differences_are_told(rt: &(impl Threads + Sync), alloc: Global) -> Result<bool, Fail> {
-    holds(rt, alloc, disagreeing(alloc)?, &DISAGREEING)
+    let World { store, history } = disagreeing(alloc)?;
+    runs_over(rt, alloc, &history, store, &DISAGREEING)
 }
 
 #[test]

@@ -19,15 +19,6 @@ fn rows(alloc: Global, query: &str) -> Result<Vec<Row>, Fail> {
     Ok(conn.query_all(query, &[])?)
 }
 
-fn no_rows(alloc: Global) -> CatalogueRows {
-    CatalogueRows {
-        versions: Vec::new(alloc),
-        jobs: Vec::new(alloc),
-        spans: Vec::new(alloc),
-        files: Vec::new(alloc),
-    }
-}
-
 /// Runs a query for each kind of row.
 fn catalogue(
     alloc: Global,
@@ -36,12 +27,12 @@ fn catalogue(
     spans: &str,
     files: &str,
 ) -> Result<CatalogueRows, Fail> {
-    let mut catalogue = no_rows(alloc);
-    catalogue.versions = rows(alloc, versions)?;
-    catalogue.jobs = rows(alloc, jobs)?;
-    catalogue.spans = rows(alloc, spans)?;
-    catalogue.files = rows(alloc, files)?;
-    Ok(catalogue)
+    Ok(CatalogueRows {
+        versions: rows(alloc, versions)?,
+        jobs: rows(alloc, jobs)?,
+        spans: rows(alloc, spans)?,
+        files: rows(alloc, files)?,
+    })
 }
 
 /// Returns the number with which the rows are refused, or 0 if they form a history.

@@ -1,8 +1,8 @@
 //! Restores over a catalogue: jobs are stored, loaded, and restored from.
-use crate::restore_tests::{TWO_JOBS, World, runs, two_jobs};
-use crate::test_data::drives_over;
+use crate::restore_tests::{TWO, TWO_JOBS, World, runs_over, world_of};
 use br_history::{History, JobRows};
 use br_store::Store;
+use br_volume::MemStore;
 use sqlite::{Alter, Connection};
 use std::alloc::Global;
 use std::test::Fail;
@@ -31,12 +31,21 @@ fn are_in_order(jobs: &[JobRows]) -> bool {
     }
 }
 
-/// Returns if two jobs are loaded in order of their numbers, and restored.
+/// Returns if two jobs are stored, loaded in order of their numbers, and restored.
+fn are_restored(
+    rt: &(impl Threads + Sync),
+    alloc: Global,
+    history: &History,
+    volumes: MemStore,
+) -> Result<bool, Fail> {
+    let loaded = stored(alloc, history)?;
+    let is_restored = runs_over(rt, alloc, &loaded, volumes, &TWO_JOBS)?;
+    Ok(are_in_order(loaded.jobs()) && is_restored)
+}
+
 fn two_stored_jobs_are_restored(rt: &(impl Threads + Sync), alloc: Global) -> Result<bool, Fail> {
-    let World { store, history } = two_jobs(alloc)?;
-    let loaded = stored(alloc, &history)?;
-    let mut drives = drives_over(alloc, store.into_volumes())?;
-    Ok(are_in_order(loaded.jobs()) && runs(rt, alloc, &loaded, &mut drives, &TWO_JOBS)?)
+    let World { store, history } = world_of(alloc, TWO)?;
+    are_restored(rt, alloc, &history, store)
 }
 
 #[test]
