@@ -50,7 +50,7 @@ adds_folder root path (Some e) None below (inr (free, set)) = absurd set
 adds_folder root path (Some e) (Some l) below (inr (free, set)) =
     λ other. sets_folder root path e l other below free (bytes_eq path other) refl (set other)
 
-adds_both : (root other : List ℕ) (a b c : Nodes) → (node_at b other ≡ node_at a other) ⊎ IsNewFolder root other a b
+pub adds_both : (root other : List ℕ) (a b c : Nodes) → (node_at b other ≡ node_at a other) ⊎ IsNewFolder root other a b
     → (node_at c other ≡ node_at b other) ⊎ IsNewFolder root other b c
     → (node_at c other ≡ node_at a other) ⊎ IsNewFolder root other a c
 adds_both root other a b c (inl same) (inl again) = inl (again ∙ same)
@@ -134,7 +134,7 @@ outside_added root None (Some b) f = absurd f
 outside_added root (Some a) None f = absurd f
 outside_added root (Some a) (Some b) f = λ other apart. added_at root other a b apart (f other)
 
-differs : (path other : List ℕ) → (path ≡ other → ⊥) → (is : Bool) → bytes_eq path other ≡ is → is ≡ false
+pub differs : (path other : List ℕ) → (path ≡ other → ⊥) → (is : Bool) → bytes_eq path other ≡ is → is ≡ false
 differs path other apart true is = absurd (apart ((bytes_eq-Decides path other).0 is))
 differs path other apart false is = refl
 

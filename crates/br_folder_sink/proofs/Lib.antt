@@ -1,2 +1,3 @@
 pub mod BelowLaws
 pub mod WindowLaws
+pub mod HeldLaws

@@ -1,8 +1,12 @@
 -- Files that are held open.
-use Rattle.std.proofs.Common.{◌≡◌, ℕ, ◌<◌, ◌≤◌, ◌++◌, ◌∷◌, [], List, length, get_or, set, ap, sym, subst, arith, All, Result, Ok, Err, OnOk}
+use Rattle.std.proofs.Common.{◌≡◌, ℕ, ◌<◌, ◌≤◌, ◌++◌, ◌∷◌, [], List, length, get_or, set, take, ◌+◌, ap, sym, subst, ◌∙◌, arith, All, Result, Ok, Err, OnOk}
 use Rattle.std.proofs.lemmas.List.Elements.{All-push, All-set}
+use Rattle.std.proofs.lemmas.List.{take_more}
+use Rattle.std.specs.List.{AllByRecursion}
+use Rattle.br_folder_sink.specs.Held.{AreAnswered}
 use Rattle.br_folder_sink.specs.Window.{AreBelow}
 use Rattle.br_folder_sink.specs.declared.window.Made.{Made}
+use Rattle.br_folder_sink.proofs.HeldLaws.{all_more}
 
 -- what stands below a place stands below a later one
 pub below_more : {W : Type 0} (m n : ℕ) (made : List (Made W)) → m ≤ n → AreBelow m made → AreBelow n made
@@ -23,3 +27,10 @@ below_set n i made old new below is less same =
 pub on_ok_known : {T E P : Type 0} (r : Result T E) → P → OnOk r P
 on_ok_known (Ok x) p = p
 on_ok_known (Err e) p = tt
+
+-- one more was looked at, and has no fault
+pub answered_more : {W : Type 0} (made : List (Made W)) (i : ℕ) (one : Made W) → AreAnswered (take i made) → i < length made
+    → one ≡ get_or made i one → one.answer ≡ Ok tt → AreAnswered (take (i + 1) made)
+answered_more made i one answered low is ok =
+    subst (λ (l : List (Made _)). AreAnswered l) (sym (take_more made i one low ∙ ap (λ (o : Made _). take i made ++ o ∷ []) (sym is)))
+    (all_more (λ (m : Made _). m.answer ≡ Ok tt) (take i made) one answered ok)

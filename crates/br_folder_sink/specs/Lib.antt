@@ -2,3 +2,4 @@ pub mod Below
 pub mod Fault
 pub mod FolderSink
 pub mod Window
+pub mod Held

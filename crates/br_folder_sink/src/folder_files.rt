@@ -1,11 +1,14 @@
 //! How a sink over a folder puts several files at once.
-ghost use Rattle.std.specs.Prelude.{◌≡◌, ℕ, ◌<◌, true, false, [], length, All, IfOk, OnOk, IfErr};
+ghost use Rattle.std.specs.Prelude.{◌≡◌, ℕ, ◌++◌, ◌∷◌, ◌<◌, true, false, List, [], length, All, Option, IfOk, OnErr, OnOk, IfErr};
 ghost use Rattle.std.specs.Str.{IsUtf8};
+ghost use Rattle.br_model.specs.File as model;
 ghost use Rattle.br_model.specs.File.{has_bytes};
 ghost use Rattle.br_model.specs.Name.{is_directory};
+ghost use Rattle.br_files.specs.Making.{Nodes};
 ghost use Rattle.br_sink.specs.Delivery.{IsStopBelow, items_in};
-ghost use Rattle.br_folder_sink.specs.Below.{KeepsOutside};
+ghost use Rattle.br_folder_sink.specs.Below.{AddsFolders, KeepsOutside};
 ghost use Rattle.br_folder_sink.specs.FolderSink.{HasName, HasText, is_on_disk};
+ghost use Rattle.br_folder_sink.specs.Held.{HoldsOver, IsNew, LeavesFiles, MakesOne};
 ghost use Rattle.br_folder_sink.specs.Window.{AreBelow};
 
 use crate::place::{path_of, write_item};
@@ -20,7 +23,7 @@ use std::io::Write;
 use std::thread::Threads;
 
 /// Creates the file and the folders on its way, if nothing has its name.
-#[tactic(auto, using(crate::proofs::BelowLaws::outside_then))]
+#[tactic(auto, using(crate::proofs::BelowLaws::outside_then, crate::proofs::BelowLaws::adds_same, crate::proofs::BelowLaws::adds_more))]
 fn make<'i, W: Write + Drop, M: FileMaker<New = W>>(
     alloc: Global,
     maker: &mut M,
@@ -29,6 +32,9 @@ fn make<'i, W: Write + Drop, M: FileMaker<New = W>>(
     place: u64,
 ) -> Result<Made<'i, W>, SinkFault>
     ensures place { IfOk result (λ made. made.place ≡ place) }
+    ensures item { IfOk result (λ made. made.item.now ≡ item.now) }
+    ensures made { IfOk result (λ made. MakesOne W.contents root.now made (M.nodes maker.old) (M.nodes maker.new)) }
+    ensures refused { OnErr result (AddsFolders root.now (M.nodes maker.old) (M.nodes maker.new)) }
     ensures text { OnOk result (IsUtf8 item.now.path) }
     ensures name { OnOk result (is_directory item.now.path ≡ false) }
     ensures outside { KeepsOutside root.now (M.nodes maker.old) (M.nodes maker.new) }
@@ -44,7 +50,7 @@ fn make<'i, W: Write + Drop, M: FileMaker<New = W>>(
 }
 
 /// Makes the file, and holds it in the window.
-#[tactic(auto, using(crate::proofs::BelowLaws::outside_same))]
+#[tactic(auto, using(crate::proofs::BelowLaws::outside_same, crate::proofs::BelowLaws::adds_same, crate::proofs::HeldLaws::over_more))]
 fn hold<'i, W: Write + Drop, M: FileMaker<New = W>>(
     maker: &mut M,
     root: &str,
@@ -54,6 +60,12 @@ fn hold<'i, W: Write + Drop, M: FileMaker<New = W>>(
 ) -> Result<(), SinkFault>
     requires { length window.old.made.items < 16 }
     ensures below { (n : ℕ) → AreBelow n window.old.made.items → place < n → AreBelow n window.new.made.items }
+    ensures held { (items : List model.Item) (nodes : Option Nodes) → has_bytes item.now.kind ≡ true
+        → HoldsOver (IsNew W.contents root.now) root.now items window.old.made.items nodes (M.nodes maker.old)
+        → OnOk result (HoldsOver (IsNew W.contents root.now) root.now (items ++ item.now ∷ [])
+        window.new.made.items nodes (M.nodes maker.new)) }
+    ensures added { OnErr result (AddsFolders root.now (M.nodes maker.old) (M.nodes maker.new)) }
+    ensures kept { OnErr result (window.new.made.items ≡ window.old.made.items) }
     ensures text { OnOk result (IsUtf8 item.now.path) }
     ensures name { OnOk result (is_directory item.now.path ≡ false) }
     ensures outside { KeepsOutside root.now (M.nodes maker.old) (M.nodes maker.new) }
@@ -61,12 +73,12 @@ fn hold<'i, W: Write + Drop, M: FileMaker<New = W>>(
     // Room first, so that each file that was made is held.
     window.make_room()?;
     let one = make(window.alloc, maker, root, item, place)?;
-    window.hold(one)?;
+    window.hold(one);
     Ok(())
 }
 
 /// Writes the files of the window, and then the item.
-#[tactic(auto, using(crate::proofs::BelowLaws::outside_more))]
+#[tactic(auto, using(crate::proofs::BelowLaws::outside_more, crate::proofs::HeldLaws::leaves_item))]
 fn put_alone<'i, W: Write + Drop, M: ManyWriter<New = W>>(
     maker: &mut M,
     root: &str,
@@ -76,6 +88,9 @@ fn put_alone<'i, W: Write + Drop, M: ManyWriter<New = W>>(
     place: u64,
 ) -> Result<(), SinkStop>
     ensures stopped { (n : ℕ) → AreBelow n window.old.made.items → place < n → IfErr result (IsStopBelow n) }
+    ensures left { (items : List model.Item) (nodes : Option Nodes)
+        → HoldsOver (IsNew W.contents root.now) root.now items window.old.made.items nodes (M.nodes maker.old)
+        → OnOk result (LeavesFiles root.now (items ++ item.now ∷ []) nodes (M.nodes maker.new)) }
     ensures empty { window.new.made.items ≡ [] }
     ensures text { OnOk result (is_on_disk item.now.kind ≡ true → IsUtf8 item.now.path) }
     ensures name { OnOk result (has_bytes item.now.kind ≡ true → is_directory item.now.path ≡ false) }
@@ -89,7 +104,7 @@ fn put_alone<'i, W: Write + Drop, M: ManyWriter<New = W>>(
 }
 
 /// Holds a new file in the window, and writes the window if it is full. Anything else is put alone.
-#[tactic(auto, using(crate::proofs::BelowLaws::outside_more))]
+#[tactic(auto, using(crate::proofs::BelowLaws::outside_more, crate::proofs::HeldLaws::over_folders, crate::proofs::HeldLaws::over_again))]
 fn put_file<'i, W: Write + Drop, M: ManyWriter<New = W>>(
     maker: &mut M,
     root: &str,
@@ -102,6 +117,10 @@ fn put_file<'i, W: Write + Drop, M: ManyWriter<New = W>>(
     ensures few { OnOk result (length window.new.made.items < 16) }
     ensures stopped { (n : ℕ) → AreBelow n window.old.made.items → place < n → IfErr result (IsStopBelow n) }
     ensures below { (n : ℕ) → AreBelow n window.old.made.items → place < n → OnOk result (AreBelow n window.new.made.items) }
+    ensures held { (items : List model.Item) (nodes : Option Nodes) → has_bytes item.now.kind ≡ true
+        → HoldsOver (IsNew W.contents root.now) root.now items window.old.made.items nodes (M.nodes maker.old)
+        → OnOk result (HoldsOver (IsNew W.contents root.now) root.now (items ++ item.now ∷ [])
+        window.new.made.items nodes (M.nodes maker.new)) }
     ensures text { OnOk result (is_on_disk item.now.kind ≡ true → IsUtf8 item.now.path) }
     ensures name { OnOk result (has_bytes item.now.kind ≡ true → is_directory item.now.path ≡ false) }
     ensures outside { KeepsOutside root.now (M.nodes maker.old) (M.nodes maker.new) }
@@ -116,7 +135,7 @@ fn put_file<'i, W: Write + Drop, M: ManyWriter<New = W>>(
 }
 
 /// Puts the item on disk, or holds it in the window, as its type says.
-#[tactic(auto, using(crate::proofs::BelowLaws::outside_same))]
+#[tactic(auto, using(crate::proofs::BelowLaws::outside_same, crate::proofs::HeldLaws::over_without, crate::proofs::HeldLaws::over_again))]
 fn put_next<'i, W: Write + Drop, M: ManyWriter<New = W>>(
     maker: &mut M,
     root: &str,
@@ -129,6 +148,10 @@ fn put_next<'i, W: Write + Drop, M: ManyWriter<New = W>>(
     ensures few { OnOk result (length window.new.made.items < 16) }
     ensures stopped { (n : ℕ) → AreBelow n window.old.made.items → place < n → IfErr result (IsStopBelow n) }
     ensures below { (n : ℕ) → AreBelow n window.old.made.items → place < n → OnOk result (AreBelow n window.new.made.items) }
+    ensures held { (items : List model.Item) (nodes : Option Nodes)
+        → HoldsOver (IsNew W.contents root.now) root.now items window.old.made.items nodes (M.nodes maker.old)
+        → OnOk result (HoldsOver (IsNew W.contents root.now) root.now (items ++ item.now ∷ [])
+        window.new.made.items nodes (M.nodes maker.new)) }
     ensures text { OnOk result (is_on_disk item.now.kind ≡ true → IsUtf8 item.now.path) }
     ensures name { OnOk result (has_bytes item.now.kind ≡ true → is_directory item.now.path ≡ false) }
     ensures outside { KeepsOutside root.now (M.nodes maker.old) (M.nodes maker.new) }
@@ -152,6 +175,7 @@ pub(crate) fn put_each<W: Write + Drop, M: ManyWriter<New = W>>(
     ensures stopped { IfErr result (IsStopBelow (length (items_in outcomes.now))) }
     ensures text { OnOk result (All HasText (items_in outcomes.now)) }
     ensures name { OnOk result (All HasName (items_in outcomes.now)) }
+    ensures files { OnOk result (LeavesFiles root.now (items_in outcomes.now) (M.nodes maker.old) (M.nodes maker.new)) }
     ensures outside { KeepsOutside root.now (M.nodes maker.old) (M.nodes maker.new) }
 {
     let mut window = Window::new(alloc);

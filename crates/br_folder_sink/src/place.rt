@@ -73,7 +73,8 @@ pub(crate) fn path_of<M: FileMaker>(
 
 /// Returns the path below the folder of a file that was made there.
 pub(crate) fn known_path_of(alloc: Global, root: &str, item: &Item) -> Result<String, SinkFault>
-    ensures { IfOk result (λ path. IsBelow root.now (string_bytes path)) }
+    ensures path { IfOk result (λ path. string_bytes path ≡ root.now ++ item.now.path) }
+    ensures below { IfOk result (λ path. IsBelow root.now (string_bytes path)) }
 {
     let text = text_of(item)?;
     path_below(alloc, root, text)

@@ -1,8 +1,12 @@
 //! Files that were made on disk one after another, and are written in threads.
-ghost use Rattle.std.specs.Prelude.{◌≡◌, ℕ, ◌+◌, ◌<◌, [], false, length, IfErr, OnOk};
+ghost use Rattle.std.specs.Prelude.{◌≡◌, ℕ, ◌++◌, ◌∷◌, ◌<◌, List, [], false, length, vec_len, vec_capacity, Option, Ok, IfErr, IfOk, OnOk};
 ghost use Rattle.std.specs.Thread.{IsSync};
+ghost use Rattle.br_model.specs.File as model;
+ghost use Rattle.br_files.specs.Making.{IsFinished, Nodes};
 ghost use Rattle.br_sink.specs.Delivery.{IsStopBelow};
 ghost use Rattle.br_folder_sink.specs.Below.{KeepsOutside};
+ghost use Rattle.br_folder_sink.specs.Held.{AppendsSome, AreAnswered, FinishesOne, FinishesSome, HoldsOver, IsNew, IsWritten, LeavesFiles};
+ghost use Rattle.br_folder_sink.specs.Held.{WritesEach, WritesOne};
 ghost use Rattle.br_folder_sink.specs.Window.{AreBelow};
 
 use crate::place::{known_path_of, remove_item};
@@ -23,8 +27,8 @@ const MOST: usize = 16;
 /// The number of bytes from which on threads are worth their start.
 const MANY_BYTES: u64 = 1 << 20;
 
-/// A new file on disk, the item whose bytes it is to contain, and the number of files before it. The
-/// file is none once it is finished.
+/// A new file on disk, the item whose bytes it is to contain, and the number of files before it.
+/// The file is none once it is finished.
 #[derive(Drop)]
 pub struct Made<'i, W: Write + Drop> {
     pub(crate) file: Option<W>,
@@ -34,7 +38,9 @@ pub struct Made<'i, W: Write + Drop> {
 }
 
 /// Writes the bytes of an item to its file, if there is one.
-fn write_bytes<W: Write>(file: &mut Option<W>, item: &Item) -> Result<(), SinkFault> {
+fn write_bytes<W: Write>(file: &mut Option<W>, item: &Item) -> Result<(), SinkFault>
+    ensures { OnOk result (AppendsSome W.contents file.old file.new item.now.bytes) }
+{
     match file {
         None => Ok(()),
         Some(file) => match item.bytes.write_to(file) {
@@ -54,7 +60,9 @@ fn close<M: FileMaker>(
     file: M::New,
     written: Result<(), SinkFault>,
 ) -> Result<(), SinkFault>
-    ensures { KeepsOutside root.now (M.nodes maker.old) (M.nodes maker.new) }
+    ensures written { OnOk result (written ≡ Ok tt) }
+    ensures finished { OnOk result (IsFinished (root.now ++ item.now.path) (M.New.contents file) (M.nodes maker.old) (M.nodes maker.new)) }
+    ensures outside { KeepsOutside root.now (M.nodes maker.old) (M.nodes maker.new) }
 {
     written?;
     let path = known_path_of(alloc, root, item)?;
@@ -71,7 +79,9 @@ fn close_some<M: FileMaker>(
     file: Option<M::New>,
     written: Result<(), SinkFault>,
 ) -> Result<(), SinkFault>
-    ensures { KeepsOutside root.now (M.nodes maker.old) (M.nodes maker.new) }
+    ensures written { OnOk result (written ≡ Ok tt) }
+    ensures finished { OnOk result (FinishesSome M.New.contents (root.now ++ item.now.path) file (M.nodes maker.old) (M.nodes maker.new)) }
+    ensures outside { KeepsOutside root.now (M.nodes maker.old) (M.nodes maker.new) }
 {
     match file {
         Some(file) => close(alloc, maker, root, item, file, written),
@@ -82,7 +92,8 @@ fn close_some<M: FileMaker>(
 impl<'i, W: Write + Drop> Made<'i, W> {
     /// Writes its bytes, and keeps the answer.
     fn write(&mut self)
-        ensures { self.new.place ≡ self.old.place }
+        ensures place { self.new.place ≡ self.old.place }
+        ensures written { WritesOne W.contents self.old self.new }
     {
         self.answer = write_bytes(&mut self.file, self.item);
     }
@@ -90,6 +101,7 @@ impl<'i, W: Write + Drop> Made<'i, W> {
     /// Closes the file, and keeps the answer, unless one was kept already.
     fn finish<M: FileMaker<New = W>>(&mut self, alloc: Global, maker: &mut M, root: &str)
         ensures place { self.new.place ≡ self.old.place }
+        ensures finished { FinishesOne W.contents root.now self.old self.new (M.nodes maker.old) (M.nodes maker.new) }
         ensures outside { KeepsOutside root.now (M.nodes maker.old) (M.nodes maker.new) }
     {
         let file = self.file.take();
@@ -111,7 +123,8 @@ pub trait ManyWriter: FileMaker {
     fn write_each<T: Threads + Sync>(threads: &T, made: &mut [Made<'_, Self::New>], count: usize)
         requires threads { IsSync T.row }
         requires some { 0 < count }
-        ensures below { (n : ℕ) → AreBelow n made.old → AreBelow n made.new };
+        ensures below { (n : ℕ) → AreBelow n made.old → AreBelow n made.new }
+        ensures written { WritesEach Self.New.contents made.old made.new };
 }
 
 impl<F: Files<File = File> + Drop> ManyWriter for HostDisk<F> {
@@ -134,12 +147,13 @@ fn write_in_threads<W: Write + Drop + Send, T: Threads + Sync>(
 )
     requires { 0 < count }
     ensures below { (n : ℕ) → AreBelow n made.old → AreBelow n made.new }
+    ensures written { WritesEach W.contents made.old made.new }
 {
     thread::for_each_mut(threads, made, count, &|_, one| one.write());
 }
 
 /// Closes the files.
-#[tactic(auto, using(crate::proofs::WindowLaws::below_set, crate::proofs::BelowLaws::outside_more, crate::proofs::BelowLaws::outside_same))]
+#[tactic(auto, using(crate::proofs::HeldLaws::held_end, crate::proofs::BelowLaws::outside_same))]
 fn finish_each<W: Write + Drop, M: FileMaker<New = W>>(
     alloc: Global,
     maker: &mut M,
@@ -147,6 +161,9 @@ fn finish_each<W: Write + Drop, M: FileMaker<New = W>>(
     made: &mut [Made<'_, W>],
 )
     ensures below { (n : ℕ) → AreBelow n made.old → AreBelow n made.new }
+    ensures left { (items : List model.Item) (nodes : Option Nodes)
+        → HoldsOver (IsWritten W.contents root.now) root.now items made.old nodes (M.nodes maker.old)
+        → AreAnswered made.new → LeavesFiles root.now items nodes (M.nodes maker.new) }
     ensures outside { KeepsOutside root.now (M.nodes maker.old) (M.nodes maker.new) }
 {
     for i in 0..made.len() {
@@ -173,8 +190,10 @@ fn remove_after<W: Write + Drop, M: FileMaker<New = W>>(
 }
 
 /// Stops at the first file that could not be written.
+#[tactic(auto, using(crate::proofs::WindowLaws::answered_more))]
 fn settle<W: Write + Drop>(made: &[Made<'_, W>]) -> Result<(), SinkStop>
-    ensures { (n : ℕ) → AreBelow n made.now → IfErr result (IsStopBelow n) }
+    ensures stopped { (n : ℕ) → AreBelow n made.now → IfErr result (IsStopBelow n) }
+    ensures answered { OnOk result (AreAnswered made.now) }
 {
     for one in made {
         if let Err(fault) = one.answer {
@@ -194,6 +213,9 @@ fn close_all<W: Write + Drop, M: FileMaker<New = W>>(
     made: &mut [Made<'_, W>],
 ) -> Result<(), SinkStop>
     ensures stopped { (n : ℕ) → AreBelow n made.old → IfErr result (IsStopBelow n) }
+    ensures left { (items : List model.Item) (nodes : Option Nodes)
+        → HoldsOver (IsWritten W.contents root.now) root.now items made.old nodes (M.nodes maker.old)
+        → OnOk result (LeavesFiles root.now items nodes (M.nodes maker.new)) }
     ensures outside { KeepsOutside root.now (M.nodes maker.old) (M.nodes maker.new) }
 {
     finish_each(alloc, maker, root, made);
@@ -207,6 +229,7 @@ fn close_all<W: Write + Drop, M: FileMaker<New = W>>(
 }
 
 /// Writes the files, in this number of threads, and closes them.
+#[tactic(auto, using(crate::proofs::HeldLaws::over_written))]
 fn write_and_close<W: Write + Drop, M: ManyWriter<New = W>, T: Threads + Sync>(
     alloc: Global,
     maker: &mut M,
@@ -217,6 +240,9 @@ fn write_and_close<W: Write + Drop, M: ManyWriter<New = W>, T: Threads + Sync>(
 ) -> Result<(), SinkStop>
     requires { 0 < count }
     ensures stopped { (n : ℕ) → AreBelow n made.old → IfErr result (IsStopBelow n) }
+    ensures left { (items : List model.Item) (nodes : Option Nodes)
+        → HoldsOver (IsNew W.contents root.now) root.now items made.old nodes (M.nodes maker.old)
+        → OnOk result (LeavesFiles root.now items nodes (M.nodes maker.new)) }
     ensures outside { KeepsOutside root.now (M.nodes maker.old) (M.nodes maker.new) }
 {
     M::write_each(threads, made, count);
@@ -252,23 +278,24 @@ impl<'i, W: Write + Drop> Window<'i, W> {
 
     /// Makes room for one more.
     pub(crate) fn make_room(&mut self) -> Result<(), AllocError>
-        ensures { self.new.made.items ≡ self.old.made.items }
+        ensures same { self.new.made.items ≡ self.old.made.items }
+        ensures room { OnOk result (vec_len self.new.made < vec_capacity self.new.made) }
     {
         self.made.reserve(1)?;
         Ok(())
     }
 
     /// Holds one more.
-    pub(crate) fn hold(&mut self, one: Made<'i, W>) -> Result<(), AllocError>
-        requires { length self.old.made.items < 16 }
-        ensures few { OnOk result (length self.new.made.items ≡ length self.old.made.items + 1) }
+    pub(crate) fn hold(&mut self, one: Made<'i, W>)
+        requires few { length self.old.made.items < 16 }
+        requires room { vec_len self.old.made < vec_capacity self.old.made }
+        ensures items { self.new.made.items ≡ self.old.made.items ++ one.entry ∷ [] }
         ensures below { (n : ℕ) → AreBelow n self.old.made.items → one.entry.place < n → AreBelow n self.new.made.items }
     {
         let item = one.item;
         let bytes = item.bytes.len();
-        self.made.push(one)?;
+        self.made.push_reserved(one);
         self.bytes = self.bytes.saturating_add(bytes);
-        Ok(())
     }
 
     /// Writes all files and closes them, and holds none. It stops at the first that could not be
@@ -280,6 +307,9 @@ impl<'i, W: Write + Drop> Window<'i, W> {
         root: &str,
     ) -> Result<(), SinkStop>
         ensures stopped { (n : ℕ) → AreBelow n self.old.made.items → IfErr result (IsStopBelow n) }
+        ensures left { (items : List model.Item) (nodes : Option Nodes)
+            → HoldsOver (IsNew W.contents root.now) root.now items self.old.made.items nodes (M.nodes maker.old)
+            → OnOk result (LeavesFiles root.now items nodes (M.nodes maker.new)) }
         ensures empty { self.new.made.items ≡ [] }
         ensures outside { KeepsOutside root.now (M.nodes maker.old) (M.nodes maker.new) }
     {

@@ -1,4 +1,4 @@
-use Rattle.std.proofs.Common.{◌≡◌, ℕ, ◌+◌, List, [], ◌∷◌, ◌++◌, take, drop, length, ap, sym, subst, ◌∙◌, arith, rules, append-nil, length-append, All}
+use Rattle.std.proofs.Common.{◌≡◌, ℕ, ◌+◌, List, [], ◌∷◌, ◌++◌, take, drop, length, ap, sym, subst, ◌∙◌, refl, arith, rules, append-nil, length-append, All}
 use Rattle.std.proofs.lemmas.List.{take_all}
 use Rattle.std.proofs.lemmas.Result.{err_from_is_err_and}
 use Rattle.br_model.specs.File.{Item}
@@ -6,7 +6,8 @@ use Rattle.br_sink.specs.Delivery.{items_in}
 use Rattle.std.proofs.lemmas.List.Elements.{All-push}
 use Rattle.br_folder_sink.specs.FolderSink.{HasName, HasText}
 use Rattle.br_sink.proofs.DeliveryLaws.{items_at, items_file, items_fault, items_one_more, some_behind}
-use Rattle.br_folder_sink.proofs.BelowLaws.{outside_more}
+use Rattle.br_folder_sink.proofs.BelowLaws.{outside_more, outside_same}
+use Rattle.br_folder_sink.proofs.HeldLaws.{leaves_nothing, over_again}
 use Rattle.br_folder_sink.proofs.WindowLaws.{below_more, on_ok_known}
 use Rattle.br_folder_sink.proofs.folder_files.put_each.Goals as goal
 use Rattle.br_folder_sink.proofs.folder_files.put_each.Goals.{in-File+in_ok-put_next, in_default}
@@ -47,6 +48,7 @@ loop-outcome-preserved g c =
                 (w.in_ok-put_next.ensures.below next (below_more c.loop-outcome.done next c.loop-outcome.window.made.items (omega arith) l.below) (omega arith));
             room = rw w.window-is w.in_ok-put_next.ensures.few;
             outside = rw w.maker-is (outside_more _ _ _ _ l.outside w.in_ok-put_next.ensures.outside);
+            held = rw (more, w.window-is, w.maker-is) (w.in_ok-put_next.ensures.held before (g.M.FileMaker.nodes c.args.maker.now) l.held);
             text = subst (All HasText) (sym more) (All-push HasText before item l.text w.in_ok-put_next.ensures.text);
             name = subst (All HasName) (sym more) (All-push HasName before item l.name w.in_ok-put_next.ensures.name);
           }
@@ -59,10 +61,31 @@ loop-outcome-preserved g c =
             below = rw (w.window-is, w.done-is) l.below;
             room = rw w.window-is l.room;
             outside = rw w.maker-is l.outside;
+            held = rw (same, w.window-is, w.maker-is) l.held;
             text = subst (All HasText) (sym same) l.text;
             name = subst (All HasName) (sym same) l.name;
           }
     ]
+
+pub loop-outcome-init : goal.loop-outcome-init
+loop-outcome-init g c =
+    let nodes = g.M.FileMaker.nodes c.args.maker.now in
+    record {
+      done = refl;
+      few = omega arith;
+      below = rw c.new-window.ensures (λ k d less. absurd (omega (arith, less)));
+      room = rw c.new-window.ensures (omega arith);
+      outside = outside_same _ _ _ refl;
+      held = over_again g.W.Write.contents c.args.root.now [] c.new-window.result.made.items nodes nodes c.new-window.ensures (leaves_nothing c.args.root.now nodes);
+      text = λ k d less. absurd (omega (arith, less));
+      name = λ k d less. absurd (omega (arith, less));
+    }
+
+pub returns-clause-files : goal.returns-clause-files
+returns-clause-files g c =
+    let os = c.args.outcomes.now in
+    let all : take c.loop-outcome.outcome-index os ≡ os = take_all c.loop-outcome.outcome-index os c.loop-outcome-test.false in
+    rw all at (c.write.ensures.left (items_in (take c.loop-outcome.outcome-index os)) (g.M.FileMaker.nodes c.args.maker.now) c.loop-outcome.invariant.held)
 
 pub returns-clause-text : goal.returns-clause-text
 returns-clause-text g c =

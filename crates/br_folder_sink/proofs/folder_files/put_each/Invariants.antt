@@ -1,6 +1,7 @@
 use Rattle.std.proofs.Common.{◌≡◌, ◌≤◌, ◌<◌, length, take, All}
 use Rattle.br_sink.specs.Delivery.{items_in}
 use Rattle.br_folder_sink.specs.FolderSink.{HasName, HasText}
+use Rattle.br_folder_sink.specs.Held.{HoldsOver, IsNew}
 use Rattle.br_folder_sink.specs.Window.{AreBelow}
 use Rattle.br_folder_sink.specs.Below.{KeepsOutside}
 use Rattle.br_folder_sink.proofs.folder_files.put_each.Given as goal
@@ -14,6 +15,8 @@ invariant-loop-outcome g l =
       room : length l.window.made.items < 16;
       below : AreBelow l.done l.window.made.items;
       outside : KeepsOutside l.root (g.M.FileMaker.nodes l.initial.maker) (g.M.FileMaker.nodes l.maker);
+      held : HoldsOver (IsNew g.W.Write.contents l.root) l.root (items_in (take l.outcome-index l.outcomes)) l.window.made.items
+          (g.M.FileMaker.nodes l.initial.maker) (g.M.FileMaker.nodes l.maker);
       text : All HasText (items_in (take l.outcome-index l.outcomes));
       name : All HasName (items_in (take l.outcome-index l.outcomes));
     }

@@ -1,12 +1,21 @@
-use Rattle.std.specs.Prelude.{ℕ}
+use Rattle.std.specs.Prelude.{◌≡◌, ℕ, List, Option, length, take, drop}
+use Rattle.br_model.specs.File.{Item}
+use Rattle.br_files.specs.Making.{Nodes}
 use Rattle.br_folder_sink.specs.Below.{KeepsOutside}
+use Rattle.br_folder_sink.specs.Held.{AreAnswered, HoldsOver, IsWritten}
 use Rattle.br_folder_sink.specs.Window.{AreBelow}
 use Rattle.br_folder_sink.proofs.window.finish_each.Given as goal
 
--- places stay, and nothing outside was changed
+-- places stay, nothing outside was changed, those that are left are as they were, and if those that
+-- were closed have their answers, only those that are left are open
 abbrev pub invariant-loop-i : goal.invariant-loop-i
 invariant-loop-i g l =
     record {
       below : (n : ℕ) → AreBelow n l.initial.made → AreBelow n l.made;
       outside : KeepsOutside l.root (g.M.FileMaker.nodes l.initial.maker) (g.M.FileMaker.nodes l.maker);
+      long : length l.made ≡ length l.initial.made;
+      held : (items : List Item) (nodes : Option Nodes)
+          → HoldsOver (IsWritten g.W.Write.contents l.root) l.root items l.initial.made nodes (g.M.FileMaker.nodes l.initial.maker)
+          → AreAnswered (take l.i l.made)
+          → HoldsOver (IsWritten g.W.Write.contents l.root) l.root items (drop l.i l.made) nodes (g.M.FileMaker.nodes l.maker);
     }
