@@ -6,7 +6,7 @@ use std::alloc::{AllocError, Global};
 use std::test::Fail;
 use std::thread::join;
 
-/// Draws with a seat of the claims, which it stays.
+/// Draws by a seat of these claims, and it stays one of theirs.
 fn drawn_by(claims: &Claims, seat: &mut ClaimSeat) -> Option<u32>
     requires { seat.old.claims ≡ claims.now.claims }
     ensures { seat.new.claims ≡ seat.old.claims }
