@@ -1,5 +1,5 @@
 -- What appending makes of the volumes that are looked up.
-use Rattle.std.proofs.Common.{◌≡◌, ℕ, Bool, true, false, cond, Option, Some, None, option_map, List, [], ◌∷◌, ◌++◌, refl, ap, sym, ◌∙◌, inl, inr, append_assoc, append-nil}
+use Rattle.std.proofs.Common.{◌≡◌, ℕ, Bool, true, false, cond, Option, Some, None, option_map, List, [], ◌∷◌, ◌++◌, refl, ap, sym, ◌∙◌, inl, inr, append_assoc, append-nil, take, drop, take-append-drop}
 use Rattle.std.specs.Prelude.{bytes_eq, find, flat_map, filter, unwrap_or}
 use Rattle.std.proofs.lemmas.List.Elements.{filter-append}
 use Rattle.std.proofs.lemmas.Slice.Eq.{bytes_eq-Decides}
@@ -8,7 +8,7 @@ use Rattle.br_model.specs.Volume.{Volume, volume_bytes, Extends}
 use Rattle.br_model.specs.SessionHolds.{bytes_of_volume, bytes_for, AreAppended}
 use Rattle.br_volume.specs.Drive.{OnlyGrows}
 use Rattle.br_volume.specs.Store.{IsAppended, IsAppendedInPart, AppendsTo, AppendsInPartTo, AreAppendedInTurn, AppendsAddUp}
-use Rattle.br_volume.specs.MemStore.{longer, with_appended}
+use Rattle.br_volume.specs.MemStore.{Stored, FailsInPart, longer, with_appended}
 
 turned : (xs ys : List ℕ) → bytes_eq xs ys ≡ bytes_eq ys xs
 turned xs ys =
@@ -75,6 +75,15 @@ appended_shows volume bytes (v ∷ vs) name =
 
 pub appended_is : (volume bytes : List ℕ) (earlier later : List Volume) → later ≡ with_appended volume bytes earlier → IsAppended volume bytes earlier later
 appended_is volume bytes earlier later e name = ap (λ (vs : List Volume). volume_bytes vs name) e ∙ appended_shows volume bytes earlier name
+
+-- an append that was made to fail appends the first of its bytes, or nothing
+pub failed_in_part : (volume bytes : List ℕ) (earlier later : Stored) → FailsInPart volume bytes earlier later
+    → IsAppendedInPart volume bytes earlier.volumes later.volumes
+failed_in_part volume bytes earlier later (inl part) =
+    let kept = earlier.bytes_kept in
+    inr
+    (take kept bytes, drop kept bytes, take-append-drop kept bytes, appended_is volume (take kept bytes) earlier.volumes later.volumes (ap (λ (s : Stored). s.volumes) part))
+failed_in_part volume bytes earlier later (inr none) = inl (ap (λ (s : Stored). s.volumes) none)
 
 -- each volume goes on from what it was
 pub appended_extends : (volume bytes : List ℕ) (earlier later : List Volume) → IsAppended volume bytes earlier later → Extends later earlier

@@ -1,5 +1,6 @@
 pub mod Fault
 pub mod Drive
+pub mod Calls
 pub mod Memory
 pub mod Store
 pub mod MemStore

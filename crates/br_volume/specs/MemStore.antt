@@ -1,11 +1,28 @@
 -- A store over memory.
-use Rattle.std.specs.Prelude.{ℕ, ◌+◌, if◌then◌else◌, List, [], ◌∷◌, ◌++◌, bytes_eq}
+use Rattle.std.specs.Prelude.{◌≡◌, ℕ, zero, suc, ◌+◌, ◌⊎◌, if◌then◌else◌, List, [], ◌∷◌, ◌++◌, bytes_eq, take, Option, Some, None}
 use Rattle.br_model.specs.Volume.{Volume}
+use Rattle.br_volume.specs.Calls.{one_fewer}
 
--- its volumes, and the number of failed calls
+-- its volumes, the number of failed calls, and the one append that is to fail, if one is: how many
+-- appends come before it, and how many of its bytes it keeps
 pub record Stored : Type 0 where
   pub volumes : List Volume
   pub failures : ℕ
+  pub appends_left : Option ℕ
+  pub bytes_kept : ℕ
+
+-- the number of calls before the n-th, counted from 1
+abbrev pub calls_before : ℕ → Option ℕ
+calls_before zero = None
+calls_before (suc n) = Some n
+
+-- a store without volumes whose n-th append keeps this number of its bytes and fails
+abbrev pub failing : ℕ → ℕ → Stored
+failing n kept = record { volumes = []; failures = 0; appends_left = calls_before n; bytes_kept = kept }
+
+-- a store of these volumes, of which no append is to fail
+abbrev pub sound : List Volume → Stored
+sound volumes = record { volumes = volumes; failures = 0; appends_left = None; bytes_kept = 0 }
 
 -- a volume with bytes appended
 abbrev pub longer : List ℕ → Volume → Volume
@@ -19,8 +36,29 @@ with_appended volume bytes (v ∷ vs) = if bytes_eq v.name volume then longer by
 
 -- the store after bytes were appended
 abbrev pub after_append : List ℕ → List ℕ → Stored → Stored
-after_append volume bytes store = record { volumes = with_appended volume bytes store.volumes; failures = store.failures }
+after_append volume bytes store = record {
+  volumes = with_appended volume bytes store.volumes;
+  failures = store.failures;
+  appends_left = one_fewer store.appends_left;
+  bytes_kept = store.bytes_kept;
+}
 
--- the store after an append failed
+-- the store after an append found no memory
 abbrev pub after_failure : Stored → Stored
-after_failure store = record { volumes = store.volumes; failures = store.failures + 1 }
+after_failure store = record {
+  volumes = store.volumes;
+  failures = store.failures + 1;
+  appends_left = one_fewer store.appends_left;
+  bytes_kept = store.bytes_kept;
+}
+
+-- the store after the append that was to fail, with these volumes
+abbrev pub after_part : List Volume → Stored → Stored
+after_part volumes store =
+    record { volumes = volumes; failures = store.failures + 1; appends_left = None; bytes_kept = store.bytes_kept }
+
+-- the append that was to fail kept the first of its bytes, or found no memory and changed no volume
+abbrev pub FailsInPart : List ℕ → List ℕ → Stored → Stored → Type 0
+FailsInPart volume bytes earlier later =
+    (later ≡ after_part (with_appended volume (take earlier.bytes_kept bytes) earlier.volumes) earlier)
+    ⊎ (later ≡ after_part earlier.volumes earlier)

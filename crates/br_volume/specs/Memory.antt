@@ -1,6 +1,7 @@
 -- A drive over memory.
-use Rattle.std.specs.Prelude.{ℕ, zero, suc, ◌+◌, Bool, true, false, if◌then◌else◌, List, [], ◌∷◌, map, Vec, Option, Some, None, Result, Err}
+use Rattle.std.specs.Prelude.{ℕ, ◌+◌, Bool, true, false, if◌then◌else◌, List, [], ◌∷◌, map, Vec, Option, Result, Err}
 use Rattle.br_model.specs.Volume.{Volume}
+use Rattle.br_volume.specs.Calls.{is_out, one_fewer}
 use Rattle.br_volume.specs.Drive.{bytes_shown}
 use Rattle.br_volume.specs.MemStore.{with_appended}
 
@@ -21,18 +22,6 @@ pub record Held : Type 0 where
 abbrev pub unused : List Volume → List Volume → Option ℕ → Held
 unused volumes tails calls_left =
     record { volumes = volumes; tails = tails; has_begun = false; calls_left = calls_left; failures = 0 }
-
--- no call is left before it fails
-abbrev pub is_out : Option ℕ → Bool
-is_out None = false
-is_out (Some zero) = true
-is_out (Some (suc n)) = false
-
--- one call fewer is left
-abbrev pub one_fewer : Option ℕ → Option ℕ
-one_fewer None = None
-one_fewer (Some zero) = Some zero
-one_fewer (Some (suc n)) = Some n
 
 -- the volumes with the first of these tails appended to its volume
 abbrev pub grown_by : List Volume → List Volume → List Volume

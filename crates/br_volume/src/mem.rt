@@ -6,7 +6,8 @@ ghost use Rattle.br_model.specs.Volume.{Volume, volume_bytes};
 ghost use Rattle.br_volume.specs.Drive.{AnswersOver, OnlyGrows, IsSized, bytes_got, bytes_from, bytes_shown};
 ghost use Rattle.br_volume.specs.Fault.{cause, failing_cause};
 ghost use Rattle.br_volume.specs.declared.fault.DriveFault.TheVariants.{Memory, Fault};
-ghost use Rattle.br_volume.specs.Memory.{Held, volumes_of, unused, bytes_held, after_call, is_out};
+ghost use Rattle.br_volume.specs.Calls.{is_out};
+ghost use Rattle.br_volume.specs.Memory.{Held, volumes_of, unused, bytes_held, after_call};
 ghost use Rattle.br_volume.specs.Memory.{grown, grown_by, without_first};
 
 use crate::count::Count;

@@ -1,9 +1,11 @@
-ghost use Rattle.std.specs.Prelude.{◌≡◌, ℕ, ◌+◌, ◌<◌, ◌≤◌, List, [], length, Option, OnOk, OnErr, IfOk, bytes_eq, position};
+ghost use Rattle.std.specs.Prelude.{◌≡◌, ℕ, ◌+◌, ◌<◌, ◌≤◌, List, [], length, Option, OnOk, OnErr, IfOk, bytes_eq, position, take, true, false, Err, Ok};
 ghost use Rattle.br_model.specs.Volume.{Volume, volume_bytes};
 ghost use Rattle.br_model.specs.SessionHolds.{bytes_of_volume};
+ghost use Rattle.br_volume.specs.Calls.{is_out};
 ghost use Rattle.br_volume.specs.Memory.{volumes_of};
-ghost use Rattle.br_volume.specs.MemStore.{Stored, after_append, after_failure, with_appended};
-ghost use Rattle.br_volume.specs.Store.{AppendsTo, AppendsInPartTo, IsLengthIn};
+ghost use Rattle.br_volume.specs.MemStore.{FailsInPart, Stored, after_append, after_failure, after_part, failing, sound, with_appended};
+ghost use Rattle.br_volume.specs.Store.{AppendsTo, AppendsInPartTo, IsAppendedInPart, IsLengthIn};
+ghost use Rattle.br_volume.specs.declared.fault.VolumeFault.TheVariants.{Failed};
 
 use crate::count::Count;
 use crate::fault::VolumeFault;
@@ -13,12 +15,17 @@ use br_types::VolName;
 use std::alloc::{AllocError, Global};
 use std::marker::Model;
 
-/// A store over memory. It fails only if memory runs out, and a call that fails changes nothing.
+/// A store over memory. An append fails if memory runs out, and then changes nothing. One append may
+/// be made to fail after the first of its bytes.
 #[derive(Debug, Drop)]
 pub struct MemStore {
     alloc: Global,
     volumes: Vec<(VolName, Vec<u8>)>,
     failures: Count,
+    /// The number of appends before the one that is to fail, if one is.
+    appends_left: Option<u64>,
+    /// The number of bytes that this one keeps.
+    bytes_kept: usize,
 }
 
 impl Model for MemStore {
@@ -27,18 +34,34 @@ impl Model for MemStore {
 
     ghost Value = { Stored };
 
-    ghost view = { λ s. record { volumes = volumes_of s.volumes.items; failures = s.failures.number } };
+    ghost view = { λ s. record {
+      volumes = volumes_of s.volumes.items;
+      failures = s.failures.number;
+      appends_left = s.appends_left;
+      bytes_kept = s.bytes_kept;
+    } };
 }
 
 impl MemStore {
     /// Returns a store without volumes, which grows by this allocator.
     pub fn new(alloc: Global) -> MemStore
-        ensures { result ≡ record { volumes = []; failures = 0 } }
+        ensures { result ≡ sound [] }
+    {
+        MemStore::failing_at(alloc, 0, 0)
+    }
+
+    /// Returns a store without volumes, which grows by this allocator. Its `k`-th append, counted
+    /// from 1, keeps the first `kept` bytes and fails. No other append is made to fail, and for `k`
+    /// of 0 none is.
+    pub fn failing_at(alloc: Global, k: u64, kept: usize) -> MemStore
+        ensures { result ≡ failing k kept }
     {
         MemStore {
             alloc,
             volumes: Vec::new(alloc),
             failures: Count::zero(),
+            appends_left: k.checked_sub(1),
+            bytes_kept: kept,
         }
     }
 
@@ -49,9 +72,9 @@ impl MemStore {
         &self.volumes
     }
 
-    /// Returns a store with equal volumes. None of its calls has failed.
+    /// Returns a store with equal volumes. None of its calls has failed, and none is made to fail.
     pub fn copy(&self, alloc: Global) -> Result<MemStore, AllocError>
-        ensures { IfOk result (λ store. store ≡ record { volumes = self.now.volumes; failures = 0 }) }
+        ensures { IfOk result (λ store. store ≡ sound self.now.volumes) }
     {
         let volumes = copied(alloc, &self.volumes)?;
         let failures = Count::zero();
@@ -59,6 +82,8 @@ impl MemStore {
             alloc,
             volumes,
             failures,
+            appends_left: None,
+            bytes_kept: 0,
         })
     }
 
@@ -67,6 +92,36 @@ impl MemStore {
         ensures { volumes_of result.items ≡ self.volumes }
     {
         self.volumes
+    }
+
+    /// Returns whether the next append is made to fail.
+    fn is_due(&self) -> bool
+        ensures { result ≡ is_out self.now.appends_left }
+    {
+        self.appends_left == Some(0)
+    }
+
+    /// Appends the first of the bytes, as many as are to be kept. If no memory is left for them, it
+    /// appends nothing.
+    fn fail(&mut self, vol: &VolName, bytes: &[u8])
+        ensures part { FailsInPart vol.now bytes.now self.old self.new }
+        ensures refused { IsAppendedInPart vol.now bytes.now self.old.volumes self.new.volumes }
+        ensures counted { self.new.failures ≡ self.old.failures + 1 }
+    {
+        self.appends_left = None;
+        self.failures = self.failures.next();
+        let front = first_of(bytes, self.bytes_kept);
+        let _ = append_to(self.alloc, &mut self.volumes, vol, front);
+    }
+}
+
+/// Returns the first bytes, so many, or all if these are fewer.
+fn first_of(bytes: &[u8], count: usize) -> &[u8]
+    ensures { result.now ≡ take count bytes.now }
+{
+    match bytes.get(..count) {
+        None => bytes,
+        Some(front) => front,
     }
 }
 
@@ -129,15 +184,22 @@ impl VolumeStore for MemStore {
 
     ghost failures = { λ s. s.failures };
 
-    /// Appends bytes. A new volume comes after the others.
+    /// Appends bytes, unless this append is made to fail. A new volume comes after the others.
     fn append(&mut self, vol: &VolName, bytes: &[u8]) -> Result<(), VolumeFault>
         ensures appended { OnOk result (AppendsTo vol.now bytes.now (Some self.old.volumes) (Some self.new.volumes)) }
         ensures refused { OnErr result (AppendsInPartTo vol.now bytes.now (Some self.old.volumes) (Some self.new.volumes)) }
         ensures counted { self.old.failures ≤ self.new.failures }
         ensures failed { OnErr result (self.old.failures < self.new.failures) }
         ensures exact { OnOk result (self.new ≡ after_append vol.now bytes.now self.old) }
-        ensures kept { OnErr result (self.new ≡ after_failure self.old) }
+        ensures due { is_out self.old.appends_left ≡ true → result ≡ Err Failed }
+        ensures part { is_out self.old.appends_left ≡ true → FailsInPart vol.now bytes.now self.old self.new }
+        ensures kept { is_out self.old.appends_left ≡ false → OnErr result (self.new ≡ after_failure self.old) }
     {
+        if self.is_due() {
+            self.fail(vol, bytes);
+            return Err(VolumeFault::Failed);
+        }
+        self.appends_left = self.appends_left.map(|n| n.saturating_sub(1));
         match append_to(self.alloc, &mut self.volumes, vol, bytes) {
             Ok(()) => Ok(()),
             Err(AllocError) => {
