@@ -1,0 +1,4 @@
+pub mod Adding
+pub mod Fronts
+pub mod Leading
+pub mod Shows
