@@ -1,5 +1,5 @@
 -- The hits that were found so far, as the walk goes on.
-use Rattle.std.proofs.Common.{◌≡◌, ℕ, ◌+◌, true, false, List, [], ◌++◌, Option, Some, None, Result, Ok, Err, refl, ap, sym, ◌∙◌, append_assoc}
+use Rattle.std.proofs.Common.{◌≡◌, ℕ, suc, ◌+◌, true, false, List, [], ◌++◌, Option, Some, None, Result, Ok, Err, refl, ap, sym, ◌∙◌, append_assoc}
 use Rattle.std.proofs.lemmas.List.{append-nil}
 use Rattle.br_model.specs.Answer.{◌>>=◌, IsRefusal}
 use Rattle.br_model.specs.Block.{Header}
@@ -11,7 +11,7 @@ use Rattle.br_match.specs.declared.hit.Batch.{Batch}
 use Rattle.br_match.specs.declared.hit.Found.{Found}
 use Rattle.br_match.specs.Matching.{AnswersPiece, FoundOver}
 use Rattle.br_match.specs.declared.walk.Step.TheVariants.{End}
-use Rattle.br_match.specs.Walk.{step_on, rest_on, in_front, and_rest, Over, Follows, HasHead, StepAnswers, IsStep, IsWalked}
+use Rattle.br_match.specs.Walk.{step_on, rest_on, in_front, and_rest, Over, Follows, HasHead, StepAnswers, ComesTo, IsStep, IsWalked}
 use Rattle.br_match.proofs.StepLaws.{rest_is_step_on, rest_from_0}
 use Rattle.br_match.proofs.SeenLaws.{step_above, step_uncovered, step_of_unknown}
 use Rattle.br_match.proofs.OverLaws.{refusal_is}
@@ -70,6 +70,15 @@ walk_goes_on volumes piece a next before after walked step = record {
       ∙ joined before step.batch (rest_on volumes piece next) ∙ ap (λ (hs : List Hit). in_front hs (rest_on volumes piece next)) (sym step.pushed);
   there = λ none. let e = sym (step_of_unknown volumes piece a none) ∙ step.step in absurd cc;
 }
+
+-- a walk comes to its start
+pub comes_at_first : (volumes : List Volume) (piece : Piece) (a : ℕ) → a ≡ 0 → ComesTo volumes piece a
+comes_at_first volumes piece a start = (0, start)
+
+-- and by a step more to the next address
+pub comes_further : (volumes : List Volume) (piece : Piece) (a next : ℕ) (hits : List Hit) → ComesTo volumes piece a
+    → step_on volumes piece a ≡ Ok (Some (hits, next)) → ComesTo volumes piece next
+comes_further volumes piece a next hits come step = (suc come.0, (a, hits, come.1, step))
 
 -- the walk is over
 pub walk_ends : (volumes : List Volume) (piece : Piece) (a : ℕ) (before after : List Hit) → IsWalked volumes piece a before → step_on volumes piece a ≡ Ok None → after ≡ before

@@ -53,6 +53,13 @@ over_any None later piece P all = tt
 over_any (Some earlier) None piece P all = tt
 over_any (Some earlier) (Some later) piece P all = λ volumes stands. all volumes
 
+-- two facts that hold over such volumes
+pub over_both : (earlier later : Option (List Volume)) (piece : Piece) (P Q : List Volume → Type 0) → Over earlier later piece P → Over earlier later piece Q
+    → Over earlier later piece (λ volumes. P volumes × Q volumes)
+over_both None later piece P Q p q = tt
+over_both (Some earlier) None piece P Q p q = tt
+over_both (Some earlier) (Some later) piece P Q p q = λ volumes stands. (p volumes stands, q volumes stands)
+
 -- one call after another
 pub over_join : (a b c : Option (List Volume)) (piece : Piece) (P Q R : List Volume → Type 0) → OnlyGrows a b → OnlyGrows b c
     → Over a b piece P → Over b c piece Q → ((volumes : List Volume) → P volumes → Q volumes → R volumes) → Over a c piece R

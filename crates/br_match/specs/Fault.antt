@@ -1,5 +1,5 @@
 -- What the refusal of a piece means.
-use Rattle.std.specs.Prelude.{◌≡◌, ℕ, ◌<◌, List, Option, Some, None, Result, IfErr}
+use Rattle.std.specs.Prelude.{◌≡◌, ℕ, ◌<◌, List, Option, Some, None, Result, IfErr, ⊤}
 use Rattle.br_model.specs.Meaning as model
 use Rattle.br_match.specs.declared.fault.PieceCause.{PieceCause}
 use Rattle.br_match.specs.declared.fault.PieceCause.TheVariants.{BadId, BadBlockSize, Truncated, DriveFault, UnknownVolume}
@@ -28,6 +28,19 @@ fault_volume (Block why vol addr) = Some vol
 abbrev pub fault_address : PieceFault → Option ℕ
 fault_address Memory = None
 fault_address (Block why vol addr) = Some addr
+
+-- the address that is named by a refusal at this one; an unknown volume is refused at address 0
+abbrev pub named_address : PieceCause → ℕ → ℕ
+named_address BadId addr = addr
+named_address BadBlockSize addr = addr
+named_address Truncated addr = addr
+named_address DriveFault addr = addr
+named_address UnknownVolume addr = 0
+
+-- the refusal names this volume and this address, unless memory ran out
+abbrev pub IsAt : List ℕ → ℕ → PieceFault → Type 0
+IsAt volume address Memory = ⊤
+IsAt volume address (Block why vol addr) = (vol ≡ volume) × (addr ≡ named_address why address)
 
 -- a refusal with this number
 abbrev pub refused_with : ℕ → List ℕ → ℕ → Option model.PieceFault

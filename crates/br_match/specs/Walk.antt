@@ -1,5 +1,5 @@
 -- The walk of a piece's volume, block by block, and what holds of it while a drive's volumes grow.
-use Rattle.std.specs.Prelude.{◌≡◌, ℕ, ◌+◌, ◌/◌, ◌^◌, ◌<◌, List, [], ◌++◌, length, drop, flat_map, Option, Some, None, option_map, Result, Ok, Err, ⊤}
+use Rattle.std.specs.Prelude.{◌≡◌, ℕ, zero, suc, IfErr, ◌+◌, ◌/◌, ◌^◌, ◌<◌, List, [], ◌++◌, length, drop, flat_map, Option, Some, None, option_map, Result, Ok, Err, ⊤}
 use Rattle.br_model.specs.Answer.{◌>>=◌, some_or, refused_as, IsRefusal, Answers}
 use Rattle.br_model.specs.Block.{Header, read_header}
 use Rattle.br_model.specs.Volume.{Volume, volume_bytes, BlockFault, blocks_from, next_block}
@@ -11,7 +11,7 @@ use Rattle.br_match.specs.declared.fault.PieceFault as code
 use Rattle.br_match.specs.declared.hit.Batch.{Batch}
 use Rattle.br_match.specs.declared.walk.Step.{Step}
 use Rattle.br_match.specs.declared.walk.Step.TheVariants.{Passed, End}
-use Rattle.br_match.specs.Fault.{cause}
+use Rattle.br_match.specs.Fault.{cause, IsAt}
 use Rattle.br_match.specs.Matching.{StandsFor}
 
 -- a fault of a block of this volume
@@ -152,6 +152,22 @@ BlockGiven piece address next (Err e) volumes = IsRefusal (cause e) (step_on vol
 abbrev pub GivesBlock : {D : Type 0} → (D → Option (List Volume)) → D → D → Piece → ℕ → ℕ → Result (Option Batch) code.PieceFault → Type 0
 GivesBlock shows earlier later piece address next result =
     AfterWalk (shows earlier) (shows later) piece address (BlockGiven piece address next result)
+
+-- a walk comes to the address by this number of steps
+abbrev pub ComesIn : ℕ → List Volume → Piece → ℕ → Type 0
+ComesIn zero volumes piece address = address ≡ 0
+ComesIn (suc n) volumes piece address =
+    (before : ℕ) × (hits : List Hit) × ComesIn n volumes piece before × (step_on volumes piece before ≡ Ok (Some (hits, address)))
+
+-- a walk comes to the address from the volume's start, step by step
+abbrev pub ComesTo : List Volume → Piece → ℕ → Type 0
+ComesTo volumes piece address = (n : ℕ) × ComesIn n volumes piece address
+
+-- A refusal names the piece's volume and the address to which the walk came; an unknown volume is
+-- refused at address 0.
+abbrev pub NamesReached : {D A : Type 0} → (D → Option (List Volume)) → D → D → Piece → Result A code.PieceFault → Type 0
+NamesReached shows earlier later piece result =
+    IfErr result (λ fault. (address : ℕ) × IsAt piece.volume address fault × Over (shows earlier) (shows later) piece (λ volumes. ComesTo volumes piece address))
 
 -- these hits were found of a piece before its walk came to the address
 pub record IsWalked (volumes : List Volume) (piece : Piece) (address : ℕ) (found : List Hit) : Type 0 where

@@ -1,7 +1,7 @@
 ghost use Rattle.std.specs.Prelude.{◌≡◌, ◌==◌, ℕ, List};
 ghost use Rattle.std.specs.Option.{option_copied};
 ghost use Rattle.br_block.specs.Fault as block;
-ghost use Rattle.br_match.specs.Fault.{cause_number, fault_number, fault_volume, fault_address, refusal, refused_with};
+ghost use Rattle.br_match.specs.Fault.{cause_number, fault_number, fault_volume, fault_address, named_address, refusal, refused_with};
 ghost use Rattle.br_match.specs.declared.fault.PieceFault.TheVariants.{Memory};
 
 use br_block::BlockFault;
@@ -42,6 +42,7 @@ impl PieceCause {
     pub(crate) fn of_block(fault: BlockFault) -> PieceCause
         ensures number { cause_number result ≡ block.fault_number fault }
         ensures told { (vol : List ℕ) (addr : ℕ) → refusal result vol addr ≡ refused_with (block.fault_number fault) vol addr }
+        ensures at { (addr : ℕ) → named_address result addr ≡ addr }
     {
         match fault {
             BlockFault::BadId => PieceCause::BadId,

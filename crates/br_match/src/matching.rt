@@ -1,6 +1,7 @@
 ghost use Rattle.std.specs.Prelude.{◌≡◌, ◌≤◌, IfOk};
 ghost use Rattle.br_match.specs.Fault.{FailsWithDrive};
 ghost use Rattle.br_match.specs.Matching.{FoundOver};
+ghost use Rattle.br_match.specs.Walk.{NamesReached};
 ghost use Rattle.br_volume.specs.Drive.{OnlyGrows};
 
 use crate::fault::PieceFault;
@@ -32,6 +33,7 @@ pub fn match_piece<D: Drive>(
     ensures grows { OnlyGrows (D.shows drive.old) (D.shows drive.new) }
     ensures counted { D.failures drive.old ≤ D.failures drive.new }
     ensures failed { FailsWithDrive D.failures drive.old drive.new result }
+    ensures named { NamesReached D.shows drive.old drive.new piece.now result }
 {
     let mut buf = Vec::new(alloc);
     let mut hits = Vec::new(alloc);

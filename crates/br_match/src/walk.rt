@@ -1,10 +1,10 @@
-ghost use Rattle.std.specs.Prelude.{◌≡◌, ◌<◌, ◌≤◌, ◌+◌, ◌^◌, false, true, None, Ok, IfOk, IfErr, IfSome, option_map};
+ghost use Rattle.std.specs.Prelude.{◌≡◌, ℕ, ◌<◌, ◌≤◌, ◌+◌, ◌^◌, false, true, None, Ok, IfOk, IfErr, IfSome, option_map};
 ghost use Rattle.std.specs.List.{AllZip};
 ghost use Rattle.br_match.specs.Groups.{AreAlike, all_alike_once};
 ghost use Rattle.br_model.specs.Meaning.{bound_of, is_covered, just_groups};
 ghost use Rattle.br_model.specs.Volume.{is_above};
 ghost use Rattle.br_volume.specs.Drive.{OnlyGrows, IsSized};
-ghost use Rattle.br_match.specs.Fault.{FailsWithDrive, cause_number, fault_number, cause, refusal};
+ghost use Rattle.br_match.specs.Fault.{FailsWithDrive, IsAt, cause_number, fault_number, cause, named_address, refusal};
 ghost use Rattle.br_match.specs.Walk.{AfterWalk, GivesBlock, GoesOn, HeadAnswers, IsRefusedFor, PassesBlock, ReadsOver, TakesStep, unknown};
 ghost use Rattle.br_volume.specs.Fault as drive;
 ghost use Rattle.br_volume.specs.declared.fault.DriveFault.TheVariants.{Fault};
@@ -28,6 +28,7 @@ const HEADER_LEN: u32 = 24;
 fn refused(alloc: Global, why: PieceCause, vol: &VolName, addr: u64) -> PieceFault
     ensures why { IsRefusedFor (refusal why vol.now addr) (cause result) }
     ensures number { fault_number result ≡ 13 → cause_number why ≡ 13 }
+    ensures named { (at : ℕ) → addr ≡ named_address why at → IsAt vol.now at result }
 {
     match vol.copy(alloc) {
         Err(_) => PieceFault::Memory,
@@ -44,6 +45,7 @@ fn refused(alloc: Global, why: PieceCause, vol: &VolName, addr: u64) -> PieceFau
 fn refused_by_drive(alloc: Global, fault: DriveFault, vol: &VolName, addr: u64) -> PieceFault
     ensures why { IsRefusedFor (option_map (λ number. unknown vol.now) (drive.cause fault)) (cause result) }
     ensures number { fault_number result ≡ 13 → fault ≡ Fault }
+    ensures named { IsAt vol.now addr result }
 {
     match fault {
         DriveFault::Memory => PieceFault::Memory,
@@ -66,6 +68,7 @@ fn read_bytes<D: Drive>(
     ensures grows { OnlyGrows (D.shows drive.old) (D.shows drive.new) }
     ensures counted { D.failures drive.old ≤ D.failures drive.new }
     ensures failed { FailsWithDrive D.failures drive.old drive.new result }
+    ensures named { IfErr result (IsAt vol.now addr) }
 {
     match drive.block_at(vol, addr, size, buf) {
         Ok(got) => Ok(got),
@@ -90,6 +93,7 @@ fn head_at<D: Drive>(
     ensures grows { OnlyGrows (D.shows drive.old) (D.shows drive.new) }
     ensures counted { D.failures drive.old ≤ D.failures drive.new }
     ensures failed { FailsWithDrive D.failures drive.old drive.new result }
+    ensures named { IfErr result (IsAt piece.now.volume addr) }
 {
     match read_bytes(alloc, drive, &piece.vol, addr, HEADER_LEN, buf)? {
         Got::End => Ok(None),
@@ -205,6 +209,7 @@ impl<'p> Walk<'p> {
         ensures grows { OnlyGrows (D.shows drive.old) (D.shows drive.new) }
         ensures counted { D.failures drive.old ≤ D.failures drive.new }
         ensures failed { FailsWithDrive D.failures drive.old drive.new result }
+        ensures named { IfErr result (IsAt self.now.piece.now.volume self.now.addr) }
     {
         let piece = self.piece;
         let addr = self.addr;
@@ -230,6 +235,7 @@ impl<'p> Walk<'p> {
         ensures grows { OnlyGrows (D.shows drive.old) (D.shows drive.new) }
         ensures counted { D.failures drive.old ≤ D.failures drive.new }
         ensures failed { FailsWithDrive D.failures drive.old drive.new result }
+        ensures named { IfErr result (IsAt self.now.piece.now.volume self.now.addr) }
     {
         if covers_any(&self.matchers, self.addr) {
             self.push_covered(alloc, drive, head, buf, hits)
@@ -256,6 +262,7 @@ impl<'p> Walk<'p> {
         ensures grows { OnlyGrows (D.shows drive.old) (D.shows drive.new) }
         ensures counted { D.failures drive.old ≤ D.failures drive.new }
         ensures failed { FailsWithDrive D.failures drive.old drive.new result }
+        ensures named { IfErr result (IsAt self.old.piece.now.volume self.old.addr) }
     {
         if self.is_above() {
             return Ok(Step::End);
@@ -290,6 +297,7 @@ impl<'p> Walk<'p> {
         ensures grows { OnlyGrows (D.shows drive.old) (D.shows drive.new) }
         ensures counted { D.failures drive.old ≤ D.failures drive.new }
         ensures failed { FailsWithDrive D.failures drive.old drive.new result }
+        ensures named { IfErr result (IsAt (piece_of self.old).volume (address_of self.old)) }
     {
         let mut hits = Vec::new(alloc);
         match self.step(alloc, drive, buf, &mut hits)? {
