@@ -50,23 +50,27 @@ fn is_failure(answer: &Answer) -> bool
     }
 }
 
-/// Reads a piece with a drive, and reports both ends of the reading to the gate.
+/// Reads a piece with a drive that is not out, and reports both ends of the reading to the gate. A
+/// drive that fails is out, so it reads no further piece.
 fn read_one<D: Drive, G: Gate>(
     alloc: Global,
     piece: &Piece,
     number: u32,
     gate: &G,
-    drive: &mut D,
+    reader: &mut Reader<D>,
 ) -> Answer
+    requires able { reader.old.out ≡ false }
     ensures number { IfOk result (λ found. found.piece ≡ piece.now.number) }
-    ensures hits { FoundOver (D.shows drive.old) (D.shows drive.new) piece.now result }
-    ensures grows { OnlyGrows (D.shows drive.old) (D.shows drive.new) }
-    ensures counted { D.failures drive.old ≤ D.failures drive.new }
-    ensures failed { is_failure result ≡ true → D.failures drive.old < D.failures drive.new }
+    ensures hits { FoundOver (D.shows reader.old.drive) (D.shows reader.new.drive) piece.now result }
+    ensures grows { OnlyGrows (D.shows reader.old.drive) (D.shows reader.new.drive) }
+    ensures counted { D.failures reader.old.drive ≤ D.failures reader.new.drive }
+    ensures failed { is_failure result ≡ true → D.failures reader.old.drive < D.failures reader.new.drive }
+    ensures out { reader.new.out ≡ is_failure result }
 {
     gate.enter(number);
-    let answer = match_piece(alloc, piece, drive);
+    let answer = match_piece(alloc, piece, &mut reader.drive);
     gate.leave(number);
+    reader.out = is_failure(&answer);
     answer
 }
 
@@ -78,32 +82,31 @@ fn number_at(left: &[u32], place: u32) -> u32
     left[place as usize]
 }
 
-/// Draws pieces and reads them, until none is left or the drive fails. Returns whether it failed.
-/// The piece at which it failed has no answer.
+/// Draws pieces and reads them, until none is left or the drive fails. The piece at which it failed
+/// has no answer.
 fn read_drawn<D: Drive, G: Gate>(
     alloc: Global,
     round: &Round<'_, G>,
-    drive: &mut D,
+    reader: &mut Reader<D>,
     seat: &mut ClaimSeat,
     answers: &mut Vec<(u32, Answer)>,
-) -> bool
+)
+    requires able { reader.old.out ≡ false }
     requires few { round.now.claims.now.limit ≡ length round.now.left.now }
     requires below { AllByRecursion (λ x. x < length round.now.pieces.now) round.now.left.now }
     requires ready { IsReady round.now.claims.now.claims round.now.claims.now.limit seat.old answers.old }
-    ensures { HasWorked round.now.claims.now.claims round.now.pieces.now round.now.left.now (D.shows drive.old) (D.shows drive.new)
-        (D.failures drive.old) (D.failures drive.new) false result seat.new answers.new.items }
+    ensures { HasWorked round.now.claims.now.claims round.now.pieces.now round.now.left.now (D.shows reader.old.drive) (D.shows reader.new.drive)
+        (D.failures reader.old.drive) (D.failures reader.new.drive) reader.old.out reader.new.out seat.new answers.new.items }
 {
     while let Some(place) = round.claims.draw(seat) {
         let number = number_at(round.left, place);
         let piece = &round.pieces[number as usize];
-        let answer = read_one(alloc, piece, number, round.gate, drive);
-        let failed = is_failure(&answer);
-        if failed {
-            return true;
+        let answer = read_one(alloc, piece, number, round.gate, reader);
+        if reader.out {
+            return;
         }
         answers.push_reserved((number, answer));
     }
-    false
 }
 
 /// Reads pieces, as `read_drawn`, unless the drive is out.
@@ -121,8 +124,7 @@ fn work<D: Drive, G: Gate>(alloc: Global, round: &Round<'_, G>, worker: &mut Wor
     if reader.out {
         return;
     }
-    let failed = read_drawn(alloc, round, &mut reader.drive, seat, answers);
-    reader.out = failed;
+    read_drawn(alloc, round, reader, seat, answers);
 }
 
 /// Runs each worker in a thread of its own.

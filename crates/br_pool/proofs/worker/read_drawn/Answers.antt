@@ -30,7 +30,8 @@ one_more left place number a drawn before after e is so =
 
 pub loop-place-init : goal.loop-place-init
 loop-place-init g c = let r = c.requires.ready in
-    let shows = g.D.Drive.shows c.args.drive.now in record {
+    let shows = g.D.Drive.shows c.args.reader.now.drive in record {
+      inside = c.requires.able;
       claims_are = r.claims_are;
       limit_is = r.limit_is;
       grows = grows_itself shows;
@@ -56,13 +57,14 @@ loop-place-preserved g c = let i = c.loop-place.invariant in
     let pieces = c.args.round.now.pieces.now in
     let left = c.args.round.now.left.now in
     let number = c.number_at-number.result in
-    let first = g.D.Drive.shows c.args.drive.now in
-    let second = g.D.Drive.shows c.loop-place.drive in
-    let third = g.D.Drive.shows c.read_one-answer.new.drive in
+    let first = g.D.Drive.shows c.args.reader.now.drive in
+    let second = g.D.Drive.shows c.loop-place.reader.drive in
+    let third = g.D.Drive.shows c.read_one-answer.new.reader.drive in
     let e = c.read_one-answer.ensures in
     let step = c.in-Some.ensures.step.1 in
     let low = c.in-Some.ensures.below in
     let pushed = c.push_reserved.ensures in record {
+      inside = c.if-reader.false;
       claims_are = ap (λ (s : Seated). s.claims) step ∙ i.claims_are;
       limit_is = ap (λ (s : Seated). s.limit) step ∙ i.limit_is;
       grows = grows_more first second third i.grows e.grows;
@@ -74,20 +76,21 @@ loop-place-preserved g c = let i = c.loop-place.invariant in
           (answered_more pieces number c.index-round-number.result c.read_one-answer.result first second third c.loop-place.answers.items i.grows e.grows
           (below_at (length pieces) left c.in-Some.place number c.requires.below (let a = i.limit_is in let b = c.requires.few in omega (arith, a, b, low)) c.number_at-number.ensures)
           c.index-round-number.is (subst (λ (p : Piece). IfOk c.read_one-answer.result (λ f. f.piece ≡ p.number)) (sym c.index-round-number.is) e.number)
-          (subst (λ (p : Piece). FoundOver second third p c.read_one-answer.result) (sym c.index-round-number.is) e.hits) (sym c.is_failure-failed.ensures ∙ c.if-failed.false) i.each);
+          (subst (λ (p : Piece). FoundOver second third p c.read_one-answer.result) (sym c.index-round-number.is) e.hits) (sym e.out ∙ c.if-reader.false) i.each);
       many = let a = i.many in let b = pushed.len in let d = ap (λ (s : Seated). length s.drawn) step in let l = length-append c.loop-place.seat.drawn (c.in-Some.place ∷ []) in omega (arith, a, b, d, l);
       room = let a = pushed.capacity in let b = i.room in omega (arith, a, b);
     }
 
-pub returns-then-failed : goal.returns-then-failed
-returns-then-failed g c = let i = c.loop-place.invariant in
+pub returns-then-reader : goal.returns-then-reader
+returns-then-reader g c = let i = c.loop-place.invariant in
     let pieces = c.args.round.now.pieces.now in
-    let first = g.D.Drive.shows c.args.drive.now in
-    let second = g.D.Drive.shows c.loop-place.drive in
-    let third = g.D.Drive.shows c.read_one-answer.new.drive in
+    let first = g.D.Drive.shows c.args.reader.now.drive in
+    let second = g.D.Drive.shows c.loop-place.reader.drive in
+    let third = g.D.Drive.shows c.read_one-answer.new.reader.drive in
     let e = c.read_one-answer.ensures in
     let step = c.in-Some.ensures.step.1 in
-    let less = e.failed (sym c.is_failure-failed.ensures ∙ c.if-failed.true) in record {
+    let less = e.failed (sym e.out ∙ c.if-reader.true) in
+    rw (c.requires.able, c.if-reader.true) (record {
       claims_are = ap (λ (s : Seated). s.claims) step ∙ i.claims_are;
       served = record {
         grows = grows_more first second third i.grows e.grows;
@@ -98,12 +101,13 @@ returns-then-failed g c = let i = c.loop-place.invariant in
       each = answered_longer pieces first second third c.loop-place.answers.items i.grows e.grows i.each;
       answered = λ p. absurd (differ p);
       ended = λ p. absurd (differ p);
-    }
+    })
 
 pub returns : goal.returns
 returns g c = let i = c.loop-place.invariant in
     let left = c.args.round.now.left.now in
-    let step = c.in_default.ensures.step in record {
+    let step = c.in_default.ensures.step in
+    rw (c.requires.able, i.inside) (record {
       claims_are = ap (λ (s : Seated). s.claims) step ∙ i.claims_are;
       served = record {
         grows = i.grows;
@@ -114,4 +118,4 @@ returns g c = let i = c.loop-place.invariant in
       each = i.each;
       answered = λ p. i.drawn ∙ sym (ap (λ (s : Seated). map (number_at left) s.drawn) step);
       ended = λ p. ap (λ (s : Seated). s.ended) step;
-    }
+    })

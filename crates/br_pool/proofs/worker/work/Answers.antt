@@ -19,7 +19,3 @@ returns-then-reader g c = let r = c.requires.ready in
       answered = λ p. ap numbers_of r.answered_none ∙ sym (ap (map (number_at c.args.round.now.left.now)) r.drawn_none);
       ended = λ p. absurd (clash reader.out c.if-reader.true p);
     }
-
--- the drive was not out
-pub returns : goal.returns
-returns g c = rw c.if-reader.false c.read_drawn-failed.ensures
