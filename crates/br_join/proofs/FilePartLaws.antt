@@ -1,10 +1,7 @@
 -- The parts of a file, one after another, and zeros, block by block.
-use Rattle.std.proofs.Common.{◌≡◌, ℕ, ◌+◌, ◌-◌, ◌<◌, ◌≤◌, List, [], ◌∷◌, ◌++◌, length, get_or, take, min, replicate, sym, ap, subst, ◌∙◌, arith, append_assoc}
-use Rattle.std.specs.Prelude.{Option}
-use Rattle.std.specs.Io.KnownBytes.{Appends}
-use Rattle.std.proofs.KnownBytes.{Appends-trans}
+use Rattle.std.proofs.Common.{◌≡◌, ℕ, ◌+◌, ◌-◌, ◌<◌, ◌≤◌, List, [], ◌∷◌, ◌++◌, length, get_or, take, drop, min, replicate, sym, ap, ◌∙◌, arith, append_assoc}
 use Rattle.std.proofs.lemmas.Grind.{flat_map-append}
-use Rattle.std.proofs.lemmas.List.{append-nil, take_more, take-replicate, replicate-append-replicate}
+use Rattle.std.proofs.lemmas.List.{append-nil, take_more, take-replicate, replicate-append-replicate, take-append-drop}
 use Rattle.br_join.specs.declared.file_part.Part.{Part}
 use Rattle.br_join.specs.FileParts.{part_bytes, joined}
 
@@ -20,6 +17,14 @@ pub pushed_one : (parts : List Part) (i : ℕ) (x : Part) (first before now : Li
 pushed_one parts i x first before now within is so_far more =
     more ∙ ap (λ (bytes : List ℕ). bytes ++ part_bytes x) so_far ∙ append_assoc first (joined (take i parts)) (part_bytes x)
     ∙ ap (λ (bytes : List ℕ). first ++ bytes) (sym (joined_more parts i x within is))
+
+-- the parts before one, this one and those after it
+pub joined_around : (parts : List Part) (i : ℕ) (x : Part) → i < length parts → x ≡ get_or parts i x
+    → joined (take i parts) ++ (part_bytes x ++ joined (drop (i + 1) parts)) ≡ joined parts
+joined_around parts i x within is =
+    sym (append_assoc (joined (take i parts)) (part_bytes x) (joined (drop (i + 1) parts)))
+    ∙ ap (λ (bytes : List ℕ). bytes ++ joined (drop (i + 1) parts)) (sym (joined_more parts i x within is))
+    ∙ sym (flat_map-append part_bytes (take (i + 1) parts) (drop (i + 1) parts)) ∙ ap joined (take-append-drop (i + 1) parts)
 
 -- ---- zeros
 
@@ -42,13 +47,6 @@ pub message_more : (m some : List ℕ) (count left next : ℕ) → left ≤ coun
 message_more m some count left next le least is =
     append_assoc m (zeros (count - left)) some
     ∙ ap (λ (xs : List ℕ). m ++ xs) (ap (λ (xs : List ℕ). zeros (count - left) ++ xs) (some_zeros left next some least is) ∙ zeros_more count left next le least)
-
--- what was written, with some zeros more
-pub written_more : (a b c : Option (List ℕ)) (some : List ℕ) (count left next : ℕ) → left ≤ count → next ≡ min left 4096 → some ≡ take next (zeros 4096)
-    → Appends a b (zeros (count - left)) → Appends b c some → Appends a c (zeros (count - (left - next)))
-written_more a b c some count left next le least is so_far more =
-    subst (Appends a c) (ap (λ (xs : List ℕ). zeros (count - left) ++ xs) (some_zeros left next some least is) ∙ zeros_more count left next le least)
-    (Appends-trans a b c (zeros (count - left)) some so_far more)
 
 -- if none are left, all are done
 pub none_left : (count left : ℕ) → left ≤ 0 → zeros (count - left) ≡ zeros count

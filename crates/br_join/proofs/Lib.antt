@@ -8,3 +8,4 @@ pub mod FilesLaws
 pub mod PieceLaws
 pub mod RunLaws
 pub mod SortLaws
+mod WrittenLaws

@@ -9,3 +9,4 @@ pub mod Outcome
 pub mod Pieces
 pub mod Records
 pub mod Runs
+pub mod Written

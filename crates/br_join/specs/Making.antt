@@ -3,6 +3,8 @@ use Rattle.std.specs.Prelude.{ℕ, List, Option, Some, None, Result}
 use Rattle.br_model.specs.Answer.{refused_as}
 use Rattle.br_model.specs.Attribute.{Attributes, read_attributes}
 use Rattle.br_model.specs.File as model
+use Rattle.br_attr.specs.declared.fault.AttrFault.{AttrFault}
+use Rattle.br_attr.specs.declared.fault.AttrFault.TheVariants as attr
 use Rattle.br_join.specs.declared.making_fault.FileFault.{FileFault}
 use Rattle.br_join.specs.declared.making_fault.FileFault.TheVariants.{Orphan, Torn, SizeDiffers, NoAttributes, BadAttributes, Unsupported, DigestDiffers, SparseBack, TooLarge, NameDiffers}
 use Rattle.br_join.specs.declared.making_fault.MakingFault.{MakingFault}
@@ -25,6 +27,14 @@ file_fault NameDiffers = model.fault 69
 abbrev pub cause : MakingFault → Option model.Fault
 cause Memory = None
 cause (File fault) = Some (file_fault fault)
+
+-- the fault of a file whose attributes were refused: 64, unless memory ran out
+abbrev pub making_fault : AttrFault → MakingFault
+making_fault attr.Memory = Memory
+making_fault attr.BadNumber = File BadAttributes
+making_fault attr.MissingField = File BadAttributes
+making_fault attr.BadName = File BadAttributes
+making_fault attr.IndexDiffers = File BadAttributes
 
 -- the attributes in some bytes, 64 if they cannot be read
 abbrev pub read_or_64 : List ℕ → ℕ → Result Attributes model.Fault

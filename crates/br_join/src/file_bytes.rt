@@ -1,8 +1,9 @@
 //! The bytes of a restored file, which stay in the fragments in which they were found.
-ghost use Rattle.std.specs.Prelude.{◌≡◌, ◌++◌, [], length, IfOk, OnOk};
+ghost use Rattle.std.specs.Prelude.{◌≡◌, ◌++◌, [], length, IfOk, OnErr, OnOk};
 ghost use Rattle.std.specs.Io.KnownBytes.{Appends};
 ghost use Rattle.md5.specs.Md5.{md5};
 ghost use Rattle.br_join.specs.FileParts.{joined};
+ghost use Rattle.br_join.specs.Written.{AppendsFront};
 
 use crate::file_part::{Part, push_data, push_part};
 use md5::{Digest, Md5};
@@ -44,9 +45,10 @@ fn digest_of(parts: &[Part]) -> [u8; 16]
     hasher.finalize()
 }
 
-/// Writes the bytes of the parts, one part after another.
+/// Writes the bytes of the parts, one part after another, or if that fails the first of them.
 fn write_parts<W: Write>(writer: &mut W, parts: &[Part]) -> io::Result<()>
-    ensures { OnOk result (Appends (W.contents writer.old) (W.contents writer.new) (joined parts.now)) }
+    ensures all { OnOk result (Appends (W.contents writer.old) (W.contents writer.new) (joined parts.now)) }
+    ensures front { OnErr result (AppendsFront (W.contents writer.old) (W.contents writer.new) (joined parts.now)) }
 {
     for part in parts {
         part.write_to(writer)?;
@@ -117,10 +119,11 @@ impl FileBytes {
         self.digest
     }
 
-    /// Writes all bytes, at most 64 KiB by one call. If a write fails, the first of the bytes may
-    /// be written.
+    /// Writes all bytes, at most 64 KiB by one call. If a write fails, the first of the bytes are
+    /// written, maybe none.
     pub fn write_to<W: Write>(&self, writer: &mut W) -> io::Result<()>
-        ensures { OnOk result (Appends (W.contents writer.old) (W.contents writer.new) self.now) }
+        ensures all { OnOk result (Appends (W.contents writer.old) (W.contents writer.new) self.now) }
+        ensures front { OnErr result (AppendsFront (W.contents writer.old) (W.contents writer.new) self.now) }
     {
         write_parts(writer, &self.parts)
     }

@@ -1,10 +1,12 @@
 //! A part of the bytes of a file: zeros, or the bytes of one fragment.
-ghost use Rattle.std.specs.Prelude.{◌≡◌, ℕ, List, ◌++◌, drop, replicate, IfOk, OnOk};
+ghost use Rattle.std.specs.Prelude.{◌≡◌, ℕ, List, ◌++◌, drop, replicate, IfOk, OnErr, OnOk};
 ghost use Rattle.std.specs.Arc.{arc_slice_items};
 ghost use Rattle.std.specs.Io.KnownBytes.{Appends};
 ghost use Rattle.md5.specs.Md5.{Holds};
 ghost use Rattle.br_join.specs.FileParts.{part_bytes, joined};
+ghost use Rattle.br_join.specs.Written.{AppendsFront};
 
+use crate::writing::{write_bytes, write_some};
 use md5::{Digest, Md5};
 use std::alloc::AllocError;
 use std::io;
@@ -13,9 +15,6 @@ use std::sync::ArcSlice;
 
 /// The number of zeros that one call writes or digests.
 const ZEROS_LEN: usize = 4096;
-
-/// The number of bytes that one call writes. The system is slower with far more of them at a time.
-const WRITTEN_LEN: usize = 64 * 1024;
 
 /// A part of the bytes of a file.
 #[derive(Debug, Drop)]
@@ -47,27 +46,17 @@ fn digest_zeros(hasher: &mut Md5, count: usize)
     }
 }
 
-/// Writes `count` zeros.
+/// Writes `count` zeros, or if that fails the first of them.
 fn write_zeros<W: Write>(writer: &mut W, count: usize) -> io::Result<()>
-    ensures { OnOk result (Appends (W.contents writer.old) (W.contents writer.new) (replicate count 0)) }
+    ensures all { OnOk result (Appends (W.contents writer.old) (W.contents writer.new) (replicate count 0)) }
+    ensures front { OnErr result (AppendsFront (W.contents writer.old) (W.contents writer.new) (replicate count 0)) }
 {
     let zeros = [0; ZEROS_LEN];
     let mut left = count;
     while left > 0 {
         let next = left.min(ZEROS_LEN);
         let (some, _) = zeros.split_at(next);
-        writer.write_all(some)?;
-        left -= next;
-    }
-    Ok(())
-}
-
-/// Writes all bytes, at most 64 KiB by one call.
-fn write_bytes<W: Write>(writer: &mut W, bytes: &[u8]) -> io::Result<()>
-    ensures { OnOk result (Appends (W.contents writer.old) (W.contents writer.new) bytes.now) }
-{
-    for part in bytes.chunks(WRITTEN_LEN) {
-        writer.write_all(part)?;
+        left -= write_some(writer, some)?;
     }
     Ok(())
 }
@@ -93,9 +82,10 @@ impl Part {
         }
     }
 
-    /// Writes the bytes of the part.
+    /// Writes the bytes of the part, or if that fails the first of them.
     pub(crate) fn write_to<W: Write>(&self, writer: &mut W) -> io::Result<()>
-        ensures { OnOk result (Appends (W.contents writer.old) (W.contents writer.new) (part_bytes self.now)) }
+        ensures all { OnOk result (Appends (W.contents writer.old) (W.contents writer.new) (part_bytes self.now)) }
+        ensures front { OnErr result (AppendsFront (W.contents writer.old) (W.contents writer.new) (part_bytes self.now)) }
     {
         match self {
             Part::Zeros(count) => write_zeros(writer, *count),

@@ -16,6 +16,7 @@ mod parts;
 mod records;
 mod runs;
 mod streams;
+mod writing;
 
 pub use fault::{JoinFault, Refused};
 pub use file_bytes::FileBytes;

@@ -4,7 +4,7 @@ ghost use Rattle.br_model.specs.Attribute.{read_attributes};
 ghost use Rattle.br_model.specs.File as file;
 ghost use Rattle.br_model.specs.Meaning as meaning;
 ghost use Rattle.br_model.specs.Restored as model;
-ghost use Rattle.br_join.specs.Making.{cause, file_fault, read_or_64};
+ghost use Rattle.br_join.specs.Making.{cause, file_fault, making_fault, read_or_64};
 ghost use Rattle.br_join.specs.Outcome.{shown};
 
 use crate::data::file_bytes;
@@ -20,14 +20,27 @@ use br_match::Hit;
 use br_types::{FileIndex, FileKey, Path};
 use std::alloc::{AllocError, Global};
 
+/// Returns the fault of a file whose attributes were refused: `BadAttributes`, unless memory ran
+/// out.
+fn of_attr_fault(fault: AttrFault) -> MakingFault
+    ensures { result ≡ making_fault fault }
+{
+    match fault {
+        AttrFault::Memory => MakingFault::Memory,
+        AttrFault::BadNumber
+        | AttrFault::MissingField
+        | AttrFault::BadName
+        | AttrFault::IndexDiffers => MakingFault::File(FileFault::BadAttributes),
+    }
+}
+
 /// Returns the attributes in a record's bytes, or `BadAttributes`.
 fn attributes_in(alloc: Global, index: FileIndex, bytes: &[u8]) -> Result<Attr, MakingFault>
     ensures { Answers (λ attr. attr) cause result (read_or_64 bytes.now index) }
 {
     match Attr::read(alloc, bytes, index) {
         Ok(attr) => Ok(attr),
-        Err(AttrFault::Memory) => Err(MakingFault::Memory),
-        Err(_) => Err(MakingFault::File(FileFault::BadAttributes)),
+        Err(fault) => Err(of_attr_fault(fault)),
     }
 }
 
