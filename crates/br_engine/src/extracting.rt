@@ -1,4 +1,4 @@
-ghost use Rattle.std.specs.Prelude.{◌≡◌, is_ok, map, IfOk, IfErr, IfSome, OnOk};
+ghost use Rattle.std.specs.Prelude.{◌≡◌, ◌^◌, is_ok, map, IfOk, IfErr, IfSome, OnOk};
 ghost use Rattle.std.specs.List.{list_all};
 ghost use Rattle.std.specs.Io.KnownBytes.{Appends};
 ghost use Rattle.br_model.specs.Manifest as model;
@@ -36,6 +36,15 @@ pub(crate) fn all_files(outcomes: &[(FileKey, Outcome)]) -> bool
     all_outcomes(outcomes)
 }
 
+/// Returns the fault of an input that has not ended after this number of reads.
+fn never_ends(reads: u64) -> ExtractFault
+    requires limit { reads ≡ 2 ^ 40 }
+    ensures { IsFree result }
+{
+    let _reads = reads;
+    ExtractFault::Io(Error::new(ErrorKind::TimedOut, "the input has no end"))
+}
+
 /// Reads all that a reader has left.
 pub(crate) fn read_text<R: Read>(alloc: Global, reader: &mut R) -> Result<Vec<u8>, ExtractFault>
     ensures text { IfOk result (λ text. IfSome (R.remaining reader.old) (λ bytes. text.items ≡ bytes)) }
@@ -56,7 +65,7 @@ pub(crate) fn read_text<R: Read>(alloc: Global, reader: &mut R) -> Result<Vec<u8
             }
         }
     }
-    Err(ExtractFault::Io(Error::new(ErrorKind::TimedOut, "the input has no end")))
+    Err(never_ends(MAX_TURNS))
 }
 
 /// Writes the manifest of the outcomes.
