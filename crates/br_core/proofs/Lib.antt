@@ -17,6 +17,9 @@ pub mod FirstLaws
 pub mod ScriptLaws
 pub mod MovingLaws
 pub mod EventLaws
+pub mod FaultLaws
+pub mod StepLaws
+pub mod PointLaws
 pub mod BackupLaws
 mod Computing
 mod JobExamples

@@ -75,7 +75,7 @@ kept_whole n before r back at same = (put_again before n (Some r) (Some back) at
 -- ---- in a state
 
 -- the restore of a number, as the state has it
-found_at : (backups : World) (restores : List (Option Restore)) (n : ℕ) (r : Restore) → slice_get restores n ≡ Some (Some r)
+pub found_at : (backups : World) (restores : List (Option Restore)) (n : ℕ) (r : Restore) → slice_get restores n ≡ Some (Some r)
     → restore_at (world_with backups restores) n ≡ Some (restore_of backups.jobs (stages_of backups) r)
 found_at backups restores n r at =
     let see = restore_of backups.jobs (stages_of backups) in

@@ -32,7 +32,7 @@ use Rattle.br_core.proofs.StatusLaws.{claimed_at}
 -- ---- one step more
 
 -- a run, and one step after it
-run_more : (first w after : World) (events : List Event) (replies : List Reply) (event : Event) (reply : Reply) → IsRun first events replies w → IsStep w event reply after
+pub run_more : (first w after : World) (events : List Event) (replies : List Reply) (event : Event) (reply : Reply) → IsRun first events replies w → IsStep w event reply after
     → IsRun first (events ++ event ∷ []) (replies ++ reply ∷ []) after
 run_more first w after [] [] event reply run step = (after, subst (λ (s : World). IsStep s event reply after) run step, refl)
 run_more first w after [] (r ∷ rs) event reply run step = absurd run
@@ -50,7 +50,7 @@ reached_more w after event reply reached step whole = record {
 
 -- ---- its jobs and restores
 
-nothing_is_start : IsStart nothing
+pub nothing_is_start : IsStart nothing
 unfolding no_pair
 nothing_is_start = record { history = refl; are_jobs = tt; none = refl }
 

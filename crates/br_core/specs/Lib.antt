@@ -10,5 +10,6 @@ pub mod View
 pub mod Planning
 pub mod Moving
 pub mod Stepping
+pub mod Running
 pub mod Backups
 pub mod Committing

@@ -1,5 +1,6 @@
 -- The machine that runs: its state, and what a step of it is.
-use Rattle.std.specs.Prelude.{◌≡◌, ℕ, List, map, option_map, Option, Some, IfSome, Result, Ok, Err}
+use Rattle.std.specs.Prelude.{◌≡◌, ℕ, ◌≤◌, List, map, option_map, slice_get, Option, Some, None, IfSome, Result, Ok, Err}
+use Rattle.br_model.specs.Volume.{Volume}
 use Rattle.br_model.specs.Choice.{Request}
 use Rattle.br_model.specs.Console.{Command}
 use Rattle.br_model.specs.Plan as model
@@ -7,8 +8,11 @@ use Rattle.br_model.specs.PlanMeaning.{rows_of_jobs}
 use Rattle.br_core.specs.Fault.{cause}
 use Rattle.br_core.specs.Happening.{reply_of}
 use Rattle.br_core.specs.Machine as machine
-use Rattle.br_core.specs.Machine.{World, Event, Can, Goes, IsEnabled, IsStep, Moves, plan_for, planned, restore_at, stages_of}
+use Rattle.br_core.specs.Machine.{World, Event, ToCommit, Can, Goes, IsEnabled, IsStep, Moves, plan_for, planned, restore_at, stages_of}
+use Rattle.br_core.specs.Machine.Event.{Commit}
 use Rattle.br_core.specs.Machine.Reply.{Refused}
+use Rattle.br_core.specs.Moving.{commits_at}
+use Rattle.br_core.specs.Reached.{IsReached}
 use Rattle.br_core.specs.View.{restore_of}
 use Rattle.br_core.specs.declared.event.Reply.{Reply}
 use Rattle.br_core.specs.declared.event.Reply.TheVariants as given
@@ -51,6 +55,27 @@ PlansRestore w q script (Ok r) =
     (marks : List (List ℕ)) × (plan : model.Plan) × (plan_for (rows_of_jobs w.jobs) q script ≡ Ok (marks, plan))
     × (restore_of w.jobs (stages_of w) r ≡ planned w q marks plan)
 PlansRestore w q script (Err fault) = IfSome (cause fault) (λ n. plan_for (rows_of_jobs w.jobs) q script ≡ Err n)
+
+-- The commit of a job takes a step, whatever the restores are, if a run from nothing reaches the
+-- state with these.
+abbrev pub CommitsBeside : World → ToCommit → World → Result Reply StepFault → Type 0
+CommitsBeside before job after result =
+    (restores : List (Option Restore)) → IsReached (world_with before restores)
+    → TakesStep (world_with before restores) (Commit job) (world_with after restores) result
+
+-- the restores take the step of an event that leaves the jobs and the volumes
+abbrev pub RestoresStep : World → List (Option Restore) → Event → List (Option Restore) → Result Reply StepFault → Type 0
+RestoresStep backups before event after result = TakesStep (world_with backups before) event (world_with backups after) result
+
+-- The volumes after this number of commits, if the restore of the number is not over and was planned
+-- after no more commits.
+abbrev pub ShowsTo : World → List (Option Restore) → ℕ → ℕ → Option (List Volume) → Type 0
+ShowsTo backups restores number commits (Some volumes) =
+    ((since : ℕ) × (commits_at (slice_get restores number) ≡ Some since) × (since ≤ commits))
+    × (slice_get (stages_of backups) commits ≡ Some volumes)
+ShowsTo backups restores number commits None =
+    (since : ℕ) (volumes : List Volume) → commits_at (slice_get restores number) ≡ Some since → since ≤ commits
+    → slice_get (stages_of backups) commits ≡ Some volumes → ⊥
 
 -- the reply to a step: its refusal is one
 abbrev pub IsReply : Result Reply StepFault → Reply → Type 0

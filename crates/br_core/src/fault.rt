@@ -35,6 +35,14 @@ impl StepFault {
             StepFault::Plan(why) => why.number(),
         }
     }
+
+    /// Returns the number of the refusal, none if memory ran out.
+    pub(crate) fn cause(self) -> Option<u32>
+        ensures { result ≡ cause self }
+    {
+        let number = self.number();
+        if number == 1 { None } else { Some(number) }
+    }
 }
 
 impl From<AllocError> for StepFault {

@@ -11,14 +11,19 @@ mod planning;
 mod reading;
 mod restore;
 mod restores;
+mod running;
 mod status;
+mod steps;
 #[cfg(test)]
 mod tests;
+mod world;
 
 ghost use Rattle.br_core.specs.Laws.{Headline, HitsOfARun, JobsHold};
 
 pub use event::{Event, Reply};
 pub use fault::StepFault;
+pub use running::run;
+pub use world::World;
 
 /// States that at every point of every run the hits of a restore are those that its bootstrap
 /// means.
