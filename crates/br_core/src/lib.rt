@@ -1,8 +1,6 @@
 //! The machine of restores and backups, over which the main theorem is proved for every schedule.
 #![tactic(auto)]
 
-#[cfg(test)]
-mod backup_tests;
 mod backups;
 mod committing;
 mod event;

@@ -1,0 +1,16 @@
+//! Tests of the machine of restores and backups, on given events and on drawn ones. There are only
+//! tests here.
+#![tactic(auto)]
+
+#[cfg(test)]
+mod deeds;
+#[cfg(test)]
+mod drawing;
+#[cfg(test)]
+mod drawn_tests;
+#[cfg(test)]
+mod jobs;
+#[cfg(test)]
+mod machine_tests;
+#[cfg(test)]
+mod number_tests;
