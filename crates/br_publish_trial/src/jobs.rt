@@ -1,0 +1,38 @@
+//! Jobs without files, and histories of them.
+use br_history::{History, JobRow, JobRows};
+use br_types::{JobId, Letter, Name, SessionKey};
+use std::alloc::Global;
+use std::test::Fail;
+
+fn letter(byte: u8) -> Result<Letter, Fail> {
+    Ok(Letter::new(byte).ok_or("a letter")?)
+}
+
+/// Returns the row of a full job of this number, with a session of its own.
+fn job_row(alloc: Global, id: u32) -> Result<JobRow, Fail> {
+    Ok(JobRow {
+        id: JobId::new(id).ok_or("a number")?,
+        kind: letter(b'B')?,
+        level: letter(b'F')?,
+        status: letter(b'T')?,
+        start: 100,
+        session: SessionKey { id, time: 7 },
+        client: Name::new(alloc, b"mars")?,
+        fileset: Name::new(alloc, b"home")?,
+    })
+}
+
+/// Returns a job of this number, without files.
+pub(crate) fn job(alloc: Global, id: u32) -> Result<JobRows, Fail> {
+    let row = job_row(alloc, id)?;
+    Ok(JobRows::new(row, Vec::new(alloc), Vec::new(alloc))?)
+}
+
+/// Returns a history of the jobs 1 to `count`.
+pub(crate) fn history_to(alloc: Global, count: u32) -> Result<History, Fail> {
+    let mut history = History::new(alloc);
+    for before in 0..count {
+        history.push(job(alloc, before + 1)?)?;
+    }
+    Ok(history)
+}
