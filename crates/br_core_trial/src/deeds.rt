@@ -116,6 +116,16 @@ fn compare(wrong: &mut String, place: usize, given: &str, wanted: &str) -> Resul
     writeln!(wrong, "{place}: {given}, not {wanted}")
 }
 
+/// Compares what came of a step.
+fn compare_answer(
+    alloc: Global,
+    wrong: &mut String,
+    (place, (answer, case)): (usize, (&Result<Reply, StepFault>, &Case)),
+) -> Result<(), Fail> {
+    let given = told(alloc, answer)?;
+    Ok(compare(wrong, place, given.as_str(), case.1)?)
+}
+
 /// Takes the step of a deed, and compares what comes of it.
 fn play(
     rt: &(impl Threads + Sync),
@@ -125,8 +135,7 @@ fn play(
     (place, case): (usize, &Case),
 ) -> Result<(), Fail> {
     let answer = world.step(rt, event(alloc, &case.0)?);
-    let given = told(alloc, &answer)?;
-    Ok(compare(wrong, place, given.as_str(), case.1)?)
+    compare_answer(alloc, wrong, (place, (&answer, case)))
 }
 
 /// Plays deeds step by step, and returns a line for each of which something else came.

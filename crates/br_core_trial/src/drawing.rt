@@ -151,15 +151,19 @@ fn newest(backups: &[Backup], place: usize) -> Option<Wanted> {
     found
 }
 
+/// Returns whether a delivered file has the bytes of one that was saved.
+fn has_bytes(alloc: Global, item: &Item, saved: Saved) -> Result<bool, Fail> {
+    let saved = bytes(alloc, saved)?;
+    let given = item.bytes.to_vec(alloc)?;
+    Ok(given.as_slice() == saved.as_slice())
+}
+
 /// Returns whether a delivered file is the one that is wanted under a path.
 fn is_wanted(alloc: Global, item: &Item, path: &[u8], wanted: Wanted) -> Result<bool, Fail> {
-    let saved = bytes(alloc, wanted.0)?;
-    let given = item.bytes.to_vec(alloc)?;
-    Ok(
-        item.path.bytes() == path
-            && item.stat == Stat::read(wanted.1)?
-            && given.as_slice() == saved.as_slice(),
-    )
+    if item.path.bytes() != path || item.stat != Stat::read(wanted.1)? {
+        return Ok(false);
+    }
+    has_bytes(alloc, item, wanted.0)
 }
 
 /// Returns the number of delivered files that are the one that is wanted under a path.

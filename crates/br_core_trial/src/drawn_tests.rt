@@ -10,33 +10,34 @@ use std::alloc::Global;
 use std::test::Fail;
 use std::thread::Threads;
 
-/// What was drawn, and how far it was played.
+/// How far what was drawn is played.
 #[derive(Drop)]
 struct Schedule {
     rng: Pcg32,
-    backups: [Backup; 3],
     /// The number of jobs that were committed.
     jobs: usize,
     /// The number of restores that were planned.
     plans: usize,
     /// Of each restore the number of jobs before its plan.
-    before: [usize; 2],
+    before: (usize, usize),
     /// Of each restore the number of deliveries of what was saved. A wrong delivery counts as ten.
-    given: [u32; 2],
+    given: (u32, u32),
+}
+
+/// Returns the event that plans a restore of all.
+fn plan_of_all(alloc: Global) -> Result<Event, Fail> {
+    Ok(Event::Plan(request(alloc, 1_000)?, script(alloc)?))
 }
 
 impl Schedule {
-    /// Draws the jobs of a schedule.
-    fn new(seed: u64) -> Schedule {
-        let mut rng = Pcg32::new(seed, 54);
-        let backups = draw_backups(&mut rng);
+    /// Returns a schedule of which nothing is played.
+    fn new(rng: Pcg32) -> Schedule {
         Schedule {
             rng,
-            backups,
             jobs: 0,
             plans: 0,
-            before: [0, 0],
-            given: [0, 0],
+            before: (0, 0),
+            given: (0, 0),
         }
     }
 
@@ -45,15 +46,28 @@ impl Schedule {
         &mut self,
         rt: &(impl Threads + Sync),
         alloc: Global,
+        backups: &[Backup],
         world: &mut World,
     ) -> Result<(), Fail> {
-        if let Some(backup) = self.backups.get(self.jobs) {
+        let jobs = self.jobs;
+        if let Some(backup) = backups.get(jobs) {
             let job = job_of(alloc, backup)?;
             if world.step(rt, Event::Commit(job)).is_ok() {
-                self.jobs = self.jobs.saturating_add(1);
+                self.jobs = jobs.saturating_add(1);
             }
         }
         Ok(())
+    }
+
+    /// Notes that a restore was planned.
+    fn note_plan(&mut self) {
+        let jobs = self.jobs;
+        if self.plans == 0 {
+            self.before.0 = jobs;
+        } else {
+            self.before.1 = jobs;
+        }
+        self.plans = self.plans.saturating_add(1);
     }
 
     /// Plans a restore of all that was committed, if fewer than two were planned.
@@ -63,28 +77,41 @@ impl Schedule {
         alloc: Global,
         world: &mut World,
     ) -> Result<(), Fail> {
-        if let Some(before) = self.before.get_mut(self.plans) {
-            let event = Event::Plan(request(alloc, 1_000)?, script(alloc)?);
+        if self.plans < 2 {
+            let event = plan_of_all(alloc)?;
             if world.step(rt, event).is_ok() {
-                *before = self.jobs;
-                self.plans = self.plans.saturating_add(1);
+                self.note_plan();
             }
         }
         Ok(())
+    }
+
+    /// Notes that a restore was delivered.
+    fn note_delivery(&mut self, plan: u32, is_right: bool) {
+        let more = if is_right { 1 } else { 10 };
+        if plan == 0 {
+            self.given.0 = self.given.0.saturating_add(more);
+        } else {
+            self.given.1 = self.given.1.saturating_add(more);
+        }
     }
 
     /// Compares what a restore delivered with what was saved before its plan.
     fn compare(
         &mut self,
         alloc: Global,
-        plan: usize,
+        backups: &[Backup],
+        plan: u32,
         files: &[(FileKey, Outcome)],
     ) -> Result<(), Fail> {
-        let before = self.before.get(plan).ok_or("a restore")?;
-        let backups = self.backups.get(..*before).ok_or("its jobs")?;
+        let before = if plan == 0 {
+            self.before.0
+        } else {
+            self.before.1
+        };
+        let backups = backups.get(..before).ok_or("its jobs")?;
         let is_right = are_newest(alloc, files, backups)?;
-        let given = self.given.get_mut(plan).ok_or("a restore")?;
-        *given = given.saturating_add(if is_right { 1 } else { 10 });
+        self.note_delivery(plan, is_right);
         Ok(())
     }
 
@@ -93,6 +120,7 @@ impl Schedule {
         &mut self,
         rt: &(impl Threads + Sync),
         alloc: Global,
+        backups: &[Backup],
         world: &mut World,
         plan: u32,
     ) -> Result<(), Fail> {
@@ -100,7 +128,7 @@ impl Schedule {
             plan: u64::from(plan),
         };
         match world.step(rt, event) {
-            Ok(Reply::Delivered(files)) => self.compare(alloc, plan as usize, &files),
+            Ok(Reply::Delivered(files)) => self.compare(alloc, backups, plan, &files),
             _ => Ok(()),
         }
     }
@@ -131,14 +159,15 @@ impl Schedule {
         &mut self,
         rt: &(impl Threads + Sync),
         alloc: Global,
+        backups: &[Backup],
         world: &mut World,
     ) -> Result<(), Fail> {
         match draw(&mut self.rng, 40) {
-            0 => self.commit(rt, alloc, world),
+            0 => self.commit(rt, alloc, backups, world),
             1 => self.plan(rt, alloc, world),
             2 => {
                 let plan = draw(&mut self.rng, 2);
-                self.deliver(rt, alloc, world, plan)
+                self.deliver(rt, alloc, backups, world, plan)
             }
             _ => {
                 let _ = world.step(rt, self.draw_event());
@@ -152,11 +181,12 @@ impl Schedule {
         &mut self,
         rt: &(impl Threads + Sync),
         alloc: Global,
+        backups: &[Backup],
         world: &mut World,
         count: u32,
     ) -> Result<(), Fail> {
         for _ in 0..count {
-            self.turn(rt, alloc, world)?;
+            self.turn(rt, alloc, backups, world)?;
         }
         Ok(())
     }
@@ -166,10 +196,11 @@ impl Schedule {
         &mut self,
         rt: &(impl Threads + Sync),
         alloc: Global,
+        backups: &[Backup],
         world: &mut World,
     ) -> Result<(), Fail> {
         for _ in 0..3 {
-            self.commit(rt, alloc, world)?;
+            self.commit(rt, alloc, backups, world)?;
             self.plan(rt, alloc, world)?;
         }
         Ok(())
@@ -180,14 +211,29 @@ impl Schedule {
         &mut self,
         rt: &(impl Threads + Sync),
         alloc: Global,
+        backups: &[Backup],
         world: &mut World,
     ) -> Result<(), Fail> {
         for plan in 0..2 {
             read_all(rt, world, u64::from(plan));
             take_all(rt, world, u64::from(plan));
-            self.deliver(rt, alloc, world, plan)?;
+            self.deliver(rt, alloc, backups, world, plan)?;
         }
         Ok(())
+    }
+
+    /// Plays the schedule on a new machine: a commit, what is drawn, and the rest.
+    fn play(
+        &mut self,
+        rt: &(impl Threads + Sync),
+        alloc: Global,
+        backups: &[Backup],
+        world: &mut World,
+    ) -> Result<(), Fail> {
+        self.commit(rt, alloc, backups, world)?;
+        self.turns(rt, alloc, backups, world, 300)?;
+        self.begin_all(rt, alloc, backups, world)?;
+        self.end_all(rt, alloc, backups, world)
     }
 }
 
@@ -226,13 +272,12 @@ fn take_all(rt: &(impl Threads + Sync), world: &mut World, plan: u64) {
 
 /// Plays a schedule, and returns whether each restore delivered once what was saved.
 fn is_right(rt: &(impl Threads + Sync), alloc: Global, seed: u64) -> Result<bool, Fail> {
-    let mut schedule = Schedule::new(seed);
+    let mut rng = Pcg32::new(seed, 54);
+    let backups = draw_backups(&mut rng);
+    let mut schedule = Schedule::new(rng);
     let mut world = World::new(alloc);
-    schedule.commit(rt, alloc, &mut world)?;
-    schedule.turns(rt, alloc, &mut world, 300)?;
-    schedule.begin_all(rt, alloc, &mut world)?;
-    schedule.end_all(rt, alloc, &mut world)?;
-    Ok(schedule.given == [1, 1])
+    schedule.play(rt, alloc, &backups, &mut world)?;
+    Ok(schedule.given.0 == 1 && schedule.given.1 == 1)
 }
 
 /// Returns the first of some schedules that delivers something else.
