@@ -144,6 +144,12 @@ def refuses(checks, folder):
     missing = os.path.join(folder, "missing.db")
     checks.check("a file that is not there", checks.console(missing), (1, "", "refused 45\n"))
     checks.check("and is not made", os.path.exists(missing), False)
+    other, text = os.path.join(folder, "other.txt"), "no database, and longer than the header of one of SQLite's. " * 3
+    with open(other, "w") as file:
+        file.write(text)
+    checks.check("a file of other bytes", checks.console(other), (1, "", "refused 45\n"))
+    with open(other) as file:
+        checks.check("and keeps them", file.read(), text)
 
 
 def makes(checks, folder):

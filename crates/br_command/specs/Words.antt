@@ -1,5 +1,5 @@
 -- What the words of a command line ask for, by the definitions of clap.
-use Rattle.std.specs.Prelude.{◌≡◌, if◌then◌else◌, ℕ, ◌≤◌, ⊤, List, [], ◌∷◌, Bool, bytes_eq, codes, is_some, Option, Some, None, option_and_then, option_map, false, true}
+use Rattle.std.specs.Prelude.{◌≡◌, if◌then◌else◌, ℕ, List, [], ◌∷◌, Bool, bytes_eq, codes, is_some, Option, Some, None, option_and_then, option_map, false, true}
 use Rattle.std.specs.Str.Parse.{digits_value, without_leading_plus}
 use Rattle.clap.specs.Kinds.{Kinds, or_else}
 use Rattle.clap.specs.Simple.{App, new_app, new_rule, on_top, subcommand_of, with_rule, with_subcommand}
@@ -11,8 +11,8 @@ use Rattle.clap.specs.declared.builder.value_parser.ValueParser.TheVariants.{Non
 use Rattle.clap.specs.declared.error.kind.ErrorKind.TheVariants.{MissingRequiredArgument}
 use Rattle.clap.specs.Simple.{subcommand_rows_of}
 use Rattle.clap.specs.declared.parser.matches.ArgMatches.{ArgMatches}
-use Rattle.br_command.specs.declared.words.Invocation.{Invocation}
-use Rattle.br_command.specs.declared.words.Invocation.TheVariants as commands
+use Rattle.br_options.specs.declared.options.Invocation.{Invocation}
+use Rattle.br_options.specs.declared.options.Invocation.TheVariants as commands
 
 -- a command of the program: a script; a bootstrap's file, the folder of the volumes, the folder to write into, if any, and the number
 -- of drives; a catalogue's file, the folder of the volumes, client, file set and moment, and the same two; a number; all numbers
@@ -31,12 +31,6 @@ asked (commands.Console o) =
     Console o.db.now o.volumes.now o.client.now o.fileset.now o.before.now (option_map (λ s. s.now) o.into) o.drives
 asked (commands.Explain number) = Explain number
 asked commands.ExplainAll = ExplainAll
-
--- from 1 to 16 drives read at once, if the command reads volumes
-abbrev pub HasDrives : Invocation → Type 0
-HasDrives (commands.Extract o) = (1 ≤ o.drives) × (o.drives ≤ 16)
-HasDrives (commands.Console o) = (1 ≤ o.drives) × (o.drives ≤ 16)
-HasDrives _ = ⊤
 
 -- an option `--name VALUE` whose value may not be empty, and whether it is required
 abbrev pub value_rule : Text → Bool → Rule

@@ -3,4 +3,4 @@
 
 mod words;
 
-pub use words::{ConsoleOptions, ExtractOptions, Invocation, read_words};
+pub use words::read_words;

@@ -1,62 +1,19 @@
 //! What the words of a command line ask for.
-ghost use Rattle.std.specs.Prelude.{◌≡◌, ◌≤◌, codes, Some, true, false, map, option_map, string_bytes, IfOk, IfSome};
+ghost use Rattle.std.specs.Prelude.{◌≡◌, codes, Some, true, false, map, option_map, string_bytes, IfOk, IfSome};
 ghost use Rattle.clap.specs.Walk.{first_of};
 ghost use Rattle.clap.specs.Words.{FailsBy, app_of, fault_of, found_of, rows_of, rule_of, subcommand_rows_of};
 ghost use Rattle.clap.specs.declared.builder.command.Command.TheViews.{out-Command as fields_of};
-ghost use Rattle.br_command.specs.Words.{AsksFor, HasDrives, asked, asked_by, words_asked, words_fault, with_run_rules};
+ghost use Rattle.br_options.specs.Options.{AreFew, HasDrives};
+ghost use Rattle.br_command.specs.Words.{AsksFor, asked, asked_by, words_asked, words_fault, with_run_rules};
 ghost use Rattle.br_command.specs.Words.{console_asked, drives_asked, explain_asked, extract_asked, number_asked};
 ghost use Rattle.br_command.specs.Words.{console_app, console_jobs_app, console_start_app, explain_app, extract_app};
 ghost use Rattle.br_command.specs.Words.{drives_rule, extracting_app, number_rule, program_app, restoring_app, value_rule};
 
+use br_options::{ConsoleOptions, ExtractOptions, Invocation};
 use clap::builder::ValueParser;
 use clap::error::ErrorKind;
 use clap::{Arg, ArgAction, ArgMatches, Command, Error};
 use std::alloc::{AllocError, Global};
-
-/// The options of `extract`.
-#[derive(Clone, Copy, Debug, PartialEq, Eq)]
-pub struct ExtractOptions<'a> {
-    /// The file of the bootstrap.
-    pub bsr: &'a str,
-    /// The folder of the volumes.
-    pub volumes: &'a str,
-    /// The folder to write the restored files into.
-    pub into: Option<&'a str>,
-    /// The number of drives that read the volumes at once, from 1 to 16.
-    pub drives: usize,
-}
-
-/// The options of `console`.
-#[derive(Clone, Copy, Debug, PartialEq, Eq)]
-pub struct ConsoleOptions<'a> {
-    /// The file of the catalogue.
-    pub db: &'a str,
-    /// The folder of the volumes.
-    pub volumes: &'a str,
-    pub client: &'a str,
-    pub fileset: &'a str,
-    /// The moment, as text.
-    pub before: &'a str,
-    /// The folder to write the restored files into.
-    pub into: Option<&'a str>,
-    /// The number of drives that read the volumes at once, from 1 to 16.
-    pub drives: usize,
-}
-
-/// A command of the program with its options.
-#[derive(Clone, Copy, Debug, PartialEq, Eq)]
-pub enum Invocation<'a> {
-    /// Runs a script from standard input.
-    Serve,
-    /// Runs a bootstrap over the volumes of a folder.
-    Extract(ExtractOptions<'a>),
-    /// Runs a console session over the jobs of a catalogue, and restores what was marked.
-    Console(ConsoleOptions<'a>),
-    /// Explains the number of a refusal or of an outcome.
-    Explain(u32),
-    /// Explains all numbers.
-    ExplainAll,
-}
 
 /// The greatest number that `explain` takes.
 const GREATEST_NUMBER: u64 = 4_294_967_295;
@@ -245,7 +202,7 @@ fn into_of<'a>(found: &ArgMatches<'a>) -> Option<&'a str>
 /// Returns the number of drives that was found, if it is from 1 to 16.
 fn drives_of(found: &ArgMatches<'_>) -> Option<usize>
     ensures asked { result ≡ drives_asked (rows_of (found_of found.now)) }
-    ensures drives { IfSome result (λ drives. (1 ≤ drives) × (drives ≤ 16)) }
+    ensures drives { IfSome result AreFew }
 {
     let drives = found.get_one::<usize>("drives")?;
     if 1 <= drives && drives <= 16 {

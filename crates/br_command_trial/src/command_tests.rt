@@ -1,4 +1,5 @@
-use br_command::{ConsoleOptions, ExtractOptions, Invocation, read_words};
+use br_command::read_words;
+use br_options::{ConsoleOptions, ExtractOptions, Invocation};
 use clap::error::ErrorKind;
 use std::alloc::Global;
 use std::test::Fail;

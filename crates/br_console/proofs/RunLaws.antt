@@ -33,7 +33,7 @@ use Rattle.br_engine.specs.declared.outputs.RestoreEnd.{RestoreEnd}
 use Rattle.br_engine.specs.declared.outputs.RestoreEnd.TheVariants as restore
 use Rattle.br_engine.specs.declared.fault.ExtractFault.{ExtractFault}
 use Rattle.br_engine.specs.declared.fault.ExtractFault.TheVariants as extract
-use Rattle.br_console.specs.Fault.{Refusal, OfPlan, OfPiece, IsFree, IsNoPiece, cause, fault_number}
+use Rattle.br_console.specs.Fault.{Refusal, OfPlan, OfPiece, EndlessAfterAll, IsBrokenOff, IsNoPiece, cause, fault_number}
 use Rattle.br_console.specs.Ending.{EndIs, are_accepted, is_done}
 use Rattle.br_console.specs.Talking.{are_answered, SessionOver, LeavesOver}
 use Rattle.br_console.specs.Running.{opening, begun, with_files, run_from, console_run, Answer, BecomesFault, Begins, BeginsOver, OverPlan, RefusesRun, RestoresOver, RestoresPlan, RunsOver, StopsAt, TellsOver, WritesPlan}
@@ -123,13 +123,14 @@ begins_unchosen (Some text) before history q why refused = go (plan.cause why) r
     go None h = tt
     go (Some n) h = rw h (refl, Appends-nil before)
 
--- memory ran out, or reading or writing failed
-pub begins_free : (known before after : Option (List ℕ)) (history : List JobRows) (q : Request) (why : ConsoleFault) → IsFree why → BeginsOver known before after history q (Err why)
+-- the session was broken off
+pub begins_free : (known before after : Option (List ℕ)) (history : List JobRows) (q : Request) (why : ConsoleFault) → IsBrokenOff why → BeginsOver known before after history q (Err why)
 begins_free None before after history q why free = tt
 begins_free (Some text) before after history q fault.Memory free = tt
 begins_free (Some text) before after history q (fault.Plan why) free = absurd free
 begins_free (Some text) before after history q (fault.Piece why) free = absurd free
 begins_free (Some text) before after history q (fault.Io why) free = tt
+begins_free (Some text) before after history q (fault.NoEnd turns) free = tt
 
 -- the dialogue did not end by `done`
 pub begins_undone : (known before after : Option (List ℕ)) (history : List JobRows) (q : Request) (s : Situation) (lines : Lines) → opening history q ≡ Ok s
@@ -147,6 +148,7 @@ begins_unplanned None before now after history q s lines marks why opened talked
 begins_unplanned (Some text) before now after history q s lines marks fault.Memory opened talked refused = tt
 begins_unplanned (Some text) before now after history q s lines marks (fault.Piece why) opened talked refused = absurd refused
 begins_unplanned (Some text) before now after history q s lines marks (fault.Io why) opened talked refused = tt
+begins_unplanned (Some text) before now after history q s lines marks (fault.NoEnd turns) opened talked refused = absurd refused
 begins_unplanned (Some text) before now after history q s lines marks (fault.Plan why) opened talked refused = go (plan.cause why) refused.0
   where
     go : (r : Option ℕ) → IsRefusal r (plan_of history q marks) → IfSome r (λ n. ((begun history q text).plan ≡ Err n) × Appends before after (begun history q text).text)
@@ -199,6 +201,8 @@ module _ (earlier later : Told) (before after : Option (List ℕ)) (had has : In
   plan_refused (extract.Io e) (fault.Plan why) is h = absurd is
   plan_refused (extract.Io e) (fault.Piece why) is h = absurd is
   plan_refused (extract.Io e) (fault.Io why) is h = ((λ volumes stands. tt), tt, h.2)
+  plan_refused (extract.Io e) (fault.NoEnd turns) is h = absurd is
+  plan_refused (extract.NoEnd turns) why is h = absurd is
 
 -- that no drive is left stays so
 pub no_drive_stays : (e : ExtractFault) (why : ConsoleFault) → BecomesFault e why → fault_number why ≡ Some 70 → engine.fault_number e ≡ Some 70
@@ -209,13 +213,16 @@ no_drive_stays (extract.Io e) fault.Memory is h = absurd cc
 no_drive_stays (extract.Io e) (fault.Plan why) is h = absurd is
 no_drive_stays (extract.Io e) (fault.Piece why) is h = absurd is
 no_drive_stays (extract.Io e) (fault.Io why) is h = absurd cc
+no_drive_stays (extract.Io e) (fault.NoEnd turns) is h = absurd is
+no_drive_stays (extract.NoEnd turns) why is h = absurd is
 
--- memory that ran out, and a fault of reading or writing, is not the fault of a piece
-pub free_is_no_piece : (why : ConsoleFault) → IsFree why → IsNoPiece why
+-- a session that was broken off is not the fault of a piece
+pub free_is_no_piece : (why : ConsoleFault) → IsBrokenOff why → IsNoPiece why
 free_is_no_piece fault.Memory free = tt
 free_is_no_piece (fault.Plan why) free = tt
 free_is_no_piece (fault.Piece why) free = absurd free
 free_is_no_piece (fault.Io why) free = tt
+free_is_no_piece (fault.NoEnd turns) free = tt
 
 -- a plan's refusal is none either
 pub unplanned_is_no_piece : (now after : Option (List ℕ)) (expected : Result Plan ℕ) (why : ConsoleFault) → WritesPlan now after expected (Err why) → IsNoPiece why
@@ -223,6 +230,27 @@ unplanned_is_no_piece now after expected fault.Memory h = tt
 unplanned_is_no_piece now after expected (fault.Plan why) h = tt
 unplanned_is_no_piece now after expected (fault.Piece why) h = absurd h
 unplanned_is_no_piece now after expected (fault.Io why) h = tt
+unplanned_is_no_piece now after expected (fault.NoEnd turns) h = tt
+
+-- nor does it say that the lines have no end
+pub unplanned_has_end : (now after : Option (List ℕ)) (expected : Result Plan ℕ) (why : ConsoleFault) → WritesPlan now after expected (Err why) → EndlessAfterAll why
+unplanned_has_end now after expected fault.Memory h = tt
+unplanned_has_end now after expected (fault.Plan why) h = tt
+unplanned_has_end now after expected (fault.Piece why) h = tt
+unplanned_has_end now after expected (fault.Io why) h = tt
+unplanned_has_end now after expected (fault.NoEnd turns) h = absurd h
+
+-- and no fault of a restore does
+pub restored_has_end : (e : ExtractFault) (why : ConsoleFault) → BecomesFault e why → EndlessAfterAll why
+restored_has_end extract.Memory why is = rw is tt
+restored_has_end (extract.Bootstrap e) why is = absurd is
+restored_has_end (extract.Piece e) why is = rw is tt
+restored_has_end (extract.Io e) fault.Memory is = tt
+restored_has_end (extract.Io e) (fault.Plan why) is = tt
+restored_has_end (extract.Io e) (fault.Piece why) is = tt
+restored_has_end (extract.Io e) (fault.Io why) is = tt
+restored_has_end (extract.Io e) (fault.NoEnd turns) is = absurd is
+restored_has_end (extract.NoEnd turns) why is = absurd is
 
 -- the number, if there is one
 abbrev number_in : Option ℕ → ℕ
@@ -239,6 +267,7 @@ no_drive_in_piece (fault.Plan planning.UnknownClient) none is = let e : 53 ≡ 7
 no_drive_in_piece (fault.Plan planning.UnknownFileSet) none is = let e : 54 ≡ 70 = ap number_in is in omega (arith, e)
 no_drive_in_piece (fault.Piece why) none is = none
 no_drive_in_piece (fault.Io why) none is = let e : 0 ≡ 70 = ap number_in is in omega (arith, e)
+no_drive_in_piece (fault.NoEnd turns) none is = let e : 0 ≡ 70 = ap number_in is in omega (arith, e)
 
 -- ---- the whole
 
@@ -259,6 +288,7 @@ runs_refused (Some text) earlier later before after history q why begins = λ vo
     by_fault volumes (fault.Plan w) h = go volumes (plan.cause w) h
     by_fault volumes (fault.Piece w) h = absurd h
     by_fault volumes (fault.Io w) h = tt
+    by_fault volumes (fault.NoEnd w) h = tt
 
 -- without a plan nothing more
 pub runs_undone : (known : Option (List ℕ)) (earlier later : Told) (before after : Option (List ℕ)) (history : List JobRows) (q : Request) (lines : Lines)
@@ -321,6 +351,7 @@ runs_stopped (Some text) earlier later before now after had has history q lines 
     by_fault volumes (fault.Plan w) h s = absurd s
     by_fault volumes (fault.Piece w) h s = go volumes (pool.cause w) h s
     by_fault volumes (fault.Io w) h s = tt
+    by_fault volumes (fault.NoEnd w) h s = absurd s
 
 -- ---- over any drives
 
@@ -331,6 +362,7 @@ tells_refused (Some text) before after history q fault.Memory begins = tt
 tells_refused (Some text) before after history q (fault.Plan why) begins = begins
 tells_refused (Some text) before after history q (fault.Piece why) begins = absurd begins
 tells_refused (Some text) before after history q (fault.Io why) begins = tt
+tells_refused (Some text) before after history q (fault.NoEnd turns) begins = tt
 
 pub tells_undone : (known before after : Option (List ℕ)) (history : List JobRows) (q : Request) (lines : Lines) → BeginsOver known before after history q (Ok (lines, None))
     → TellsOver known before after history q (Ok (record { lines = lines; end = Quit }))
@@ -352,6 +384,7 @@ tells_stopped (Some text) before now after history q lines plan (fault.Plan why)
 tells_stopped (Some text) before now after history q lines plan (fault.Piece why) begins stops =
     (plan, begins.1, Appends-kept before now after (begun history q text).text begins.2 stops)
 tells_stopped (Some text) before now after history q lines plan (fault.Io why) begins stops = tt
+tells_stopped (Some text) before now after history q lines plan (fault.NoEnd turns) begins stops = absurd stops
 
 -- ---- the files of a run
 

@@ -1,5 +1,5 @@
 -- Why a run of the console ended early, and the line that says so.
-use Rattle.std.specs.Prelude.{◌≡◌, ℕ, List, [], Option, Some, None, option_map, ⊤}
+use Rattle.std.specs.Prelude.{◌≡◌, ℕ, ◌^◌, List, [], Option, Some, None, option_map, ⊤}
 use Rattle.std.specs.declared.io.ErrorKind.{ErrorKind}
 use Rattle.std.specs.declared.io.ErrorKind.TheVariants.{OutOfMemory}
 use Rattle.br_model.specs.Text.{refused_line}
@@ -8,33 +8,37 @@ use Rattle.br_plan.specs.Fault as plan
 use Rattle.br_pool.specs.Fault as pool
 use Rattle.br_engine.specs.Fault.{pool_text}
 use Rattle.br_console.specs.declared.console_fault.ConsoleFault.{ConsoleFault}
-use Rattle.br_console.specs.declared.console_fault.ConsoleFault.TheVariants.{Memory, Plan, Piece, Io}
+use Rattle.br_console.specs.declared.console_fault.ConsoleFault.TheVariants.{Memory, Plan, Piece, Io, NoEnd}
 
 -- the number of a refused choice or plan, or the fault of a piece
 pub data Refusal : Type 0 where
   OfPlan : ℕ → Refusal
   OfPiece : model.PieceFault → Refusal
 
--- The refusal that history, lines and volumes decide. There is none if memory ran out, no drive is left, or reading or writing failed.
+-- The refusal that history, lines and volumes decide. There is none if memory ran out, no drive is left, reading or
+-- writing failed, or the lines have no end.
 abbrev pub cause : ConsoleFault → Option Refusal
 cause Memory = None
 cause (Plan fault) = option_map OfPlan (plan.cause fault)
 cause (Piece fault) = option_map OfPiece (pool.cause fault)
 cause (Io fault) = None
+cause (NoEnd turns) = None
 
--- the number of a refusal; a fault of reading or writing has none
+-- the number of a refusal; a fault of reading or writing has none, nor have lines that have no end
 abbrev pub fault_number : ConsoleFault → Option ℕ
 fault_number Memory = Some 1
 fault_number (Plan fault) = Some (plan.fault_number fault)
 fault_number (Piece fault) = Some (pool.fault_number fault)
 fault_number (Io fault) = None
+fault_number (NoEnd turns) = None
 
--- the line of a refusal; a fault of reading or writing has none
+-- the line of a refusal; a fault of reading or writing has none, nor have lines that have no end
 abbrev pub fault_text : ConsoleFault → List ℕ
 fault_text Memory = refused_line 1
 fault_text (Plan fault) = refused_line (plan.fault_number fault)
 fault_text (Piece fault) = pool_text fault
 fault_text (Io fault) = []
+fault_text (NoEnd turns) = []
 
 -- anything but a refusal of the pieces
 abbrev pub IsNoPiece : ConsoleFault → Type 0
@@ -42,6 +46,7 @@ IsNoPiece Memory = ⊤
 IsNoPiece (Plan fault) = ⊤
 IsNoPiece (Piece fault) = ⊥
 IsNoPiece (Io fault) = ⊤
+IsNoPiece (NoEnd turns) = ⊤
 
 -- memory ran out, or reading or writing failed, which may happen at any time
 abbrev pub IsFree : ConsoleFault → Type 0
@@ -49,6 +54,23 @@ IsFree Memory = ⊤
 IsFree (Plan fault) = ⊥
 IsFree (Piece fault) = ⊥
 IsFree (Io fault) = ⊤
+IsFree (NoEnd turns) = ⊥
+
+-- a session was broken off: memory ran out, reading or writing failed, or the lines have no end
+abbrev pub IsBrokenOff : ConsoleFault → Type 0
+IsBrokenOff Memory = ⊤
+IsBrokenOff (Plan fault) = ⊥
+IsBrokenOff (Piece fault) = ⊥
+IsBrokenOff (Io fault) = ⊤
+IsBrokenOff (NoEnd turns) = ⊤
+
+-- lines are said to have no end only after 2^40 turns of reading
+abbrev pub EndlessAfterAll : ConsoleFault → Type 0
+EndlessAfterAll Memory = ⊤
+EndlessAfterAll (Plan fault) = ⊤
+EndlessAfterAll (Piece fault) = ⊤
+EndlessAfterAll (Io fault) = ⊤
+EndlessAfterAll (NoEnd turns) = turns ≡ 2 ^ 40
 
 -- a fault of reading or writing with this kind is told as it is, or as memory that ran out if it is of that kind
 abbrev pub IsStreamFault : ErrorKind → ConsoleFault → ConsoleFault → Type 0

@@ -141,6 +141,7 @@ Tells before after b (Err fault.Memory) = ⊤
 Tells before after b (Err (fault.Plan why)) = IfSome (plan.cause why) (λ n. (b.plan ≡ Err n) × Appends before after b.text)
 Tells before after b (Err (fault.Piece why)) = (plan : Plan) × (b.plan ≡ Ok (Some plan)) × Appends before after b.text
 Tells before after b (Err (fault.Io why)) = ⊤
+Tells before after b (Err (fault.NoEnd turns)) = ⊤
 
 -- the same if the reader tells its bytes
 abbrev pub TellsOver : Option (List ℕ) → Option (List ℕ) → Option (List ℕ) → List JobRows → Request → Result ConsoleRun ConsoleFault → Type 0
@@ -156,6 +157,7 @@ WritesPlan before after expected (Err fault.Memory) = ⊤
 WritesPlan before after expected (Err (fault.Plan why)) = IsRefusal (plan.cause why) expected × Keeps before after
 WritesPlan before after expected (Err (fault.Piece why)) = ⊥
 WritesPlan before after expected (Err (fault.Io why)) = ⊤
+WritesPlan before after expected (Err (fault.NoEnd turns)) = ⊥
 
 -- what is expected before a drive is asked was written, with the expected lines and plan; or the choice or the plan is refused as expected
 abbrev pub Begins : Option (List ℕ) → Option (List ℕ) → Begun → Result (Lines × Option Plan) ConsoleFault → Type 0
@@ -164,6 +166,7 @@ Begins before after b (Err fault.Memory) = ⊤
 Begins before after b (Err (fault.Plan why)) = IfSome (plan.cause why) (λ n. (b.plan ≡ Err n) × Appends before after b.text)
 Begins before after b (Err (fault.Piece why)) = ⊥
 Begins before after b (Err (fault.Io why)) = ⊤
+Begins before after b (Err (fault.NoEnd turns)) = ⊤
 
 -- the same if the reader tells its bytes
 abbrev pub BeginsOver : Option (List ℕ) → Option (List ℕ) → Option (List ℕ) → List JobRows → Request → Result (Lines × Option Plan) ConsoleFault → Type 0
@@ -185,6 +188,7 @@ StopsAt before after fault.Memory = ⊤
 StopsAt before after (fault.Plan why) = ⊥
 StopsAt before after (fault.Piece why) = Keeps before after
 StopsAt before after (fault.Io why) = ⊤
+StopsAt before after (fault.NoEnd turns) = ⊥
 
 -- The files are those of the plan, their manifest was written, and the restore ended so; or the refusal is the fault of a piece, and nothing
 -- was put.
@@ -200,6 +204,7 @@ BecomesFault extract.Memory why = why ≡ fault.Memory
 BecomesFault (extract.Bootstrap e) why = ⊥
 BecomesFault (extract.Piece e) why = why ≡ fault.Piece e
 BecomesFault (extract.Io e) why = IsFree why
+BecomesFault (extract.NoEnd turns) why = ⊥
 
 -- each drive failed
 abbrev pub IsNoDriveLeft : ConsoleFault → Type 0

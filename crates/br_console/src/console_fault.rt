@@ -2,8 +2,9 @@ ghost use Rattle.std.specs.Prelude.{◌≡◌, ◌++◌, OnOk};
 ghost use Rattle.std.specs.IoError.{error_kind};
 ghost use Rattle.br_console.specs.Fault.{fault_number, fault_text, IsStreamFault};
 ghost use Rattle.br_console.specs.declared.console_fault.ConsoleFault.TheVariants.{Memory, Plan, Piece, Io};
+ghost use Rattle.br_console.specs.declared.console_fault.ConsoleFault.TheVariants as of;
 
-use br_engine::{push_pool_line, push_refused_line};
+use br_engine::{NoEnd, push_pool_line, push_refused_line};
 use br_plan::PlanFault;
 use br_pool::PoolFault;
 use std::alloc::AllocError;
@@ -24,6 +25,9 @@ pub enum ConsoleFault {
     /// Reading the lines or writing what comes of them failed.
     #[error("{0}")]
     Io(io::Error),
+    /// The lines have no end.
+    #[error("{0}")]
+    NoEnd(NoEnd),
 }
 
 impl From<AllocError> for ConsoleFault {
@@ -63,9 +67,18 @@ impl From<io::Error> for ConsoleFault {
     }
 }
 
+impl From<NoEnd> for ConsoleFault {
+    ghost from_gives = { λ fault e. e ≡ of.NoEnd fault };
+
+    fn from(fault: NoEnd) -> ConsoleFault {
+        ConsoleFault::NoEnd(fault)
+    }
+}
+
 impl ConsoleFault {
     /// Returns the number of the refusal: 1 out of memory, 50, 53 or 54 no jobs to choose, 51 nothing
-    /// marked, 10 to 12 and 14 a volume, 70 no drive left. A fault of reading or writing is no refusal.
+    /// marked, 10 to 12 and 14 a volume, 70 no drive left. A fault of reading or writing is no refusal, and
+    /// neither are lines that have no end.
     pub fn number(&self) -> Option<u32>
         ensures { result ≡ fault_number self.now }
     {
@@ -73,12 +86,12 @@ impl ConsoleFault {
             ConsoleFault::Memory => Some(1),
             ConsoleFault::Plan(fault) => Some(fault.number()),
             ConsoleFault::Piece(fault) => Some(fault.number()),
-            ConsoleFault::Io(_) => None,
+            ConsoleFault::Io(_) | ConsoleFault::NoEnd(_) => None,
         }
     }
 
     /// Appends the line of the refusal: `refused N VOLUME ADDRESS` for 10 to 14, with the volume escaped,
-    /// otherwise `refused N`. Appends nothing for a fault of reading or writing.
+    /// otherwise `refused N`. Appends nothing for a fault of reading or writing, or lines that have no end.
     ///
     /// If memory runs out here, a part of the line may have been appended.
     pub fn push_line(&self, text: &mut Vec<u8>) -> Result<(), AllocError>
@@ -88,7 +101,7 @@ impl ConsoleFault {
             ConsoleFault::Memory => push_refused_line(text, 1),
             ConsoleFault::Plan(fault) => push_refused_line(text, fault.number()),
             ConsoleFault::Piece(fault) => push_pool_line(text, fault),
-            ConsoleFault::Io(_) => Ok(()),
+            ConsoleFault::Io(_) | ConsoleFault::NoEnd(_) => Ok(()),
         }
     }
 }

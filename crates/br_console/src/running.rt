@@ -1,20 +1,20 @@
-ghost use Rattle.std.specs.Prelude.{◌≡◌, ℕ, Err, IfErr, IfOk};
+ghost use Rattle.std.specs.Prelude.{◌≡◌, ℕ, Err, IfErr, IfOk, OnOk};
 ghost use Rattle.br_model.specs.Answer.{Answers};
 ghost use Rattle.br_plan.specs.Fault.{cause};
 ghost use Rattle.br_pool.specs.Pool.{AreDrives, OnlyIfAllFail, StayInPlace};
 ghost use Rattle.br_engine.specs.Fault.{IsNoLine};
 ghost use Rattle.br_engine.specs.Delivering.{CountsFailures};
-ghost use Rattle.br_console.specs.Fault.{IsNoPiece};
+ghost use Rattle.br_console.specs.Fault.{EndlessAfterAll, IsNoPiece};
 ghost use Rattle.br_console.specs.Running.{BecomesFault, IsNoDriveLeft, WritesPlan, opening};
 ghost use Rattle.br_console.specs.Delivering.{BeginsInto, DeliversInto, RunStopIsCounted, RunsInto, TellsInto};
 ghost use Rattle.br_console.specs.Delivering.{IfUnchosen, IsViewOfAsked, plan_for};
 
 use crate::console_fault::ConsoleFault;
 use crate::ending::{ConsoleRun, End, Lines, SessionEnd};
-use crate::talking::{converse, show};
+use crate::talking::converse;
 use br_bsr::write_bootstrap;
 use br_choose::choose;
-use br_engine::{ExtractFault, Outputs, restore_into};
+use br_engine::{ExtractFault, Flush, Outputs, restore_into, show};
 use br_history::History;
 use br_mark::Console;
 use br_plan::{Plan, PlanFault, Request};
@@ -23,7 +23,7 @@ use br_tree::Tree;
 use br_view::View;
 use br_volume::Drive;
 use std::alloc::Global;
-use std::io::{BufRead, Write};
+use std::io::BufRead;
 use std::thread::Threads;
 
 /// The jobs over which the console runs.
@@ -57,14 +57,15 @@ fn console_for<'h>(
 }
 
 /// Makes the plan for the marked paths of the chosen jobs' tree and writes its bootstrap.
-fn write_plan<W: Write + Drop>(
+fn write_plan<W: Flush + Drop>(
     alloc: Global,
     asked: &JobSelection<'_>,
     tree: &Tree<'_>,
     writer: &mut W,
 ) -> Result<Plan, ConsoleFault>
     requires { IsViewOfAsked asked.now tree.now.view }
-    ensures { WritesPlan (W.contents writer.old) (W.contents writer.new) (plan_for asked.now tree.now.marked) result }
+    ensures written { WritesPlan (W.contents writer.old) (W.contents writer.new) (plan_for asked.now tree.now.marked) result }
+    ensures flushed { OnOk result (W.is_flushed writer.new) }
 {
     let plan = Plan::for_marked(alloc, asked.history, asked.request, tree)?;
     let text = write_bootstrap(alloc, plan.bootstrap())?;
@@ -73,14 +74,17 @@ fn write_plan<W: Write + Drop>(
 }
 
 /// Does all that comes before a drive is asked: the dialogue, and the bootstrap if it ended by `done`.
-fn prepare<R: BufRead + Drop, W: Write + Drop>(
+fn prepare<R: BufRead + Drop, W: Flush + Drop>(
     alloc: Global,
     asked: &JobSelection<'_>,
     reader: &mut R,
     writer: &mut W,
 ) -> Result<(Lines, Option<Plan>), ConsoleFault>
+    requires shown { W.is_flushed writer.old }
     ensures begins { BeginsInto (R.remaining reader.old) (W.contents writer.old) (W.contents writer.new) asked.now result }
+    ensures flushed { OnOk result (W.is_flushed writer.new) }
     ensures driveless { IfErr result IsNoPiece }
+    ensures endless { IfErr result EndlessAfterAll }
     ensures chosen { IfOk result (λ _. IfUnchosen asked.now ⊥) }
     ensures untouched { IfUnchosen asked.now ((reader.new ≡ reader.old) × (writer.new ≡ writer.old)) }
 {
@@ -104,7 +108,7 @@ fn console_fault(fault: ExtractFault) -> ConsoleFault
         ExtractFault::Memory => ConsoleFault::Memory,
         ExtractFault::Piece(fault) => ConsoleFault::Piece(fault),
         ExtractFault::Io(fault) => ConsoleFault::from(fault),
-        ExtractFault::Bootstrap(_) => unreachable!(),
+        ExtractFault::Bootstrap(_) | ExtractFault::NoEnd(_) => unreachable!(),
     }
 }
 
@@ -121,10 +125,11 @@ fn console_fault(fault: ExtractFault) -> ConsoleFault
 /// - `Plan` if the choice is refused (53, 54, 50); then nothing is read or written. Or after the dialogue
 ///   if nothing is marked (51).
 /// - `Piece` after the bootstrap for the first volume that can't be read, or if no drive is left.
-/// - `Memory` and `Io` as in a session, at any time; then a part of a text may have been written.
+/// - `Memory` and `Io` as in a session, at any time, and `NoEnd` as in a session; then a part of a text may
+///   have been written.
 ///
 /// After an error nothing is put into the sink.
-pub fn run_console<R: BufRead + Drop, D: Drive + Send, W: Write + Drop, S: Sink>(
+pub fn run_console<R: BufRead + Drop, D: Drive + Send, W: Flush + Drop, S: Sink>(
     rt: &(impl Threads + Sync),
     alloc: Global,
     asked: &JobSelection<'_>,
@@ -133,9 +138,12 @@ pub fn run_console<R: BufRead + Drop, D: Drive + Send, W: Write + Drop, S: Sink>
     out: &mut Outputs<W, S>,
 ) -> Result<ConsoleRun, ConsoleFault>
     requires drives { AreDrives drives.old.items }
+    requires shown { W.is_flushed out.old.writer }
     ensures delivers { DeliversInto (R.remaining reader.old) D.shows W.contents S.has drives.old drives.new out.old out.new asked.now result }
     ensures runs { RunsInto (R.remaining reader.old) D.shows W.contents drives.old drives.new out.old out.new asked.now result }
     ensures tells { TellsInto (R.remaining reader.old) W.contents out.old out.new asked.now result }
+    ensures flushed { OnOk result (W.is_flushed out.new.writer) }
+    ensures endless { IfErr result EndlessAfterAll }
     ensures untouched { IfUnchosen asked.now ((reader.new ≡ reader.old) × (drives.new ≡ drives.old) × (out.new ≡ out.old)) }
     ensures places { StayInPlace D.shows D.failures drives.old.items drives.new.items }
     ensures failed { OnlyIfAllFail D.failures drives.old.items drives.new.items IsNoDriveLeft result }

@@ -1,19 +1,16 @@
-ghost use Rattle.std.specs.Prelude.{◌≡◌, IfOk, IfErr, OnOk};
-ghost use Rattle.std.specs.Io.KnownBytes.{Appends};
+ghost use Rattle.std.specs.Prelude.{◌≡◌, ◌+◌, ◌^◌, ◌<◌, IfOk, IfErr, OnOk};
 ghost use Rattle.std.specs.Io.BufRead.{strip_last};
-ghost use Rattle.br_console.specs.Fault.{IsFree};
+ghost use Rattle.br_console.specs.Fault.{EndlessAfterAll, IsBrokenOff};
 ghost use Rattle.br_console.specs.Ending.{are_accepted, is_done};
 ghost use Rattle.br_console.specs.Talking.{Converses, LeavesOver, ReadsLine};
 
 use crate::console_fault::ConsoleFault;
 use crate::ending::{Lines, Session, SessionEnd};
 use crate::reply::say;
+use br_engine::{Flush, Turns, show};
 use br_mark::Console;
 use std::alloc::Global;
-use std::io::{self, BufRead, Error, ErrorKind, Write};
-
-/// The number of lines after which the input must have ended.
-const MAX_LINES: u64 = 1 << 40;
+use std::io::BufRead;
 
 /// Returns what came of a session, by two flags: it ended by `done`, and no line was refused.
 fn session_of(done: bool, clean: bool) -> Session
@@ -43,30 +40,27 @@ fn drop_feed(line: &mut Vec<u8>)
     }
 }
 
-/// Reads the next line without its line feed, in place of what `line` holds. Returns false at the end of
-/// input.
-fn read_line<R: BufRead>(reader: &mut R, line: &mut Vec<u8>) -> io::Result<bool>
-    ensures { IfOk result (λ is_line. ReadsLine (R.remaining reader.old) (R.remaining reader.new) line.new.items is_line) }
+/// Makes one turn of reading: reads the next line without its line feed, in place of what `line` holds. By then
+/// the writer is flushed. Returns false at the end of input.
+fn read_line<R: BufRead, W: Flush>(
+    reader: &mut R,
+    turns: &mut Turns,
+    line: &mut Vec<u8>,
+    writer: &W,
+) -> Result<bool, ConsoleFault>
+    requires shown { W.is_flushed writer.now }
+    ensures line { IfOk result (λ is_line. ReadsLine (R.remaining reader.old) (R.remaining reader.new) line.new.items is_line) }
+    ensures turn { OnOk result (turns.new ≡ turns.old + 1) }
+    ensures few { OnOk result (turns.old < 2 ^ 40) }
+    ensures free { IfErr result IsBrokenOff }
+    ensures endless { IfErr result EndlessAfterAll }
 {
+    let _writer = writer;
+    turns.take()?;
     line.clear();
     let len = reader.read_until(b'\n', line)?;
     drop_feed(line);
     Ok(len > 0)
-}
-
-/// Writes a text and flushes it, so that it is seen before the next line is read.
-pub(crate) fn show<W: Write>(writer: &mut W, text: &[u8]) -> io::Result<()>
-    ensures { OnOk result (Appends (W.contents writer.old) (W.contents writer.new) text.now) }
-{
-    writer.write_all(text)?;
-    writer.flush()
-}
-
-/// Returns the fault of an input that has no end.
-fn never_ends() -> ConsoleFault
-    ensures { IsFree result }
-{
-    ConsoleFault::Io(Error::new(ErrorKind::TimedOut, "the input has no end"))
 }
 
 /// Runs a console session: reads line after line, of any length, gives each to the console, and writes
@@ -77,24 +71,29 @@ fn never_ends() -> ConsoleFault
 /// # Errors
 ///
 /// - `Memory` if memory ran out.
-/// - `Io` if the reader or the writer failed, or the reader has not ended after 2^40 lines.
+/// - `Io` if the reader or the writer failed.
+/// - `NoEnd` if the reader has not ended after 2^40 lines.
 ///
 /// After an error a part of an answer may have been written.
-pub fn converse<R: BufRead + Drop, W: Write + Drop>(
+pub fn converse<R: BufRead + Drop, W: Flush + Drop>(
     alloc: Global,
     console: &mut Console<'_>,
     reader: &mut R,
     writer: &mut W,
 ) -> Result<Session, ConsoleFault>
+    requires shown { W.is_flushed writer.old }
     ensures session { Converses R.remaining W.contents reader.old reader.new writer.old writer.new console.old result }
     ensures leaves { LeavesOver (R.remaining reader.old) console.old console.new result }
     ensures view { console.new.view ≡ console.old.view }
-    ensures free { IfErr result IsFree }
+    ensures flushed { OnOk result (W.is_flushed writer.new) }
+    ensures free { IfErr result IsBrokenOff }
+    ensures endless { IfErr result EndlessAfterAll }
 {
     let mut line = Vec::new(alloc);
     let mut is_clean = true;
-    for _ in 0..MAX_LINES {
-        if !read_line(reader, &mut line)? {
+    let mut turns = Turns::new();
+    loop {
+        if !read_line(reader, &mut turns, &mut line, writer)? {
             return Ok(session_of(false, is_clean));
         }
         let reply = say(alloc, console, &line)?;
@@ -105,5 +104,4 @@ pub fn converse<R: BufRead + Drop, W: Write + Drop>(
             return Ok(session_of(is_done, is_clean));
         }
     }
-    Err(never_ends())
 }

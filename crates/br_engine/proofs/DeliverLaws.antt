@@ -12,7 +12,7 @@ use Rattle.br_model.specs.Delivery.{Stop, delivery, item_of, put_behind}
 use Rattle.br_bsr.specs.Fault as bootstrap
 use Rattle.br_bsr.specs.declared.fault.BsrFault.{BsrFault}
 use Rattle.br_join.specs.Outcome.{restored}
-use Rattle.br_engine.specs.Fault.{IsNoDriveLeft, IsFree, IsNoLine}
+use Rattle.br_engine.specs.Fault.{EndlessAfterAll, IsNoDriveLeft, IsFree, IsNoLine, IsUnread}
 use Rattle.br_engine.specs.Restoring.{Told, Outcomes}
 use Rattle.br_engine.specs.Outputs.{InSink, are_files, end_of_files}
 use Rattle.br_engine.specs.Extracting.{GivesOver, OverText, OverVolumes, Extracts, Said, WritesNothing}
@@ -20,7 +20,7 @@ use Rattle.br_engine.specs.Delivering.{Delivers, EndsWith, IsDelivered}
 use Rattle.br_engine.specs.declared.outputs.RestoreEnd.{RestoreEnd}
 use Rattle.br_engine.specs.declared.outputs.RestoreEnd.TheVariants.{AllFiles, SomeFaults}
 use Rattle.br_engine.specs.declared.fault.ExtractFault.{ExtractFault}
-use Rattle.br_engine.specs.declared.fault.ExtractFault.TheVariants.{Memory, Bootstrap, Piece, Io}
+use Rattle.br_engine.specs.declared.fault.ExtractFault.TheVariants.{Memory, Bootstrap, Piece, Io, NoEnd}
 use Rattle.br_engine.proofs.ExtractLaws.{over_no_text, over_text}
 
 -- ---- the end of a restore
@@ -62,18 +62,29 @@ gives_free earlier later groups names Memory free = λ volumes stands. tt
 gives_free earlier later groups names (Io fault) free = λ volumes stands. tt
 gives_free earlier later groups names (Bootstrap fault) free = absurd free
 gives_free earlier later groups names (Piece fault) free = absurd free
+gives_free earlier later groups names (NoEnd turns) free = absurd free
 
 pub free_is_no_line : (fault : ExtractFault) → IsFree fault → IsNoLine fault
 free_is_no_line Memory free = tt
 free_is_no_line (Bootstrap fault) free = absurd free
 free_is_no_line (Piece fault) free = tt
 free_is_no_line (Io fault) free = tt
+free_is_no_line (NoEnd turns) free = absurd free
+
+-- then no input had no end
+pub no_line_has_end : (fault : ExtractFault) → IsNoLine fault → EndlessAfterAll fault
+no_line_has_end Memory none = tt
+no_line_has_end (Bootstrap fault) none = absurd none
+no_line_has_end (Piece fault) none = tt
+no_line_has_end (Io fault) none = tt
+no_line_has_end (NoEnd turns) none = absurd none
 
 pub free_is_no_drive : (fault : ExtractFault) → IsFree fault → IsNoDriveLeft fault → ⊥
 free_is_no_drive Memory free e = absurd cc
 free_is_no_drive (Bootstrap fault) free e = free
 free_is_no_drive (Piece fault) free e = free
 free_is_no_drive (Io fault) free e = absurd cc
+free_is_no_drive (NoEnd turns) free e = free
 
 -- so the manifest is the expected one over all volumes
 pub extracts_over : (earlier later : Told) (groups : List Group) (names : Option (List Planned)) (before after : Option (List ℕ)) (had has : InSink) (result : Result RestoreEnd ExtractFault)
@@ -122,13 +133,14 @@ free : (known : Option (List ℕ)) (earlier later : Told) → OverText known ear
 free None earlier later = tt
 free (Some bytes) earlier later = λ volumes stands. tt
 
--- memory ran out, or the reader failed
+-- the text was not read
 pub reader_free : (known : Option (List ℕ)) (earlier later : Told) (before : Option (List ℕ)) (had : InSink) (fault : ExtractFault)
-    → IsFree fault → Delivers (λ holds. OverText known earlier later holds) before before had had (Err fault)
+    → IsUnread fault → Delivers (λ holds. OverText known earlier later holds) before before had had (Err fault)
 reader_free known earlier later before had Memory is = (free known earlier later, Keeps-refl before, refl)
 reader_free known earlier later before had (Io fault) is = (free known earlier later, tt, refl)
 reader_free known earlier later before had (Bootstrap fault) is = absurd is
 reader_free known earlier later before had (Piece fault) is = absurd is
+reader_free known earlier later before had (NoEnd turns) is = (free known earlier later, Keeps-refl before, refl)
 
 -- ---- so the manifest is the expected one
 

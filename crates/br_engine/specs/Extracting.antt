@@ -14,7 +14,7 @@ use Rattle.br_engine.specs.Restoring.{Told, AllStand, Outcomes, restored_files}
 use Rattle.br_engine.specs.Outputs.{EndTells}
 use Rattle.br_engine.specs.declared.outputs.RestoreEnd.{RestoreEnd}
 use Rattle.br_engine.specs.declared.fault.ExtractFault.{ExtractFault}
-use Rattle.br_engine.specs.declared.fault.ExtractFault.TheVariants.{Memory, Bootstrap, Piece, Io}
+use Rattle.br_engine.specs.declared.fault.ExtractFault.TheVariants.{Memory, Bootstrap, Piece, Io, NoEnd}
 
 -- the files that the bootstrap of a text gives over volumes; or its first refused line, or the first fault of a piece
 unfoldable pub extracted : List ℕ → List Volume → Result (List Restored) Refusal
@@ -57,6 +57,7 @@ WritesNothing before after Memory = Keeps before after
 WritesNothing before after (Bootstrap fault) = Keeps before after
 WritesNothing before after (Piece fault) = Keeps before after
 WritesNothing before after (Io fault) = ⊤
+WritesNothing before after (NoEnd turns) = Keeps before after
 
 -- the outcomes of a restore are the files that a bootstrap gives, or the refusal is the expected one
 abbrev pub GivesOver : Told → Told → List Group → Option (List Planned) → Result Outcomes ExtractFault → Type 0

@@ -1,5 +1,5 @@
 -- Why a restore wrote no manifest, or not all of it, and the line that says so.
-use Rattle.std.specs.Prelude.{◌≡◌, ℕ, List, [], Option, Some, None, option_map, ⊤}
+use Rattle.std.specs.Prelude.{◌≡◌, ℕ, ◌^◌, List, [], Option, Some, None, option_map, ⊤}
 use Rattle.br_model.specs.Text.{refused_line}
 use Rattle.br_model.specs.BootstrapText.{LineFault}
 use Rattle.br_model.specs.Meaning as model
@@ -12,27 +12,29 @@ use Rattle.br_pool.specs.Fault as pool
 use Rattle.br_pool.specs.declared.fault.PoolFault.{PoolFault}
 use Rattle.br_pool.specs.declared.fault.PoolFault.TheVariants as of_pool
 use Rattle.br_engine.specs.declared.fault.ExtractFault.{ExtractFault}
-use Rattle.br_engine.specs.declared.fault.ExtractFault.TheVariants.{Memory, Bootstrap, Piece, Io}
+use Rattle.br_engine.specs.declared.fault.ExtractFault.TheVariants.{Memory, Bootstrap, Piece, Io, NoEnd}
 
 -- the refused line of a bootstrap, or the fault of a piece
 pub data Refusal : Type 0 where
   OfLine : LineFault → Refusal
   OfPiece : model.PieceFault → Refusal
 
--- The refusal that the bootstrap's text and the volumes decide. There is none if memory ran out, no drive is left, or reading or writing
--- failed.
+-- The refusal that the bootstrap's text and the volumes decide. There is none if memory ran out, no drive is left, reading or writing
+-- failed, or the input has no end.
 abbrev pub cause : ExtractFault → Option Refusal
 cause Memory = None
 cause (Bootstrap fault) = option_map OfLine (bootstrap.cause fault)
 cause (Piece fault) = option_map OfPiece (pool.cause fault)
 cause (Io fault) = None
+cause (NoEnd turns) = None
 
--- the number of a refusal; a fault of reading or writing has none
+-- the number of a refusal; a fault of reading or writing has none, nor has an input that has no end
 abbrev pub fault_number : ExtractFault → Option ℕ
 fault_number Memory = Some 1
 fault_number (Bootstrap fault) = Some (bootstrap.fault_number fault)
 fault_number (Piece fault) = Some (pool.fault_number fault)
 fault_number (Io fault) = None
+fault_number (NoEnd turns) = None
 
 -- the line for a refused line of a bootstrap, or for memory that ran out
 abbrev pub bootstrap_text : Option LineFault → List ℕ
@@ -50,12 +52,13 @@ pool_text of_pool.Memory = refused_line 1
 pool_text (of_pool.Piece why) = piece_text why
 pool_text of_pool.NoDriveLeft = refused_line 70
 
--- the line of a refusal; a fault of reading or writing has none
+-- the line of a refusal; a fault of reading or writing has none, nor has an input that has no end
 abbrev pub fault_text : ExtractFault → List ℕ
 fault_text Memory = refused_line 1
 fault_text (Bootstrap fault) = bootstrap_text (bootstrap.cause fault)
 fault_text (Piece fault) = pool_text fault
 fault_text (Io fault) = []
+fault_text (NoEnd turns) = []
 
 -- memory ran out, or reading or writing failed, which may happen at any time
 abbrev pub IsFree : ExtractFault → Type 0
@@ -63,13 +66,31 @@ IsFree Memory = ⊤
 IsFree (Bootstrap fault) = ⊥
 IsFree (Piece fault) = ⊥
 IsFree (Io fault) = ⊤
+IsFree (NoEnd turns) = ⊥
 
--- no line of a bootstrap was refused
+-- the text of a bootstrap was not read whole: memory ran out, reading failed, or the input has no end
+abbrev pub IsUnread : ExtractFault → Type 0
+IsUnread Memory = ⊤
+IsUnread (Bootstrap fault) = ⊥
+IsUnread (Piece fault) = ⊥
+IsUnread (Io fault) = ⊤
+IsUnread (NoEnd turns) = ⊤
+
+-- an input is said to have no end only after 2^40 turns of reading
+abbrev pub EndlessAfterAll : ExtractFault → Type 0
+EndlessAfterAll Memory = ⊤
+EndlessAfterAll (Bootstrap fault) = ⊤
+EndlessAfterAll (Piece fault) = ⊤
+EndlessAfterAll (Io fault) = ⊤
+EndlessAfterAll (NoEnd turns) = turns ≡ 2 ^ 40
+
+-- no line of a bootstrap was refused, and no input had no end
 abbrev pub IsNoLine : ExtractFault → Type 0
 IsNoLine Memory = ⊤
 IsNoLine (Bootstrap fault) = ⊥
 IsNoLine (Piece fault) = ⊤
 IsNoLine (Io fault) = ⊤
+IsNoLine (NoEnd turns) = ⊥
 
 -- each drive failed
 abbrev pub IsNoDriveLeft : ExtractFault → Type 0

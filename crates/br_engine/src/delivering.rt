@@ -1,13 +1,14 @@
-ghost use Rattle.std.specs.Prelude.{◌≡◌, map, option_map, Some, None, IfErr};
+ghost use Rattle.std.specs.Prelude.{◌≡◌, map, option_map, Some, None, IfErr, IfOk};
 ghost use Rattle.br_pool.specs.Pool.{AreDrives, OnlyIfAllFail, StayInPlace};
 ghost use Rattle.br_join.specs.Outcome.{restored};
-ghost use Rattle.br_engine.specs.Fault.{IsNoDriveLeft, IsNoLine};
+ghost use Rattle.br_engine.specs.Fault.{EndlessAfterAll, IsNoDriveLeft, IsNoLine};
 ghost use Rattle.br_engine.specs.Outputs.{SinkCounts, StopsByFailure, end_of_files};
 ghost use Rattle.br_engine.specs.Delivering.{DeliversOver, DeliversText, EndsWith, ExtractsOver, RunsOver};
 ghost use Rattle.br_engine.specs.Delivering.{CountsFailures, RefusalWritesNothing, StopIsCounted};
 
 use crate::extracting::{all_files, read_text, write_manifest};
 use crate::fault::ExtractFault;
+use crate::flushing::Flush;
 use crate::outputs::{Outputs, RestoreEnd};
 use crate::restoring::restore;
 use br_bsr::{Bootstrap, read_bootstrap};
@@ -16,7 +17,7 @@ use br_sink::{Sink, deliver};
 use br_types::{FileKey, Names};
 use br_volume::Drive;
 use std::alloc::Global;
-use std::io::{Read, Write};
+use std::io::Read;
 use std::thread::Threads;
 
 /// Returns the end of a restore with these outcomes whose delivery did not stop.
@@ -76,7 +77,7 @@ fn finish<S: Sink>(
 /// - `Io` if the writer failed, which may have taken a part of the manifest.
 ///
 /// After an error nothing is put into the sink.
-pub fn restore_into<D: Drive + Send, W: Write, S: Sink>(
+pub fn restore_into<D: Drive + Send, W: Flush, S: Sink>(
     rt: &(impl Threads + Sync),
     alloc: Global,
     bootstrap: &Bootstrap,
@@ -87,6 +88,7 @@ pub fn restore_into<D: Drive + Send, W: Write, S: Sink>(
     requires drives { AreDrives drives.old.items }
     ensures delivers { DeliversOver D.shows W.contents S.has drives.old.items drives.new.items out.old out.new bootstrap.now names result }
     ensures nothing { RefusalWritesNothing W.contents out.old out.new result }
+    ensures flushed { IfOk result (λ _. W.is_flushed out.new.writer) }
     ensures driven { IfErr result IsNoLine }
     ensures places { StayInPlace D.shows D.failures drives.old.items drives.new.items }
     ensures failed { OnlyIfAllFail D.failures drives.old.items drives.new.items IsNoDriveLeft result }
@@ -95,12 +97,11 @@ pub fn restore_into<D: Drive + Send, W: Write, S: Sink>(
 {
     let outcomes = restore(rt, alloc, bootstrap, names, drives)?;
     write_manifest(alloc, &outcomes, &mut out.writer)?;
-    out.writer.flush()?;
     Ok(finish(rt, alloc, &outcomes, &mut out.sink))
 }
 
 /// Restores all that a bootstrap selects, as `restore_into`.
-pub fn extract<D: Drive + Send, W: Write, S: Sink>(
+pub fn extract<D: Drive + Send, W: Flush, S: Sink>(
     rt: &(impl Threads + Sync),
     alloc: Global,
     bootstrap: &Bootstrap,
@@ -111,6 +112,7 @@ pub fn extract<D: Drive + Send, W: Write, S: Sink>(
     ensures delivers { DeliversOver D.shows W.contents S.has drives.old.items drives.new.items out.old out.new bootstrap.now None result }
     ensures extracts { ExtractsOver D.shows W.contents drives.old.items drives.new.items out.old out.new bootstrap.now result }
     ensures nothing { RefusalWritesNothing W.contents out.old out.new result }
+    ensures flushed { IfOk result (λ _. W.is_flushed out.new.writer) }
     ensures places { StayInPlace D.shows D.failures drives.old.items drives.new.items }
     ensures failed { OnlyIfAllFail D.failures drives.old.items drives.new.items IsNoDriveLeft result }
     ensures sink_counted { CountsFailures S.failures out.old out.new }
@@ -124,7 +126,7 @@ pub fn extract<D: Drive + Send, W: Write, S: Sink>(
 /// # Errors
 ///
 /// `Bootstrap` for a line that is refused, and then as `extract`.
-pub fn extract_text<D: Drive + Send, W: Write, S: Sink>(
+pub fn extract_text<D: Drive + Send, W: Flush, S: Sink>(
     rt: &(impl Threads + Sync),
     alloc: Global,
     text: &[u8],
@@ -135,10 +137,12 @@ pub fn extract_text<D: Drive + Send, W: Write, S: Sink>(
     ensures delivers { DeliversText D.shows W.contents S.has drives.old.items drives.new.items out.old out.new (Some text.now) result }
     ensures runs { RunsOver D.shows W.contents drives.old.items drives.new.items out.old out.new (Some text.now) result }
     ensures nothing { RefusalWritesNothing W.contents out.old out.new result }
+    ensures flushed { IfOk result (λ _. W.is_flushed out.new.writer) }
     ensures places { StayInPlace D.shows D.failures drives.old.items drives.new.items }
     ensures failed { OnlyIfAllFail D.failures drives.old.items drives.new.items IsNoDriveLeft result }
     ensures sink_counted { CountsFailures S.failures out.old out.new }
     ensures sink_failed { StopIsCounted S.failures out.old out.new result }
+    ensures endless { IfErr result EndlessAfterAll }
 {
     let bootstrap = read_bootstrap(alloc, text)?;
     restore_into(rt, alloc, &bootstrap, None, drives, out)
@@ -148,8 +152,8 @@ pub fn extract_text<D: Drive + Send, W: Write, S: Sink>(
 ///
 /// # Errors
 ///
-/// `Io` if the reader failed, or has not ended after 2^40 reads, and then as `extract_text`.
-pub fn run_extract<R: Read + Drop, D: Drive + Send, W: Write, S: Sink>(
+/// `Io` if the reader failed, `NoEnd` if it has not ended after 2^40 reads, and then as `extract_text`.
+pub fn run_extract<R: Read + Drop, D: Drive + Send, W: Flush, S: Sink>(
     rt: &(impl Threads + Sync),
     alloc: Global,
     reader: &mut R,
@@ -160,10 +164,12 @@ pub fn run_extract<R: Read + Drop, D: Drive + Send, W: Write, S: Sink>(
     ensures delivers { DeliversText D.shows W.contents S.has drives.old.items drives.new.items out.old out.new (R.remaining reader.old) result }
     ensures runs { RunsOver D.shows W.contents drives.old.items drives.new.items out.old out.new (R.remaining reader.old) result }
     ensures nothing { RefusalWritesNothing W.contents out.old out.new result }
+    ensures flushed { IfOk result (λ _. W.is_flushed out.new.writer) }
     ensures places { StayInPlace D.shows D.failures drives.old.items drives.new.items }
     ensures failed { OnlyIfAllFail D.failures drives.old.items drives.new.items IsNoDriveLeft result }
     ensures sink_counted { CountsFailures S.failures out.old out.new }
     ensures sink_failed { StopIsCounted S.failures out.old out.new result }
+    ensures endless { IfErr result EndlessAfterAll }
 {
     let text = read_text(alloc, reader)?;
     extract_text(rt, alloc, &text, drives, out)

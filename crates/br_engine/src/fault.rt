@@ -3,8 +3,10 @@ ghost use Rattle.br_model.specs.Text.{line, refused_line, escaped};
 ghost use Rattle.br_model.specs.Refusal.{line_fault, piece_fault};
 ghost use Rattle.br_bsr.specs.Fault.{cause};
 ghost use Rattle.br_engine.specs.declared.fault.ExtractFault.TheVariants.{Memory, Bootstrap, Piece, Io};
+ghost use Rattle.br_engine.specs.declared.fault.ExtractFault.TheVariants as of;
 ghost use Rattle.br_engine.specs.Fault.{fault_number, fault_text, bootstrap_text, piece_text, pool_text};
 
+use crate::turns::NoEnd;
 use br_bsr::BsrFault;
 use br_match::PieceFault;
 use br_pool::PoolFault;
@@ -27,6 +29,9 @@ pub enum ExtractFault {
     /// Reading the bootstrap or writing the manifest failed.
     #[error("{0}")]
     Io(io::Error),
+    /// The input with the bootstrap has no end.
+    #[error("{0}")]
+    NoEnd(NoEnd),
 }
 
 impl From<AllocError> for ExtractFault {
@@ -58,6 +63,14 @@ impl From<io::Error> for ExtractFault {
 
     fn from(fault: io::Error) -> ExtractFault {
         ExtractFault::Io(fault)
+    }
+}
+
+impl From<NoEnd> for ExtractFault {
+    ghost from_gives = { λ fault e. e ≡ of.NoEnd fault };
+
+    fn from(fault: NoEnd) -> ExtractFault {
+        ExtractFault::NoEnd(fault)
     }
 }
 
@@ -137,7 +150,8 @@ pub fn push_pool_line(text: &mut Vec<u8>, fault: &PoolFault) -> Result<(), Alloc
 
 impl ExtractFault {
     /// Returns the number of the refusal: 1 out of memory, 10 to 12 and 14 a volume, 30 to 34 a line of
-    /// the bootstrap, 70 no drive left. A fault of reading or writing is no refusal.
+    /// the bootstrap, 70 no drive left. A fault of reading or writing is no refusal, and neither is an input
+    /// that has no end.
     pub fn number(&self) -> Option<u32>
         ensures { result ≡ fault_number self.now }
     {
@@ -145,14 +159,14 @@ impl ExtractFault {
             ExtractFault::Memory => Some(1),
             ExtractFault::Bootstrap(fault) => Some(fault.number()),
             ExtractFault::Piece(fault) => Some(fault.number()),
-            ExtractFault::Io(_) => None,
+            ExtractFault::Io(_) | ExtractFault::NoEnd(_) => None,
         }
     }
 
     /// Appends the line of the refusal: `refused N line K` for a line of the bootstrap, counted from 1;
     /// `refused N VOLUME ADDRESS` for 10 to 14, with the volume escaped; `refused 1` if memory ran out,
     /// and `refused 70` if no drive is left.
-    /// Appends nothing for a fault of reading or writing.
+    /// Appends nothing for a fault of reading or writing, or an input that has no end.
     ///
     /// If memory runs out here, a part of the line may have been appended.
     pub fn push_line(&self, text: &mut Vec<u8>) -> Result<(), AllocError>
@@ -162,7 +176,7 @@ impl ExtractFault {
             ExtractFault::Memory => push_refused_line(text, 1),
             ExtractFault::Bootstrap(fault) => push_bootstrap_line(text, *fault),
             ExtractFault::Piece(fault) => push_pool_line(text, fault),
-            ExtractFault::Io(_) => Ok(()),
+            ExtractFault::Io(_) | ExtractFault::NoEnd(_) => Ok(()),
         }
     }
 }

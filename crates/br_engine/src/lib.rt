@@ -5,10 +5,14 @@
 mod delivering;
 mod extracting;
 mod fault;
+mod flushing;
 mod outputs;
 mod restoring;
+mod turns;
 
 pub use delivering::{extract, extract_text, restore_into, run_extract};
 pub use fault::{ExtractFault, push_pool_line, push_refused_line};
+pub use flushing::{Flush, show};
 pub use outputs::{Outputs, RestoreEnd};
 pub use restoring::restore;
+pub use turns::{NoEnd, Turns};

@@ -1,5 +1,5 @@
 //! What scripts write, and how they end.
-use br_script::{ScriptEnd, run_script};
+use br_script::{ScriptEnd, ScriptFault, run_script};
 use std::alloc::Global;
 use std::io::{self, BufReader, Error, ErrorKind, Read, Write};
 use std::process::Abort;
@@ -497,10 +497,10 @@ impl Write for Broken {
 }
 
 /// Returns the kind of error that a run ends with, if it ends with one.
-fn error_of(run: io::Result<ScriptEnd>) -> Option<ErrorKind> {
+fn error_of(run: Result<ScriptEnd, ScriptFault>) -> Option<ErrorKind> {
     match run {
-        Ok(_) => None,
-        Err(e) => Some(e.kind()),
+        Ok(_) | Err(ScriptFault::NoEnd(_)) => None,
+        Err(ScriptFault::Io(e)) => Some(e.kind()),
     }
 }
 

@@ -2,3 +2,4 @@ pub mod Spelling
 pub mod Drives
 pub mod Line
 pub mod Store
+pub mod Fault

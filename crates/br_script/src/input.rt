@@ -1,8 +1,9 @@
-use bstr::ByteSlice;
-use std::io::{self, BufRead, Error, ErrorKind};
+ghost use Rattle.std.specs.Prelude.{◌≡◌, ◌+◌, ◌^◌, ◌<◌, OnOk};
 
-/// The number of turns of reading within which an input has to end.
-pub(crate) const MAX_TURNS: u64 = 1 << 40;
+use crate::fault::ScriptFault;
+use br_engine::Turns;
+use bstr::ByteSlice;
+use std::io::{BufRead, ErrorKind};
 
 /// The result of reading a line.
 #[derive(Clone, Copy, Debug, PartialEq, Eq)]
@@ -25,11 +26,6 @@ impl Reading {
     }
 }
 
-/// Returns the error for an input that does not end.
-pub(crate) fn no_end() -> Error {
-    Error::new(ErrorKind::TimedOut, "the input has no end")
-}
-
 /// The result of one turn of reading.
 enum Part {
     /// The turn was interrupted.
@@ -45,7 +41,7 @@ enum Part {
 #[derive(Drop)]
 pub(crate) struct Lines<R> {
     reader: R,
-    turns_left: u64,
+    turns: Turns,
     number: u64,
 }
 
@@ -59,7 +55,7 @@ impl<R: BufRead> Lines<R> {
     pub(crate) fn new(reader: R) -> Lines<R> {
         Lines {
             reader,
-            turns_left: MAX_TURNS,
+            turns: Turns::new(),
             number: 0,
         }
     }
@@ -69,17 +65,17 @@ impl<R: BufRead> Lines<R> {
         self.number
     }
 
-    /// Appends to `line` what the reader has at hand of it, up to `most` bytes in all. Returns false beside the result if memory
-    /// ran out.
-    fn read_part(&mut self, line: &mut Vec<u8>, most: usize) -> io::Result<(Part, bool)> {
-        if self.turns_left == 0 {
-            return Err(no_end());
-        }
-        self.turns_left -= 1;
+    /// Makes one turn of reading: appends to `line` what the reader has at hand of it, up to `most` bytes in all. Returns false
+    /// beside the result if memory ran out.
+    fn read_part(&mut self, line: &mut Vec<u8>, most: usize) -> Result<(Part, bool), ScriptFault>
+        ensures turn { OnOk result (self.new.turns ≡ self.old.turns + 1) }
+        ensures few { OnOk result (self.old.turns < 2 ^ 40) }
+    {
+        self.turns.take()?;
         let available = match self.reader.fill_buf() {
             Ok(available) => available,
             Err(e) if e.kind() == ErrorKind::Interrupted => return Ok((Part::Nothing, true)),
-            Err(e) => return Err(e),
+            Err(e) => return Err(ScriptFault::Io(e)),
         };
         let (part, used, is_kept) = match available.find_byte(b'\n') {
             Some(at) => (Part::LineEnd, at + 1, keep(line, &available[..at], most)),
@@ -91,10 +87,13 @@ impl<R: BufRead> Lines<R> {
     }
 
     /// Reads the next line into `line`, without its LF. Keeps at most `most` bytes of it.
-    pub(crate) fn read(&mut self, line: &mut Vec<u8>, most: usize) -> io::Result<Reading> {
+    pub(crate) fn read(&mut self, line: &mut Vec<u8>, most: usize) -> Result<Reading, ScriptFault>
+        ensures turns { OnOk result (self.old.turns < self.new.turns) }
+        ensures few { OnOk result (self.old.turns < 2 ^ 40) }
+    {
         line.clear();
         let (mut most, mut reading) = (most, Reading::End);
-        for _ in 0..MAX_TURNS {
+        loop {
             let (part, is_kept) = self.read_part(line, most)?;
             if !is_kept {
                 (most, reading) = (0, Reading::NoMemory);
@@ -106,11 +105,12 @@ impl<R: BufRead> Lines<R> {
                 Part::InputEnd => return Ok(self.counted(reading)),
             }
         }
-        Err(no_end())
     }
 
     /// Counts the line that was read, if there was one.
-    fn counted(&mut self, reading: Reading) -> Reading {
+    fn counted(&mut self, reading: Reading) -> Reading
+        ensures { self.new.turns ≡ self.old.turns }
+    {
         if reading != Reading::End {
             self.number = self.number.saturating_add(1);
         }

@@ -2,9 +2,11 @@
 #![tactic(auto)]
 
 mod drives;
+mod fault;
 mod fields;
 mod input;
 mod line;
 mod script;
 
+pub use fault::ScriptFault;
 pub use script::{ScriptEnd, run_script};

@@ -1,12 +1,15 @@
-ghost use Rattle.std.specs.Prelude.{◌≡◌, bytes_eq, length, position, OnOk, OnErr};
+ghost use Rattle.std.specs.Prelude.{◌≡◌, ◌≤◌, bytes_eq, length, position, Err, IfErr, OnOk, OnErr};
 ghost use Rattle.br_volume.specs.Memory.{volumes_of};
 ghost use Rattle.br_pool.specs.Pool.{AreDrives};
 ghost use Rattle.br_script.specs.Drives.{EachShows};
+ghost use Rattle.br_script.specs.Fault.{EndlessAfterAll};
 ghost use Rattle.br_script.specs.Line.{drives_after, drives_by, line_said, said};
 ghost use Rattle.br_script.specs.Store.{with_bytes};
+ghost use Rattle.br_script.specs.declared.script.ScriptEnd.TheVariants.{Refused};
 
 use crate::drives::{DriveCount, drives_over};
-use crate::input::{Lines, MAX_TURNS, Reading, no_end};
+use crate::fault::ScriptFault;
+use crate::input::{Lines, Reading};
 use crate::line::{LineFault, MAX_LINE, ScriptLine, read_line};
 use br_bsr::{Bootstrap, read_bootstrap};
 use br_engine::{ExtractFault, Outputs, RestoreEnd, extract};
@@ -57,10 +60,12 @@ fn push_line(text: &mut Vec<u8>, line: &[u8], reading: Reading, had_memory: bool
 fn read_bootstrap_lines<R: BufRead>(
     alloc: Global,
     lines: &mut Lines<R>,
-) -> io::Result<BootstrapLines> {
+) -> Result<BootstrapLines, ScriptFault>
+    ensures { OnOk result (lines.old.turns ≤ lines.new.turns) }
+{
     let (mut text, mut line) = (Vec::new(alloc), Vec::new(alloc));
     let mut has_memory = true;
-    for _ in 0..MAX_TURNS {
+    loop {
         let reading = lines.read(&mut line, usize::MAX)?;
         if reading == Reading::End {
             return Ok(BootstrapLines::Unended);
@@ -74,7 +79,6 @@ fn read_bootstrap_lines<R: BufRead>(
         }
         has_memory = push_line(&mut text, &line, reading, has_memory);
     }
-    Err(no_end())
 }
 
 /// Returns the place of the first volume with this name.
@@ -120,6 +124,7 @@ impl Script {
     }
 
     fn refuse<W: Write>(&mut self, number: u32, writer: &mut W) -> io::Result<()>
+        ensures ended { self.new.end ≡ Refused }
         ensures drives { self.new.drives ≡ self.old.drives }
         ensures volumes { self.new.volumes ≡ self.old.volumes }
     {
@@ -133,6 +138,7 @@ impl Script {
         number: u64,
         writer: &mut W,
     ) -> io::Result<()>
+        ensures ended { self.new.end ≡ Refused }
         ensures drives { self.new.drives ≡ self.old.drives }
         ensures volumes { self.new.volumes ≡ self.old.volumes }
     {
@@ -145,13 +151,12 @@ impl Script {
         }
     }
 
-    fn refuse_extract<W: Write>(&mut self, fault: ExtractFault, writer: &mut W) -> io::Result<()>
+    /// Writes the line of a refusal.
+    fn refuse_by<W: Write>(&mut self, fault: &ExtractFault, writer: &mut W) -> io::Result<()>
+        ensures ended { self.new.end ≡ Refused }
         ensures drives { self.new.drives ≡ self.old.drives }
         ensures volumes { self.new.volumes ≡ self.old.volumes }
     {
-        if let ExtractFault::Io(e) = fault {
-            return Err(e);
-        }
         let mut text = Vec::new(self.alloc);
         match fault.push_line(&mut text) {
             Ok(()) => {
@@ -159,6 +164,22 @@ impl Script {
                 writer.write_all(&text)
             }
             Err(_) => self.refuse(1, writer),
+        }
+    }
+
+    fn refuse_extract<W: Write>(
+        &mut self,
+        fault: ExtractFault,
+        writer: &mut W,
+    ) -> Result<(), ScriptFault>
+        ensures ended { OnOk result (self.new.end ≡ Refused) }
+        ensures drives { self.new.drives ≡ self.old.drives }
+        ensures volumes { self.new.volumes ≡ self.old.volumes }
+    {
+        match fault {
+            ExtractFault::Io(fault) => Err(ScriptFault::Io(fault)),
+            ExtractFault::NoEnd(fault) => Err(ScriptFault::NoEnd(fault)),
+            fault => Ok(self.refuse_by(&fault, writer)?),
         }
     }
 
@@ -176,15 +197,16 @@ impl Script {
         &mut self,
         lines: &mut Lines<R>,
         writer: &mut W,
-    ) -> io::Result<()>
+    ) -> Result<(), ScriptFault>
         ensures drives { self.new.drives ≡ self.old.drives }
         ensures volumes { self.new.volumes ≡ self.old.volumes }
+        ensures turns { OnOk result (lines.old.turns ≤ lines.new.turns) }
     {
         let text = match read_bootstrap_lines(self.alloc, lines)? {
             BootstrapLines::Text(text) => text,
             BootstrapLines::NoMemory => {
                 self.kept = None;
-                return self.refuse(1, writer);
+                return Ok(self.refuse(1, writer)?);
             }
             BootstrapLines::Unended => return Ok(()),
         };
@@ -237,12 +259,12 @@ impl Script {
         rt: &(impl Threads + Sync),
         number: u64,
         writer: &mut W,
-    ) -> io::Result<()>
+    ) -> Result<(), ScriptFault>
         ensures drives { self.new.drives ≡ self.old.drives }
         ensures volumes { self.new.volumes ≡ self.old.volumes }
     {
         let Some(bootstrap) = &self.kept else {
-            return self.refuse_line(LineFault::BadScript, number, writer);
+            return Ok(self.refuse_line(LineFault::BadScript, number, writer)?);
         };
         match self.restore(rt, bootstrap, writer) {
             Ok(RestoreEnd::AllFiles) => Ok(()),
@@ -261,15 +283,16 @@ impl Script {
         line: ScriptLine,
         lines: &mut Lines<R>,
         writer: &mut W,
-    ) -> io::Result<()>
-        ensures { self.new.drives ≡ drives_after (said line) self.old.drives }
+    ) -> Result<(), ScriptFault>
+        ensures drives { self.new.drives ≡ drives_after (said line) self.old.drives }
+        ensures turns { OnOk result (lines.old.turns ≤ lines.new.turns) }
     {
         match line {
             ScriptLine::Drives(count) => {
                 self.drives = count;
                 Ok(())
             }
-            ScriptLine::Volume { name, bytes } => self.append(name, &bytes, writer),
+            ScriptLine::Volume { name, bytes } => Ok(self.append(name, &bytes, writer)?),
             ScriptLine::Bsr => self.keep_bootstrap(lines, writer),
             ScriptLine::Extract => self.run_kept(rt, lines.number(), writer),
         }
@@ -282,12 +305,14 @@ impl Script {
         line: &[u8],
         lines: &mut Lines<R>,
         writer: &mut W,
-    ) -> io::Result<()>
-        ensures { self.new.drives ≡ drives_by (line_said line.now) self.old.drives }
+    ) -> Result<(), ScriptFault>
+        ensures refused { line_said line.now ≡ Err tt → self.new.end ≡ Refused }
+        ensures drives { self.new.drives ≡ drives_by (line_said line.now) self.old.drives }
+        ensures turns { OnOk result (lines.old.turns ≤ lines.new.turns) }
     {
         match read_line(self.alloc, line) {
             Ok(asked) => self.obey(rt, asked, lines, writer),
-            Err(fault) => self.refuse_line(fault, lines.number(), writer),
+            Err(fault) => Ok(self.refuse_line(fault, lines.number(), writer)?),
         }
     }
 }
@@ -301,22 +326,24 @@ impl Script {
 ///
 /// # Errors
 ///
-/// An error of the reader or of the writer; `TimedOut` if the input does not end within 2^40 turns of reading.
+/// - `Io` if the reader or the writer failed.
+/// - `NoEnd` if the input does not end within 2^40 turns of reading.
 pub fn run_script<R: BufRead, W: Write>(
     rt: &(impl Threads + Sync),
     alloc: Global,
     reader: &mut R,
     writer: &mut W,
-) -> io::Result<ScriptEnd> {
+) -> Result<ScriptEnd, ScriptFault>
+    ensures endless { IfErr result EndlessAfterAll }
+{
     let mut lines = Lines::new(reader);
     let mut script = Script::new(alloc);
     let mut line = Vec::new(alloc);
-    for _ in 0..MAX_TURNS {
+    loop {
         match lines.read(&mut line, MAX_LINE + 1)? {
             Reading::Line => script.carry_out(rt, &line, &mut lines, writer)?,
             Reading::NoMemory => script.refuse(1, writer)?,
             Reading::End => return Ok(script.end),
         }
     }
-    Err(no_end())
 }

@@ -3,30 +3,60 @@
 //! `extract` runs a bootstrap over the volumes of a folder. `console` lets the operator mark files as they were at a moment, and
 //! restores them. Both write the restored files into another folder, if one is given. `explain` says what a refusal number means.
 //! Without a command the program runs a script from standard input over volumes in memory.
+//!
+//! The words of the command line are read by clap, and catalogues by SQLite; what the commands do is in br_commands.
 #![tactic(auto)]
 
 ghost use Rattle.std.specs.Prelude.{◌≡◌};
-ghost use Rattle.brestore.specs.ScriptEnding.{script_status};
+ghost use Rattle.br_commands.specs.Asked.{catalogue_number};
+ghost use Rattle.br_rows.specs.Fault.{fault_number};
 
-mod console;
-mod explaining;
-mod extract;
-#[cfg(test)]
-mod tests;
-
-use crate::console::restore_marked;
-use crate::explaining::{explain_all, explain_number};
-use crate::extract::{BAD_STREAM, CLEAN, REFUSED, extract_files};
-use br_command::{Invocation, read_words};
-use br_script::{ScriptEnd, run_script};
-use std::alloc::Global;
-use std::io::{self, BufRead, BufReader, BufWriter, ErrorKind, Write};
+use br_command::read_words;
+use br_commands::{BAD_STREAM, CLEAN, Catalogue, CatalogueFault, REFUSED, run_command};
+use br_history::History;
+use br_store::{Store, StoreFault};
+use sqlite::Connection;
+use std::io::{self, ErrorKind};
 use std::process::ExitCode;
 use std::rt::Env;
 use std::thread::Threads;
 
 /// The exit status for a fault of the command line.
 const BAD_COMMAND: u8 = 2;
+
+/// Loads the jobs in the file of a catalogue.
+fn load(rt: &HostRuntime, db: &str) -> Result<History, StoreFault> {
+    let conn = Connection::open(rt, db)?;
+    let mut store = Store::open(rt.alloc(), conn)?;
+    store.load_history()
+}
+
+/// Returns the fault of a catalogue's file as one of a catalogue.
+fn catalogue_fault(fault: StoreFault) -> CatalogueFault
+    ensures { catalogue_number result ≡ fault_number fault }
+{
+    match fault {
+        StoreFault::Memory => CatalogueFault::Memory,
+        StoreFault::Store(_) => CatalogueFault::Unreadable,
+        StoreFault::BadCatalogue => CatalogueFault::BadCatalogue,
+    }
+}
+
+/// The catalogues in the files of SQLite.
+#[derive(Drop)]
+struct CatalogueFiles<'r> {
+    rt: &'r HostRuntime,
+}
+
+impl Catalogue for CatalogueFiles<'_> {
+    ghost use Rattle.std.specs.Prelude.{None};
+
+    ghost jobs_at = { λ _ _. None };
+
+    fn load(&self, db: &str) -> Result<History, CatalogueFault> {
+        load(self.rt, db).map_err(catalogue_fault)
+    }
+}
 
 /// Returns the words of the command line, with the program's name first; `None` if one of them is not UTF-8.
 fn words_of<R: Env + AllocGlobal>(rt: &R) -> io::Result<Option<Vec<String>>> {
@@ -37,52 +67,6 @@ fn words_of<R: Env + AllocGlobal>(rt: &R) -> io::Result<Option<Vec<String>>> {
     }
 }
 
-/// Returns the exit status of a script that ended so.
-fn status_of(end: ScriptEnd) -> u8
-    ensures { result ≡ script_status end }
-{
-    match end {
-        ScriptEnd::Clean => CLEAN,
-        ScriptEnd::Refused => REFUSED,
-    }
-}
-
-/// Runs a script, and writes and flushes its answers. Returns the exit status.
-fn answer<R: BufRead, W: Write>(
-    threads: &(impl Threads + Sync),
-    alloc: Global,
-    reader: &mut R,
-    writer: &mut W,
-) -> io::Result<u8> {
-    let end = run_script(threads, alloc, reader, writer);
-    writer.flush()?;
-    Ok(status_of(end?))
-}
-
-/// Runs the script of standard input, and writes its answers to standard output. Returns the exit status.
-fn run_input<R: Input + Print + AllocGlobal>(
-    rt: &R,
-    threads: &(impl Threads + Sync),
-) -> io::Result<u8> {
-    let mut reader = BufReader::new(rt.alloc(), rt.reader())?;
-    let mut writer = BufWriter::new(rt.alloc(), io::writer(rt))?;
-    answer(threads, rt.alloc(), &mut reader, &mut writer)
-}
-
-/// Runs the script of standard input; an error for memory is a refusal of the script. Returns the exit status.
-fn serve<R: Input + Print + AllocGlobal>(
-    rt: &R,
-    threads: &(impl Threads + Sync),
-) -> io::Result<u8> {
-    match run_input(rt, threads) {
-        Err(e) if e.kind() == ErrorKind::OutOfMemory => {
-            println!(rt; "refused 1")?;
-            Ok(REFUSED)
-        }
-        status => status,
-    }
-}
-
 /// Does what the command line asks for, in as many threads as `threads` starts. Returns the exit status.
 fn run(rt: &HostRuntime, threads: &(impl Threads + Sync)) -> io::Result<u8> {
     let Some(words) = words_of(rt)? else {
@@ -90,11 +74,7 @@ fn run(rt: &HostRuntime, threads: &(impl Threads + Sync)) -> io::Result<u8> {
         return Ok(BAD_COMMAND);
     };
     match read_words(rt.alloc(), &words) {
-        Ok(Invocation::Serve) => serve(rt, threads),
-        Ok(Invocation::Extract(options)) => extract_files(rt, threads, &options),
-        Ok(Invocation::Console(options)) => restore_marked(rt, threads, &options),
-        Ok(Invocation::Explain(number)) => explain_number(rt, number),
-        Ok(Invocation::ExplainAll) => explain_all(rt),
+        Ok(command) => run_command(rt, threads, &CatalogueFiles { rt }, &command),
         Err(fault) if fault.kind() == clap::error::ErrorKind::OutOfMemory => {
             Err(ErrorKind::OutOfMemory.into())
         }

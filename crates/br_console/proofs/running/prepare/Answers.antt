@@ -1,7 +1,8 @@
 use Rattle.std.proofs.Common.{◌∙◌, ap, refl}
 use Rattle.std.proofs.lemmas.Result.{err_from_is_err_and}
+use Rattle.br_model.specs.Plan.{plan_of}
 use Rattle.br_console.specs.Ending.{is_done}
-use Rattle.br_console.proofs.RunLaws.{begins_unchosen, begins_undone, begins_unplanned, begins_planned, marked_done, marked_undone, opening_views, was_chosen}
+use Rattle.br_console.proofs.RunLaws.{begins_unchosen, begins_undone, begins_unplanned, begins_planned, marked_done, marked_undone, opening_views, unplanned_has_end, was_chosen}
 use Rattle.br_console.proofs.running.prepare.Goals as goal
 
 -- the tree's entries are still those of the chosen jobs, since a dialogue changes marks alone
@@ -42,7 +43,7 @@ returns-in_err-plan-in-Done-clause-begins g c =
     (begins_unplanned known before now after c.args.asked.now.history.now c.args.asked.now.request.now c.in_ok-console.console session.lines marks why c.in_ok-console.ensures
     (marked_done known left before now c.in_ok-console.console c.converse.new.console session marks c.in_ok-session.ensures.session c.in_ok-session.ensures.leaves
     (ap is_done c.in-Done.is) c.tree.ensures.marked)
-    c.in_err-plan-in-Done.ensures)
+    c.in_err-plan-in-Done.ensures.written)
 
 pub returns-clause-begins : goal.returns-clause-begins
 returns-clause-begins g c =
@@ -57,13 +58,21 @@ returns-clause-begins g c =
     begins_planned known before now after c.args.asked.now.history.now c.args.asked.now.request.now c.in_ok-console.console session.lines marks plan c.in_ok-console.ensures
     (marked_done known left before now c.in_ok-console.console c.converse.new.console session marks c.in_ok-session.ensures.session c.in_ok-session.ensures.leaves
     (ap is_done c.in-Done.is) c.tree.ensures.marked)
-    c.in_ok-plan-in-Done.ensures
+    c.in_ok-plan-in-Done.ensures.written
 
 pub returns-in-Quit-clause-untouched : goal.returns-in-Quit-clause-untouched
 returns-in-Quit-clause-untouched g c = λ n refused. absurd (was_chosen c.args.asked.now.history.now c.args.asked.now.request.now c.in_ok-console.console c.in_ok-console.ensures n refused)
 
 pub returns-in_err-session-clause-untouched : goal.returns-in_err-session-clause-untouched
 returns-in_err-session-clause-untouched g c = λ n refused. absurd (was_chosen c.args.asked.now.history.now c.args.asked.now.request.now c.in_ok-console.console c.in_ok-console.ensures n refused)
+
+pub returns-in_err-plan-in-Done-clause-endless : goal.returns-in_err-plan-in-Done-clause-endless
+returns-in_err-plan-in-Done-clause-endless g c =
+    let p = err_from_is_err_and c.from_residual-in_err-plan-in-Done.result c.from_residual-in_err-plan-in-Done.ensures.1 in
+    rw (p.1, p.2)
+    (unplanned_has_end (g.W.Write.contents c.converse.new.writer) (g.W.Write.contents c.write_plan.new.writer)
+    (plan_of c.args.asked.now.history.now c.args.asked.now.request.now c.tree.result.now.marked) c.in_err-plan-in-Done.field-0.0
+    c.in_err-plan-in-Done.ensures.written)
 
 pub returns-in_err-plan-in-Done-clause-untouched : goal.returns-in_err-plan-in-Done-clause-untouched
 returns-in_err-plan-in-Done-clause-untouched g c = λ n refused. absurd (was_chosen c.args.asked.now.history.now c.args.asked.now.request.now c.in_ok-console.console c.in_ok-console.ensures n refused)

@@ -7,7 +7,7 @@ use Rattle.br_pool.proofs.WorkedLaws.{all_kept}
 use Rattle.br_engine.specs.Extracting.{OverVolumes}
 use Rattle.br_engine.specs.Delivering.{Delivers, in_sink}
 use Rattle.br_console.specs.Running.{BeginsOver}
-use Rattle.br_console.proofs.RunLaws.{no_drive_in_piece, no_drive_stays, plan_refused, plan_restored, restores_files, restores_undone, runs_refused, runs_restored, runs_stopped, runs_undone, tells_refused, tells_restored, tells_stopped, tells_undone}
+use Rattle.br_console.proofs.RunLaws.{no_drive_in_piece, no_drive_stays, plan_refused, plan_restored, restored_has_end, restores_files, restores_undone, runs_refused, runs_restored, runs_stopped, runs_undone, tells_refused, tells_restored, tells_stopped, tells_undone}
 use Rattle.br_console.proofs.running.run_console.Goals as goal
 
 -- ---- before a drive is asked
@@ -39,6 +39,11 @@ returns-in_err-lines-clause-untouched g c = λ n refused.
 
 pub returns-in_err-lines-clause-places : goal.returns-in_err-lines-clause-places
 returns-in_err-lines-clause-places g c = all_kept g.D.Drive.shows g.D.Drive.failures c.args.drives.now.items
+
+pub returns-in_err-lines-clause-endless : goal.returns-in_err-lines-clause-endless
+returns-in_err-lines-clause-endless g c =
+    let p = err_from_is_err_and c.from_residual.result c.from_residual.ensures.1 in
+    rw (p.1, p.2) c.in_err-lines.ensures.endless
 
 pub returns-in_err-lines-clause-failed : goal.returns-in_err-lines-clause-failed
 returns-in_err-lines-clause-failed g c =
@@ -155,6 +160,9 @@ returns-clause-tells g c =
 
 pub returns-clause-untouched : goal.returns-clause-untouched
 returns-clause-untouched g c = λ n refused. absurd (c.in_ok-lines.ensures.chosen n refused)
+
+pub returns-clause-endless : goal.returns-clause-endless
+returns-clause-endless g c = restored_has_end c.in-Err.fault c.console_fault.result c.console_fault.ensures
 
 pub returns-clause-failed : goal.returns-clause-failed
 returns-clause-failed g c = λ is. c.in-Err.ensures.failed (no_drive_stays c.in-Err.fault c.console_fault.result c.console_fault.ensures is)

@@ -1,13 +1,13 @@
 use Rattle.std.proofs.Common.{map, subst}
 use Rattle.std.specs.Prelude.{option_map}
-use Rattle.std.proofs.KnownBytes.{Appends-kept, Keeps-refl}
+use Rattle.std.proofs.KnownBytes.{Keeps-refl}
 use Rattle.std.specs.Io.KnownBytes.{Appends}
 use Rattle.std.proofs.lemmas.Result.{err_from_is_err_and}
 use Rattle.br_model.specs.Restored.{planned_in}
 use Rattle.br_model.specs.Manifest.{manifest}
 use Rattle.br_join.specs.Outcome.{restored}
 use Rattle.br_engine.specs.Delivering.{EndsWith, in_sink}
-use Rattle.br_engine.specs.declared.fault.ExtractFault.TheVariants.{Io, Piece}
+use Rattle.br_engine.specs.declared.fault.ExtractFault.TheVariants.{Piece}
 use Rattle.br_engine.proofs.ExtractLaws.{gives_files, gives_refused}
 use Rattle.br_engine.proofs.DeliverLaws.{delivers_files, delivers_refused, free_is_no_drive, free_is_no_line, gives_free}
 use Rattle.br_engine.proofs.delivering.restore_into.Goals as goal
@@ -51,18 +51,6 @@ returns-in_err-write_manifest-clause-failed g c =
     let p = err_from_is_err_and c.from_residual-in_err-write_manifest.result c.from_residual-in_err-write_manifest.ensures.1 in
     rw (p.1, p.2) (λ is. absurd (free_is_no_drive c.in_err-write_manifest.field-0.0 c.in_err-write_manifest.ensures.free is))
 
-pub returns-in_err-flush-clause-delivers : goal.returns-in_err-flush-clause-delivers
-returns-in_err-flush-clause-delivers g c =
-    let p = err_from_is_err_and c.from_residual-in_err-flush.result c.from_residual-in_err-flush.ensures.1 in
-    let earlier = map g.D.Drive.shows c.args.drives.now.items in
-    let later = map g.D.Drive.shows c.restore.new.drives.items in
-    let groups = c.args.bootstrap.now in
-    let names = option_map planned_in c.args.names in
-    let fault = Io c.in_err-flush.field-0.0 in
-    rw (p.1, p.2)
-    (delivers_refused earlier later groups names (g.W.Write.contents c.args.out.now.writer) (g.W.Write.contents c.flush.new.self) (in_sink g.S.Sink.has c.args.out.now) fault
-    (gives_free earlier later groups names fault tt) tt)
-
 -- ---- the files are restored
 
 pub returns-clause-delivers : goal.returns-clause-delivers
@@ -72,12 +60,10 @@ returns-clause-delivers g c =
     let groups = c.args.bootstrap.now in
     let names = option_map planned_in c.args.names in
     let before = g.W.Write.contents c.args.out.now.writer in
-    let middle = g.W.Write.contents c.write_manifest.new.writer in
-    let after = g.W.Write.contents c.flush.new.self in
+    let after = g.W.Write.contents c.write_manifest.new.writer in
     let had = in_sink g.S.Sink.has c.args.out.now in
     let has = option_map g.S.Sink.has c.finish.new.sink in
     let outcomes = c.in_ok-outcomes.outcomes in
     delivers_files earlier later groups names before after had has outcomes c.finish.result (gives_files earlier later groups names outcomes c.in_ok-outcomes.ensures.files)
-    (Appends-kept before middle after (manifest (map restored outcomes.items))
-    (subst (λ os. Appends before middle (manifest (map restored os))) c.deref.ensures.value c.in_ok-write_manifest.ensures.written) c.flush.ensures.bytes)
+    (subst (λ os. Appends before after (manifest (map restored os))) c.deref.ensures.value c.in_ok-write_manifest.ensures.written)
     (subst (λ os. EndsWith had has (map restored os) c.finish.result) c.deref-2.ensures.value c.finish.ensures.ends)

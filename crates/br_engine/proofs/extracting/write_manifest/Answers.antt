@@ -4,5 +4,5 @@ use Rattle.br_engine.proofs.extracting.write_manifest.Goals as goal
 
 pub returns-clause-written : goal.returns-clause-written
 returns-clause-written g c =
-    subst (λ (text : List ℕ). Appends (g.W.Write.contents c.args.writer.now) (g.W.Write.contents c.write_all.new.self) text)
-    (c.deref.ensures.value ∙ c.in_ok-text.ensures) c.in_ok-write_all.ensures.bytes
+    subst (λ (text : List ℕ). Appends (g.W.Write.contents c.args.writer.now) (g.W.Write.contents c.show.new.writer) text)
+    (c.deref.ensures.value ∙ c.in_ok-text.ensures) c.in_ok-show.ensures.written

@@ -1,0 +1,6 @@
+pub mod Asked
+pub mod Tasks
+pub mod Starting
+pub mod Ending
+pub mod ConsoleEnding
+pub mod ScriptEnding

@@ -1,0 +1,44 @@
+//! The catalogue of jobs, as `console` needs it.
+ghost use Rattle.std.specs.Prelude.{◌≡◌, IfOk};
+ghost use Rattle.br_commands.specs.Asked.{AreJobs, catalogue_number};
+
+use br_history::History;
+use thiserror::Error;
+
+/// Why the jobs of a catalogue were not loaded.
+#[derive(Clone, Copy, Debug, PartialEq, Eq, Error)]
+pub enum CatalogueFault {
+    #[error("out of memory")]
+    Memory,
+    #[error("the catalogue can't be read")]
+    Unreadable,
+    #[error("the catalogue is of another version, or its rows form no history")]
+    BadCatalogue,
+}
+
+impl CatalogueFault {
+    /// Returns the number of the refusal: 1 out of memory, 45 a catalogue that can't be read, 47 one of
+    /// another version or whose rows form no history.
+    pub fn number(self) -> u32
+        ensures { result ≡ catalogue_number self }
+    {
+        match self {
+            CatalogueFault::Memory => 1,
+            CatalogueFault::Unreadable => 45,
+            CatalogueFault::BadCatalogue => 47,
+        }
+    }
+}
+
+/// Catalogues by the paths of their files.
+pub trait Catalogue {
+    ghost use Rattle.std.specs.Prelude.{ℕ, List, Option};
+    ghost use Rattle.br_model.specs.Job.{JobRows};
+
+    /// The jobs of the catalogue at a path, if they are told. Those in a file are not.
+    ghost jobs_at: { Self → List ℕ → Option (List JobRows) };
+
+    /// Loads all jobs of the catalogue at the path.
+    fn load(&self, db: &str) -> Result<History, CatalogueFault>
+        ensures loaded { IfOk result (λ history. AreJobs (jobs_at self.now db.now) history) };
+}

@@ -1,0 +1,336 @@
+//! The command `console`.
+ghost use Rattle.std.specs.Prelude.{◌≡◌, ◌++◌, length, option_map, Ok, IfOk, OnOk};
+ghost use Rattle.br_model.specs.Answer.{Answers};
+ghost use Rattle.br_options.specs.Options.{AreFew};
+ghost use Rattle.br_pool.specs.Pool.{AreDrives};
+ghost use Rattle.br_request.specs.Asking.{cause};
+ghost use Rattle.br_commands.specs.Asked.{AreJobs, AreOver, request_asked};
+ghost use Rattle.br_commands.specs.ConsoleEnding.{end_line, run_refusal, run_status, status_by};
+ghost use Rattle.br_commands.specs.Starting.{start_number};
+ghost use Rattle.br_commands.specs.Tasks.{RunsTask};
+ghost use Rattle.br_commands.specs.declared.console.ConsoleStartFault.TheVariants as start;
+
+use crate::catalogue::{Catalogue, CatalogueFault};
+use crate::folders::{HostDrive, HostSink, drives_over, sink_over};
+use crate::status::{BAD_STREAM, CLEAN, Ending, REFUSED};
+use br_console::{ConsoleFault, ConsoleRun, End, JobSelection, Lines, run_console};
+use br_engine::{Flush, Outputs, RestoreEnd};
+use br_folder_sink::FolderFault;
+use br_history::History;
+use br_options::ConsoleOptions;
+use br_plan::Request;
+use br_request::{RequestFault, read_request};
+use br_sink::Sink;
+use br_volume::Drive;
+use std::alloc::{AllocError, Global};
+use std::fs;
+use std::io::{self, BufRead, BufReader, BufWriter, ErrorKind};
+use std::thread::Threads;
+use thiserror::Error;
+
+/// Returns the exit status of a run that was not refused.
+fn status_of(run: &ConsoleRun) -> u8
+    ensures { result ≡ status_by run.now.lines run.now.end }
+{
+    match &run.end {
+        End::Quit | End::Done(RestoreEnd::AllFiles) => match run.lines {
+            Lines::AllAccepted => CLEAN,
+            Lines::SomeRefused => REFUSED,
+        },
+        End::Done(RestoreEnd::SomeFaults | RestoreEnd::Stopped(_)) => REFUSED,
+    }
+}
+
+/// Appends the line of a delivery that stopped, and nothing otherwise.
+fn push_stop(text: &mut Vec<u8>, run: &ConsoleRun) -> Result<(), AllocError>
+    ensures { OnOk result (text.new.items ≡ text.old.items ++ end_line run.now.end) }
+{
+    match &run.end {
+        End::Quit => Ok(()),
+        End::Done(end) => end.push_line(text),
+    }
+}
+
+/// Returns the exit status and the refusal line for this result.
+pub fn console_ending(
+    alloc: Global,
+    run: &Result<ConsoleRun, ConsoleFault>,
+) -> Result<Ending, AllocError>
+    ensures status { IfOk result (λ ending. ending.status ≡ run_status run.now) }
+    ensures refusal { IfOk result (λ ending. ending.refusal.items ≡ run_refusal run.now) }
+{
+    let mut refusal = Vec::new(alloc);
+    let status = match run {
+        Ok(run) => {
+            push_stop(&mut refusal, run)?;
+            status_of(run)
+        }
+        Err(ConsoleFault::Io(_) | ConsoleFault::NoEnd(_)) => BAD_STREAM,
+        Err(fault) => {
+            fault.push_line(&mut refusal)?;
+            REFUSED
+        }
+    };
+    Ok(Ending { status, refusal })
+}
+
+/// Prints to standard error that a stream failed, if one did.
+fn report_stream<R: Eprint>(rt: &R, fault: &ConsoleFault) -> io::Result<()> {
+    match fault {
+        ConsoleFault::Io(e) => eprintln!(rt; "brestore: standard input or output: {e}"),
+        ConsoleFault::NoEnd(e) => eprintln!(rt; "brestore: standard input or output: {e}"),
+        _ => Ok(()),
+    }
+}
+
+/// Prints how a run ended to standard error. Returns the exit status.
+fn report<R: Eprint + AllocGlobal>(
+    rt: &R,
+    run: Result<ConsoleRun, ConsoleFault>,
+) -> io::Result<u8> {
+    let ending = console_ending(rt.alloc(), &run)?;
+    if let Err(fault) = &run {
+        report_stream(rt, fault)?;
+    }
+    let refusal = String::from_utf8_lossy(rt.alloc(), &ending.refusal)?;
+    eprint!(rt; "{refusal}")?;
+    Ok(ending.status)
+}
+
+/// Why no session began.
+#[derive(Debug, Drop, Error)]
+pub enum ConsoleStartFault {
+    #[error("out of memory")]
+    Memory,
+    /// Client, file set or moment were refused.
+    #[error("{0}")]
+    Request(RequestFault),
+    /// The folder to deliver into was refused.
+    #[error("{0}")]
+    Folder(FolderFault),
+    #[error("the file of the catalogue is not there")]
+    NoCatalogue,
+    /// The catalogue was refused.
+    #[error("{0}")]
+    Catalogue(CatalogueFault),
+}
+
+impl From<RequestFault> for ConsoleStartFault {
+    ghost from_gives = { λ fault e. e ≡ start.Request fault };
+
+    fn from(fault: RequestFault) -> ConsoleStartFault {
+        ConsoleStartFault::Request(fault)
+    }
+}
+
+impl From<FolderFault> for ConsoleStartFault {
+    ghost from_gives = { λ fault e. e ≡ start.Folder fault };
+
+    fn from(fault: FolderFault) -> ConsoleStartFault {
+        ConsoleStartFault::Folder(fault)
+    }
+}
+
+impl From<CatalogueFault> for ConsoleStartFault {
+    ghost from_gives = { λ fault e. e ≡ start.Catalogue fault };
+
+    fn from(fault: CatalogueFault) -> ConsoleStartFault {
+        ConsoleStartFault::Catalogue(fault)
+    }
+}
+
+impl From<AllocError> for ConsoleStartFault {
+    ghost from_gives = { λ _ e. e ≡ start.Memory };
+
+    fn from(_e: AllocError) -> ConsoleStartFault {
+        ConsoleStartFault::Memory
+    }
+}
+
+impl ConsoleStartFault {
+    /// Returns the number of the refusal: 1 out of memory, 2 client or file set, 52 the moment, 81 the
+    /// folder, 45 and 47 the catalogue.
+    pub fn number(&self) -> u32
+        ensures { result ≡ start_number self.now }
+    {
+        match self {
+            ConsoleStartFault::Memory => 1,
+            ConsoleStartFault::Request(fault) => fault.number(),
+            ConsoleStartFault::Folder(fault) => fault.number(),
+            ConsoleStartFault::NoCatalogue => 45,
+            ConsoleStartFault::Catalogue(fault) => fault.number(),
+        }
+    }
+}
+
+/// Prints a refusal before a line was read to standard error. Returns the exit status.
+fn refuse<R: Eprint>(rt: &R, fault: &ConsoleStartFault) -> io::Result<u8> {
+    let number = fault.number();
+    if number == 1 {
+        return Err(ErrorKind::OutOfMemory.into());
+    }
+    eprintln!(rt; "refused {number}")?;
+    Ok(REFUSED)
+}
+
+/// Loads the jobs in the file of a catalogue, if the file is there.
+fn jobs_in<C: Catalogue>(
+    rt: &HostRuntime,
+    catalogue: &C,
+    db: &str,
+) -> Result<History, ConsoleStartFault>
+    ensures jobs { IfOk result (λ history. AreJobs (C.jobs_at catalogue.now db.now) history) }
+{
+    // A file that is not there would be made.
+    if fs::metadata(rt, db).is_err() {
+        return Err(ConsoleStartFault::NoCatalogue);
+    }
+    Ok(catalogue.load(db)?)
+}
+
+/// All that is there before a line is read.
+#[derive(Drop)]
+pub struct ConsoleSetup<'r> {
+    request: Request,
+    sink: Option<HostSink<'r>>,
+    history: History,
+    drives: Vec<HostDrive<'r>>,
+}
+
+/// Reads the client, the file set and the moment that were given.
+fn request_of(alloc: Global, given: &ConsoleOptions<'_>) -> Result<Request, RequestFault>
+    ensures asked { Answers (λ request. request) cause result (request_asked given.now) }
+{
+    read_request(alloc, given.client, given.fileset, given.before)
+}
+
+/// Makes all that is there before a line is read: client and file set (2), moment (52), the folder to
+/// deliver into (81), and the catalogue (45, 47) are tested in this order.
+pub fn set_up_console<'r, C: Catalogue>(
+    rt: &'r HostRuntime,
+    catalogue: &C,
+    given: &ConsoleOptions<'_>,
+) -> Result<ConsoleSetup<'r>, ConsoleStartFault>
+    ensures asked { IfOk result (λ setup. request_asked given.now ≡ Ok setup.request) }
+    ensures into { IfOk result (λ setup. option_map (λ s. s.path) setup.sink ≡ option_map (λ f. f.now) given.now.into) }
+    ensures jobs { IfOk result (λ setup. AreJobs (C.jobs_at catalogue.now given.now.db.now) setup.history) }
+    ensures drives { IfOk result (λ setup. length setup.drives.items ≡ given.now.drives) }
+    ensures volumes { IfOk result (λ setup. AreOver given.now.volumes.now setup.drives.items) }
+{
+    let request = request_of(rt.alloc(), given)?;
+    let sink = sink_over(rt, given.into)?;
+    let history = jobs_in(rt, catalogue, given.db)?;
+    let drives = drives_over(rt, given.volumes, given.drives)?;
+    Ok(ConsoleSetup {
+        request,
+        sink,
+        history,
+        drives,
+    })
+}
+
+/// The jobs of a catalogue, which of them to choose, the drives to read by, and what to write to.
+#[derive(Drop)]
+pub struct ConsoleTask<D, W, S> {
+    history: History,
+    request: Request,
+    drives: Vec<D>,
+    out: Outputs<W, S>,
+}
+
+impl<'r> ConsoleSetup<'r> {
+    /// Returns the task to run a session by what was set up, with the answers to this writer.
+    pub fn onto<W>(self, writer: W) -> ConsoleTask<HostDrive<'r>, W, HostSink<'r>>
+        ensures history { result.history ≡ self.entry.history }
+        ensures request { result.request ≡ self.entry.request }
+        ensures drives { result.drives ≡ self.entry.drives }
+        ensures out { result.out ≡ record { writer = writer; sink = self.entry.sink } }
+    {
+        let ConsoleSetup {
+            request,
+            sink,
+            history,
+            drives,
+        } = self;
+        ConsoleTask {
+            history,
+            request,
+            drives,
+            out: Outputs { writer, sink },
+        }
+    }
+}
+
+/// Carries out a task by the lines of a reader. The answers, the bootstrap and the manifest go to its
+/// writer, and then the files into its sink, if there is one.
+pub fn console_over<R: BufRead + Drop, D: Drive + Send, W: Flush + Drop, S: Sink>(
+    threads: &(impl Threads + Sync),
+    alloc: Global,
+    task: &mut ConsoleTask<D, W, S>,
+    reader: &mut R,
+) -> Result<ConsoleRun, ConsoleFault>
+    requires drives { AreDrives task.old.drives.items }
+    requires shown { W.is_flushed task.old.out.writer }
+    ensures delivers { RunsTask (R.remaining reader.old) D.shows W.contents S.has task.old task.new result }
+    ensures flushed { OnOk result (W.is_flushed task.new.out.writer) }
+{
+    let asked = JobSelection {
+        history: &task.history,
+        request: &task.request,
+    };
+    run_console(
+        threads,
+        alloc,
+        &asked,
+        reader,
+        &mut task.drives,
+        &mut task.out,
+    )
+}
+
+/// Reads lines and answers them on standard output, over the jobs of a client's file set before a
+/// moment in a catalogue. After `done` prints the bootstrap and the manifest, and puts the restored files
+/// into the folder `into`, if there is one. What is refused of a line is part of the answers; any other
+/// refusal goes to standard error, and so does the stop of a delivery.
+///
+/// Client and file set (2), moment (52), the folder `into`, which has to exist and be empty (81), and
+/// the catalogue (45, 47) are tested in this order before a line is read. The manifest is printed before
+/// anything is written into the folder.
+///
+/// Returns the exit status: 0 if nothing was refused and each outcome is a file; 1 if something was
+/// refused or some outcome is not a file; 3 if the reader or standard output failed.
+///
+/// # Errors
+///
+/// If memory ran out or standard error failed.
+pub fn restore_by_lines<C: Catalogue, R: BufRead + Drop>(
+    rt: &HostRuntime,
+    threads: &(impl Threads + Sync),
+    catalogue: &C,
+    given: &ConsoleOptions<'_>,
+    reader: &mut R,
+) -> io::Result<u8>
+    requires few { AreFew given.now.drives }
+{
+    let setup = match set_up_console(rt, catalogue, given) {
+        Ok(setup) => setup,
+        Err(fault) => return refuse(rt, &fault),
+    };
+    let writer = BufWriter::new(rt.alloc(), io::writer(rt))?;
+    let mut task = setup.onto(writer);
+    let run = console_over(threads, rt.alloc(), &mut task, reader);
+    report(rt, run)
+}
+
+/// Restores by the lines of standard input, as `restore_by_lines`.
+pub(crate) fn restore_marked<C: Catalogue>(
+    rt: &HostRuntime,
+    threads: &(impl Threads + Sync),
+    catalogue: &C,
+    given: &ConsoleOptions<'_>,
+) -> io::Result<u8>
+    requires few { AreFew given.now.drives }
+{
+    let mut reader = BufReader::new(rt.alloc(), rt.reader())?;
+    restore_by_lines(rt, threads, catalogue, given, &mut reader)
+}

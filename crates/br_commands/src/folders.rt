@@ -1,0 +1,43 @@
+//! Drives and a sink over the folders of the command line.
+ghost use Rattle.std.specs.Prelude.{◌≡◌, length, option_map, IfOk};
+ghost use Rattle.br_commands.specs.Asked.{AreOver};
+
+use br_files::HostDisk;
+use br_folder::FolderDrive;
+use br_folder_sink::{FolderFault, FolderSink};
+use std::alloc::AllocError;
+
+/// A drive over a folder of the system.
+pub type HostDrive<'r> = FolderDrive<HostDisk<&'r HostRuntime>>;
+
+/// A sink over a folder of the system.
+pub type HostSink<'r> = FolderSink<HostDisk<&'r HostRuntime>>;
+
+/// Creates `count` drives over the volumes in a folder.
+pub(crate) fn drives_over<'r>(
+    rt: &'r HostRuntime,
+    volumes: &str,
+    count: usize,
+) -> Result<Vec<HostDrive<'r>>, AllocError>
+    ensures many { IfOk result (λ drives. length drives.items ≡ count) }
+    ensures over { IfOk result (λ drives. AreOver volumes.now drives.items) }
+{
+    let mut drives = Vec::with_capacity(rt.alloc(), count)?;
+    for _drive in 0..count {
+        drives.push_reserved(FolderDrive::new(rt.alloc(), rt, volumes)?);
+    }
+    Ok(drives)
+}
+
+/// Returns the sink over the folder to deliver into, if there is one.
+pub(crate) fn sink_over<'r>(
+    rt: &'r HostRuntime,
+    into: Option<&str>,
+) -> Result<Option<HostSink<'r>>, FolderFault>
+    ensures asked { IfOk result (λ sink. option_map (λ s. s.path) sink ≡ option_map (λ f. f.now) into.entry) }
+{
+    let Some(folder) = into else {
+        return Ok(None);
+    };
+    Ok(Some(FolderSink::new(rt.alloc(), rt, folder)?))
+}

@@ -1,0 +1,247 @@
+//! The command `extract`, from its options to the files in the folder.
+use crate::places::{BACK, FRONT, Volume, are_there, entries_in, new_place, path_in};
+use crate::serving::Clogged;
+use br_commands::{
+    Catalogue, CatalogueFault, Ending, ExtractStartFault, extract_ending, extract_over,
+    run_command, set_up_extract,
+};
+use br_history::History;
+use br_options::{ExtractOptions, Invocation};
+use std::fs;
+use std::io::Write;
+use std::test::Fail;
+use std::thread::Threads;
+
+/// A delivery, and what comes of it.
+#[derive(Clone, Copy)]
+struct Case {
+    /// Of the folder for the test.
+    name: &'static str,
+    volumes: &'static [Volume],
+    bootstrap: &'static [u8],
+    status: u8,
+    refusal: &'static [u8],
+    manifest: &'static [u8],
+    /// Name and bytes of files that are there afterwards.
+    files: &'static [(&'static str, &'static [u8])],
+}
+
+const FOLDERS: Case = Case {
+    name: "files",
+    volumes: &[("V", [FRONT, b"/d/b", BACK])],
+    bootstrap: b"Volume=V\n",
+    status: 0,
+    refusal: b"",
+    manifest: b"F 1 100 1 3 /a 0,0,33188,1,0,0,0,5,0,0,0,0,0,0 = 5 5d41402abc4b2a76b9719d911017c592\n\
+        F 1 100 2 3 /d/b 0,0,33188,1,0,0,0,5,0,0,0,0,0,0 = 5 7d793037a0760186574b0282f2f435e7\ntotal 2 0 0\n",
+    files: &[("into/a", b"hello"), ("into/d/b", b"world")],
+};
+
+const CONFLICT: Case = Case {
+    name: "way",
+    volumes: &[("V", [FRONT, b"/a/b", BACK])],
+    bootstrap: b"Volume=V\n",
+    status: 1,
+    refusal: b"refused 81\n",
+    manifest: b"F 1 100 1 3 /a 0,0,33188,1,0,0,0,5,0,0,0,0,0,0 = 5 5d41402abc4b2a76b9719d911017c592\n\
+        F 1 100 2 3 /a/b 0,0,33188,1,0,0,0,5,0,0,0,0,0,0 = 5 7d793037a0760186574b0282f2f435e7\ntotal 2 0 0\n",
+    files: &[("into/a", b"hello")],
+};
+
+/// The path of the second file is no text.
+const NO_TEXT: Case = Case {
+    name: "text",
+    volumes: &[("V", [FRONT, b"/b\xff\xfe", BACK])],
+    bootstrap: b"Volume=V\n",
+    status: 1,
+    refusal: b"refused 80\n",
+    manifest: b"F 1 100 1 3 /a 0,0,33188,1,0,0,0,5,0,0,0,0,0,0 = 5 5d41402abc4b2a76b9719d911017c592\n\
+        F 1 100 2 3 /b\\xff\\xfe 0,0,33188,1,0,0,0,5,0,0,0,0,0,0 = 5 7d793037a0760186574b0282f2f435e7\ntotal 2 0 0\n",
+    files: &[("into/a", b"hello")],
+};
+
+/// The first block of session 1 at 100, in blocks of at most 64 bytes: the file `/a` with the bytes `message digest`.
+const FIRST_OF_A: &[u8] = b"\0\0\0\0\0\0\0@\0\0\0\0BB02\0\0\0\x01\0\0\0d\
+    \0\0\0\x01\0\0\0\x01\0\0\0&1 3 /a\0A A IGk B A A A O A A";
+
+/// Its other blocks.
+const REST_OF_A: &[u8] = b"\0\0\0\0\0\0\0@\0\0\0\x01BB02\0\0\0\x01\0\0\0d\
+    \0\0\0\x01\xff\xff\xff\xff\0\0\0\x0a A A A A\0\0\0\0\0\x01\0\0\0\x02\0\0\0\x0emessag\
+    \0\0\0\0\0\0\0,\0\0\0\x02BB02\0\0\0\x01\0\0\0d\
+    \0\0\0\x01\xff\xff\xff\xfe\0\0\0\x08e digest";
+
+/// The same of session 2 at 200, with the file `/b`.
+const FIRST_OF_B: &[u8] = b"\0\0\0\0\0\0\0@\0\0\0\0BB02\0\0\0\x02\0\0\0\xc8\
+    \0\0\0\x01\0\0\0\x01\0\0\0&1 3 /b\0A A IGk B A A A O A A";
+
+const REST_OF_B: &[u8] = b"\0\0\0\0\0\0\0@\0\0\0\x01BB02\0\0\0\x02\0\0\0\xc8\
+    \0\0\0\x01\xff\xff\xff\xff\0\0\0\x0a A A A A\0\0\0\0\0\x01\0\0\0\x02\0\0\0\x0emessag\
+    \0\0\0\0\0\0\0,\0\0\0\x02BB02\0\0\0\x02\0\0\0\xc8\
+    \0\0\0\x01\xff\xff\xff\xfe\0\0\0\x08e digest";
+
+/// Both files, which begin on one volume and go on on the other.
+const TWO_VOLUMES: Case = Case {
+    name: "two",
+    volumes: &[
+        ("A", [FIRST_OF_A, REST_OF_B, b""]),
+        ("B", [REST_OF_A, FIRST_OF_B, b""]),
+    ],
+    bootstrap: b"Volume=A\nVolSessionId=1\nVolSessionTime=100\nVolAddr=0-63\nFileIndex=1\n\
+    Volume=B\nVolSessionId=1\nVolSessionTime=100\nVolAddr=0-107\nFileIndex=1\n\
+    Volume=B\nVolSessionId=2\nVolSessionTime=200\nVolAddr=108-171\nFileIndex=1\n\
+    Volume=A\nVolSessionId=2\nVolSessionTime=200\nVolAddr=64-171\nFileIndex=1\n",
+    status: 0,
+    refusal: b"",
+    manifest: b"F 1 100 1 3 /a 0,0,33188,1,0,0,0,14,0,0,0,0,0,0 = 14 f96b697d7cb7938d525a2f31aaf161d0\n\
+        F 2 200 1 3 /b 0,0,33188,1,0,0,0,14,0,0,0,0,0,0 = 14 f96b697d7cb7938d525a2f31aaf161d0\ntotal 2 0 0\n",
+    files: &[("into/a", b"message digest"), ("into/b", b"message digest")],
+};
+
+/// Delivers by a bootstrap from the volumes into the folder of a place. Returns how it ended, and writes the manifest.
+fn delivered<W: Write>(
+    rt: &HostRuntime,
+    threads: &(impl Threads + Sync),
+    place: &str,
+    bootstrap: &[u8],
+    manifest: &mut W,
+) -> Result<Ending, Fail> {
+    let bsr = path_in(rt, place, "one.bsr")?;
+    let volumes = path_in(rt, place, "volumes")?;
+    let into = path_in(rt, place, "into")?;
+    fs::write(rt, bsr.as_str(), bootstrap)?;
+    let given = ExtractOptions {
+        bsr: bsr.as_str(),
+        volumes: volumes.as_str(),
+        into: Some(into.as_str()),
+        drives: 3,
+    };
+    let mut task = set_up_extract(rt, &given)?.onto(manifest);
+    let run = extract_over(threads, rt.alloc(), &mut task);
+    Ok(extract_ending(rt.alloc(), &run)?)
+}
+
+/// Returns if a delivery in a place is as expected.
+fn ends(
+    rt: &HostRuntime,
+    threads: &(impl Threads + Sync),
+    place: &str,
+    case: &Case,
+) -> Result<bool, Fail> {
+    let mut manifest = Vec::new(rt.alloc());
+    let ending = delivered(rt, threads, place, case.bootstrap, &mut manifest)?;
+    Ok(
+        ending.status == case.status
+            && ending.refusal.as_slice() == case.refusal
+            && manifest.as_slice() == case.manifest,
+    )
+}
+
+/// Returns if a delivery is as expected, and the files are there.
+fn holds(rt: &HostRuntime, threads: &(impl Threads + Sync), case: &Case) -> Result<bool, Fail> {
+    let place = new_place(rt, case.name, case.volumes)?;
+    let ends = ends(rt, threads, place.as_str(), case)?;
+    let are_there = are_there(rt, place.as_str(), case.files)?;
+    fs::remove_dir_all(rt, place.as_str())?;
+    Ok(ends && are_there)
+}
+
+#[test]
+fn restored_files_are_delivered(rt: HostRuntime) -> Result<(), Fail> {
+    assert!(rt; holds(&rt, &rt, &FOLDERS)?);
+    assert!(rt; holds(&rt, &rt, &TWO_VOLUMES)?);
+    Ok(())
+}
+
+#[test]
+fn a_path_that_conflicts_or_is_no_text_stops_after_the_manifest(
+    rt: HostRuntime,
+) -> Result<(), Fail> {
+    assert!(rt; holds(&rt, &rt, &CONFLICT)?);
+    assert!(rt; holds(&rt, &rt, &NO_TEXT)?);
+    Ok(())
+}
+
+#[test]
+fn nothing_is_delivered_if_the_manifest_is_not_flushed(rt: HostRuntime) -> Result<(), Fail> {
+    let place = new_place(&rt, "clogged", FOLDERS.volumes)?;
+    let ending = delivered(&rt, &rt, place.as_str(), b"Volume=V\n", &mut Clogged)?;
+    assert_eq!(rt; ending.status, 3);
+    assert_eq!(rt; entries_in(&rt, place.as_str(), "into")?, 0);
+    fs::remove_dir_all(&rt, place.as_str())?;
+    Ok(())
+}
+
+/// No catalogue at all.
+#[derive(Drop)]
+struct NoCatalogue;
+
+impl Catalogue for NoCatalogue {
+    ghost use Rattle.std.specs.Prelude.{None};
+
+    ghost jobs_at = { λ _ _. None };
+
+    fn load(&self, _db: &str) -> Result<History, CatalogueFault> {
+        Err(CatalogueFault::Unreadable)
+    }
+}
+
+/// Returns the status of the command `extract` in a place, with a bootstrap of its volume.
+fn status_in(
+    rt: &HostRuntime,
+    threads: &(impl Threads + Sync),
+    place: &str,
+    into: Option<&str>,
+) -> Result<u8, Fail> {
+    let bsr = path_in(rt, place, "one.bsr")?;
+    let volumes = path_in(rt, place, "volumes")?;
+    fs::write(rt, bsr.as_str(), b"Volume=V\n")?;
+    let command = Invocation::Extract(ExtractOptions {
+        bsr: bsr.as_str(),
+        volumes: volumes.as_str(),
+        into,
+        drives: 2,
+    });
+    Ok(run_command(rt, threads, &NoCatalogue, &command)?)
+}
+
+#[test]
+fn extract_delivers_only_if_asked(rt: HostRuntime) -> Result<(), Fail> {
+    let place = new_place(&rt, "whole", FOLDERS.volumes)?;
+    let into = path_in(&rt, place.as_str(), "into")?;
+    assert_eq!(rt; status_in(&rt, &rt, place.as_str(), None)?, 0);
+    assert_eq!(rt; entries_in(&rt, place.as_str(), "into")?, 0);
+    assert_eq!(rt;
+        status_in(&rt, &rt, place.as_str(), Some(into.as_str()))?,
+        0
+    );
+    assert!(rt; are_there(&rt, place.as_str(), FOLDERS.files)?);
+    fs::remove_dir_all(&rt, place.as_str())?;
+    Ok(())
+}
+
+/// Returns if a folder is refused, with a bootstrap whose file is not there.
+fn is_refused(rt: &HostRuntime, folder: &str) -> bool {
+    let given = ExtractOptions {
+        bsr: "/no/such.bsr",
+        volumes: folder,
+        into: Some(folder),
+        drives: 1,
+    };
+    matches!(set_up_extract(rt, &given), Err(ExtractStartFault::Folder(fault)) if fault.number() == 81)
+}
+
+#[test]
+fn a_folder_that_is_not_empty_is_refused_before_anything_is_read(
+    rt: HostRuntime,
+) -> Result<(), Fail> {
+    let place = new_place(&rt, "full", FOLDERS.volumes)?;
+    let volumes = path_in(&rt, place.as_str(), "volumes")?;
+    assert!(rt; is_refused(&rt, volumes.as_str()));
+    assert_eq!(rt;
+        status_in(&rt, &rt, place.as_str(), Some(volumes.as_str()))?,
+        1
+    );
+    assert_eq!(rt; entries_in(&rt, place.as_str(), "volumes")?, 1);
+    fs::remove_dir_all(&rt, place.as_str())?;
+    Ok(())
+}

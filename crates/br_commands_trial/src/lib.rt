@@ -1,0 +1,15 @@
+//! The commands of the program, tried over folders of the system. There are only tests here.
+#![tactic(auto)]
+
+#[cfg(test)]
+mod bacula;
+#[cfg(test)]
+mod catalogue;
+#[cfg(test)]
+mod console;
+#[cfg(test)]
+mod extract;
+#[cfg(test)]
+mod places;
+#[cfg(test)]
+mod serving;

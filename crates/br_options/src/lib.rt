@@ -1,0 +1,6 @@
+//! The commands of the program and their options, as plain values.
+#![tactic(auto)]
+
+mod options;
+
+pub use options::{ConsoleOptions, ExtractOptions, Invocation};

@@ -1,0 +1,44 @@
+/// The options of `extract`.
+#[derive(Clone, Copy, Debug, PartialEq, Eq)]
+pub struct ExtractOptions<'a> {
+    /// The file of the bootstrap.
+    pub bsr: &'a str,
+    /// The folder of the volumes.
+    pub volumes: &'a str,
+    /// The folder to write the restored files into.
+    pub into: Option<&'a str>,
+    /// The number of drives that read the volumes at once, from 1 to 16.
+    pub drives: usize,
+}
+
+/// The options of `console`.
+#[derive(Clone, Copy, Debug, PartialEq, Eq)]
+pub struct ConsoleOptions<'a> {
+    /// The file of the catalogue.
+    pub db: &'a str,
+    /// The folder of the volumes.
+    pub volumes: &'a str,
+    pub client: &'a str,
+    pub fileset: &'a str,
+    /// The moment, as text.
+    pub before: &'a str,
+    /// The folder to write the restored files into.
+    pub into: Option<&'a str>,
+    /// The number of drives that read the volumes at once, from 1 to 16.
+    pub drives: usize,
+}
+
+/// A command of the program with its options.
+#[derive(Clone, Copy, Debug, PartialEq, Eq)]
+pub enum Invocation<'a> {
+    /// Runs a script from standard input.
+    Serve,
+    /// Runs a bootstrap over the volumes of a folder.
+    Extract(ExtractOptions<'a>),
+    /// Runs a console session over the jobs of a catalogue, and restores what was marked.
+    Console(ConsoleOptions<'a>),
+    /// Explains the number of a refusal or of an outcome.
+    Explain(u32),
+    /// Explains all numbers.
+    ExplainAll,
+}

@@ -1,8 +1,0 @@
-use Rattle.std.proofs.Common.{◌≡◌, ◌≤◌, vec_len, vec_capacity}
-use Rattle.brestore.proofs.extract.drives_over.Given as goal
-
-abbrev pub invariant-loop-drive : goal.invariant-loop-drive
-invariant-loop-drive l = record {
-  many : vec_len l.drives ≡ l._drive;
-  room : l.count ≤ vec_capacity l.drives;
-}

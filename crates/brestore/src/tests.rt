@@ -1,6 +1,0 @@
-mod bacula;
-mod console;
-mod console_into;
-mod into;
-mod serving;
-mod whole;
