@@ -3,8 +3,8 @@ use crate::catalogue::OneCatalogue;
 use crate::places::{BACK, FRONT, are_there, entries_in, new_place, path_in};
 use crate::serving::Clogged;
 use br_commands::{
-    Catalogue, CatalogueFault, Ending, console_ending, console_over, restore_by_lines, run_command,
-    set_up_console,
+    Catalogue, CatalogueFault, ConsoleSetup, Ending, console_ending, console_over,
+    restore_by_lines, run_command, set_up_console,
 };
 use br_history::History;
 use br_options::{ConsoleOptions, Invocation};
@@ -13,16 +13,26 @@ use std::io::Write;
 use std::test::Fail;
 use std::thread::Threads;
 
-/// A request for the job that began the second before, for a catalogue and volumes that are not there.
-const GIVEN: ConsoleOptions<'static> = ConsoleOptions {
-    db: "/no/such/catalogue.db",
-    volumes: "/no/such/folder",
-    client: "mars",
-    fileset: "home",
-    before: "2106-02-07 06:28:18",
-    into: None,
-    drives: 1,
-};
+/// The second after the job began.
+const AFTER: &str = "2106-02-07 06:28:18";
+
+/// Returns the options that ask for what the job saved.
+fn given_of<'x>(db: &'x str, volumes: &'x str, into: &'x str) -> ConsoleOptions<'x> {
+    ConsoleOptions {
+        db,
+        volumes,
+        client: "mars",
+        fileset: "home",
+        before: AFTER,
+        into: Some(into),
+        drives: 2,
+    }
+}
+
+/// Returns the command with these options.
+fn command_of<'x>(db: &'x str, volumes: &'x str, into: &'x str) -> Invocation<'x> {
+    Invocation::Console(given_of(db, volumes, into))
+}
 
 /// A delivery of two files, and what comes of it.
 #[derive(Clone, Copy)]
@@ -85,14 +95,8 @@ fn new_db(rt: &HostRuntime, place: &str) -> Result<String, Fail> {
     Ok(db)
 }
 
-/// Returns how a session in a place that marks all ends, and writes its text.
-fn ended<W: Write>(
-    rt: &HostRuntime,
-    threads: &(impl Threads + Sync),
-    place: &str,
-    second: &[u8],
-    text: &mut W,
-) -> Result<Ending, Fail> {
+/// Sets up a session in a place.
+fn set_up<'r>(rt: &'r HostRuntime, place: &str, second: &[u8]) -> Result<ConsoleSetup<'r>, Fail> {
     let db = new_db(rt, place)?;
     let volumes = path_in(rt, place, "volumes")?;
     let into = path_in(rt, place, "into")?;
@@ -101,14 +105,19 @@ fn ended<W: Write>(
         db: db.as_str(),
         second,
     };
-    let given = ConsoleOptions {
-        db: db.as_str(),
-        volumes: volumes.as_str(),
-        into: Some(into.as_str()),
-        drives: 2,
-        ..GIVEN
-    };
-    let mut task = set_up_console(rt, &catalogue, &given)?.onto(text);
+    let given = given_of(db.as_str(), volumes.as_str(), into.as_str());
+    Ok(set_up_console(rt, &catalogue, &given)?)
+}
+
+/// Returns how a session in a place that marks all ends, and writes its text.
+fn ended<W: Write + Drop>(
+    rt: &HostRuntime,
+    threads: &(impl Threads + Sync),
+    place: &str,
+    second: &[u8],
+    text: W,
+) -> Result<Ending, Fail> {
+    let mut task = set_up(rt, place, second)?.onto(text);
     let mut lines = b"mark *\ndone\n".as_slice();
     let run = console_over(threads, rt.alloc(), &mut task, &mut lines);
     Ok(console_ending(rt.alloc(), &run)?)
@@ -177,13 +186,7 @@ fn status_in(
         db: db.as_str(),
         second: b"/d/b",
     };
-    let given = ConsoleOptions {
-        db: db.as_str(),
-        volumes: volumes.as_str(),
-        into: Some(into),
-        drives: 2,
-        ..GIVEN
-    };
+    let given = given_of(db.as_str(), volumes.as_str(), into);
     let mut lines = b"mark *\ndone\n".as_slice();
     Ok(restore_by_lines(rt, threads, &catalogue, &given, &mut lines)?)
 }
@@ -211,12 +214,7 @@ fn status_of_refused(
         db: db.as_str(),
         second: b"/d/b",
     };
-    let command = Invocation::Console(ConsoleOptions {
-        db: db.as_str(),
-        volumes: filled.as_str(),
-        into: Some(filled.as_str()),
-        ..GIVEN
-    });
+    let command = command_of(db.as_str(), filled.as_str(), filled.as_str());
     Ok(run_command(rt, threads, &catalogue, &command)?)
 }
 
@@ -249,33 +247,36 @@ impl Catalogue for NewCatalogues<'_> {
 }
 
 /// Returns the number of the refusal before a session, 0 if there is none.
-fn refusal_of(rt: &HostRuntime, given: &ConsoleOptions<'_>) -> u32 {
-    match set_up_console(rt, &NewCatalogues { rt }, given) {
+fn refusal_of<'x>(
+    rt: &HostRuntime,
+    db: &'x str,
+    folder: &'x str,
+    client: &'x str,
+    before: &'x str,
+) -> u32 {
+    let given = ConsoleOptions {
+        db,
+        volumes: folder,
+        client,
+        fileset: "home",
+        before,
+        into: Some(folder),
+        drives: 1,
+    };
+    match set_up_console(rt, &NewCatalogues { rt }, &given) {
         Ok(_) => 0,
         Err(fault) => fault.number(),
     }
 }
 
-/// Returns the refusals of a delivery from a catalogue into a folder: with a client of no name, with a
-/// moment without a time, and with neither.
+/// Returns the refusals of a delivery from a catalogue into a folder: with a client of no name and a
+/// moment without a time, with such a moment, and with neither.
 fn refusals(rt: &HostRuntime, db: &str, folder: &str) -> [u32; 3] {
-    let given = ConsoleOptions {
-        db,
-        into: Some(folder),
-        ..GIVEN
-    };
-    let moment = ConsoleOptions {
-        before: "2026-11-22",
-        ..given
-    };
-    let client = ConsoleOptions {
-        client: "",
-        ..moment
-    };
+    let day = "2026-11-22";
     [
-        refusal_of(rt, &client),
-        refusal_of(rt, &moment),
-        refusal_of(rt, &given),
+        refusal_of(rt, db, folder, "", day),
+        refusal_of(rt, db, folder, "mars", day),
+        refusal_of(rt, db, folder, "mars", AFTER),
     ]
 }
 
