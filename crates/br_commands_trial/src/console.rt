@@ -1,10 +1,13 @@
 //! The command `console`: what it refuses before a line is read, and what it delivers.
+ghost use Rattle.std.specs.Prelude.{◌≡◌};
+ghost use Rattle.br_options.specs.Options.{AreFew, HasDrives};
+
 use crate::catalogue::OneCatalogue;
 use crate::places::{BACK, FRONT, are_there, entries_in, new_place, path_in};
 use crate::serving::Clogged;
 use br_commands::{
-    Catalogue, CatalogueFault, ConsoleSetup, Ending, console_ending, console_over,
-    restore_by_lines, run_command, set_up_console,
+    Catalogue, CatalogueFault, Ending, console_ending, console_over, restore_by_lines, run_command,
+    set_up_console,
 };
 use br_history::History;
 use br_options::{ConsoleOptions, Invocation};
@@ -17,7 +20,10 @@ use std::thread::Threads;
 const AFTER: &str = "2106-02-07 06:28:18";
 
 /// Returns the options that ask for what the job saved.
-fn given_of<'x>(db: &'x str, volumes: &'x str, into: &'x str) -> ConsoleOptions<'x> {
+fn given_of<'x>(db: &'x str, volumes: &'x str, into: &'x str) -> ConsoleOptions<'x>
+    ensures drives { result.drives ≡ 2 }
+    ensures few { AreFew result.drives }
+{
     ConsoleOptions {
         db,
         volumes,
@@ -30,7 +36,9 @@ fn given_of<'x>(db: &'x str, volumes: &'x str, into: &'x str) -> ConsoleOptions<
 }
 
 /// Returns the command with these options.
-fn command_of<'x>(db: &'x str, volumes: &'x str, into: &'x str) -> Invocation<'x> {
+fn command_of<'x>(db: &'x str, volumes: &'x str, into: &'x str) -> Invocation<'x>
+    ensures few { HasDrives result }
+{
     Invocation::Console(given_of(db, volumes, into))
 }
 
@@ -95,8 +103,14 @@ fn new_db(rt: &HostRuntime, place: &str) -> Result<String, Fail> {
     Ok(db)
 }
 
-/// Sets up a session in a place.
-fn set_up<'r>(rt: &'r HostRuntime, place: &str, second: &[u8]) -> Result<ConsoleSetup<'r>, Fail> {
+/// Returns how a session in a place that marks all ends, and writes its text.
+fn ended<W: Write + Drop>(
+    rt: &HostRuntime,
+    threads: &(impl Threads + Sync),
+    place: &str,
+    second: &[u8],
+    text: W,
+) -> Result<Ending, Fail> {
     let db = new_db(rt, place)?;
     let volumes = path_in(rt, place, "volumes")?;
     let into = path_in(rt, place, "into")?;
@@ -106,18 +120,7 @@ fn set_up<'r>(rt: &'r HostRuntime, place: &str, second: &[u8]) -> Result<Console
         second,
     };
     let given = given_of(db.as_str(), volumes.as_str(), into.as_str());
-    Ok(set_up_console(rt, &catalogue, &given)?)
-}
-
-/// Returns how a session in a place that marks all ends, and writes its text.
-fn ended<W: Write + Drop>(
-    rt: &HostRuntime,
-    threads: &(impl Threads + Sync),
-    place: &str,
-    second: &[u8],
-    text: W,
-) -> Result<Ending, Fail> {
-    let mut task = set_up(rt, place, second)?.onto(text);
+    let mut task = set_up_console(rt, &catalogue, &given)?.onto(text);
     let mut lines = b"mark *\ndone\n".as_slice();
     let run = console_over(threads, rt.alloc(), &mut task, &mut lines);
     Ok(console_ending(rt.alloc(), &run)?)
