@@ -64,8 +64,8 @@ fn put_header(bytes: &mut [u8], head: BlockHead)
 }
 
 impl BlockBuilder {
-    /// Makes a block of a session, with this number and without fragments. It reserves memory for
-    /// `limit` bytes, the most that the block may have.
+    /// Makes a block of a session, with this number and without fragments. `limit` is the most bytes
+    /// that the block may have.
     pub fn new(
         alloc: Global,
         session: SessionKey,

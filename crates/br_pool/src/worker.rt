@@ -95,7 +95,8 @@ fn read_drawn<D: Drive, G: Gate>(
     requires few { round.now.claims.now.limit ≡ length round.now.left.now }
     requires below { AllByRecursion (λ x. x < length round.now.pieces.now) round.now.left.now }
     requires ready { IsReady round.now.claims.now.claims round.now.claims.now.limit seat.old answers.old }
-    ensures { HasWorked round.now.claims.now.claims round.now.pieces.now round.now.left.now (D.shows reader.old.drive) (D.shows reader.new.drive)
+    ensures { HasWorked round.now.claims.now.claims round.now.pieces.now round.now.left.now
+        (D.shows reader.old.drive) (D.shows reader.new.drive)
         (D.failures reader.old.drive) (D.failures reader.new.drive) reader.old.out reader.new.out seat.new answers.new.items }
 {
     while let Some(place) = round.claims.draw(seat) {

@@ -115,7 +115,7 @@ impl MemStore {
     }
 }
 
-/// Returns the first bytes, so many, or all if these are fewer.
+/// Returns the first bytes, `count` of them, or all if these are fewer.
 fn first_of(bytes: &[u8], count: usize) -> &[u8]
     ensures { result.now ≡ take count bytes.now }
 {
