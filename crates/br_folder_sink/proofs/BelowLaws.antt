@@ -1,5 +1,5 @@
 -- What is below a folder after several changes.
-use Rattle.std.proofs.Common.{◌≡◌, ℕ, ◌⊎◌, Bool, true, false, cond, Option, Some, None, Result, Ok, Err, OnOk, OnErr, List, [], ◌∷◌, ◌++◌, inl, inr, refl, ap, sym, ◌∙◌}
+use Rattle.std.proofs.Common.{◌≡◌, ℕ, ◌⊎◌, Bool, true, false, cond, Option, Some, None, Result, Ok, Err, OnOk, List, ◌∷◌, ◌++◌, inl, inr, refl, ap, sym, ◌∙◌}
 use Rattle.std.specs.Prelude.{bytes_eq}
 use Rattle.std.proofs.lemmas.Slice.Eq.{bytes_eq-Decides}
 use Rattle.std.proofs.lemmas.List.{append_assoc}
@@ -82,11 +82,6 @@ keeps_more path None (Some b) c f g = absurd f
 keeps_more path (Some a) None c f g = absurd f
 keeps_more path (Some a) (Some b) None f g = absurd g
 keeps_more path (Some a) (Some b) (Some c) f g = λ other apart. g other apart ∙ f other apart
-
-pub removed_keeps : {A E : Type 0} (result : Result A E) (path : List ℕ) (left : Option Node) (a b : Option Nodes)
-    → OnOk result (Sets path left a b) → OnErr result (b ≡ a) → KeepsOthers path a b
-removed_keeps (Ok x) path left a b set same = set_keeps path left a b set
-removed_keeps (Err e) path left a b set same = same_keeps path a b same
 
 -- a new file, finished or not
 pub made_keeps : (path : List ℕ) (contents : Option (List ℕ)) (a b : Option Nodes) → MakesFile path contents a b → KeepsOthers path a b

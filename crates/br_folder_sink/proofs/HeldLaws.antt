@@ -1,6 +1,6 @@
 -- What is left below a folder while files are put, some of which are held open.
-use Rattle.std.proofs.Common.{◌≡◌, ℕ, ◌<◌, ◌≤◌, ◌+◌, ◌⊎◌, Bool, true, false, cond, Option, Some, None, Result, Ok, Err, OnOk, List, [], ◌∷◌, ◌++◌, map, length, slice_index_or, get_or, set, take, drop, inl, inr, refl, ap, sym, subst, ◌∙◌, arith}
-use Rattle.std.specs.Prelude.{◌&&◌, bytes_eq, fold, suc}
+use Rattle.std.proofs.Common.{◌≡◌, ℕ, ◌<◌, ◌≤◌, ◌+◌, ◌⊎◌, Bool, true, false, cond, Option, Some, None, Ok, List, [], ◌∷◌, ◌++◌, length, get_or, set, take, drop, inl, inr, refl, ap, sym, subst, ◌∙◌, arith}
+use Rattle.std.specs.Prelude.{◌&&◌, bytes_eq, suc}
 use Rattle.std.specs.List.{AllByRecursion}
 use Rattle.std.proofs.lemmas.List.{drop-set-lt, drop_all, drop_more, map-append, take_all, take_more_set}
 use Rattle.std.proofs.lemmas.List.Sums.{fold-append}
@@ -27,7 +27,7 @@ still_opened : (root path : List ℕ) (n : ℕ) (b c : Nodes) → node_at b path
 still_opened root path n b c is (inl same) = same ∙ is
 still_opened root path n b c is (inr (below, free, folder)) = let never : None ≡ Some (Opened n) = sym free ∙ is in absurd cc
 
-set_own : (path : List ℕ) (node : Option Node) (b c : Nodes) → AreSet path node b c → node_at c path ≡ node
+pub set_own : (path : List ℕ) (node : Option Node) (b c : Nodes) → AreSet path node b c → node_at c path ≡ node
 set_own path node b c set = set path ∙ ap (λ (t : Bool). cond t node (node_at b path)) ((bytes_eq-Decides path path).1 refl)
 
 set_apart : (path other : List ℕ) (node : Option Node) (b c : Nodes) → AreSet path node b c → (path ≡ other → ⊥)

@@ -1,3 +1,4 @@
 pub mod BelowLaws
 pub mod WindowLaws
 pub mod HeldLaws
+pub mod RemovalLaws

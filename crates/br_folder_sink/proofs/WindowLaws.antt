@@ -1,8 +1,7 @@
 -- Files that are held open.
-use Rattle.std.proofs.Common.{◌≡◌, ℕ, ◌<◌, ◌≤◌, ◌++◌, ◌∷◌, [], List, length, get_or, set, take, ◌+◌, ap, sym, subst, ◌∙◌, arith, All, Result, Ok, Err, OnOk}
+use Rattle.std.proofs.Common.{◌≡◌, ℕ, ◌<◌, ◌≤◌, ◌++◌, ◌∷◌, [], List, length, get_or, set, take, ◌+◌, ap, sym, subst, ◌∙◌, arith, Result, Ok, Err, OnOk}
 use Rattle.std.proofs.lemmas.List.Elements.{All-push, All-set}
 use Rattle.std.proofs.lemmas.List.{take_more}
-use Rattle.std.specs.List.{AllByRecursion}
 use Rattle.br_folder_sink.specs.Held.{AreAnswered}
 use Rattle.br_folder_sink.specs.Window.{AreBelow}
 use Rattle.br_folder_sink.specs.declared.window.Made.{Made}

@@ -1,5 +1,5 @@
 -- A sink over a folder.
-use Rattle.std.specs.Prelude.{◌≡◌, ℕ, ◌+◌, Bool, true, false, ◌||◌, ◌==◌, List, Option, None}
+use Rattle.std.specs.Prelude.{◌≡◌, ℕ, Bool, true, false, ◌||◌, ◌==◌, List, Option, None}
 use Rattle.std.specs.Str.{IsUtf8}
 use Rattle.br_model.specs.File.{Item, has_bytes}
 use Rattle.br_model.specs.Name.{is_directory}

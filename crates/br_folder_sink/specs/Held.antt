@@ -1,10 +1,11 @@
 -- What a delivery of several files leaves below its folder, and what it has left while some of them
 -- are held open.
 use Rattle.std.specs.Prelude.{◌≡◌, ℕ, ◌<◌, ◌⊎◌, Bool, ◌&&◌, if◌then◌else◌, List, [], ◌∷◌, ◌++◌, length, map, fold, slice_index_or}
-use Rattle.std.specs.Prelude.{bytes_eq, Option, Some, None, Ok, ⊤}
+use Rattle.std.specs.Prelude.{bytes_eq, Option, Some, None, Ok, OnErr, ⊤}
 use Rattle.std.specs.List.{AllByRecursion}
 use Rattle.std.specs.Io.KnownBytes.{Appends}
 use Rattle.br_model.specs.File.{Item, has_bytes}
+use Rattle.br_join.specs.Written.{AppendsFront}
 use Rattle.br_files.specs.Making.{Nodes, Bytes, Opened, IsFinished, IsFree, MakesFile, node_at}
 use Rattle.br_folder_sink.specs.Below.{AddsFolders, IsNewFolder}
 use Rattle.br_folder_sink.specs.declared.window.Made.{Made}
@@ -93,10 +94,18 @@ AppendsSome contents None later bytes = ⊤
 AppendsSome contents (Some old) None bytes = ⊥
 AppendsSome contents (Some old) (Some new) bytes = Appends (contents old) (contents new) bytes
 
--- the file has its bytes now, unless its answer is a fault
+-- the first of the bytes, maybe none, were appended to the file, if there is one
+abbrev pub AppendsFrontSome : {W : Type 0} → (W → Option (List ℕ)) → Option W → Option W → List ℕ → Type 0
+AppendsFrontSome contents None later bytes = ⊤
+AppendsFrontSome contents (Some old) None bytes = ⊥
+AppendsFrontSome contents (Some old) (Some new) bytes = AppendsFront (contents old) (contents new) bytes
+
+-- the file has its bytes now, or the first of them if its answer is a fault
 pub record WritesOne {W : Type 0} (contents : W → Option (List ℕ)) (old new : Made W) : Type 0 where
   pub item : new.item.now ≡ old.item.now
+  pub place : new.place ≡ old.place
   pub bytes : new.answer ≡ Ok tt → AppendsSome contents old.file new.file old.item.now.bytes
+  pub front : OnErr new.answer (AppendsFrontSome contents old.file new.file old.item.now.bytes)
 
 -- each of them, place by place
 abbrev pub WritesEach : {W : Type 0} → (W → Option (List ℕ)) → List (Made W) → List (Made W) → Type 0

@@ -3,3 +3,4 @@ pub mod Fault
 pub mod FolderSink
 pub mod Window
 pub mod Held
+pub mod Removed

@@ -1,5 +1,5 @@
 //! How a sink over a folder puts several files at once.
-ghost use Rattle.std.specs.Prelude.{◌≡◌, ℕ, ◌++◌, ◌∷◌, ◌<◌, true, false, List, [], length, All, Option, IfOk, OnErr, OnOk, IfErr};
+ghost use Rattle.std.specs.Prelude.{◌≡◌, ℕ, ◌++◌, ◌∷◌, ◌<◌, ◌≤◌, true, false, List, [], length, All, Option, IfOk, OnErr, OnOk, IfErr};
 ghost use Rattle.std.specs.Str.{IsUtf8};
 ghost use Rattle.br_model.specs.File as model;
 ghost use Rattle.br_model.specs.File.{has_bytes};
@@ -59,6 +59,7 @@ fn hold<'i, W: Write + Drop, M: FileMaker<New = W>>(
     place: u64,
 ) -> Result<(), SinkFault>
     requires { length window.old.made.items < 16 }
+    ensures most { length window.new.made.items ≤ 16 }
     ensures below { (n : ℕ) → AreBelow n window.old.made.items → place < n → AreBelow n window.new.made.items }
     ensures held { (items : List model.Item) (nodes : Option Nodes) → has_bytes item.now.kind ≡ true
         → HoldsOver (IsNew W.contents root.now) root.now items window.old.made.items nodes (M.nodes maker.old)
@@ -87,6 +88,7 @@ fn put_alone<'i, W: Write + Drop, M: ManyWriter<New = W>>(
     item: &'i Item,
     place: u64,
 ) -> Result<(), SinkStop>
+    requires { length window.old.made.items < 16 }
     ensures stopped { (n : ℕ) → AreBelow n window.old.made.items → place < n → IfErr result (IsStopBelow n) }
     ensures left { (items : List model.Item) (nodes : Option Nodes)
         → HoldsOver (IsNew W.contents root.now) root.now items window.old.made.items nodes (M.nodes maker.old)
@@ -128,10 +130,7 @@ fn put_file<'i, W: Write + Drop, M: ManyWriter<New = W>>(
     if hold(maker, root, window, item, place).is_err() {
         return put_alone(maker, root, threads, window, item, place);
     }
-    if window.is_full() {
-        return window.write(maker, threads, root);
-    }
-    Ok(())
+    window.write_if_full(maker, threads, root)
 }
 
 /// Puts the item on disk, or holds it in the window, as its type says.

@@ -6,6 +6,7 @@ mod fault;
 mod folder_files;
 mod folder_sink;
 mod place;
+mod remover;
 mod way;
 mod window;
 

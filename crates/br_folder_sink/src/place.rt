@@ -6,7 +6,7 @@ ghost use Rattle.br_model.specs.Name.{is_directory};
 ghost use Rattle.br_folder_sink.specs.Below.{AddsFolders, IsBelow, KeepsOutside, PutsBelow};
 ghost use Rattle.br_folder_sink.specs.FolderSink.{PutsItem, is_on_disk};
 
-use crate::way::{make_way, path_below, remove, write_new};
+use crate::way::{make_way, path_below, write_new};
 use br_files::FileMaker;
 use br_join::Item;
 use br_sink::SinkFault;
@@ -78,28 +78,6 @@ pub(crate) fn known_path_of(alloc: Global, root: &str, item: &Item) -> Result<St
 {
     let text = text_of(item)?;
     path_below(alloc, root, text)
-}
-
-/// Takes the file away. The names on its way are tested anew.
-#[tactic(auto, using(crate::proofs::BelowLaws::outside_then))]
-fn take_away<M: FileMaker>(
-    alloc: Global,
-    maker: &mut M,
-    root: &str,
-    item: &Item,
-) -> Result<(), SinkFault>
-    ensures { KeepsOutside root.now (M.nodes maker.old) (M.nodes maker.new) }
-{
-    let path = path_of(alloc, maker, root, item)?;
-    remove(maker, path.as_str());
-    Ok(())
-}
-
-/// Takes the file away, as far as that works.
-pub(crate) fn remove_item<M: FileMaker>(alloc: Global, maker: &mut M, root: &str, item: &Item)
-    ensures { KeepsOutside root.now (M.nodes maker.old) (M.nodes maker.new) }
-{
-    let _ = take_away(alloc, maker, root, item);
 }
 
 /// Writes the file, and makes the folders on its way.

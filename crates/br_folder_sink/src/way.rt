@@ -3,6 +3,7 @@ ghost use Rattle.std.specs.Prelude.{◌≡◌, ℕ, List, ◌++◌, ◌∷◌, S
 ghost use Rattle.br_files.specs.Making.{IsFileOrFree, IsFinished, IsFree, KeepsOthers, MakesFile, Sets};
 ghost use Rattle.br_folder_sink.specs.Below.{AddsFolders, IsBelow, IsOnWay, PutsNew, SetsBytes};
 ghost use Rattle.br_folder_sink.specs.Fault.{sink_fault};
+ghost use Rattle.br_folder_sink.specs.Removed.{HasNoFile, MakesNoFile};
 
 use br_files::{DiskFault, FileMaker, clear_path, enter_folder};
 use br_join::FileBytes;
@@ -163,10 +164,15 @@ pub(crate) fn write_new<M: FileMaker>(
     Ok(())
 }
 
-/// Takes the file away, as far as that works.
-#[tactic(auto, using(crate::proofs::BelowLaws::removed_keeps))]
-pub(crate) fn remove<M: FileMaker>(maker: &mut M, path: &str)
-    ensures { KeepsOthers path.now (M.nodes maker.old) (M.nodes maker.new) }
+/// Removes what is at the path, unless it is a folder.
+#[tactic(auto, using(crate::proofs::BelowLaws::set_others, crate::proofs::BelowLaws::same_others, crate::proofs::RemovalLaws::no_file_now, crate::proofs::RemovalLaws::no_file_set, crate::proofs::RemovalLaws::no_file_same))]
+pub(crate) fn remove<M: FileMaker>(maker: &mut M, path: &str) -> Result<(), SinkFault>
+    ensures removed { OnOk result (HasNoFile path.now (M.nodes maker.new)) }
+    ensures none { MakesNoFile (M.nodes maker.old) (M.nodes maker.new) }
+    ensures others { KeepsOthers path.now (M.nodes maker.old) (M.nodes maker.new) }
 {
-    let _ = maker.remove(path);
+    match maker.remove(path) {
+        Ok(()) => Ok(()),
+        Err(fault) => Err(fault_of(fault)),
+    }
 }

@@ -1,15 +1,18 @@
 //! Files that were made on disk one after another, and are written in threads.
-ghost use Rattle.std.specs.Prelude.{◌≡◌, ℕ, ◌++◌, ◌∷◌, ◌<◌, List, [], false, length, vec_len, vec_capacity, Option, Ok, IfErr, IfOk, OnOk};
+ghost use Rattle.std.specs.Prelude.{◌≡◌, ℕ, ◌++◌, ◌∷◌, ◌<◌, ◌≤◌, List, [], true, false, length, vec_len, vec_capacity};
+ghost use Rattle.std.specs.Prelude.{Option, Ok, IfErr, IfOk, OnErr, OnOk};
 ghost use Rattle.std.specs.Thread.{IsSync};
 ghost use Rattle.br_model.specs.File as model;
 ghost use Rattle.br_files.specs.Making.{IsFinished, Nodes};
 ghost use Rattle.br_sink.specs.Delivery.{IsStopBelow};
 ghost use Rattle.br_folder_sink.specs.Below.{KeepsOutside};
 ghost use Rattle.br_folder_sink.specs.Held.{AppendsSome, AreAnswered, FinishesOne, FinishesSome, HoldsOver, IsNew, IsWritten, LeavesFiles};
-ghost use Rattle.br_folder_sink.specs.Held.{WritesEach, WritesOne};
+ghost use Rattle.br_folder_sink.specs.Held.{AppendsFrontSome, WritesEach, WritesOne};
+ghost use Rattle.br_folder_sink.specs.Removed.{AreRemoved, AreRemovedAfter, IsRemoved, MakesNoFile, files_of};
 ghost use Rattle.br_folder_sink.specs.Window.{AreBelow};
 
-use crate::place::{known_path_of, remove_item};
+use crate::place::known_path_of;
+use crate::remover::Remover;
 use crate::way::{finish, write_fault};
 use br_files::{FileMaker, HostDisk, MemMaker, MemNew};
 use br_join::Item;
@@ -37,9 +40,11 @@ pub struct Made<'i, W: Write + Drop> {
     pub(crate) answer: Result<(), SinkFault>,
 }
 
-/// Writes the bytes of an item to its file, if there is one.
+/// Writes the bytes of an item to its file, if there is one. If that fails, some of the first bytes
+/// may have been written.
 fn write_bytes<W: Write>(file: &mut Option<W>, item: &Item) -> Result<(), SinkFault>
-    ensures { OnOk result (AppendsSome W.contents file.old file.new item.now.bytes) }
+    ensures all { OnOk result (AppendsSome W.contents file.old file.new item.now.bytes) }
+    ensures front { OnErr result (AppendsFrontSome W.contents file.old file.new item.now.bytes) }
 {
     match file {
         None => Ok(()),
@@ -101,6 +106,7 @@ impl<'i, W: Write + Drop> Made<'i, W> {
     /// Closes the file, and keeps the answer, unless one was kept already.
     fn finish<M: FileMaker<New = W>>(&mut self, alloc: Global, maker: &mut M, root: &str)
         ensures place { self.new.place ≡ self.old.place }
+        ensures item { self.new.item.now ≡ self.old.item.now }
         ensures finished { FinishesOne W.contents root.now self.old self.new (M.nodes maker.old) (M.nodes maker.new) }
         ensures outside { KeepsOutside root.now (M.nodes maker.old) (M.nodes maker.new) }
     {
@@ -161,6 +167,7 @@ fn finish_each<W: Write + Drop, M: FileMaker<New = W>>(
     made: &mut [Made<'_, W>],
 )
     ensures below { (n : ℕ) → AreBelow n made.old → AreBelow n made.new }
+    ensures files { files_of made.new ≡ files_of made.old }
     ensures left { (items : List model.Item) (nodes : Option Nodes)
         → HoldsOver (IsWritten W.contents root.now) root.now items made.old nodes (M.nodes maker.old)
         → AreAnswered made.new → LeavesFiles root.now items nodes (M.nodes maker.new) }
@@ -171,21 +178,38 @@ fn finish_each<W: Write + Drop, M: FileMaker<New = W>>(
     }
 }
 
-/// Takes the files after this place away again, as far as that works.
+/// Removes the file again if it comes after the place, as far as that works.
+#[tactic(auto, using(crate::proofs::BelowLaws::outside_same, crate::proofs::RemovalLaws::no_file_same))]
+fn remove_later<W: Write + Drop, M: Remover<New = W>>(
+    alloc: Global,
+    maker: &mut M,
+    root: &str,
+    one: &Made<'_, W>,
+    place: u64,
+)
+    ensures removed { place < one.now.place → IsRemoved M.is_refused (M.nodes maker.new) (root.now ++ one.now.item.now.path) }
+    ensures others { MakesNoFile (M.nodes maker.old) (M.nodes maker.new) }
+    ensures outside { KeepsOutside root.now (M.nodes maker.old) (M.nodes maker.new) }
+{
+    if place < one.place {
+        let _ = maker.take_away(alloc, root, one.item);
+    }
+}
+
+/// Removes the files after this place again, as far as that works.
 #[tactic(auto, using(crate::proofs::BelowLaws::outside_more, crate::proofs::BelowLaws::outside_same))]
-fn remove_after<W: Write + Drop, M: FileMaker<New = W>>(
+fn remove_after<W: Write + Drop, M: Remover<New = W>>(
     alloc: Global,
     maker: &mut M,
     root: &str,
     made: &[Made<'_, W>],
     place: u64,
 )
+    ensures removed { AreRemoved M.is_refused root.now place (files_of made.now) (M.nodes maker.new) }
     ensures outside { KeepsOutside root.now (M.nodes maker.old) (M.nodes maker.new) }
 {
     for one in made {
-        if place < one.place {
-            remove_item(alloc, maker, root, one.item);
-        }
+        remove_later(alloc, maker, root, one, place);
     }
 }
 
@@ -206,7 +230,7 @@ fn settle<W: Write + Drop>(made: &[Made<'_, W>]) -> Result<(), SinkStop>
 /// Closes the files that were written. If one could not be written, those after it are removed
 /// again.
 #[tactic(auto, using(crate::proofs::BelowLaws::outside_more))]
-fn close_all<W: Write + Drop, M: FileMaker<New = W>>(
+fn close_all<W: Write + Drop, M: Remover<New = W>>(
     alloc: Global,
     maker: &mut M,
     root: &str,
@@ -216,6 +240,7 @@ fn close_all<W: Write + Drop, M: FileMaker<New = W>>(
     ensures left { (items : List model.Item) (nodes : Option Nodes)
         → HoldsOver (IsWritten W.contents root.now) root.now items made.old nodes (M.nodes maker.old)
         → OnOk result (LeavesFiles root.now items nodes (M.nodes maker.new)) }
+    ensures removed { IfErr result (AreRemovedAfter M.is_refused root.now (files_of made.old) (M.nodes maker.new)) }
     ensures outside { KeepsOutside root.now (M.nodes maker.old) (M.nodes maker.new) }
 {
     finish_each(alloc, maker, root, made);
@@ -230,7 +255,7 @@ fn close_all<W: Write + Drop, M: FileMaker<New = W>>(
 
 /// Writes the files, in this number of threads, and closes them.
 #[tactic(auto, using(crate::proofs::HeldLaws::over_written))]
-fn write_and_close<W: Write + Drop, M: ManyWriter<New = W>, T: Threads + Sync>(
+fn write_and_close<W: Write + Drop, M: ManyWriter<New = W> + Remover, T: Threads + Sync>(
     alloc: Global,
     maker: &mut M,
     threads: &T,
@@ -243,6 +268,7 @@ fn write_and_close<W: Write + Drop, M: ManyWriter<New = W>, T: Threads + Sync>(
     ensures left { (items : List model.Item) (nodes : Option Nodes)
         → HoldsOver (IsNew W.contents root.now) root.now items made.old nodes (M.nodes maker.old)
         → OnOk result (LeavesFiles root.now items nodes (M.nodes maker.new)) }
+    ensures removed { IfErr result (AreRemovedAfter M.is_refused root.now (files_of made.old) (M.nodes maker.new)) }
     ensures outside { KeepsOutside root.now (M.nodes maker.old) (M.nodes maker.new) }
 {
     M::write_each(threads, made, count);
@@ -271,7 +297,8 @@ impl<'i, W: Write + Drop> Window<'i, W> {
 
     /// Returns if it holds as many as it may.
     pub(crate) fn is_full(&self) -> bool
-        ensures { result ≡ false → length self.now.made.items < 16 }
+        ensures few { result ≡ false → length self.now.made.items < 16 }
+        ensures full { result ≡ true → 16 ≤ length self.now.made.items }
     {
         self.made.len() >= MOST
     }
@@ -290,6 +317,7 @@ impl<'i, W: Write + Drop> Window<'i, W> {
         requires few { length self.old.made.items < 16 }
         requires room { vec_len self.old.made < vec_capacity self.old.made }
         ensures items { self.new.made.items ≡ self.old.made.items ++ one.entry ∷ [] }
+        ensures most { length self.new.made.items ≤ 16 }
         ensures below { (n : ℕ) → AreBelow n self.old.made.items → one.entry.place < n → AreBelow n self.new.made.items }
     {
         let item = one.item;
@@ -300,16 +328,18 @@ impl<'i, W: Write + Drop> Window<'i, W> {
 
     /// Writes all files and closes them, and holds none. It stops at the first that could not be
     /// written, and those after it are removed again.
-    pub(crate) fn write<M: ManyWriter<New = W>, T: Threads + Sync>(
+    pub(crate) fn write<M: ManyWriter<New = W> + Remover, T: Threads + Sync>(
         &mut self,
         maker: &mut M,
         threads: &T,
         root: &str,
     ) -> Result<(), SinkStop>
+        requires most { length self.old.made.items ≤ 16 }
         ensures stopped { (n : ℕ) → AreBelow n self.old.made.items → IfErr result (IsStopBelow n) }
         ensures left { (items : List model.Item) (nodes : Option Nodes)
             → HoldsOver (IsNew W.contents root.now) root.now items self.old.made.items nodes (M.nodes maker.old)
             → OnOk result (LeavesFiles root.now items nodes (M.nodes maker.new)) }
+        ensures removed { IfErr result (AreRemovedAfter M.is_refused root.now (files_of self.old.made.items) (M.nodes maker.new)) }
         ensures empty { self.new.made.items ≡ [] }
         ensures outside { KeepsOutside root.now (M.nodes maker.old) (M.nodes maker.new) }
     {
@@ -318,5 +348,30 @@ impl<'i, W: Write + Drop> Window<'i, W> {
         self.made.clear();
         self.bytes = 0;
         answer
+    }
+
+    /// Writes the files if it is full.
+    #[tactic(auto, using(crate::proofs::BelowLaws::outside_same, crate::proofs::HeldLaws::over_again))]
+    pub(crate) fn write_if_full<M: ManyWriter<New = W>, T: Threads + Sync>(
+        &mut self,
+        maker: &mut M,
+        threads: &T,
+        root: &str,
+    ) -> Result<(), SinkStop>
+        requires most { length self.old.made.items ≤ 16 }
+        ensures few { OnOk result (length self.new.made.items < 16) }
+        ensures waits { length self.old.made.items < 16 → self.new.made.items ≡ self.old.made.items }
+        ensures stopped { (n : ℕ) → AreBelow n self.old.made.items → IfErr result (IsStopBelow n) }
+        ensures below { (n : ℕ) → AreBelow n self.old.made.items → OnOk result (AreBelow n self.new.made.items) }
+        ensures held { (items : List model.Item) (nodes : Option Nodes)
+            → HoldsOver (IsNew W.contents root.now) root.now items self.old.made.items nodes (M.nodes maker.old)
+            → OnOk result (HoldsOver (IsNew W.contents root.now) root.now items self.new.made.items nodes (M.nodes maker.new)) }
+        ensures outside { KeepsOutside root.now (M.nodes maker.old) (M.nodes maker.new) }
+    {
+        if self.is_full() {
+            self.write(maker, threads, root)
+        } else {
+            Ok(())
+        }
     }
 }

@@ -2,6 +2,7 @@ use Rattle.std.proofs.Common.{◌≡◌, ◌<◌, ◌∙◌, ap, get_or, length,
 use Rattle.br_folder_sink.specs.declared.window.Made.{Made}
 use Rattle.br_folder_sink.proofs.BelowLaws.{outside_more}
 use Rattle.br_folder_sink.proofs.HeldLaws.{held_step}
+use Rattle.br_folder_sink.proofs.RemovalLaws.{files_set}
 use Rattle.br_folder_sink.proofs.WindowLaws.{below_set}
 use Rattle.br_folder_sink.proofs.window.finish_each.Goals as goal
 
@@ -16,6 +17,7 @@ loop-i-preserved g c =
     record {
       below = λ n below. below_set n c.loop-i.i made was new (l.below n below) is low c.finish.ensures.place;
       outside = outside_more _ _ _ _ l.outside c.finish.ensures.outside;
+      files = files_set made c.loop-i.i was new is c.finish.ensures.place c.finish.ensures.item ∙ l.files;
       long = length-set made c.loop-i.i new ∙ l.long;
       held = λ items earlier held.
           held_step g.W.Write.contents c.args.root.now items made c.loop-i.i was new earlier

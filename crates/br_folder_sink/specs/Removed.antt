@@ -1,0 +1,40 @@
+-- What is removed again after a delivery has stopped.
+use Rattle.std.specs.Prelude.{◌≡◌, ℕ, ◌<◌, ◌⊎◌, List, ◌++◌, map, Option, Some, None, ⊤}
+use Rattle.std.specs.List.{AllByRecursion}
+use Rattle.br_model.specs.Delivery.{Stop}
+use Rattle.br_files.specs.Making.{Nodes, Else, node_at}
+use Rattle.br_files.specs.declared.kind.Kind.TheVariants.{Folder}
+use Rattle.br_folder_sink.specs.declared.window.Made.{Made}
+
+-- nothing is at the path, or a folder
+abbrev pub LacksFile : Nodes → List ℕ → Type 0
+LacksFile nodes path = (node_at nodes path ≡ None) ⊎ (node_at nodes path ≡ Some (Else Folder))
+
+-- If the nodes are told, that is so of them.
+abbrev pub HasNoFile : List ℕ → Option Nodes → Type 0
+HasNoFile path None = ⊤
+HasNoFile path (Some nodes) = LacksFile nodes path
+
+-- If the nodes are told, no file is now where none was.
+abbrev pub MakesNoFile : Option Nodes → Option Nodes → Type 0
+MakesNoFile None None = ⊤
+MakesNoFile (Some earlier) (Some later) = (path : List ℕ) → LacksFile earlier path → LacksFile later path
+MakesNoFile None (Some later) = ⊥
+MakesNoFile (Some earlier) None = ⊥
+
+-- no file is at the path, or its removal was refused
+abbrev pub IsRemoved : (List ℕ → Type 0) → Option Nodes → List ℕ → Type 0
+IsRemoved refused nodes path = HasNoFile path nodes ⊎ refused path
+
+-- the places and paths of files that were made
+abbrev pub files_of : {W : Type 0} → List (Made W) → List (ℕ × List ℕ)
+files_of made = map (λ (m : Made _). (m.place, m.item.now.path)) made
+
+-- each of these files that comes after a place is removed, or its removal was refused
+abbrev pub AreRemoved : (List ℕ → Type 0) → List ℕ → ℕ → List (ℕ × List ℕ) → Option Nodes → Type 0
+AreRemoved refused root place files nodes =
+    AllByRecursion (λ (file : ℕ × List ℕ). place < file.0 → IsRemoved refused nodes (root ++ file.1)) files
+
+-- so are those after a stop
+abbrev pub AreRemovedAfter : (List ℕ → Type 0) → List ℕ → List (ℕ × List ℕ) → Option Nodes → Stop → Type 0
+AreRemovedAfter refused root files nodes stop = AreRemoved refused root stop.done files nodes
