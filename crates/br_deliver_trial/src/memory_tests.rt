@@ -121,22 +121,29 @@ fn a_full_disk_at_every_byte(rt: HostRuntime) -> Result<(), Fail> {
     Ok(())
 }
 
-/// A maker over memory in which somebody puts a link at a path after a number of calls.
+/// A maker over memory in which something happens once, before the call after a number of calls:
+/// somebody puts a link at the path, or if there is no path the call fails.
 #[derive(Drop)]
 struct Trap {
     maker: MemMaker,
-    path: &'static str,
+    path: Option<&'static str>,
     calls: u64,
 }
 
 impl Trap {
+    /// Lets it happen.
+    fn happen(&mut self) -> Result<(), DiskFault> {
+        match self.path {
+            None => Err(DiskFault::Failed),
+            Some(path) => self.maker.plant(path, Kind::Link),
+        }
+    }
+
     /// Counts a call.
     fn count(&mut self) -> Result<(), DiskFault> {
-        if self.calls == 0 {
-            self.maker.plant(self.path, Kind::Link)?;
-        }
+        let is_now = self.calls == 0;
         self.calls = self.calls.wrapping_sub(1);
-        Ok(())
+        if is_now { self.happen() } else { Ok(()) }
     }
 }
 
@@ -197,8 +204,12 @@ fn is_refused(
     threads: &(impl Threads + Sync),
     (path, calls): Planted,
 ) -> Result<bool, Fail> {
-    let maker = MemMaker::new(rt.alloc());
-    let (stop, mut trap) = put_small(rt, threads, Trap { maker, path, calls })?;
+    let trap = Trap {
+        maker: MemMaker::new(rt.alloc()),
+        path: Some(path),
+        calls,
+    };
+    let (stop, mut trap) = put_small(rt, threads, trap)?;
     let stays = trap.maker.look(path) == Ok(Kind::Link);
     Ok(stays && stop == Some((80, 1)) && are_left(&trap.maker, 1))
 }
@@ -220,5 +231,65 @@ fn first_passed(
 #[test]
 fn a_link_between_two_calls(rt: HostRuntime) -> Result<(), Fail> {
     assert_eq!(rt; first_passed(&rt, &rt, TRAPS)?, None);
+    Ok(())
+}
+
+/// The stop of the small restore if the call after this number of calls fails, and no other. A file
+/// that could not be made is tried once more by itself; one that could not be finished is a failure,
+/// and so is a folder.
+const STOPS: &[(u64, Stop)] = &[
+    (0, None),
+    (1, None),
+    (2, None),
+    (3, None),
+    (4, Some((80, 0))),
+    (5, Some((80, 1))),
+    (6, Some((80, 2))),
+    (7, Some((80, 2))),
+    (8, Some((80, 2))),
+    (9, None),
+    (10, None),
+    (11, None),
+    (12, Some((80, 3))),
+    (13, None),
+];
+
+/// Returns whether a call that fails after this number of calls stops the restore so, and just the
+/// files before the stop are left.
+fn stops_so(
+    rt: &HostRuntime,
+    threads: &(impl Threads + Sync),
+    (calls, wanted): (u64, Stop),
+) -> Result<bool, Fail> {
+    let trap = Trap {
+        maker: MemMaker::new(rt.alloc()),
+        path: None,
+        calls,
+    };
+    let (stop, trap) = put_small(rt, threads, trap)?;
+    let done = match wanted {
+        None => 4,
+        Some((_, done)) => done,
+    };
+    Ok(stop == wanted && are_left(&trap.maker, done))
+}
+
+/// Returns the first number of calls after which a single failure is not sound.
+fn first_unsound_once(
+    rt: &HostRuntime,
+    threads: &(impl Threads + Sync),
+    stops: &[(u64, Stop)],
+) -> Result<Option<u64>, Fail> {
+    for stop in stops {
+        if !stops_so(rt, threads, *stop)? {
+            return Ok(Some(stop.0));
+        }
+    }
+    Ok(None)
+}
+
+#[test]
+fn a_single_failure_at_every_call(rt: HostRuntime) -> Result<(), Fail> {
+    assert_eq!(rt; first_unsound_once(&rt, &rt, STOPS)?, None);
     Ok(())
 }
