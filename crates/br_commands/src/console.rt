@@ -92,9 +92,7 @@ fn report<R: Eprint + AllocGlobal>(
     if let Err(fault) = &run {
         report_stream(rt, fault)?;
     }
-    let refusal = String::from_utf8_lossy(rt.alloc(), &ending.refusal)?;
-    eprint!(rt; "{refusal}")?;
-    Ok(ending.status)
+    ending.print(rt)
 }
 
 /// Why no session began.

@@ -1,3 +1,5 @@
+use std::io;
+
 /// The exit status if all was carried out.
 pub const CLEAN: u8 = 0;
 
@@ -13,4 +15,13 @@ pub struct Ending {
     pub status: u8,
     /// The line of the refusal; empty if nothing was refused.
     pub refusal: Vec<u8>,
+}
+
+impl Ending {
+    /// Prints the line of the refusal to standard error. Returns the exit status.
+    pub(crate) fn print<R: Eprint + AllocGlobal>(&self, rt: &R) -> io::Result<u8> {
+        let refusal = String::from_utf8_lossy(rt.alloc(), &self.refusal)?;
+        eprint!(rt; "{refusal}")?;
+        Ok(self.status)
+    }
 }
