@@ -1,0 +1,3 @@
+mod PreparingLaws
+mod VouchLaws
+mod WritingLaws

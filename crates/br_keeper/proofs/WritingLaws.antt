@@ -1,0 +1,164 @@
+-- Blocks that are appended one after another, and the volumes that are tested before.
+use Rattle.std.proofs.Common.{◌≡◌, ℕ, ◌+◌, ◌<◌, ◌≤◌, ◌⊎◌, true, zero, suc, List, [], ◌∷◌, ◌++◌, length, take, drop, get_or, Option, Some, None, Result, Ok, Err, refl, sym, ap, subst, ◌∙◌, inl, inr, arith}
+use Rattle.std.proofs.lemmas.List.{take_more, map-append}
+use Rattle.std.proofs.lemmas.List.Sums.{fold-append}
+use Rattle.std.specs.Global.{Vec}
+use Rattle.std.specs.List.{AllByRecursion}
+use Rattle.br_model.specs.Volume.{Volume}
+use Rattle.br_model.proofs.ListLaws.{all_append}
+use Rattle.br_volume.specs.Store.{AppendsTo, AppendsInPartTo, AreAppendedInTurn, IsAppended}
+use Rattle.br_keeper.specs.declared.vouch.Vouch.{Vouch}
+use Rattle.br_keeper.specs.declared.fault.KeeperFault.{KeeperFault}
+use Rattle.br_keeper.specs.Preparing.{seen}
+use Rattle.br_keeper.specs.Vouching.{changed, is_retired, longer, new_entries, retired}
+use Rattle.br_keeper.specs.Writing.{Shelf, AppendInTurn, AppendsAll, AreWritten, ChecksVolume, ChecksVolumes, HasOtherLength, IsCutOff, IsKept, IsVouched, WritesBlocks, after_blocks, with_entries}
+
+-- ---- lists up to a place
+
+-- the part up to a place, the element there, and the rest
+pub split_at : {X : Type 0} (xs : List X) (i : ℕ) (x : X) → i < length xs → x ≡ get_or xs i x → take i xs ++ x ∷ drop (suc i) xs ≡ xs
+split_at [] i x lt is = absurd (omega (arith, lt))
+split_at (y ∷ ys) zero x lt is = ap (λ z. z ∷ ys) is
+split_at (y ∷ ys) (suc i) x lt is = ap (λ zs. y ∷ zs) (split_at ys i x (omega (arith, lt)) is)
+
+-- a fact of one element more
+pub all_next : {X : Type 0} (P : X → Type 0) (xs : List X) (i : ℕ) (x : X) → i < length xs → x ≡ get_or xs i x → AllByRecursion P (take i xs) → P x
+    → AllByRecursion P (take (i + 1) xs)
+all_next {X} P xs i x lt is all one =
+    subst (λ (ys : List X). AllByRecursion P ys) (sym (take_more xs i x lt ∙ ap (λ (y : X). take i xs ++ y ∷ []) (sym is)))
+    (all_append P (take i xs) (x ∷ []) all (one, tt))
+
+-- ---- blocks in turn
+
+in_turn_more : (blocks : List (List ℕ × List ℕ)) (block : List ℕ × List ℕ) (earlier middle later : List Volume) → AreAppendedInTurn blocks earlier middle
+    → IsAppended block.0 block.1 middle later → AreAppendedInTurn (blocks ++ block ∷ []) earlier later
+in_turn_more [] block earlier middle later is one = (later, subst (λ (m : List Volume). IsAppended block.0 block.1 m later) is one, refl)
+in_turn_more (b ∷ bs) block earlier middle later is one = (is.0, is.1, in_turn_more bs block is.0 middle later is.2 one)
+
+turn_more : (blocks : List (List ℕ × List ℕ)) (block : List ℕ × List ℕ) (earlier middle later : Option (List Volume)) → AppendInTurn blocks earlier middle
+    → AppendsTo block.0 block.1 middle later → AppendInTurn (blocks ++ block ∷ []) earlier later
+turn_more blocks block None None None is one = tt
+turn_more blocks block None None (Some c) is one = one
+turn_more blocks block None (Some b) later is one = absurd is
+turn_more blocks block (Some a) None later is one = absurd is
+turn_more blocks block (Some a) (Some b) None is one = one
+turn_more blocks block (Some a) (Some b) (Some c) is one = in_turn_more blocks block a b c is one
+
+-- no block
+turn_none : (volumes : Option (List Volume)) → AppendInTurn [] volumes volumes
+turn_none None = tt
+turn_none (Some vs) = refl
+
+-- what is seen of one block more
+seen_next : (blocks : List (List ℕ × Vec ℕ)) (i : ℕ) (block : List ℕ × Vec ℕ) → i < length blocks → block ≡ get_or blocks i block
+    → seen (take (i + 1) blocks) ≡ seen (take i blocks) ++ (block.0, block.1.items) ∷ []
+seen_next blocks i block lt is =
+    ap seen (take_more blocks i block lt ∙ ap (λ (b : List ℕ × Vec ℕ). take i blocks ++ b ∷ []) (sym is))
+    ∙ map-append (λ (b : List ℕ × Vec ℕ). (b.0, b.1.items)) (take i blocks) (block ∷ [])
+
+after_next : (blocks : List (List ℕ × List ℕ)) (block : List ℕ × List ℕ) (vouches : List Vouch)
+    → after_blocks (blocks ++ block ∷ []) vouches ≡ changed (longer (length block.1)) block.0 (after_blocks blocks vouches)
+after_next blocks block vouches = fold-append (λ vs (b : List ℕ × List ℕ). changed (longer (length b.1)) b.0 vs) vouches blocks (block ∷ [])
+
+-- no block was appended yet
+pub written_none : (s : Shelf) → AreWritten [] s s
+written_none s = record { appended = turn_none s.volumes; vouches_are = refl; counted = omega arith }
+
+-- one more was
+written_more : (blocks : List (List ℕ × List ℕ)) (block : List ℕ × List ℕ) (old middle new : Shelf) → AreWritten blocks old middle
+    → AppendsTo block.0 block.1 middle.volumes new.volumes → new.vouches ≡ changed (longer (length block.1)) block.0 middle.vouches → middle.failures ≤ new.failures
+    → AreWritten (blocks ++ block ∷ []) old new
+written_more blocks block old middle new is one vouches counted = record {
+  appended = turn_more blocks block old.volumes middle.volumes new.volumes is.appended one;
+  vouches_are = vouches ∙ ap (changed (longer (length block.1)) block.0) is.vouches_are ∙ sym (after_next blocks block old.vouches);
+  counted = omega (arith, is.counted, counted);
+}
+
+pub written_next : (blocks : List (List ℕ × Vec ℕ)) (i : ℕ) (block : List ℕ × Vec ℕ) (old middle new : Shelf) → i < length blocks → block ≡ get_or blocks i block
+    → AreWritten (seen (take i blocks)) old middle
+    → AppendsTo block.0 block.1.items middle.volumes new.volumes → new.vouches ≡ changed (longer (length block.1.items)) block.0 middle.vouches
+    → middle.failures ≤ new.failures → AreWritten (seen (take (i + 1) blocks)) old new
+written_next blocks i block old middle new lt is before one vouches counted =
+    subst (λ (bs : List (List ℕ × List ℕ)). AreWritten bs old new) (sym (seen_next blocks i block lt is))
+    (written_more (seen (take i blocks)) (block.0, block.1.items) old middle new before one vouches counted)
+
+-- the append of the next failed
+pub cut_off : (blocks : List (List ℕ × Vec ℕ)) (i : ℕ) (block : List ℕ × Vec ℕ) (old middle new : Shelf) → i < length blocks → block ≡ get_or blocks i block
+    → AreWritten (seen (take i blocks)) old middle
+    → AppendsInPartTo block.0 block.1.items middle.volumes new.volumes → new.vouches ≡ changed retired block.0 middle.vouches
+    → middle.failures < new.failures → IsCutOff (seen blocks) old new
+cut_off blocks i block old middle new lt is before part vouches failed = record {
+  done = seen (take i blocks);
+  block = (block.0, block.1.items);
+  rest = seen (drop (suc i) blocks);
+  split =
+      sym (map-append (λ (b : List ℕ × Vec ℕ). (b.0, b.1.items)) (take i blocks) (block ∷ drop (suc i) blocks))
+      ∙ ap seen (split_at blocks i block lt is);
+  middle = middle.volumes;
+  appended = before.appended;
+  in_part = part;
+  vouches_are = vouches ∙ ap (changed retired block.0) before.vouches_are;
+  failed = omega (arith, before.counted, failed);
+}
+
+-- ---- from an earlier count of failures on
+
+pub written_since : (blocks : List (List ℕ × List ℕ)) (old middle new : Shelf) → middle.volumes ≡ old.volumes → middle.vouches ≡ old.vouches → old.failures ≤ middle.failures
+    → AreWritten blocks middle new → AreWritten blocks old new
+written_since blocks old middle new volumes vouches counted is = record {
+  appended = subst (λ (vs : Option (List Volume)). AppendInTurn blocks vs new.volumes) volumes is.appended;
+  vouches_are = is.vouches_are ∙ ap (after_blocks blocks) vouches;
+  counted = omega (arith, counted, is.counted);
+}
+
+pub cut_off_since : (blocks : List (List ℕ × List ℕ)) (old middle new : Shelf) → middle.volumes ≡ old.volumes → middle.vouches ≡ old.vouches → old.failures ≤ middle.failures
+    → IsCutOff blocks middle new → IsCutOff blocks old new
+cut_off_since blocks old middle new volumes vouches counted is = record {
+  done = is.done;
+  block = is.block;
+  rest = is.rest;
+  split = is.split;
+  middle = is.middle;
+  appended = subst (λ (vs : Option (List Volume)). AppendInTurn is.done vs is.middle) volumes is.appended;
+  in_part = is.in_part;
+  vouches_are = is.vouches_are ∙ ap (λ (vs : List Vouch). changed retired is.block.0 (after_blocks is.done vs)) vouches;
+  failed = omega (arith, counted, is.failed);
+}
+
+-- ---- volumes that are tested one after another
+
+-- the first that may not be written to
+pub refused_at : (vouches : List Vouch) (volumes now : Option (List Volume)) (starts : List (List ℕ × ℕ)) (i : ℕ) (s : List ℕ × ℕ) (first before after : ℕ) (why : KeeperFault)
+    → i < length starts → s ≡ get_or starts i s → AllByRecursion (IsVouched vouches volumes) (take i starts) → now ≡ volumes → first ≤ before
+    → ChecksVolume vouches now before after s (Err why) → ChecksVolumes vouches volumes first after starts (Err why)
+refused_at vouches volumes now starts i s first before after why lt is all same le (inl h) =
+    inl (
+      h.0,
+      record {
+        earlier = take i starts;
+        start = s;
+        rest = drop (suc i) starts;
+        split = split_at starts i s lt is;
+        serve = all;
+        refused = subst (λ (v : Option (List Volume)). (is_retired vouches s.0 ≡ true) ⊎ HasOtherLength v s) same h.1;
+      },
+    )
+refused_at vouches volumes now starts i s first before after why lt is all same le (inr h) = inr (h.0, omega (arith, le, h.1))
+
+-- ---- both
+
+-- a volume that may not be written to
+pub not_vouched : (starts : List (List ℕ × ℕ)) (blocks : List (List ℕ × List ℕ)) (old new : Shelf) (why : KeeperFault) → IsKept old new
+    → ChecksVolumes old.vouches old.volumes old.failures new.failures starts (Err why) → WritesBlocks starts blocks old new (Err why)
+not_vouched starts blocks old new why kept (inl h) = subst (λ (w : KeeperFault). WritesBlocks starts blocks old new (Err w)) (sym h.0) (kept, h.1)
+not_vouched starts blocks old new why kept (inr h) = subst (λ (w : KeeperFault). WritesBlocks starts blocks old new (Err w)) (sym h.0) (inl (kept, h.1))
+
+-- all of them may, and blocks are appended
+pub blocks_written : (starts : List (List ℕ × ℕ)) (blocks : List (List ℕ × List ℕ)) (old middle new : Shelf) (r : Result (Unit {0}) KeeperFault)
+    → AllByRecursion (IsVouched old.vouches old.volumes) starts → middle.volumes ≡ old.volumes → middle.vouches ≡ old.vouches ++ new_entries old.vouches starts
+    → old.failures ≤ middle.failures → AppendsAll blocks middle new r → WritesBlocks starts blocks old new r
+blocks_written starts blocks old middle new (Ok u) all volumes vouches counted is =
+    record { serve = all; written = written_since blocks (with_entries starts old) middle new volumes vouches counted is }
+blocks_written starts blocks old middle new (Err why) all volumes vouches counted is =
+    subst (λ (w : KeeperFault). WritesBlocks starts blocks old new (Err w)) (sym is.0)
+    (inr (record { serve = all; cut_off = cut_off_since blocks (with_entries starts old) middle new volumes vouches counted is.1 }))

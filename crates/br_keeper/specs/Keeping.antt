@@ -1,0 +1,34 @@
+-- What callers see of a keeper.
+use Rattle.std.specs.Prelude.{ℕ, List, ◌++◌, Option, refl}
+use Rattle.std.specs.Coded.{Coded, code_by, coded×, coded_list}
+use Rattle.br_model.specs.Volume.{Volume}
+use Rattle.br_model.specs.Job.{JobRows}
+use Rattle.br_publish.specs.Publishing.{Publishing}
+use Rattle.br_keeper.specs.declared.vouch.Vouch.{Vouch}
+use Rattle.br_keeper.specs.contracts.vouch.Vouch as vouch
+use Rattle.br_keeper.specs.Writing.{Shelf, shelf}
+
+-- its catalogue and its volumes; the lengths that it vouches for; and the list: the jobs that the
+-- catalogue had at first, those that were stored since (`added`), and of these the published ones
+pub record Keeping (C W : Type 0) : Type 0 where
+  pub catalogue : C
+  pub volumes : W
+  pub vouches : List Vouch
+  pub list : Publishing
+
+-- how proofs tell such values apart
+abbrev pub keeping_code : {C W : Type 0} → Coded C → Coded W → Coded Publishing → Coded (Keeping C W)
+keeping_code {C} {W} catalogue volumes list =
+    code_by (C × (W × (List Vouch × Publishing))) (coded× catalogue (coded× volumes (coded× (coded_list vouch.the_row.coded) list)))
+    (λ k. (k.catalogue, (k.volumes, (k.vouches, k.list))))
+    (λ p. record { catalogue = p.0; volumes = p.1.0; vouches = p.1.1.0; list = p.1.1.1 })
+    (λ _. refl)
+
+module _ {C W : Type 0} where
+  -- all jobs that are stored
+  abbrev pub jobs_of : Keeping C W → List JobRows
+  jobs_of k = k.list.opening ++ k.list.added
+
+  -- the volumes and the vouched lengths
+  abbrev pub shelf_of : (W → Option (List Volume)) → (W → ℕ) → Keeping C W → Shelf
+  shelf_of holds failures k = shelf (holds k.volumes) (failures k.volumes) k.vouches

@@ -1,0 +1,34 @@
+-- A list of stored jobs, the last of which may wait for its publishing.
+use Rattle.std.specs.Prelude.{◌≡◌, List, [], ◌∷◌, ◌++◌}
+use Rattle.br_model.specs.Job.{JobRows}
+use Rattle.br_publish.specs.Publishing.{Publishing, all_published, publishing}
+use Rattle.br_keeper.specs.declared.listing.Waiting.{Waiting}
+use Rattle.br_keeper.specs.declared.listing.Waiting.TheVariants.{Nothing, Stored, Taken}
+
+-- the jobs, and the one that the publisher has not taken
+abbrev pub and_waiting : Waiting → List JobRows → List JobRows
+and_waiting Nothing jobs = jobs
+and_waiting (Stored rows) jobs = jobs ++ rows ∷ []
+and_waiting Taken jobs = jobs
+
+-- the publisher's list, and the job that it has not taken
+abbrev pub with_waiting : Publishing → Waiting → Publishing
+with_waiting p waiting = publishing p.book p.opening p.published (and_waiting waiting p.added)
+
+-- a job that the publisher has taken waits exactly if not all that it has is published
+abbrev pub IsListing : Publishing → Waiting → Type 0
+IsListing p Nothing = p.published ≡ p.added
+IsListing p (Stored rows) = p.published ≡ p.added
+IsListing p Taken = (p.published ≡ p.added → ⊥) × (p.added ≡ [] → ⊥)
+
+-- all that the publisher has is published, or nothing is changed
+abbrev pub PublishesAdded : Publishing → Publishing → Waiting → Type 0
+PublishesAdded old new Nothing = new ≡ all_published old
+PublishesAdded old new (Stored rows) = ⊥
+PublishesAdded old new Taken = new ≡ old
+
+-- all that is stored is published, or the same is stored and published as before
+abbrev pub PublishesAll : Publishing → Waiting → Publishing → Waiting → Type 0
+PublishesAll old waiting new Nothing = new ≡ all_published (with_waiting old waiting)
+PublishesAll old waiting new (Stored rows) = (with_waiting new (Stored rows) ≡ with_waiting old waiting) × IsListing new (Stored rows)
+PublishesAll old waiting new Taken = (with_waiting new Taken ≡ with_waiting old waiting) × IsListing new Taken

@@ -1,0 +1,133 @@
+-- Blocks that are appended to volumes of which the lengths are vouched for.
+use Rattle.std.specs.Prelude.{◌≡◌, ℕ, ◌<◌, ◌≤◌, ◌⊎◌, true, false, List, ◌∷◌, ◌++◌, length, fold, Option, Some, None, Result, Ok, Err, ⊤}
+use Rattle.std.specs.List.{AllByRecursion}
+use Rattle.br_model.specs.Volume.{Volume}
+use Rattle.br_model.specs.SessionHolds.{bytes_of_volume}
+use Rattle.br_volume.specs.Store.{IsLengthIn, AppendsInPartTo, AreAppendedInTurn}
+use Rattle.br_keeper.specs.declared.vouch.Vouch.{Vouch}
+use Rattle.br_keeper.specs.declared.fault.KeeperFault.{KeeperFault}
+use Rattle.br_keeper.specs.declared.fault.KeeperFault.TheVariants.{Memory, DuplicateJob, DuplicateSession, BadRow, RetiredVolume, Volume as VolumeFails, Store, StoredNotPublished, BadCatalogue}
+use Rattle.br_keeper.specs.Vouching.{is_retired, changed, longer, retired, new_entries}
+
+-- the volumes, if the store tells them, the number of its failed calls, and the lengths that are
+-- vouched for
+pub record Shelf : Type 0 where
+  pub volumes : Option (List Volume)
+  pub failures : ℕ
+  pub vouches : List Vouch
+
+abbrev pub shelf : Option (List Volume) → ℕ → List Vouch → Shelf
+shelf volumes failures vouches = record { volumes = volumes; failures = failures; vouches = vouches }
+
+-- no volume and no vouched length was changed
+pub record IsKept (old new : Shelf) : Type 0 where
+  pub volumes_are : new.volumes ≡ old.volumes
+  pub vouches_are : new.vouches ≡ old.vouches
+  pub counted : old.failures ≤ new.failures
+
+-- ---- before the first append
+
+-- the volume is not retired, and has just this length, if it is told
+pub record IsVouched (vouches : List Vouch) (volumes : Option (List Volume)) (start : List ℕ × ℕ) : Type 0 where
+  pub serves : is_retired vouches start.0 ≡ false
+  pub bytes_are : IsLengthIn volumes start.0 start.1
+
+-- the volume has another length, if it is told
+abbrev pub HasOtherLength : Option (List Volume) → List ℕ × ℕ → Type 0
+HasOtherLength None start = ⊤
+HasOtherLength (Some volumes) start = length (bytes_of_volume volumes start.0) ≡ start.1 → ⊥
+
+-- The volume may be written to. Or it is retired, or has another length; or the store failed to tell
+-- its length.
+abbrev pub ChecksVolume : List Vouch → Option (List Volume) → ℕ → ℕ → List ℕ × ℕ → Result (Unit {0}) KeeperFault → Type 0
+ChecksVolume vouches volumes before after start (Ok u) = IsVouched vouches volumes start
+ChecksVolume vouches volumes before after start (Err why) =
+    ((why ≡ RetiredVolume) × ((is_retired vouches start.0 ≡ true) ⊎ HasOtherLength volumes start)) ⊎ ((why ≡ VolumeFails) × (before < after))
+
+-- the first of the volumes that may not be written to
+pub record IsFirstRefused (vouches : List Vouch) (volumes : Option (List Volume)) (starts : List (List ℕ × ℕ)) (P : List ℕ × ℕ → Type 0) : Type 0 where
+  pub earlier : List (List ℕ × ℕ)
+  pub start : List ℕ × ℕ
+  pub rest : List (List ℕ × ℕ)
+  pub split : earlier ++ start ∷ rest ≡ starts
+  pub serve : AllByRecursion (IsVouched vouches volumes) earlier
+  pub refused : P start
+
+-- 43: it is retired, or has another length
+abbrev pub IsRetired : List Vouch → Option (List Volume) → List (List ℕ × ℕ) → Type 0
+IsRetired vouches volumes starts =
+    IsFirstRefused vouches volumes starts (λ start. (is_retired vouches start.0 ≡ true) ⊎ HasOtherLength volumes start)
+
+-- All volumes may be written to; or one is retired, and those before it may be written to; or the
+-- store failed.
+abbrev pub ChecksVolumes : List Vouch → Option (List Volume) → ℕ → ℕ → List (List ℕ × ℕ) → Result (Unit {0}) KeeperFault → Type 0
+ChecksVolumes vouches volumes before after starts (Ok u) = AllByRecursion (IsVouched vouches volumes) starts
+ChecksVolumes vouches volumes before after starts (Err why) =
+    ((why ≡ RetiredVolume) × IsRetired vouches volumes starts) ⊎ ((why ≡ VolumeFails) × (before < after))
+
+-- ---- appends
+
+-- A store tells its volumes always or never. If it tells them, the blocks are appended one after
+-- another.
+abbrev pub AppendInTurn : List (List ℕ × List ℕ) → Option (List Volume) → Option (List Volume) → Type 0
+AppendInTurn blocks None None = ⊤
+AppendInTurn blocks (Some earlier) (Some later) = AreAppendedInTurn blocks earlier later
+AppendInTurn blocks None (Some later) = ⊥
+AppendInTurn blocks (Some earlier) None = ⊥
+
+-- the vouched lengths after blocks were appended
+abbrev pub after_blocks : List (List ℕ × List ℕ) → List Vouch → List Vouch
+after_blocks blocks vouches = fold (λ vs (b : List ℕ × List ℕ). changed (longer (length b.1)) b.0 vs) vouches blocks
+
+-- all blocks are appended
+pub record AreWritten (blocks : List (List ℕ × List ℕ)) (old new : Shelf) : Type 0 where
+  pub appended : AppendInTurn blocks old.volumes new.volumes
+  pub vouches_are : new.vouches ≡ after_blocks blocks old.vouches
+  pub counted : old.failures ≤ new.failures
+
+-- the append of a block failed: those before it are appended, and of it at most a part; its volume
+-- is retired
+pub record IsCutOff (blocks : List (List ℕ × List ℕ)) (old new : Shelf) : Type 0 where
+  pub done : List (List ℕ × List ℕ)
+  pub block : List ℕ × List ℕ
+  pub rest : List (List ℕ × List ℕ)
+  pub split : done ++ block ∷ rest ≡ blocks
+  pub middle : Option (List Volume)
+  pub appended : AppendInTurn done old.volumes middle
+  pub in_part : AppendsInPartTo block.0 block.1 middle new.volumes
+  pub vouches_are : new.vouches ≡ changed retired block.0 (after_blocks done old.vouches)
+  pub failed : old.failures < new.failures
+
+abbrev pub AppendsAll : List (List ℕ × List ℕ) → Shelf → Shelf → Result (Unit {0}) KeeperFault → Type 0
+AppendsAll blocks old new (Ok u) = AreWritten blocks old new
+AppendsAll blocks old new (Err why) = (why ≡ VolumeFails) × IsCutOff blocks old new
+
+-- ---- both
+
+-- the volumes with entries for these
+abbrev pub with_entries : List (List ℕ × ℕ) → Shelf → Shelf
+with_entries starts s = shelf s.volumes s.failures (s.vouches ++ new_entries s.vouches starts)
+
+-- the blocks are appended to volumes that have just these lengths
+pub record AreWrittenFrom (starts : List (List ℕ × ℕ)) (blocks : List (List ℕ × List ℕ)) (old new : Shelf) : Type 0 where
+  pub serve : AllByRecursion (IsVouched old.vouches old.volumes) starts
+  pub written : AreWritten blocks (with_entries starts old) new
+
+-- an append to one of them failed
+pub record IsCutOffFrom (starts : List (List ℕ × ℕ)) (blocks : List (List ℕ × List ℕ)) (old new : Shelf) : Type 0 where
+  pub serve : AllByRecursion (IsVouched old.vouches old.volumes) starts
+  pub cut_off : IsCutOff blocks (with_entries starts old) new
+
+-- Out of memory and 43 come before the first append; 44 if the store did not tell a length, or an
+-- append failed.
+abbrev pub WritesBlocks : List (List ℕ × ℕ) → List (List ℕ × List ℕ) → Shelf → Shelf → Result (Unit {0}) KeeperFault → Type 0
+WritesBlocks starts blocks old new (Ok u) = AreWrittenFrom starts blocks old new
+WritesBlocks starts blocks old new (Err Memory) = IsKept old new
+WritesBlocks starts blocks old new (Err RetiredVolume) = IsKept old new × IsRetired old.vouches old.volumes starts
+WritesBlocks starts blocks old new (Err VolumeFails) = (IsKept old new × (old.failures < new.failures)) ⊎ IsCutOffFrom starts blocks old new
+WritesBlocks starts blocks old new (Err DuplicateJob) = ⊥
+WritesBlocks starts blocks old new (Err DuplicateSession) = ⊥
+WritesBlocks starts blocks old new (Err BadRow) = ⊥
+WritesBlocks starts blocks old new (Err Store) = ⊥
+WritesBlocks starts blocks old new (Err StoredNotPublished) = ⊥
+WritesBlocks starts blocks old new (Err BadCatalogue) = ⊥

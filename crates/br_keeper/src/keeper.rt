@@ -1,0 +1,215 @@
+//! The keeper.
+ghost use Rattle.std.specs.Prelude.{◌≡◌, ◌<◌, [], length, IfErr, IfOk, Ok, OnErr, OnOk, MatchResult, MatchOption};
+ghost use Rattle.br_volume.specs.Store.{AppendsInPartTo, AppendsTo};
+ghost use Rattle.br_publish.specs.Fronts.{beginning};
+ghost use Rattle.br_publish.specs.Publishing.{all_published, publishing};
+ghost use Rattle.br_publish.specs.Sessions.{AllKnow};
+ghost use Rattle.br_keeper.specs.Vouching.{vouched};
+ghost use Rattle.br_keeper.specs.Writing.{shelf};
+ghost use Rattle.br_keeper.specs.Keeping.{jobs_of, shelf_of};
+ghost use Rattle.br_keeper.specs.Committing.{Commits, StoresJob, IsNotMade};
+
+use crate::fault::KeeperFault;
+use crate::job_store::JobStore;
+use crate::listing::Listing;
+use crate::preparing::{Prepared, prepare};
+use crate::vouch::{Vouch, vouched};
+use crate::writing::write_blocks;
+use br_history::{History, JobRows, SavedJob};
+use br_publish::{Receipt, Session};
+use br_types::VolName;
+use br_volume::{VolumeFault, VolumeStore};
+use std::alloc::Global;
+use std::marker::Model;
+use std::sync::Wait;
+
+/// One who commits jobs to a catalogue and to volumes, and publishes them. It cannot be dropped:
+/// `close` ends it and gives both back.
+pub struct Keeper<C: JobStore, W: VolumeStore> {
+    alloc: Global,
+    catalogue: C,
+    volumes: W,
+    vouches: Vec<Vouch>,
+    listing: Listing,
+}
+
+impl<C: JobStore, W: VolumeStore> Model for Keeper<C, W> {
+    ghost use Rattle.std.specs.Coded.{codes};
+    ghost use Rattle.br_keeper.specs.Keeping.{Keeping, keeping_code};
+
+    ghost Value = { Keeping C W };
+
+    ghost coded = { keeping_code C.code W.code (Prim.hlevel codes) };
+
+    ghost view = { λ k. record { catalogue = k.catalogue; volumes = k.volumes; vouches = k.vouches.items; list = k.listing } };
+}
+
+/// Writes the session of a job to the volumes, and inserts its rows into the catalogue. Returns the
+/// rows.
+fn store_job<C: JobStore, W: VolumeStore>(
+    alloc: Global,
+    catalogue: &mut C,
+    volumes: &mut W,
+    vouches: &mut Vec<Vouch>,
+    history: &History,
+    job: &SavedJob,
+) -> Result<JobRows, KeeperFault>
+    ensures { StoresJob C.inserts C.refuses history.now job.now catalogue.old catalogue.new
+        (shelf (W.holds volumes.old) (W.failures volumes.old) vouches.old.items)
+        (shelf (W.holds volumes.new) (W.failures volumes.new) vouches.new.items) result }
+{
+    let Prepared {
+        rows,
+        blocks,
+        starts,
+    } = prepare(alloc, vouches, history, job)?;
+    write_blocks(alloc, volumes, vouches, &starts, &blocks)?;
+    match catalogue.insert_job(&rows) {
+        Ok(()) => Ok(rows),
+        Err(_) => Err(KeeperFault::Store),
+    }
+}
+
+impl<C: JobStore + Drop, W: VolumeStore + Drop> Keeper<C, W> {
+    /// Publishes the jobs of the catalogue, and opens this number of sessions.
+    ///
+    /// # Errors
+    ///
+    /// `Store` if the catalogue fails, `BadCatalogue` if its rows form no history.
+    pub fn new<R: Wait>(
+        rt: &R,
+        alloc: Global,
+        catalogue: C,
+        volumes: W,
+        sessions: u32,
+    ) -> Result<(Keeper<C, W>, Vec<Session>), KeeperFault>
+        requires sessions { (0 < sessions) × (sessions < 17) }
+        ensures opening { IfOk result (λ r. C.loads catalogue r.0.catalogue (Ok r.0.list.opening)) }
+        ensures keeper { IfOk result (λ r. (r.0.list ≡ publishing r.0.list.book r.0.list.opening [] [])
+            × (r.0.volumes ≡ volumes) × (r.0.vouches ≡ [])) }
+        ensures sessions { IfOk result (λ r. AllKnow r.0.list.book r.0.list.opening [] r.1.items × (length r.1.items ≡ sessions)) }
+        ensures refused { IfErr result (λ why. IsNotMade C.loads catalogue why) }
+    {
+        let mut catalogue = catalogue;
+        let opening = catalogue.load_history()?;
+        let (listing, list) = Listing::new(rt, alloc, opening, sessions)?;
+        let keeper = Keeper {
+            alloc,
+            catalogue,
+            volumes,
+            vouches: Vec::new(alloc),
+            listing,
+        };
+        Ok((keeper, list))
+    }
+}
+
+impl<C: JobStore, W: VolumeStore> Keeper<C, W> {
+    /// Ends the keeper, and returns its catalogue and its volumes. Its sessions take no more
+    /// snapshots.
+    pub fn close<R: Wait>(self, rt: &R) -> (C, W)
+        ensures { (result.0 ≡ self.catalogue) × (result.1 ≡ self.volumes) }
+    {
+        let Keeper {
+            alloc: _,
+            catalogue,
+            volumes,
+            vouches: _vouches,
+            listing,
+        } = self;
+        listing.close(rt);
+        (catalogue, volumes)
+    }
+
+    /// Commits a job: writes its session to the volumes, inserts its rows into the catalogue, and
+    /// publishes them. Returns the receipt. Spans begin at the vouched lengths. Each block is one
+    /// append.
+    ///
+    /// A job that waits to be published is published first.
+    ///
+    /// # Errors
+    ///
+    /// In this order. Up to `RetiredVolume` nothing is changed, but a job that waited is published.
+    ///
+    /// - `DuplicateJob` if the job's number is there, `DuplicateSession` if its session is.
+    /// - `BadRow` if a span would end after the address 2^63 - 2, or there would be 2^32 spans or more.
+    /// - `RetiredVolume` if an append of this keeper to a volume of the places failed, or the volume
+    ///   has another length than the vouched one.
+    /// - `Volume` if the store of volumes fails. If it was an append, the blocks before it are on the
+    ///   volumes, and the first of its bytes may be. Its volume is retired.
+    /// - `Store` if the catalogue fails. All blocks are appended.
+    /// - `StoredNotPublished` if memory runs out for the publishing. All blocks are appended, and the
+    ///   catalogue has the job.
+    pub fn commit<R: Wait>(&mut self, rt: &R, job: SavedJob) -> Result<Receipt, KeeperFault>
+        ensures { Commits C.inserts C.refuses (shelf_of W.holds W.failures) job self.old self.new result }
+    {
+        self.commit_saved(rt, &job)
+    }
+
+    /// Commits a job.
+    fn commit_saved<R: Wait>(&mut self, rt: &R, job: &SavedJob) -> Result<Receipt, KeeperFault>
+        ensures { Commits C.inserts C.refuses (shelf_of W.holds W.failures) job.now self.old self.new result }
+    {
+        self.listing.publish(rt)?;
+        let rows = store_job(
+            self.alloc,
+            &mut self.catalogue,
+            &mut self.volumes,
+            &mut self.vouches,
+            self.listing.history(),
+            job,
+        )?;
+        match self.listing.announce(rt, rows) {
+            Ok(receipt) => Ok(receipt),
+            Err(_) => Err(KeeperFault::StoredNotPublished),
+        }
+    }
+
+    /// Publishes the job that waits to be published, and returns its receipt, or `None` if no job
+    /// waits.
+    ///
+    /// # Errors
+    ///
+    /// Memory ran out. Then nothing is changed.
+    pub fn republish<R: Wait>(&mut self, rt: &R) -> Result<Option<Receipt>, KeeperFault>
+        ensures list { MatchResult result
+            (λ o. MatchOption o ((self.new ≡ self.old) × (self.old.list.published ≡ self.old.list.added))
+            (λ r. (self.new ≡ record self.old { list = all_published self.old.list })
+            × (r ≡ beginning self.old.list.book self.old.list.added)))
+            (λ why. (why ≡ KeeperFault.Memory) × (self.new ≡ self.old)) }
+    {
+        match self.listing.republish(rt) {
+            Ok(receipt) => Ok(receipt),
+            Err(_) => Err(KeeperFault::Memory),
+        }
+    }
+
+    /// Appends bytes to a volume, which no job vouches for.
+    ///
+    /// # Errors
+    ///
+    /// `Failed` if the store of volumes failed. Then none of the bytes, or the first of them, are
+    /// appended.
+    pub fn append_raw(&mut self, vol: &VolName, bytes: &[u8]) -> Result<(), VolumeFault>
+        ensures appended { OnOk result (AppendsTo vol.now bytes.now (W.holds self.old.volumes) (W.holds self.new.volumes)) }
+        ensures refused { OnErr result (AppendsInPartTo vol.now bytes.now (W.holds self.old.volumes) (W.holds self.new.volumes)) }
+        ensures failed { OnErr result (W.failures self.old.volumes < W.failures self.new.volumes) }
+        ensures same { self.new ≡ record self.old { volumes = self.new.volumes } }
+    {
+        self.volumes.append(vol, bytes)
+    }
+
+    /// Returns the volumes, to read.
+    pub fn volumes(&self) -> &W
+        ensures { result.now ≡ self.now.volumes }
+    {
+        &self.volumes
+    }
+
+    /// Returns the vouched length of a volume, at which the next commit goes on.
+    pub fn vouched(&self, vol: &VolName) -> u64
+        ensures { self.now.list.published ≡ self.now.list.added → result ≡ vouched self.now.vouches (jobs_of self.now) vol.now }
+    {
+        vouched(&self.vouches, self.listing.history().jobs(), vol)
+    }
+}
