@@ -3,10 +3,9 @@
 //!
 //! A commit writes the session of a job to the volumes, inserts its rows into the catalogue, and
 //! then publishes them. Sessions take snapshots of what is published, and wait for nobody (br_publish).
-//! `serve` runs a keeper that is asked through a channel.
 //!
 //! The keeper vouches for the length of each volume: one past the end of what the catalogue says of
-//! it, or where the last whole append of a commit ended. If a volume is longer, or an append to it
+//! it, or the end of the last whole append of a commit. If a volume is longer, or an append to it
 //! failed, nothing is written to it any more.
 //!
 //! Contracts see a keeper as its catalogue, its volumes, the lengths that it vouches for, and the
