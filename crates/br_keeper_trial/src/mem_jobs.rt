@@ -1,0 +1,65 @@
+//! A catalogue over memory.
+use br_history::{History, JobRows};
+use br_keeper::{JobStore, JobStoreFault};
+use std::alloc::Global;
+
+/// Jobs in memory. Nothing is said of them.
+#[derive(Drop)]
+pub(crate) struct MemJobs {
+    alloc: Global,
+    pub(crate) history: History,
+    /// Whether each insertion fails.
+    fails: bool,
+    /// Why the jobs cannot be loaded.
+    fault: Option<JobStoreFault>,
+}
+
+impl MemJobs {
+    /// Returns a catalogue of these jobs.
+    pub(crate) fn new(
+        alloc: Global,
+        history: History,
+        fails: bool,
+        fault: Option<JobStoreFault>,
+    ) -> MemJobs {
+        MemJobs {
+            alloc,
+            history,
+            fails,
+            fault,
+        }
+    }
+}
+
+impl JobStore for MemJobs {
+    ghost inserts = { λ rows old new. Unit {0} };
+
+    ghost refuses = { λ rows old new. Unit {0} };
+
+    ghost loads = { λ old new result. Unit {0} };
+
+    /// Appends a copy of a job, unless it is to fail.
+    fn insert_job(&mut self, rows: &JobRows) -> Result<(), JobStoreFault> {
+        if self.fails {
+            return Err(JobStoreFault::Store);
+        }
+        let Ok(copy) = rows.copy(self.alloc) else {
+            return Err(JobStoreFault::Store);
+        };
+        match self.history.push(copy) {
+            Ok(()) => Ok(()),
+            Err(_) => Err(JobStoreFault::Store),
+        }
+    }
+
+    /// Returns a copy of the jobs, unless they cannot be loaded.
+    fn load_history(&mut self) -> Result<History, JobStoreFault> {
+        if let Some(fault) = self.fault {
+            return Err(fault);
+        }
+        match self.history.copy(self.alloc) {
+            Ok(history) => Ok(history),
+            Err(_) => Err(JobStoreFault::Memory),
+        }
+    }
+}
