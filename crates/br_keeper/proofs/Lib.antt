@@ -1,3 +1,4 @@
 mod PreparingLaws
 mod VouchLaws
 mod WritingLaws
+mod HoldingLaws

@@ -5,3 +5,4 @@ pub mod Writing
 pub mod Listing
 pub mod Keeping
 pub mod Committing
+pub mod Holding

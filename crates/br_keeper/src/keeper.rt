@@ -8,6 +8,7 @@ ghost use Rattle.br_keeper.specs.Vouching.{vouched};
 ghost use Rattle.br_keeper.specs.Writing.{shelf};
 ghost use Rattle.br_keeper.specs.Keeping.{jobs_of, shelf_of};
 ghost use Rattle.br_keeper.specs.Committing.{Commits, StoresJob, IsNotMade};
+ghost use Rattle.br_keeper.specs.Holding.{HoldsJob};
 
 use crate::fault::KeeperFault;
 use crate::job_store::JobStore;
@@ -141,7 +142,8 @@ impl<C: JobStore, W: VolumeStore> Keeper<C, W> {
     /// - `StoredNotPublished` if memory runs out for the publishing. All blocks are appended, and the
     ///   catalogue has the job.
     pub fn commit<R: Wait>(&mut self, rt: &R, job: SavedJob) -> Result<Receipt, KeeperFault>
-        ensures { Commits C.inserts C.refuses (shelf_of W.holds W.failures) job self.old self.new result }
+        ensures commits { Commits C.inserts C.refuses (shelf_of W.holds W.failures) job self.old self.new result }
+        ensures holds { HoldsJob C.refuses (shelf_of W.holds W.failures) job self.old self.new result }
     {
         self.commit_saved(rt, &job)
     }
