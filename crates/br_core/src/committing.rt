@@ -58,7 +58,13 @@ fn are_32_bits(session: SessionKey)
 {}
 
 /// Returns the rows of a job, and its blocks for volumes of these lengths, if it can be committed.
-pub(crate) fn prepared(
+/// A volume that is not named there is empty.
+///
+/// # Errors
+///
+/// `DuplicateJob` if the history has a job of this number, `DuplicateSession` if it has one of this
+/// session, and `BadRow` if a span would end past the greatest address.
+pub fn prepared(
     alloc: Global,
     history: &History,
     starts: &[(VolName, u64)],

@@ -12,12 +12,11 @@ mod restores;
 mod running;
 mod status;
 mod steps;
-#[cfg(test)]
-mod tests;
 mod world;
 
 ghost use Rattle.br_core.specs.Laws.{Headline, HitsOfARun, JobsHold};
 
+pub use committing::prepared;
 pub use event::{Event, Reply};
 pub use fault::StepFault;
 pub use running::run;

@@ -42,7 +42,7 @@ fn files(alloc: Global, of: &File) -> Result<Vec<SavedFile>, Fail> {
 }
 
 fn job(alloc: Global, of: &Job, saves: &File) -> Result<SavedJob, Fail> {
-    saved_job(alloc, of, files(alloc, saves)?, Vec::new(alloc))
+    saved_job(alloc, of, files(alloc, saves)?, Vec::new(alloc), 64)
 }
 
 /// Returns the event of a deed.

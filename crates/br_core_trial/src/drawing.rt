@@ -132,6 +132,7 @@ pub(crate) fn job_of(alloc: Global, backup: &Backup) -> Result<SavedJob, Fail> {
         &backup.job,
         files(alloc, backup)?,
         deleted(alloc, backup)?,
+        64,
     )
 }
 

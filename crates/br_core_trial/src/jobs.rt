@@ -91,19 +91,20 @@ pub(crate) fn file(
     )?)
 }
 
-/// Returns a job that saves these files and notes these paths as deleted, in blocks of at most 64
-/// bytes.
+/// Returns a job that saves these files and notes these paths as deleted, in blocks of at most
+/// `limit` bytes.
 pub(crate) fn saved_job(
     alloc: Global,
     job: &Job,
     files: Vec<SavedFile>,
     deleted: Vec<Path>,
+    limit: u32,
 ) -> Result<SavedJob, Fail> {
     Ok(SavedJob::new(
         job_row(alloc, job)?,
         files,
         deleted,
-        64,
+        limit,
         places(alloc, job)?,
     )?)
 }

@@ -3,6 +3,8 @@
 #![tactic(auto)]
 
 #[cfg(test)]
+mod commit_tests;
+#[cfg(test)]
 mod deeds;
 #[cfg(test)]
 mod drawing;
