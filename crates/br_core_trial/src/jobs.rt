@@ -1,5 +1,6 @@
 //! Jobs that are saved, made from short tuples, and the request for a restore of them.
 ghost use Rattle.std.specs.Prelude.{◌≡◌, true, [], IfOk};
+ghost use Rattle.br_block.specs.Building.{IsBlockLimit};
 ghost use Rattle.br_session.specs.Outcome.{ArePlaces};
 
 use br_attr::Stat;
@@ -99,7 +100,9 @@ pub(crate) fn saved_job(
     files: Vec<SavedFile>,
     deleted: Vec<Path>,
     limit: u32,
-) -> Result<SavedJob, Fail> {
+) -> Result<SavedJob, Fail>
+    requires bounds { IsBlockLimit limit }
+{
     Ok(SavedJob::new(
         job_row(alloc, job)?,
         files,
