@@ -42,11 +42,15 @@ fn command_of<'x>(db: &'x str, volumes: &'x str, into: &'x str) -> Invocation<'x
     Invocation::Console(given_of(db, volumes, into))
 }
 
+/// The lines that mark all and restore it.
+const ALL: &[u8] = b"mark *\ndone\n";
+
 /// A delivery of two files, and what comes of it.
 #[derive(Clone, Copy)]
 struct Case {
     /// Of the folder for the test.
     name: &'static str,
+    lines: &'static [u8],
     /// The path of the second file.
     second: &'static [u8],
     status: u8,
@@ -58,6 +62,7 @@ struct Case {
 
 const DELIVERED: Case = Case {
     name: "talk",
+    lines: ALL,
     second: b"/d/b",
     status: 0,
     refusal: b"",
@@ -71,6 +76,7 @@ const DELIVERED: Case = Case {
 
 const CONFLICT: Case = Case {
     name: "talk_way",
+    lines: ALL,
     second: b"/a/b",
     status: 1,
     refusal: b"refused 81\n",
@@ -85,6 +91,7 @@ const CONFLICT: Case = Case {
 /// The path of the second file is no text.
 const NO_TEXT: Case = Case {
     name: "talk_text",
+    lines: ALL,
     second: b"/b\xff\xfe",
     status: 1,
     refusal: b"refused 80\n",
@@ -96,6 +103,21 @@ const NO_TEXT: Case = Case {
     files: &[("into/a", b"hello")],
 };
 
+/// The first line is refused, and the lines after it are carried out.
+const REFUSED_LINE: Case = Case {
+    name: "talk_refused",
+    lines: b"mark nil\nmark *\ndone\n",
+    second: b"/d/b",
+    status: 1,
+    refusal: b"",
+    text: b"refused 57\n2 marked\n\
+        Volume=\"V\"\nVolSessionId=1\nVolSessionTime=100\nVolAddr=0-159\nFileIndex=1-2\n\
+        F 1 100 1 3 /a 0,0,33188,1,0,0,0,5,0,0,0,0,0,0 = 5 5d41402abc4b2a76b9719d911017c592\n\
+        F 1 100 2 3 /d/b 0,0,33188,1,0,0,0,5,0,0,0,0,0,0 = 5 7d793037a0760186574b0282f2f435e7\n\
+        total 2 0 0\n",
+    files: &[("into/a", b"hello"), ("into/d/b", b"world")],
+};
+
 /// Creates the file of a catalogue in a place. Returns its path.
 fn new_db(rt: &HostRuntime, place: &str) -> Result<String, Fail> {
     let db = path_in(rt, place, "one.db")?;
@@ -103,12 +125,12 @@ fn new_db(rt: &HostRuntime, place: &str) -> Result<String, Fail> {
     Ok(db)
 }
 
-/// Returns how a session in a place that marks all ends, and writes its text.
+/// Returns how the session of a case ends in a place, and writes its text.
 fn ended<W: Write + Drop>(
     rt: &HostRuntime,
     threads: &(impl Threads + Sync),
     place: &str,
-    second: &[u8],
+    case: &Case,
     text: W,
 ) -> Result<Ending, Fail> {
     let db = new_db(rt, place)?;
@@ -117,11 +139,11 @@ fn ended<W: Write + Drop>(
     let catalogue = OneCatalogue {
         alloc: rt.alloc(),
         db: db.as_str(),
-        second,
+        second: case.second,
     };
     let given = given_of(db.as_str(), volumes.as_str(), into.as_str());
     let mut task = set_up_console(rt, &catalogue, &given)?.onto(text);
-    let mut lines = b"mark *\ndone\n".as_slice();
+    let mut lines = case.lines;
     let run = console_over(threads, rt.alloc(), &mut task, &mut lines);
     Ok(console_ending(rt.alloc(), &run)?)
 }
@@ -134,7 +156,7 @@ fn ends(
     case: &Case,
 ) -> Result<bool, Fail> {
     let mut text = Vec::new(rt.alloc());
-    let ending = ended(rt, threads, place, case.second, &mut text)?;
+    let ending = ended(rt, threads, place, case, &mut text)?;
     Ok(
         ending.status == case.status
             && ending.refusal.as_slice() == case.refusal
@@ -166,21 +188,28 @@ fn a_stop_comes_after_the_manifest(rt: HostRuntime) -> Result<(), Fail> {
 }
 
 #[test]
+fn a_refused_line_is_answered_and_the_files_are_delivered(rt: HostRuntime) -> Result<(), Fail> {
+    assert!(rt; holds(&rt, &rt, &REFUSED_LINE)?);
+    Ok(())
+}
+
+#[test]
 fn nothing_is_delivered_if_the_answers_are_not_flushed(rt: HostRuntime) -> Result<(), Fail> {
     let place = new_place(&rt, "session_clogged", &[("V", [FRONT, b"/d/b", BACK])])?;
-    let ending = ended(&rt, &rt, place.as_str(), b"/d/b", &mut Clogged)?;
+    let ending = ended(&rt, &rt, place.as_str(), &DELIVERED, &mut Clogged)?;
     assert_eq!(rt; ending.status, 3);
     assert_eq!(rt; entries_in(&rt, place.as_str(), "into")?, 0);
     fs::remove_dir_all(&rt, place.as_str())?;
     Ok(())
 }
 
-/// Returns the status of `console` in a place, with lines that mark and restore all.
+/// Returns the status of `console` in a place, with these lines.
 fn status_in(
     rt: &HostRuntime,
     threads: &(impl Threads + Sync),
     place: &str,
     into: &str,
+    lines: &[u8],
 ) -> Result<u8, Fail> {
     let db = new_db(rt, place)?;
     let volumes = path_in(rt, place, "volumes")?;
@@ -190,7 +219,7 @@ fn status_in(
         second: b"/d/b",
     };
     let given = given_of(db.as_str(), volumes.as_str(), into);
-    let mut lines = b"mark *\ndone\n".as_slice();
+    let mut lines = lines;
     Ok(restore_by_lines(rt, threads, &catalogue, &given, &mut lines)?)
 }
 
@@ -198,8 +227,21 @@ fn status_in(
 fn console_delivers_what_was_marked(rt: HostRuntime) -> Result<(), Fail> {
     let place = new_place(&rt, "console", &[("V", [FRONT, b"/d/b", BACK])])?;
     let into = path_in(&rt, place.as_str(), "into")?;
-    assert_eq!(rt; status_in(&rt, &rt, place.as_str(), into.as_str())?, 0);
+    assert_eq!(rt; status_in(&rt, &rt, place.as_str(), into.as_str(), ALL)?, 0);
     assert!(rt; are_there(&rt, place.as_str(), DELIVERED.files)?);
+    fs::remove_dir_all(&rt, place.as_str())?;
+    Ok(())
+}
+
+#[test]
+fn a_refused_line_ends_console_with_status_1(rt: HostRuntime) -> Result<(), Fail> {
+    let place = new_place(&rt, "console_refused", &[("V", [FRONT, b"/d/b", BACK])])?;
+    let into = path_in(&rt, place.as_str(), "into")?;
+    assert_eq!(rt;
+        status_in(&rt, &rt, place.as_str(), into.as_str(), REFUSED_LINE.lines)?,
+        1
+    );
+    assert!(rt; are_there(&rt, place.as_str(), REFUSED_LINE.files)?);
     fs::remove_dir_all(&rt, place.as_str())?;
     Ok(())
 }

@@ -7,6 +7,7 @@ use br_commands::{
 };
 use br_history::History;
 use br_options::{ExtractOptions, Invocation};
+use std::alloc::Global;
 use std::fs;
 use std::io::Write;
 use std::test::Fail;
@@ -120,15 +121,16 @@ fn delivered<W: Write>(
     Ok(extract_ending(rt.alloc(), &run)?)
 }
 
-/// Returns if a delivery in a place is as expected.
+/// Returns if a delivery by a bootstrap in a place is as expected of a case.
 fn ends(
     rt: &HostRuntime,
     threads: &(impl Threads + Sync),
     place: &str,
+    bootstrap: &[u8],
     case: &Case,
 ) -> Result<bool, Fail> {
     let mut manifest = Vec::new(rt.alloc());
-    let ending = delivered(rt, threads, place, case.bootstrap, &mut manifest)?;
+    let ending = delivered(rt, threads, place, bootstrap, &mut manifest)?;
     Ok(
         ending.status == case.status
             && ending.refusal.as_slice() == case.refusal
@@ -139,7 +141,7 @@ fn ends(
 /// Returns if a delivery is as expected, and the files are there.
 fn holds(rt: &HostRuntime, threads: &(impl Threads + Sync), case: &Case) -> Result<bool, Fail> {
     let place = new_place(rt, case.name, case.volumes)?;
-    let ends = ends(rt, threads, place.as_str(), case)?;
+    let ends = ends(rt, threads, place.as_str(), case.bootstrap, case)?;
     let are_there = are_there(rt, place.as_str(), case.files)?;
     fs::remove_dir_all(rt, place.as_str())?;
     Ok(ends && are_there)
@@ -171,6 +173,27 @@ fn nothing_is_delivered_if_the_manifest_is_not_flushed(rt: HostRuntime) -> Resul
     Ok(())
 }
 
+/// Returns a bootstrap of `count` groups, of which the last selects the second file of a volume, and
+/// each other the first.
+fn bootstrap_of(alloc: Global, count: usize) -> Result<Vec<u8>, Fail> {
+    let mut text = Vec::new(alloc);
+    for _group in 1..count {
+        text.extend_from_slice(b"Volume=V\nFileIndex=1\n")?;
+    }
+    text.extend_from_slice(b"Volume=V\nFileIndex=2\n")?;
+    Ok(text)
+}
+
+/// Nothing below 2^32 but memory bounds the number of groups.
+#[test]
+fn a_bootstrap_may_have_thousands_of_groups(rt: HostRuntime) -> Result<(), Fail> {
+    let place = new_place(&rt, "groups", FOLDERS.volumes)?;
+    let text = bootstrap_of(rt.alloc(), 2000)?;
+    assert!(rt; ends(&rt, &rt, place.as_str(), &text, &FOLDERS)?);
+    fs::remove_dir_all(&rt, place.as_str())?;
+    Ok(())
+}
+
 /// No catalogue at all.
 #[derive(Drop)]
 struct NoCatalogue;
@@ -185,16 +208,17 @@ impl Catalogue for NoCatalogue {
     }
 }
 
-/// Returns the status of the command `extract` in a place, with a bootstrap of its volume.
+/// Returns the status of the command `extract` in a place, by this bootstrap.
 fn status_in(
     rt: &HostRuntime,
     threads: &(impl Threads + Sync),
     place: &str,
+    bootstrap: &[u8],
     into: Option<&str>,
 ) -> Result<u8, Fail> {
     let bsr = path_in(rt, place, "one.bsr")?;
     let volumes = path_in(rt, place, "volumes")?;
-    fs::write(rt, bsr.as_str(), b"Volume=V\n")?;
+    fs::write(rt, bsr.as_str(), bootstrap)?;
     let command = Invocation::Extract(ExtractOptions {
         bsr: bsr.as_str(),
         volumes: volumes.as_str(),
@@ -208,13 +232,29 @@ fn status_in(
 fn extract_delivers_only_if_asked(rt: HostRuntime) -> Result<(), Fail> {
     let place = new_place(&rt, "whole", FOLDERS.volumes)?;
     let into = path_in(&rt, place.as_str(), "into")?;
-    assert_eq!(rt; status_in(&rt, &rt, place.as_str(), None)?, 0);
+    assert_eq!(rt;
+        status_in(&rt, &rt, place.as_str(), b"Volume=V\n", None)?,
+        0
+    );
     assert_eq!(rt; entries_in(&rt, place.as_str(), "into")?, 0);
     assert_eq!(rt;
-        status_in(&rt, &rt, place.as_str(), Some(into.as_str()))?,
+        status_in(&rt, &rt, place.as_str(), b"Volume=V\n", Some(into.as_str()))?,
         0
     );
     assert!(rt; are_there(&rt, place.as_str(), FOLDERS.files)?);
+    fs::remove_dir_all(&rt, place.as_str())?;
+    Ok(())
+}
+
+/// Bootstraps that are refused: by the volume, which is not there, and by a line.
+const REFUSED: [&[u8]; 2] = [b"Volume=W\n", b"Volume=V\nJob=1\n"];
+
+#[test]
+fn a_refused_restore_ends_extract_with_status_1(rt: HostRuntime) -> Result<(), Fail> {
+    let place = new_place(&rt, "refused", FOLDERS.volumes)?;
+    for bootstrap in REFUSED {
+        assert_eq!(rt; status_in(&rt, &rt, place.as_str(), bootstrap, None)?, 1);
+    }
     fs::remove_dir_all(&rt, place.as_str())?;
     Ok(())
 }
@@ -238,7 +278,13 @@ fn a_folder_that_is_not_empty_is_refused_before_anything_is_read(
     let volumes = path_in(&rt, place.as_str(), "volumes")?;
     assert!(rt; is_refused(&rt, volumes.as_str()));
     assert_eq!(rt;
-        status_in(&rt, &rt, place.as_str(), Some(volumes.as_str()))?,
+        status_in(
+            &rt,
+            &rt,
+            place.as_str(),
+            b"Volume=V\n",
+            Some(volumes.as_str())
+        )?,
         1
     );
     assert_eq!(rt; entries_in(&rt, place.as_str(), "volumes")?, 1);
