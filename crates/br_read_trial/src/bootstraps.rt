@@ -77,7 +77,7 @@ fn count(case: &mut Case, text: &str) {
 }
 
 /// A record: its address, session, index and stream.
-#[derive(Clone, Copy)]
+#[derive(Drop)]
 struct Spot {
     addr: u64,
     session: SessionKey,
@@ -104,7 +104,7 @@ fn spot_of(case: &mut Case, fields: &[&str]) -> Option<Spot> {
 }
 
 /// Prints for each group whether it hits a record.
-fn push_hits(case: &mut Case, groups: &[Group], spot: Spot) {
+fn push_hits(case: &mut Case, groups: &[Group], spot: &Spot) {
     for group in groups {
         let is_hit = group.hits(spot.addr, spot.session, spot.index, spot.stream);
         case.text(if is_hit { "+" } else { "-" });
@@ -117,7 +117,7 @@ fn hits(case: &mut Case, text: &str, fields: &[&str]) {
         return;
     };
     match bootstrap_of(case, text) {
-        Ok(bootstrap) => push_hits(case, bootstrap.groups(), spot),
+        Ok(bootstrap) => push_hits(case, bootstrap.groups(), &spot),
         Err(_fault) => case.fail("the bootstrap is refused"),
     }
 }
