@@ -1,5 +1,5 @@
-//! What is tried of the keeper: commits over memory, and what sessions see meanwhile. There are only
-//! tests here.
+//! What is tried of the keeper: commits over memory, callers of a served keeper, and what sessions see
+//! meanwhile. There are only tests here.
 #![tactic(auto)]
 
 #[cfg(test)]
@@ -8,3 +8,7 @@ mod commit_tests;
 mod jobs;
 #[cfg(test)]
 mod mem_jobs;
+#[cfg(test)]
+mod serve_tests;
+#[cfg(test)]
+mod watch_tests;
