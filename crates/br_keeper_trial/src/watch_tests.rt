@@ -12,7 +12,7 @@ use std::thread::{JoinHandle, Threads, spawn, yield_now};
 type MemKeeper = Keeper<MemJobs, MemStore>;
 
 /// How many jobs are committed, with the numbers from 1 on.
-const JOBS: u32 = 100;
+const JOBS: u32 = 1000;
 
 /// The number of sessions.
 const SESSIONS: u32 = 16;
