@@ -115,11 +115,15 @@ fn read_all(case: &mut Case, drive: &mut impl Drive, reads: &[&str]) {
     }
 }
 
-/// Reads from a drive over memory, and prints the volumes that it gives back.
+/// Reads from a drive over memory, and prints the volumes that it gives back and the bytes that it
+/// gave.
 fn read_owned(case: &mut Case, drive: MemDrive, reads: &[&str]) {
     let mut drive = drive;
     read_all(case, &mut drive, reads);
+    let given = drive.bytes_read();
     push_volumes(case, &drive.into_volumes());
+    case.text("gave ");
+    case.number(given);
 }
 
 /// Reads from two drives that borrow the same volumes.

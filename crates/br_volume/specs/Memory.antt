@@ -1,8 +1,11 @@
 -- A drive over memory.
-use Rattle.std.specs.Prelude.{ℕ, ◌+◌, Bool, true, false, if◌then◌else◌, List, [], ◌∷◌, map, Vec, Option, Result, Err}
+use Rattle.std.specs.Prelude.{ℕ, ◌+◌, ◌-◌, ◌^◌, min, Bool, true, false, if◌then◌else◌, List, [], ◌∷◌, map, Vec, Option, Result, Ok, Err}
 use Rattle.br_model.specs.Volume.{Volume}
 use Rattle.br_volume.specs.Calls.{is_out, one_fewer}
 use Rattle.br_volume.specs.Drive.{bytes_shown}
+use Rattle.br_volume.specs.declared.drive.Got.{Got}
+use Rattle.br_volume.specs.declared.drive.Got.TheVariants.{Block, End}
+use Rattle.br_volume.specs.declared.fault.DriveFault.{DriveFault}
 use Rattle.br_volume.specs.MemStore.{with_appended}
 
 -- the volumes that are kept as pairs of a name and bytes, in their order
@@ -10,18 +13,20 @@ abbrev pub volumes_of : {A : Type 0} → List (List ℕ × Vec ℕ A) → List V
 volumes_of {A} kept = map (λ (v : List ℕ × Vec ℕ A). record { name = v.0; bytes = v.1.items }) kept
 
 -- its volumes, the tails that it is to append, the next one first, whether it was called before, the
--- number of calls before it fails, if it is to fail, and the number of failed calls
+-- number of calls before it fails, if it is to fail, the number of bytes that it gave, at most
+-- 2^64 - 1, and the number of failed calls
 pub record Held : Type 0 where
   pub volumes : List Volume
   pub tails : List Volume
   pub has_begun : Bool
   pub calls_left : Option ℕ
+  pub bytes_read : ℕ
   pub failures : ℕ
 
 -- a drive that was not called yet
 abbrev pub unused : List Volume → List Volume → Option ℕ → Held
 unused volumes tails calls_left =
-    record { volumes = volumes; tails = tails; has_begun = false; calls_left = calls_left; failures = 0 }
+    record { volumes = volumes; tails = tails; has_begun = false; calls_left = calls_left; bytes_read = 0; failures = 0 }
 
 -- the volumes with the first of these tails appended to its volume
 abbrev pub grown_by : List Volume → List Volume → List Volume
@@ -40,16 +45,24 @@ grown drive = record {
   tails = if drive.has_begun then without_first drive.tails else drive.tails;
   has_begun = true;
   calls_left = drive.calls_left;
+  bytes_read = drive.bytes_read;
   failures = drive.failures;
 }
 
--- the drive after a call that it read for
-abbrev pub after_read : Held → Held
-after_read drive = record {
+-- the number of bytes that a call gave
+abbrev pub given : Result Got DriveFault → ℕ
+given (Ok (Block n)) = n
+given (Ok End) = 0
+given (Err why) = 0
+
+-- the drive after a call that it read for, if the call gave `count` bytes
+abbrev pub after_read : Held → ℕ → Held
+after_read drive count = record {
   volumes = drive.volumes;
   tails = drive.tails;
   has_begun = drive.has_begun;
   calls_left = one_fewer drive.calls_left;
+  bytes_read = min (drive.bytes_read + count) (2 ^ 64 - 1);
   failures = drive.failures;
 }
 
@@ -60,12 +73,13 @@ after_fault drive = record {
   tails = drive.tails;
   has_begun = drive.has_begun;
   calls_left = drive.calls_left;
+  bytes_read = drive.bytes_read;
   failures = drive.failures + 1;
 }
 
--- the drive after a call
-abbrev pub after_call : Held → Held
-after_call drive = if is_out drive.calls_left then after_fault drive else after_read (grown drive)
+-- the drive after a call that gave `count` bytes
+abbrev pub after_call : Held → ℕ → Held
+after_call drive count = if is_out drive.calls_left then after_fault drive else after_read (grown drive) count
 
 -- the result of a call: 13 if none is left, else the bytes shown
 abbrev pub bytes_held : Held → List ℕ → ℕ → ℕ → Result (Option (List ℕ)) ℕ

@@ -7,7 +7,7 @@ ghost use Rattle.br_volume.specs.Drive.{AnswersOver, OnlyGrows, IsSized, bytes_g
 ghost use Rattle.br_volume.specs.Fault.{cause, failing_cause};
 ghost use Rattle.br_volume.specs.declared.fault.DriveFault.TheVariants.{Memory, Fault};
 ghost use Rattle.br_volume.specs.Calls.{is_out};
-ghost use Rattle.br_volume.specs.Memory.{Held, volumes_of, unused, bytes_held, after_call};
+ghost use Rattle.br_volume.specs.Memory.{Held, volumes_of, unused, bytes_held, after_call, given};
 ghost use Rattle.br_volume.specs.Memory.{grown, grown_by, without_first};
 
 use crate::count::Count;
@@ -25,6 +25,8 @@ pub struct MemDrive {
     tails: Vec<(VolName, Vec<u8>)>,
     has_begun: bool,
     calls_left: Option<u64>,
+    /// At most 2^64 - 1.
+    bytes_read: u64,
     failures: Count,
 }
 
@@ -38,6 +40,7 @@ impl Model for MemDrive {
       tails = volumes_of d.tails.items;
       has_begun = d.has_begun;
       calls_left = d.calls_left;
+      bytes_read = d.bytes_read;
       failures = d.failures.number;
     } };
 }
@@ -63,6 +66,7 @@ impl MemDrive {
             tails,
             has_begun: false,
             calls_left: Some(k.saturating_sub(1)),
+            bytes_read: 0,
             failures: Count::zero(),
         }
     }
@@ -78,6 +82,7 @@ impl MemDrive {
             tails,
             has_begun: false,
             calls_left: None,
+            bytes_read: 0,
             failures: Count::zero(),
         }
     }
@@ -87,6 +92,13 @@ impl MemDrive {
         ensures { volumes_of result.items ≡ self.volumes }
     {
         self.volumes
+    }
+
+    /// Returns the number of bytes that calls gave, or 2^64 - 1 if there were more.
+    pub fn bytes_read(&self) -> u64
+        ensures { result ≡ self.now.bytes_read }
+    {
+        self.bytes_read
     }
 
     /// Returns whether the next call fails.
@@ -170,6 +182,16 @@ fn copy_from(bytes: &[u8], addr: u64, size: u32, buf: &mut Vec<u8>) -> Result<Go
     Ok(Got::Block(block.len() as u32))
 }
 
+/// Returns the number of bytes that a call gave.
+fn given(answer: &Result<Got, DriveFault>) -> u32
+    ensures { result ≡ given answer.now }
+{
+    match answer {
+        Ok(Got::Block(count)) => *count,
+        Ok(Got::End) | Err(_) => 0,
+    }
+}
+
 /// Reads a block of a volume into the buffer.
 #[tactic(auto, unfolding(crate::specs::Drive::bytes_shown))]
 pub(crate) fn read_from(
@@ -214,8 +236,8 @@ impl Drive for MemDrive {
         ensures failed { result ≡ Err Fault → self.old.failures < self.new.failures }
         ensures exact { Answers (bytes_got buf.new.items) failing_cause result (bytes_held self.old vol.now addr size) }
         ensures out { is_out self.old.calls_left ≡ true → result ≡ Err Fault }
-        ensures after { (self.new ≡ after_call self.old) ⊎ (result ≡ Err Memory) × (self.new ≡ self.old) }
-        ensures steady { self.old.tails ≡ [] → self.new ≡ after_call self.old }
+        ensures after { (self.new ≡ after_call self.old (given result)) ⊎ (result ≡ Err Memory) × (self.new ≡ self.old) }
+        ensures steady { self.old.tails ≡ [] → self.new ≡ after_call self.old (given result) }
         ensures keeps_room { vec_capacity buf.old ≤ vec_capacity buf.new }
         ensures has_room { self.old.tails ≡ [] → size ≤ vec_capacity buf.old → result ≡ Err Memory → ⊥ }
     {
@@ -225,6 +247,8 @@ impl Drive for MemDrive {
         }
         self.grow()?;
         self.calls_left = self.calls_left.map(|n| n.saturating_sub(1));
-        read_from(&self.volumes, vol, addr, size, buf)
+        let answer = read_from(&self.volumes, vol, addr, size, buf);
+        self.bytes_read = self.bytes_read.saturating_add(u64::from(given(&answer)));
+        answer
     }
 }
