@@ -19,7 +19,8 @@ use Rattle.br_match.proofs.GrowthLaws.{extends_itself}
 use Rattle.br_core.proofs.AlikeLaws.{step_alike}
 use Rattle.br_core.proofs.PlanPieceLaws.{IsPieceOf, IsReadable}
 use Rattle.br_core.proofs.PlaceLaws.{was_there, without}
-use Rattle.br_core.proofs.HeldLaws.{IsHeld, batch_is_held, held_where_taken, held_with_batch, one_set, was_taken}
+use Rattle.br_join.proofs.TakingLaws.{one_set, was_taken}
+use Rattle.br_core.proofs.HeldLaws.{IsHeld, batch_is_held, held_where_taken, held_with_batch}
 use Rattle.br_core.proofs.StatusLaws.{IsAt, AreAt, at_weaker, are_at_new, claimed_at}
 
 -- The restore is one of the plan over the volumes that so many commits left, what is on its way and

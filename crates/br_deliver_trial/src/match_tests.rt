@@ -487,6 +487,47 @@ fn wrong_calls(alloc: Global, cases: &[Calls]) -> Result<Option<(usize, Option<u
     Ok(None)
 }
 
+/// Returns the number of bytes that a drive gives for the first piece of a case, which may be
+/// refused.
+fn bytes_given(alloc: Global, case: Case<'_>) -> Result<u64, Fail> {
+    let bytes = bytes_of(alloc, case)?;
+    let pieces = pieces_of_text(alloc, case.2)?;
+    let piece = pieces.first().ok_or("a piece")?;
+    let mut drive = MemDrive::new(volumes(alloc, &bytes)?);
+    let _answer = match_piece(alloc, piece, &mut drive);
+    Ok(drive.bytes_read())
+}
+
+/// A case, and the number of bytes that are read: 24 of each block, and 91 of a covered one.
+type Bytes = (Case<'static>, u64);
+
+const BYTES: &[Bytes] = &[
+    ((2, 182, b"Volume=V1\n"), 230),
+    ((0, 0, b"Volume=V1\n"), 0),
+    ((2, 182, b"Volume=V1\nVolAddr=0\n"), 115),
+    ((2, 182, b"Volume=V1\nVolAddr=91\n"), 139),
+    ((2, 182, b"Volume=V1\nVolAddr=1-90\n"), 24),
+    // The second block is refused: it has 10 bytes.
+    ((1, 101, b"Volume=V1\n"), 125),
+];
+
+/// Returns the first of the cases with another number of bytes, and that number.
+fn wrong_bytes(alloc: Global, cases: &[Bytes]) -> Result<Option<(usize, u64)>, Fail> {
+    for (row, (case, wanted)) in cases.iter().enumerate() {
+        let got = bytes_given(alloc, *case)?;
+        if got != *wanted {
+            return Ok(Some((row, got)));
+        }
+    }
+    Ok(None)
+}
+
+#[test]
+fn only_headers_are_read_of_blocks_that_are_not_covered(rt: HostRuntime) -> Result<(), Fail> {
+    assert_eq!(rt; wrong_bytes(rt.alloc(), BYTES)?, None);
+    Ok(())
+}
+
 /// Returns the refusal by a drive that fails from its `k`-th call on, `None` if the piece is
 /// matched.
 fn refused_from(alloc: Global, k: u64) -> Result<Option<(u32, u64)>, Fail> {

@@ -1,6 +1,7 @@
 mod ChoiceLaws
 mod DataLaws
 mod FilePartLaws
+pub mod HeldLaws
 mod JoinLaws
 mod PartLaws
 pub mod TakingLaws
@@ -9,3 +10,5 @@ pub mod PieceLaws
 pub mod RunLaws
 pub mod SortLaws
 mod WrittenLaws
+pub mod ReadyLaws
+pub mod StreamedLaws

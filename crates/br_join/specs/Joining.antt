@@ -1,9 +1,9 @@
 -- A joiner: the pieces that it waits for, the names under which files were planned, and the set of
 -- the hits that it took.
-use Rattle.std.specs.Prelude.{ℕ, Bool, true, false, List, map, Option}
-use Rattle.std.specs.List.{list_all}
+use Rattle.std.specs.Prelude.{◌≡◌, ◌==◌, is_some, ℕ, Bool, true, false, List, [], ◌∷◌, map, Option}
+use Rattle.std.specs.List.{list_all, list_any}
 use Rattle.std.specs.Ordering.{nat_cmp}
-use Rattle.std.specs.FinMap.{FinMap, insert, entries, from_entries, empty}
+use Rattle.std.specs.FinMap.{FinMap, get, insert, entries, from_entries, empty}
 use Rattle.br_model.specs.Meaning.{Piece, Hit, Hits, with_hits}
 use Rattle.br_model.specs.Restored.{Names}
 
@@ -33,6 +33,11 @@ with_batch j batch = record { pieces = j.pieces; names = j.names; hits = with_hi
 abbrev pub with_closed : Joining → ℕ → Joining
 with_closed j piece = record { pieces = insert j.pieces piece true; names = j.names; hits = j.hits }
 
+-- the joiner after the pieces were closed, one after the other
+abbrev pub closed_each : Joining → List Piece → Joining
+closed_each j [] = j
+closed_each j (p ∷ ps) = closed_each (with_closed j p.number) ps
+
 -- whether all pieces are closed
 abbrev pub is_ready : Joining → Bool
 is_ready j = list_all (λ (p : ℕ × Bool). p.1) (entries j.pieces)
@@ -44,3 +49,7 @@ emptied j = record {
   names = j.names;
   hits = empty;
 }
+
+-- the joiner waits for these pieces: it knows their numbers, and no others
+abbrev pub IsMadeFor : List Piece → FinMap nat_cmp Bool → Type 0
+IsMadeFor pieces known = (n : ℕ) → is_some (get known n) ≡ list_any (λ (p : Piece). n == p.number) pieces

@@ -2,6 +2,7 @@ pub mod Code
 pub mod Data
 pub mod Fault
 pub mod FileParts
+pub mod Held
 pub mod Joining
 pub mod Making
 pub mod Opening

@@ -10,9 +10,10 @@ ghost use Rattle.br_join.specs.Pieces.{as_map, opens};
 ghost use Rattle.br_join.specs.declared.fault.JoinFault.TheVariants.{StrangerPiece};
 
 use crate::fault::{JoinFault, Refused};
+use crate::held::Held;
 use crate::item::Outcome;
-use crate::runs::{files_of, settle};
-use br_match::{Batch, Found, Hit};
+use crate::runs::files_of;
+use br_match::{Batch, Found};
 use br_piece::Piece;
 use br_types::{FileKey, Names};
 use std::alloc::{AllocError, Global};
@@ -21,19 +22,18 @@ use std::marker::Model;
 use std::thread::Threads;
 
 /// Gathers what was found of the pieces of a bootstrap, and makes files of it. Of several hits at
-/// one place of one file it keeps the first that was taken.
+/// one place of one file it keeps the first that was taken. It keeps hits in order of file and place,
+/// so that the time for taking one is log n in the number of hits.
 #[derive(Debug, Drop)]
 pub struct Joiner {
     /// The number of each piece, and whether the piece is closed.
     pieces: BTreeMap<u32, bool>,
     /// The path under which each file was planned, if there is a plan.
     names: Option<Names>,
-    /// In order of arrival, with repeats.
-    hits: Vec<Hit>,
+    hits: Held,
 }
 
 impl Model for Joiner {
-    ghost use Rattle.br_model.specs.Meaning as model;
     ghost use Rattle.br_join.specs.Joining.{Joining};
     ghost use Rattle.br_join.specs.Pieces.{as_map};
     ghost use Rattle.br_join.specs.Code.{coded_joining};
@@ -42,7 +42,7 @@ impl Model for Joiner {
 
     ghost coded = { coded_joining };
 
-    ghost view = { λ j. record { pieces = as_map j.pieces; names = j.names; hits = model.hits_of j.hits.items } };
+    ghost view = { λ j. record { pieces = as_map j.pieces; names = j.names; hits = j.hits } };
 }
 
 /// Returns the numbers of the pieces, each of them open.
@@ -76,21 +76,6 @@ fn open_again(pieces: &mut BTreeMap<u32, bool>)
     });
 }
 
-/// Moves some hits to the end of the hits, or returns them if there is no room.
-fn gather(hits: &mut Vec<Hit>, batch: Batch) -> Result<(), Batch>
-    ensures ok { OnOk result (hits.new.items ≡ hits.old.items ++ batch.hits.items) }
-    ensures err { OnErr result (hits.new.items ≡ hits.old.items) }
-    ensures back { IfErr result (λ value. value ≡ batch) }
-{
-    if hits.reserve(batch.hits.len()).is_err() {
-        return Err(batch);
-    }
-    let mut more = batch.hits;
-    // There is room.
-    let _ = hits.append(&mut more);
-    Ok(())
-}
-
 /// Returns whether each piece is closed.
 fn all_closed(pieces: &BTreeMap<u32, bool>) -> bool
     ensures all { result ≡ list_all (λ (closed : Bool). closed) (values pieces.now) }
@@ -108,7 +93,7 @@ impl Joiner {
         Ok(Joiner {
             pieces: opened(alloc, pieces)?,
             names,
-            hits: Vec::new(alloc),
+            hits: Held::new(alloc),
         })
     }
 
@@ -134,12 +119,9 @@ impl Joiner {
             });
         }
         let piece = found.piece;
-        if let Err(batch) = gather(&mut self.hits, Batch { hits: found.hits }) {
+        if let Err(hits) = self.hits.take(found.hits) {
             return Err(Refused {
-                value: Found {
-                    piece,
-                    hits: batch.hits,
-                },
+                value: Found { piece, hits },
                 fault: JoinFault::Memory,
             });
         }
@@ -170,13 +152,26 @@ impl Joiner {
                 fault,
             });
         }
-        if let Err(value) = gather(&mut self.hits, batch) {
-            return Err(Refused {
+        match self.take_hits(batch) {
+            Ok(()) => Ok(()),
+            Err(value) => Err(Refused {
                 value,
                 fault: JoinFault::Memory,
-            });
+            }),
         }
-        Ok(())
+    }
+
+    /// Takes the hits in a block of one of the pieces, as `take_batch` does. If memory runs out the
+    /// joiner is unchanged, and the batch is returned.
+    pub fn take_hits(&mut self, batch: Batch) -> Result<(), Batch>
+        ensures ok { OnOk result (self.new ≡ with_batch self.old batch.hits.items) }
+        ensures err { OnErr result (self.new ≡ self.old) }
+        ensures back { IfErr result (λ value. value ≡ batch) }
+    {
+        match self.hits.take(batch.hits) {
+            Ok(()) => Ok(()),
+            Err(hits) => Err(Batch { hits }),
+        }
     }
 
     /// Closes a piece. The caller knows that all hits of the piece were taken.
@@ -209,7 +204,7 @@ impl Joiner {
     /// joiner keeps its names, and is then empty, its pieces open.
     ///
     /// The files are made in as many threads as there are processors, and the result is that of one
-    /// thread. The time is n log n in the number of hits and names.
+    /// thread. Nothing is sorted: the time is that of the hits, and log n for each name.
     ///
     /// # Errors
     ///
@@ -223,11 +218,16 @@ impl Joiner {
         ensures err { OnErr result (self.new ≡ self.old) }
         ensures files { IfOk result (λ outcomes. map restored outcomes.items ≡ files self.old.hits (option_map planned_in self.old.names)) }
     {
-        settle(&mut self.hits)?;
-        let alloc = *self.hits.allocator();
-        let outcomes = files_of(rt, alloc, self.hits.as_slice(), self.names.as_ref())?;
-        self.hits.clear();
-        open_again(&mut self.pieces);
-        Ok(outcomes)
+        let hits = self.hits.take_out()?;
+        match files_of(rt, *hits.allocator(), &hits, self.names.as_ref()) {
+            Ok(outcomes) => {
+                open_again(&mut self.pieces);
+                Ok(outcomes)
+            }
+            Err(refused) => {
+                self.hits.put_back(hits);
+                Err(refused)
+            }
+        }
     }
 }

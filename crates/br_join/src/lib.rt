@@ -8,6 +8,7 @@ mod data;
 mod fault;
 mod file_bytes;
 mod file_part;
+mod held;
 mod item;
 mod joiner;
 mod making;

@@ -69,16 +69,6 @@ impl<'h> Run<'h> {
     }
 }
 
-/// Sorts hits by file and place. Of those at one place of one file the first stays.
-pub(crate) fn settle(hits: &mut Vec<Hit>) -> Result<(), AllocError>
-    ensures listed { OnOk result (AreListed hits.new.items) }
-    ensures same { model.hits_of hits.new.items ≡ model.hits_of hits.old.items }
-{
-    hits.sort_by_key(|hit| (hit.key, hit.spot))?;
-    hits.dedup_by_key(|hit| (hit.key, hit.spot));
-    Ok(())
-}
-
 /// Returns the hits of the files before this one, of this one, and of the files after it.
 fn around(hits: &[Hit], key: FileKey) -> (&[Hit], &[Hit], &[Hit])
     requires { AreListed hits.now }

@@ -6,3 +6,4 @@ pub mod OverLaws
 pub mod FoundLaws
 pub mod RangeLaws
 pub mod NearLaws
+pub mod ComeLaws

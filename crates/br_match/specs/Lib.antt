@@ -4,3 +4,4 @@ pub mod Walk
 pub mod Groups
 pub mod Near
 pub mod Seen
+pub mod Come

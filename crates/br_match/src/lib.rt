@@ -13,7 +13,20 @@ mod matchers;
 mod matching;
 mod walk;
 
+ghost use Rattle.br_match.specs.Come.{ComeIsMeant, ComeIsReached};
+
 pub use fault::{PieceCause, PieceFault};
 pub use hit::{Batch, Found, Hit, Spot};
 pub use matching::match_piece;
 pub use walk::Walk;
+
+/// States that a hit in a block to which a walk of a bootstrap comes is one that the walk reaches,
+/// whatever follows the block.
+pub fn come_hits_are_reached()
+    ensures { ComeIsReached }
+{}
+
+/// States that such a hit is one of the bootstrap's meaning, if there is one.
+pub fn come_hits_are_meant()
+    ensures { ComeIsMeant }
+{}

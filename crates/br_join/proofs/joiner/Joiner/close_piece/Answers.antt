@@ -1,6 +1,5 @@
 use Rattle.std.proofs.Common.{◌≡◌, sym, ap, refl, ◌∙◌}
 use Rattle.std.specs.FinMap as finite
-use Rattle.br_model.specs.Meaning.{hits_of}
 use Rattle.br_join.specs.Joining.{Joining, with_closed}
 use Rattle.br_join.specs.Pieces.{as_map}
 use Rattle.br_join.proofs.PieceLaws.{not_there, is_there}
@@ -23,6 +22,6 @@ returns-clause-refused c = λ none.
 
 pub returns-clause-ok : goal.returns-clause-ok
 returns-clause-ok c =
-    let step : record { pieces = as_map c.close.new.pieces; names = c.self.inside.names; hits = hits_of c.self.inside.hits.items } ≡ with_closed (record { pieces = as_map c.self.inside.pieces; names = c.self.inside.names; hits = hits_of c.self.inside.hits.items }) c.args.piece =
-    λ i. record { pieces = c.close.ensures i; names = c.self.inside.names; hits = hits_of c.self.inside.hits.items } in
+    let step : record { pieces = as_map c.close.new.pieces; names = c.self.inside.names; hits = c.self.inside.hits } ≡ with_closed (record { pieces = as_map c.self.inside.pieces; names = c.self.inside.names; hits = c.self.inside.hits }) c.args.piece =
+    λ i. record { pieces = c.close.ensures i; names = c.self.inside.names; hits = c.self.inside.hits } in
     step ∙ ap (λ (j : Joining). with_closed j c.args.piece) c.self.view_is

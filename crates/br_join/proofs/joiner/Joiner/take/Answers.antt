@@ -1,10 +1,8 @@
 use Rattle.std.proofs.Common.{◌≡◌, sym, ap, ◌∙◌}
 use Rattle.std.specs.FinMap as finite
-use Rattle.br_model.specs.Meaning.{hits_of, with_hits}
 use Rattle.br_join.specs.Joining.{Joining, taken}
 use Rattle.br_join.specs.Pieces.{as_map}
 use Rattle.br_join.proofs.PieceLaws.{not_there, is_there}
-use Rattle.br_join.proofs.TakingLaws.{taken_together}
 use Rattle.br_join.proofs.joiner.Joiner.take.Goals as goal
 
 pub returns-then-not-contains_key-clause-known : goal.returns-then-not-contains_key-clause-known
@@ -27,8 +25,6 @@ returns-clause-refused c = λ none.
 
 pub returns-clause-ok : goal.returns-clause-ok
 returns-clause-ok c =
-    let hits : hits_of c.gather.new.hits.items ≡ with_hits (hits_of c.self.inside.hits.items) c.args.found.hits.items =
-    ap hits_of c.in_default.ensures.ok ∙ sym (taken_together c.self.inside.hits.items c.args.found.hits.items) in
-    let step : record { pieces = as_map c.close.new.pieces; names = c.self.inside.names; hits = hits_of c.gather.new.hits.items } ≡ taken (record { pieces = as_map c.self.inside.pieces; names = c.self.inside.names; hits = hits_of c.self.inside.hits.items }) c.args.found.piece c.args.found.hits.items =
-    λ i. record { pieces = c.close.ensures i; names = c.self.inside.names; hits = hits i } in
+    let step : record { pieces = as_map c.close.new.pieces; names = c.self.inside.names; hits = c.take.new.self } ≡ taken (record { pieces = as_map c.self.inside.pieces; names = c.self.inside.names; hits = c.self.inside.hits }) c.args.found.piece c.args.found.hits.items =
+    λ i. record { pieces = c.close.ensures i; names = c.self.inside.names; hits = c.in_default.ensures.ok i } in
     step ∙ ap (λ (j : Joining). taken j c.args.found.piece c.args.found.hits.items) c.self.view_is

@@ -1,0 +1,162 @@
+-- Hits in a tree by file and place: the look-ups of the tree are those of the list of its hits.
+use Rattle.std.proofs.Common.{◌≡◌, length, Bool, true, false, cond, Option, Some, None, option_map, List, [], ◌∷◌, ◌++◌, refl, sym, ap, subst, ◌∙◌}
+use Rattle.std.specs.Prelude.{is_some, reverse}
+use Rattle.std.specs.List.{AllByRecursion}
+use Rattle.std.specs.List.Sorted.{IsStrictlySortedBy}
+use Rattle.std.specs.Map.{keys_of, values_of, lookup}
+use Rattle.std.specs.BTreeMap.{insert_entry, is_at, values}
+use Rattle.std.specs.Cmp.{eq_by_cmp_equiv}
+use Rattle.std.specs.Ordering.{eq_by_cmp, is_eq, match_ordering}
+use Rattle.std.specs.declared.cmp.Ordering.{Ordering}
+use Rattle.std.specs.declared.cmp.Ordering.TheVariants.{Less, Equal, Greater}
+use Rattle.std.specs.Option.{option_or}
+use Rattle.std.specs.FinMap.{find}
+use Rattle.std.proofs.lemmas.List.{append-nil, nil_from_length, reverse-append, reverse-reverse}
+use Rattle.br_model.specs.Name.{FileKey}
+use Rattle.br_model.specs.Block.{Fragment}
+use Rattle.br_model.specs.Meaning.{Spot, Hit, Hits, hit_cmp, hits_of, with_hits}
+use Rattle.br_model.proofs.HitLaws.{hit_cmp_total, hit_cmp-IsAntisymmetric}
+use Rattle.br_join.specs.Held.{HitTree, AreKeyed, HasOneMore, all_held}
+use Rattle.br_join.specs.Runs.{listed, hit_order, AreListed}
+use Rattle.br_join.proofs.SortLaws.{place, place_cmp, place_cmp_is, same_set}
+use Rattle.br_join.proofs.TakingLaws.{find_joined, or_none, taken_together}
+
+-- ---- look-ups
+
+-- the fragment of a hit, if there is one
+abbrev fragment_of : Option Hit → Option Fragment
+fragment_of o = option_map (λ (h : Hit). h.fragment) o
+
+-- what a tree has at a place
+abbrev at_place : List ((FileKey × Spot) × Hit) → FileKey × Spot → Option Hit
+at_place es q = lookup (is_at (place_cmp q)) es
+
+find_placed : (es : List ((FileKey × Spot) × Hit)) (q : FileKey × Spot) → AreKeyed es → find hit_cmp q (listed (values_of es)) ≡ fragment_of (at_place es q)
+find_placed [] q k = refl
+find_placed (e ∷ es) q k =
+    ap (λ b. cond b (Some e.1.fragment) (find hit_cmp q (listed (values_of es)))) (ap is_eq (sym (place_cmp_is q (place e.1)) ∙ ap (place_cmp q) (sym k.0)))
+    ∙ go (is_eq (place_cmp q e.0)) (find_placed es q k.1)
+  where
+    go : (b : Bool) → find hit_cmp q (listed (values_of es)) ≡ fragment_of (at_place es q)
+        → cond b (Some e.1.fragment) (find hit_cmp q (listed (values_of es))) ≡ fragment_of (cond b (Some e.1) (at_place es q))
+    go true h = refl
+    go false h = h
+
+equal_is : (o : Ordering) → is_eq o ≡ true → o ≡ Equal
+equal_is Equal e = refl
+equal_is Less e = absurd cc
+equal_is Greater e = absurd cc
+
+-- places that compare alike are one
+one_place : (q : FileKey × Spot) (h : Hit) → eq_by_cmp hit_cmp q (place h) ≡ true → place h ≡ q
+one_place q h e = sym (hit_cmp-IsAntisymmetric q (place h) (equal_is (hit_cmp q (place h)) e))
+
+test_turned : (p q : FileKey × Spot) → is_at (place_cmp p) q ≡ eq_by_cmp hit_cmp q p
+test_turned p q = ap is_eq (place_cmp_is p q) ∙ (eq_by_cmp_equiv hit_cmp_total).symm p q
+
+-- ---- one hit
+
+-- a hit whose place is taken adds nothing
+taken_already : (m : HitTree) (hit : Hit) → AreKeyed m.entries → is_some (at_place m.entries (place hit)) ≡ true → HasOneMore m m hit
+taken_already m hit k there q = go (eq_by_cmp hit_cmp q (place hit)) refl
+  where
+    held : Option Fragment
+    held = find hit_cmp q (listed (values m))
+
+    some_first : (o : Option Hit) → is_some o ≡ true → fragment_of o ≡ option_or (fragment_of o) (Some hit.fragment)
+    some_first (Some h) e = refl
+    some_first None e = absurd cc
+
+    go : (b : Bool) → eq_by_cmp hit_cmp q (place hit) ≡ b → find hit_cmp q (listed (values m)) ≡ option_or (find hit_cmp q (listed (values m))) (cond b (Some hit.fragment) None)
+    go true e =
+        let found : find hit_cmp q (listed (values m)) ≡ fragment_of (at_place m.entries q) = find_placed m.entries q k in
+        found ∙ some_first (at_place m.entries q) (subst (λ (p : FileKey × Spot). is_some (at_place m.entries p) ≡ true) (one_place q hit e) there)
+        ∙ ap (λ o. option_or o (Some hit.fragment)) (sym found)
+    go false e = sym (or_none (find hit_cmp q (listed (values m))))
+
+-- a hit at a new place
+put_one : (m n : HitTree) (hit : Hit) → AreKeyed m.entries → AreKeyed n.entries → at_place m.entries (place hit) ≡ None
+    → ((q : FileKey × Spot) → at_place n.entries q ≡ cond (is_at (place_cmp (place hit)) q) (Some hit) (at_place m.entries q)) → HasOneMore m n hit
+put_one m n hit km kn none put q =
+    find_placed n.entries q kn ∙ ap fragment_of (put q)
+    ∙ ap (λ b. fragment_of (cond b (Some hit) (at_place m.entries q))) (test_turned (place hit) q)
+    ∙ go (eq_by_cmp hit_cmp q (place hit)) refl
+  where
+    go : (b : Bool) → eq_by_cmp hit_cmp q (place hit) ≡ b
+        → fragment_of (cond b (Some hit) (at_place m.entries q)) ≡ option_or (find hit_cmp q (listed (values m))) (cond b (Some hit.fragment) None)
+    go true e =
+        let gone : find hit_cmp q (listed (values m)) ≡ None =
+        find_placed m.entries q km ∙ ap fragment_of (subst (λ (p : FileKey × Spot). at_place m.entries p ≡ None) (one_place q hit e) none) in
+        ap (λ o. option_or o (Some hit.fragment)) (sym gone)
+    go false e = sym (find_placed m.entries q km) ∙ sym (or_none (find hit_cmp q (listed (values m))))
+
+-- an inserted hit is at its place
+insert_keyed : (es : List ((FileKey × Spot) × Hit)) (hit : Hit) → AreKeyed es → AreKeyed (insert_entry place_cmp es (place hit) hit)
+insert_keyed [] hit k = (refl, tt)
+insert_keyed (e ∷ es) hit k = go (place_cmp (place hit) e.0) refl (insert_keyed es hit k.1)
+  where
+    go : (r : Ordering) → place_cmp (place hit) e.0 ≡ r → AreKeyed (insert_entry place_cmp es (place hit) hit)
+        → AreKeyed (match_ordering r ((place hit, hit) ∷ e ∷ es) ((e.0, hit) ∷ es) (e ∷ insert_entry place_cmp es (place hit) hit))
+    go Less is rest = (refl, k)
+    go Equal is rest = (sym (hit_cmp-IsAntisymmetric (place hit) e.0 (sym (place_cmp_is (place hit) e.0) ∙ is)), k.1)
+    go Greater is rest = (k.0, rest)
+
+none_at : (o : Option Hit) → is_some o ≡ false → o ≡ None
+none_at None e = refl
+none_at (Some h) e = absurd cc
+
+-- the same, of a hit whose place is known by another name
+pub held_already : (m : HitTree) (p : FileKey × Spot) (hit : Hit) → p ≡ place hit → AreKeyed m.entries → is_some (at_place m.entries p) ≡ true → HasOneMore m m hit
+held_already m p hit is k there = taken_already m hit k (subst (λ (q : FileKey × Spot). is_some (at_place m.entries q) ≡ true) is there)
+
+pub keyed_new : (m n : HitTree) (p : FileKey × Spot) (hit : Hit) → p ≡ place hit → AreKeyed m.entries → n.entries ≡ insert_entry place_cmp m.entries p hit → AreKeyed n.entries
+keyed_new m n p hit is k entries =
+    subst AreKeyed (sym (entries ∙ ap (λ (q : FileKey × Spot). insert_entry place_cmp m.entries q hit) is)) (insert_keyed m.entries hit k)
+
+pub held_new : (m n : HitTree) (p : FileKey × Spot) (hit : Hit) → p ≡ place hit → AreKeyed m.entries → is_some (at_place m.entries p) ≡ false
+    → n.entries ≡ insert_entry place_cmp m.entries p hit
+    → ((q : FileKey × Spot) → at_place n.entries q ≡ cond (is_at (place_cmp p) q) (Some hit) (at_place m.entries q)) → HasOneMore m n hit
+held_new m n p hit is k there entries put =
+    put_one m n hit k (keyed_new m n p hit is k entries) (ap (at_place m.entries) (sym is) ∙ none_at (at_place m.entries p) there)
+    (λ q. put q ∙ ap (λ (r : FileKey × Spot). cond (is_at (place_cmp r) q) (Some hit) (at_place m.entries q)) is)
+
+-- ---- hits that wait
+
+or_one_more : (o p : Option Fragment) (b : Bool) (f : Fragment) → option_or (option_or o (cond b (Some f) None)) p ≡ option_or o (cond b (Some f) p)
+or_one_more (Some g) p b f = refl
+or_one_more None p true f = refl
+or_one_more None p false f = refl
+
+-- the next hit that waits is put in its place, and the set stays
+pub moved_one : (m n : HitTree) (hit : Hit) (front : List Hit) → HasOneMore m n hit
+    → hits_of (values n ++ reverse front) ≡ hits_of (values m ++ reverse (front ++ hit ∷ []))
+moved_one m n hit front more =
+    same_set (values m ++ hit ∷ reverse front) (values n ++ reverse front) (λ q.
+    find_joined (values n) (reverse front) q ∙ ap (λ o. option_or o (find hit_cmp q (listed (reverse front)))) (more q)
+    ∙ or_one_more (find hit_cmp q (listed (values m))) (find hit_cmp q (listed (reverse front))) (eq_by_cmp hit_cmp q (place hit)) hit.fragment
+    ∙ sym (find_joined (values m) (hit ∷ reverse front) q))
+    ∙ ap (λ (hs : List Hit). hits_of (values m ++ hs)) (sym (reverse-append front (hit ∷ [])))
+
+-- after all hits of a list were put in their places, the set has them
+pub took_all : (start m n : HitTree) (held : Hits) (before waiting rest hits : List Hit) → all_held start before ≡ held → all_held m waiting ≡ all_held start before → length waiting ≡ 0
+    → all_held n rest ≡ all_held m (reverse hits) → all_held n rest ≡ with_hits held hits
+took_all start m n held before waiting rest hits is first none second =
+    second ∙ ap (λ (hs : List Hit). hits_of (values m ++ hs)) (reverse-reverse hits)
+    ∙ sym (taken_together (values m) hits)
+    ∙ ap (λ (s : Hits). with_hits s hits) (ap hits_of (sym (append-nil (values m))) ∙ ap (all_held m) (sym (nil_from_length waiting none)) ∙ first ∙ is)
+
+-- ---- the hits in order
+
+-- the hits of a tree are in order of file and place
+pub keyed_listed : (es : List ((FileKey × Spot) × Hit)) → IsStrictlySortedBy place_cmp (keys_of es) → AreKeyed es → AreListed (values_of es)
+unfolding IsStrictlySortedBy
+keyed_listed [] s k = tt
+keyed_listed (e ∷ es) s k = (all_after es s.0 k.1, keyed_listed es s.1 k.1)
+  where
+    all_after : (fs : List ((FileKey × Spot) × Hit)) → AllByRecursion (λ p. place_cmp e.0 p ≡ Less) (keys_of fs) → AreKeyed fs
+        → AllByRecursion (λ (h : Hit). hit_order e.1 h ≡ Less) (values_of fs)
+    all_after [] a kf = tt
+    all_after (f ∷ fs) a kf = (
+      sym (place_cmp_is (place e.1) (place f.1)) ∙ (λ i. place_cmp (sym k.0 i) (sym kf.0 i)) ∙ a.0,
+      all_after fs a.1 kf.1,
+    )
