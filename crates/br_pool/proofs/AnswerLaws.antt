@@ -1,22 +1,21 @@
 -- The answer for a piece, over more and more volumes.
 use Rattle.std.proofs.Common.{◌≡◌, ℕ, zero, suc, ◌<◌, inl, inr, false, List, [], ◌∷◌, ◌++◌, length, slice_index_or, Option, Some, None, sym, subst, arith}
 use Rattle.std.specs.Prelude.{IfOk}
-use Rattle.std.specs.List.{AllByRecursion, AllZip}
+use Rattle.std.specs.List.{AllByRecursion}
 use Rattle.br_model.specs.Volume.{Volume}
 use Rattle.br_model.specs.Meaning.{Piece}
 use Rattle.br_volume.specs.Drive.{OnlyGrows}
 use Rattle.br_match.specs.Matching.{IsEnclosed, AnswersPiece, FoundOver}
 use Rattle.br_match.proofs.GrowthLaws.{extends_more}
 use Rattle.br_pool.specs.Pool.{StandsTold}
-use Rattle.br_pool.specs.Workers.{Answer, is_failure, IsAnswer, AnswersAt, AllAnswer}
+use Rattle.br_pool.specs.Workers.{Answer, is_failure, IsAnswer, HoldsAt, EachHolds, AnswersAt, AllAnswer}
 use Rattle.br_pool.proofs.ListLaws.{all_at, all_more}
 
--- the answer for a piece is that at its place
-pub answers_at : (over : List Volume → Type 0) (pieces : List Piece) (x : ℕ) (p : Piece) (a : Answer) → x < length pieces → p ≡ slice_index_or pieces x p
-    → IsAnswer over p a → AnswersAt over pieces x a
-answers_at over [] x p a low e is = absurd (omega (arith, low))
-answers_at over (q ∷ pieces) zero p a low e is = subst (λ r. IsAnswer over r a) e is
-answers_at over (q ∷ pieces) (suc x) p a low e is = answers_at over pieces x p a (omega (arith, low)) e is
+-- what holds of a piece and its answer holds at the place of the piece
+pub holds_at : (is : Piece → Answer → Type 0) (pieces : List Piece) (x : ℕ) (p : Piece) (a : Answer) → x < length pieces → p ≡ slice_index_or pieces x p → is p a → HoldsAt is pieces x a
+holds_at is [] x p a low e h = absurd (omega (arith, low))
+holds_at is (q ∷ pieces) zero p a low e h = subst (λ r. is r a) e h
+holds_at is (q ∷ pieces) (suc x) p a low e h = holds_at is pieces x p a (omega (arith, low)) e h
 
 -- over fewer volumes
 pub answer_weaker : (over fewer : List Volume → Type 0) → ((volumes : List Volume) → fewer volumes → over volumes) → (p : Piece) (a : Answer) → IsAnswer over p a → IsAnswer fewer p a
@@ -26,27 +25,31 @@ answer_weaker over fewer so p a is = record {
   sound = is.sound;
 }
 
-pub at_weaker : (over fewer : List Volume → Type 0) → ((volumes : List Volume) → fewer volumes → over volumes)
-    → (pieces : List Piece) (x : ℕ) (a : Answer) → AnswersAt over pieces x a → AnswersAt fewer pieces x a
-at_weaker over fewer so [] x a is = is
-at_weaker over fewer so (p ∷ pieces) zero a is = answer_weaker over fewer so p a is
-at_weaker over fewer so (p ∷ pieces) (suc x) a is = at_weaker over fewer so pieces x a is
+-- what is weaker holds too
+at_so : (is weaker : Piece → Answer → Type 0) → ((p : Piece) (a : Answer) → is p a → weaker p a) → (pieces : List Piece) (x : ℕ) (a : Answer) → HoldsAt is pieces x a → HoldsAt weaker pieces x a
+at_so is weaker so [] x a h = h
+at_so is weaker so (p ∷ pieces) zero a h = so p a h
+at_so is weaker so (p ∷ pieces) (suc x) a h = at_so is weaker so pieces x a h
+
+pub each_so : (is weaker : Piece → Answer → Type 0) → ((p : Piece) (a : Answer) → is p a → weaker p a) → (pieces : List Piece) (answers : List (ℕ × Answer))
+    → EachHolds is pieces answers → EachHolds weaker pieces answers
+each_so is weaker so pieces [] all = tt
+each_so is weaker so pieces (a ∷ answers) all = (at_so is weaker so pieces a.0 a.1 all.0, each_so is weaker so pieces answers all.1)
 
 pub all_weaker : (over fewer : List Volume → Type 0) → ((volumes : List Volume) → fewer volumes → over volumes)
     → (pieces : List Piece) (answers : List (ℕ × Answer)) → AllAnswer over pieces answers → AllAnswer fewer pieces answers
-all_weaker over fewer so pieces [] all = tt
-all_weaker over fewer so pieces (a ∷ answers) all = (at_weaker over fewer so pieces a.0 a.1 all.0, all_weaker over fewer so pieces answers all.1)
+all_weaker over fewer so = each_so (IsAnswer over) (IsAnswer fewer) (answer_weaker over fewer so)
 
 -- each number is that of a piece
-pub at_below : (over : List Volume → Type 0) (pieces : List Piece) (x : ℕ) (a : Answer) → AnswersAt over pieces x a → x < length pieces
-at_below over [] x a is = absurd is
-at_below over (p ∷ pieces) zero a is = omega arith
-at_below over (p ∷ pieces) (suc x) a is = let low = at_below over pieces x a is in omega (arith, low)
+at_below : (is : Piece → Answer → Type 0) (pieces : List Piece) (x : ℕ) (a : Answer) → HoldsAt is pieces x a → x < length pieces
+at_below is [] x a h = absurd h
+at_below is (p ∷ pieces) zero a h = omega arith
+at_below is (p ∷ pieces) (suc x) a h = let low = at_below is pieces x a h in omega (arith, low)
 
-pub all_below : (over : List Volume → Type 0) (pieces : List Piece) (answers : List (ℕ × Answer)) → AllAnswer over pieces answers
+pub each_below : (is : Piece → Answer → Type 0) (pieces : List Piece) (answers : List (ℕ × Answer)) → EachHolds is pieces answers
     → AllByRecursion (λ (a : ℕ × Answer). a.0 < length pieces) answers
-all_below over pieces [] all = tt
-all_below over pieces (a ∷ answers) all = (at_below over pieces a.0 a.1 all.0, all_below over pieces answers all.1)
+each_below is pieces [] all = tt
+each_below is pieces (a ∷ answers) all = (at_below is pieces a.0 a.1 all.0, each_below is pieces answers all.1)
 
 -- ---- the volumes of a drive, while it reads
 
@@ -91,7 +94,7 @@ pub answered_more : (pieces : List Piece) (x : ℕ) (piece : Piece) (answer : An
 answered_more pieces x piece answer a b c answers p q low e number found sound all =
     all_more (λ (y : ℕ × Answer). AnswersAt (λ volumes. StandsTold pieces volumes a c) pieces y.0 y.1) answers (x, answer)
     (answered_longer pieces a b c answers p q all)
-    (answers_at (λ volumes. StandsTold pieces volumes a c) pieces x piece answer low e (record {
+    (holds_at (IsAnswer (λ volumes. StandsTold pieces volumes a c)) pieces x piece answer low e (record {
       number = number;
       hits = λ volumes told. found_over pieces volumes x piece answer a b c p q low e found told;
       sound = sound;

@@ -16,3 +16,9 @@ pub slots_more : {W : Type 0} (answers : W → List (ℕ × Answer)) (slots afte
 slots_more answers slots after all new old w e p h =
     ap (λ s. with_each s (flat_map answers (reverse new))) p ∙ sym (with_each_append slots (answers w) (flat_map answers (reverse new)))
     ∙ ap (λ l. with_each slots (flat_map answers l)) (sym (reverse-append new (w ∷ [])) ∙ ap reverse (sym e)) ∙ h
+
+pub batches_more : {W B : Type 0} (pushed : W → List B) (front after all : List B) (new old : List W) (w : W) → old ≡ new ++ w ∷ [] → after ≡ front ++ pushed w
+    → front ++ flat_map pushed (reverse old) ≡ all → after ++ flat_map pushed (reverse new) ≡ all
+batches_more pushed front after all new old w e p h =
+    ap (λ l. l ++ flat_map pushed (reverse new)) p ∙ append_assoc front (pushed w) (flat_map pushed (reverse new))
+    ∙ ap (λ l. front ++ flat_map pushed l) (sym (reverse-append new (w ∷ [])) ∙ ap reverse (sym e)) ∙ h

@@ -11,40 +11,39 @@ use Rattle.br_match.specs.Fault as piece
 use Rattle.br_match.specs.declared.hit.Found.{Found}
 use Rattle.br_match.specs.declared.fault.PieceFault.{PieceFault}
 use Rattle.br_pool.specs.Pool.{hits_lists}
-use Rattle.br_pool.specs.Workers.{Answer, is_failure, IsAnswer, AnswersAt, AllAnswer, numbers_of}
-use Rattle.br_pool.specs.Slots.{with_each, AllBelow, Fills, full_of, is_memory}
-use Rattle.br_pool.proofs.AnswerLaws.{answer_weaker}
+use Rattle.br_pool.specs.Workers.{Answer, is_failure, HoldsAt, EachHolds, numbers_of}
+use Rattle.br_pool.specs.Slots.{with_each, AllBelow, Fills, FillsBy, full_of, is_memory}
 use Rattle.br_pool.proofs.SlotLaws.{length_set}
 
 -- ---- each filled slot has the answer for its piece
 
-pub none_fills : (over : List Volume → Type 0) (pieces : List Piece) (slots : List (Option Answer)) → length slots ≡ length pieces
-    → AllByRecursion (λ (s : Option Answer). s ≡ None) slots → AllZip (Fills over) pieces slots
-none_fills over [] [] len none = tt
-none_fills over [] (s ∷ slots) len none = absurd (omega (arith, len))
-none_fills over (p ∷ pieces) [] len none = absurd (omega (arith, len))
-none_fills over (p ∷ pieces) (s ∷ slots) len none = (subst (Fills over p) (sym none.0) tt, none_fills over pieces slots (omega (arith, len)) none.1)
+pub none_fills : (is : Piece → Answer → Type 0) (pieces : List Piece) (slots : List (Option Answer)) → length slots ≡ length pieces
+    → AllByRecursion (λ (s : Option Answer). s ≡ None) slots → AllZip (FillsBy is) pieces slots
+none_fills is [] [] len none = tt
+none_fills is [] (s ∷ slots) len none = absurd (omega (arith, len))
+none_fills is (p ∷ pieces) [] len none = absurd (omega (arith, len))
+none_fills is (p ∷ pieces) (s ∷ slots) len none = (subst (FillsBy is p) (sym none.0) tt, none_fills is pieces slots (omega (arith, len)) none.1)
 
--- over fewer volumes
-pub fills_weaker : (over fewer : List Volume → Type 0) → ((volumes : List Volume) → fewer volumes → over volumes) → (pieces : List Piece) (slots : List (Option Answer))
-    → AllZip (Fills over) pieces slots → AllZip (Fills fewer) pieces slots
-fills_weaker over fewer so [] [] fills = tt
-fills_weaker over fewer so [] (s ∷ slots) fills = absurd fills
-fills_weaker over fewer so (p ∷ pieces) [] fills = absurd fills
-fills_weaker over fewer so (p ∷ pieces) (None ∷ slots) fills = (tt, fills_weaker over fewer so pieces slots fills.1)
-fills_weaker over fewer so (p ∷ pieces) (Some a ∷ slots) fills = (answer_weaker over fewer so p a fills.0, fills_weaker over fewer so pieces slots fills.1)
+-- what is weaker holds too
+pub fills_so : (is weaker : Piece → Answer → Type 0) → ((p : Piece) (a : Answer) → is p a → weaker p a) → (pieces : List Piece) (slots : List (Option Answer))
+    → AllZip (FillsBy is) pieces slots → AllZip (FillsBy weaker) pieces slots
+fills_so is weaker so [] [] fills = tt
+fills_so is weaker so [] (s ∷ slots) fills = absurd fills
+fills_so is weaker so (p ∷ pieces) [] fills = absurd fills
+fills_so is weaker so (p ∷ pieces) (None ∷ slots) fills = (tt, fills_so is weaker so pieces slots fills.1)
+fills_so is weaker so (p ∷ pieces) (Some a ∷ slots) fills = (so p a fills.0, fills_so is weaker so pieces slots fills.1)
 
-set_fills : (over : List Volume → Type 0) (pieces : List Piece) (slots : List (Option Answer)) (x : ℕ) (a : Answer) → AllZip (Fills over) pieces slots
-    → AnswersAt over pieces x a → AllZip (Fills over) pieces (slice_set slots x (Some a))
-set_fills over [] slots x a fills is = absurd is
-set_fills over (p ∷ pieces) [] x a fills is = absurd fills
-set_fills over (p ∷ pieces) (s ∷ slots) zero a fills is = (is, fills.1)
-set_fills over (p ∷ pieces) (s ∷ slots) (suc x) a fills is = (fills.0, set_fills over pieces slots x a fills.1 is)
+set_fills : (is : Piece → Answer → Type 0) (pieces : List Piece) (slots : List (Option Answer)) (x : ℕ) (a : Answer) → AllZip (FillsBy is) pieces slots
+    → HoldsAt is pieces x a → AllZip (FillsBy is) pieces (slice_set slots x (Some a))
+set_fills is [] slots x a fills h = absurd h
+set_fills is (p ∷ pieces) [] x a fills h = absurd fills
+set_fills is (p ∷ pieces) (s ∷ slots) zero a fills h = (h, fills.1)
+set_fills is (p ∷ pieces) (s ∷ slots) (suc x) a fills h = (fills.0, set_fills is pieces slots x a fills.1 h)
 
-pub each_fills : (over : List Volume → Type 0) (pieces : List Piece) (slots : List (Option Answer)) (all : List (ℕ × Answer)) → AllZip (Fills over) pieces slots
-    → AllAnswer over pieces all → AllZip (Fills over) pieces (with_each slots all)
-each_fills over pieces slots [] fills are = fills
-each_fills over pieces slots (a ∷ all) fills are = each_fills over pieces (slice_set slots a.0 (Some a.1)) all (set_fills over pieces slots a.0 a.1 fills are.0) are.1
+pub each_fills : (is : Piece → Answer → Type 0) (pieces : List Piece) (slots : List (Option Answer)) (all : List (ℕ × Answer)) → AllZip (FillsBy is) pieces slots
+    → EachHolds is pieces all → AllZip (FillsBy is) pieces (with_each slots all)
+each_fills is pieces slots [] fills are = fills
+each_fills is pieces slots (a ∷ all) fills are = each_fills is pieces (slice_set slots a.0 (Some a.1)) all (set_fills is pieces slots a.0 a.1 fills are.0) are.1
 
 -- ---- what the slots come to
 
@@ -82,12 +81,12 @@ fault_is over (p ∷ pieces) (f ∷ front) why rest volumes stands fills =
     later (Some r) e h = rw (e, h) refl
 
 -- no drive failed in it
-pub fault_sound : (over : List Volume → Type 0) (pieces : List Piece) (front : List Found) (why : PieceFault) (rest : List (Option Answer))
-    → AllZip (Fills over) pieces (full_of front ++ Some (Err why) ∷ rest) → is_failure (Err why) ≡ false
-fault_sound over [] [] why rest fills = absurd fills
-fault_sound over [] (f ∷ front) why rest fills = absurd fills
-fault_sound over (p ∷ pieces) [] why rest fills = fills.0.sound
-fault_sound over (p ∷ pieces) (f ∷ front) why rest fills = fault_sound over pieces front why rest fills.1
+pub fault_sound : (is : Piece → Answer → Type 0) → ((p : Piece) (a : Answer) → is p a → is_failure a ≡ false) → (pieces : List Piece) (front : List Found) (why : PieceFault) (rest : List (Option Answer))
+    → AllZip (FillsBy is) pieces (full_of front ++ Some (Err why) ∷ rest) → is_failure (Err why) ≡ false
+fault_sound is sound [] [] why rest fills = absurd fills
+fault_sound is sound [] (f ∷ front) why rest fills = absurd fills
+fault_sound is sound (p ∷ pieces) [] why rest fills = sound p (Err why) fills.0
+fault_sound is sound (p ∷ pieces) (f ∷ front) why rest fills = fault_sound is sound pieces front why rest fills.1
 
 -- nor did memory run out
 pub fault_no_memory : (front : List Found) (why : PieceFault) (rest : List (Option Answer)) → list_any is_memory (full_of front ++ Some (Err why) ∷ rest) ≡ false

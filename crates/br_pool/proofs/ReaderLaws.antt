@@ -1,13 +1,12 @@
 -- Readers over several rounds, and their drives in their places.
-use Rattle.std.proofs.Common.{◌≡◌, ℕ, ◌<◌, ◌≤◌, Bool, true, false, List, [], ◌∷◌, map, reverse, Option, refl, ap, sym, subst, ◌∙◌, arith}
+use Rattle.std.proofs.Common.{◌≡◌, ℕ, ◌<◌, Bool, true, false, List, [], ◌∷◌, map, reverse, Option, refl, ap, sym, subst, ◌∙◌, arith}
 use Rattle.std.specs.List.{AllByRecursion, AllZip}
 use Rattle.br_model.specs.Volume.{Volume}
 use Rattle.br_model.specs.Meaning.{Piece}
-use Rattle.br_volume.specs.Drive.{OnlyGrows}
 use Rattle.br_match.proofs.GrowthLaws.{grows_itself, grows_more}
 use Rattle.br_pool.specs.Pool.{StandsTold}
 use Rattle.br_pool.specs.Workers.{HasServed}
-use Rattle.br_pool.proofs.ListLaws.{map_map, map_reverse, reverse_reverse, zip_itself, zip_map, zip_reverse, zip_so, zip_trans}
+use Rattle.br_pool.proofs.ListLaws.{map_map, map_reverse, reverse_reverse, zip_itself, zip_map, zip_reverse, zip_trans}
 use Rattle.br_pool.proofs.AnswerLaws.{told_from, told_so_far}
 
 clash : (b : Bool) → b ≡ false → b ≡ true → ⊥

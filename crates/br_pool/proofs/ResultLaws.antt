@@ -1,5 +1,5 @@
 -- The slots, as the result of the call.
-use Rattle.std.proofs.Common.{◌≡◌, ℕ, ◌+◌, true, false, List, map, Vec, Option, None, Some, Result, Ok, Err, refl, subst, arith}
+use Rattle.std.proofs.Common.{◌≡◌, true, false, List, map, Vec, Option, None, Some, Result, Ok, Err, subst, arith}
 use Rattle.std.specs.Prelude.{IfOk, IfErr}
 use Rattle.std.specs.Global.{Global}
 use Rattle.std.specs.List.{AllZip, list_any}
@@ -14,7 +14,7 @@ use Rattle.br_match.specs.declared.fault.PieceCause.TheVariants.{BadId, BadBlock
 use Rattle.br_pool.specs.Fault.{IsDecided, IsNoDriveLeft, cause}
 use Rattle.br_pool.specs.Pool.{hits_lists, found_hits}
 use Rattle.br_pool.specs.Workers.{Answer, is_failure}
-use Rattle.br_pool.specs.Slots.{Fills, IsListed, is_empty, is_memory}
+use Rattle.br_pool.specs.Slots.{Fills, FillsBy, IsListed, is_empty, is_memory}
 use Rattle.br_pool.specs.declared.fault.PoolFault.{PoolFault}
 use Rattle.br_pool.specs.declared.fault.PoolFault.TheVariants as fault
 use Rattle.br_pool.proofs.FilledLaws.{hits_are, numbers_are, fault_is, fault_sound, fault_no_memory}
@@ -32,23 +32,25 @@ module _ (over : List Volume → Type 0) (pieces : List Piece) (slots : List (Op
   listed_numbers (Ok founds) listed = numbers_are over pieces founds.items (subst (AllZip (Fills over) pieces) listed fills)
   listed_numbers (Err w) listed = tt
 
-  -- the volumes decide a refusal that is neither of memory nor of a drive
-  decided : (w : PieceFault) → is_failure (Err w) ≡ false → is_memory (Some (Err w)) ≡ false → piece.cause w ≡ None → ⊥
-  decided why.Memory sound given e = absurd cc
-  decided (why.Block BadId vol addr) sound given e = absurd cc
-  decided (why.Block BadBlockSize vol addr) sound given e = absurd cc
-  decided (why.Block Truncated vol addr) sound given e = absurd cc
-  decided (why.Block DriveFault vol addr) sound given e = absurd cc
-  decided (why.Block UnknownVolume vol addr) sound given e = absurd cc
+-- the volumes decide a refusal that is neither of memory nor of a drive
+decided : (w : PieceFault) → is_failure (Err w) ≡ false → is_memory (Some (Err w)) ≡ false → piece.cause w ≡ None → ⊥
+decided why.Memory sound given e = absurd cc
+decided (why.Block BadId vol addr) sound given e = absurd cc
+decided (why.Block BadBlockSize vol addr) sound given e = absurd cc
+decided (why.Block Truncated vol addr) sound given e = absurd cc
+decided (why.Block DriveFault vol addr) sound given e = absurd cc
+decided (why.Block UnknownVolume vol addr) sound given e = absurd cc
 
+module _ (is : Piece → Answer → Type 0) (sound : (p : Piece) (a : Answer) → is p a → is_failure a ≡ false) (pieces : List Piece) (slots : List (Option Answer)) (fills : AllZip (FillsBy is) pieces slots) where
   pub listed_decided : (result : Result (Vec Found Global) PoolFault) → IsListed slots result → IfErr result IsDecided
   listed_decided (Ok founds) listed = tt
   listed_decided (Err fault.Memory) listed = tt
   listed_decided (Err fault.NoDriveLeft) listed = tt
   listed_decided (Err (fault.Piece w)) listed =
-      decided w (fault_sound over pieces listed.1.front w listed.1.rest (subst (AllZip (Fills over) pieces) listed.1.parted fills))
+      decided w (fault_sound is sound pieces listed.1.front w listed.1.rest (subst (AllZip (FillsBy is) pieces) listed.1.parted fills))
       (fault_no_memory listed.1.front w listed.1.rest (subst (λ l. list_any is_memory l ≡ false) listed.1.parted listed.0))
 
+module _ (slots : List (Option Answer)) where
   -- if no drive is left, a slot is empty
   pub listed_left : (result : Result (Vec Found Global) PoolFault) → IsListed slots result → (gone : Type 0) → (list_any is_empty slots ≡ true → gone) → IfErr result (λ f. IsNoDriveLeft f → gone)
   listed_left (Ok founds) listed gone so = tt

@@ -8,8 +8,8 @@ use Rattle.br_model.specs.Meaning.{Piece}
 use Rattle.br_claim.specs.Claims.{Seated, AllOf, some_ended, times_in}
 use Rattle.br_claim.specs.Rule.{times}
 use Rattle.br_pool.specs.Pool.{StandsTold}
-use Rattle.br_pool.specs.Workers.{Answer, AllAnswer, AreAllAnswered, HasWorked, HaveWorked, count_in, number_at, numbers_of}
-use Rattle.br_pool.proofs.AnswerLaws.{all_weaker}
+use Rattle.br_pool.specs.Workers.{Answer, EachHolds, AreAllAnswered, HasWorkedBy, HaveWorkedBy, count_in, number_at, numbers_of}
+use Rattle.br_pool.proofs.AnswerLaws.{each_so}
 use Rattle.br_pool.proofs.FlagLaws.{Stay, Same, fewer_or_same}
 
 all_append : {A : Type 0} (P : A → Type 0) (xs ys : List A) → AllByRecursion P xs → AllByRecursion P ys → AllByRecursion P (xs ++ ys)
@@ -42,21 +42,19 @@ or_right : (a b : Bool) → b ≡ true → (a || b) ≡ true
 or_right true b e = refl
 or_right false b e = e
 
-module _ {W : Type 0} (claims : TableId) (pieces : List Piece) (left : List ℕ) (shows : W → Option (List Volume)) (fails : W → ℕ) (out : W → Bool) (seat : W → Seated) (answers : W → List (ℕ × Answer)) where
+module _ {W : Type 0} (claims : TableId) (pieces : List Piece) (left : List ℕ) (is : W → W → Piece → Answer → Type 0) (shows : W → Option (List Volume)) (fails : W → ℕ) (out : W → Bool) (seat : W → Seated) (answers : W → List (ℕ × Answer)) where
   -- a worker before and after its run
   abbrev pub Ran : W → W → Type 0
-  Ran w v = HasWorked claims pieces left (shows w) (shows v) (fails w) (fails v) (out w) (out v) (seat v) (answers v)
+  Ran w v = HasWorkedBy (is w v) claims pieces left (shows w) (shows v) (fails w) (fails v) (out w) (out v) (seat v) (answers v)
 
-  each_of : (ws vs : List W) → AllZip Ran ws vs → AllAnswer (λ volumes. AllZip (StandsTold pieces volumes) (map shows ws) (map shows vs)) pieces (flat_map answers vs)
-  each_of [] [] z = tt
-  each_of [] (v ∷ vs) z = absurd z
-  each_of (w ∷ ws) [] z = absurd z
-  each_of (w ∷ ws) (v ∷ vs) z =
-      all_append _ (answers v) (flat_map answers vs)
-      (all_weaker (λ volumes. StandsTold pieces volumes (shows w) (shows v)) (λ volumes. AllZip (StandsTold pieces volumes) (map shows (w ∷ ws)) (map shows (v ∷ vs)))
-      (λ volumes told. told.0) pieces (answers v) z.0.each)
-      (all_weaker (λ volumes. AllZip (StandsTold pieces volumes) (map shows ws) (map shows vs)) (λ volumes. AllZip (StandsTold pieces volumes) (map shows (w ∷ ws)) (map shows (v ∷ vs)))
-      (λ volumes told. told.1) pieces (flat_map answers vs) (each_of ws vs z.1))
+  -- what holds of the answers of each worker holds of all answers
+  each_of : (all : Piece → Answer → Type 0) (ws vs : List W) → AllZip Ran ws vs → AllZip (λ (w v : W). (p : Piece) (a : Answer) → is w v p a → all p a) ws vs
+      → EachHolds all pieces (flat_map answers vs)
+  each_of all [] [] z so = tt
+  each_of all [] (v ∷ vs) z so = absurd z
+  each_of all (w ∷ ws) [] z so = absurd z
+  each_of all (w ∷ ws) (v ∷ vs) z so =
+      all_append _ (answers v) (flat_map answers vs) (each_so (is w v) all so.0 pieces (answers v) z.0.each) (each_of all ws vs z.1 so.1)
 
   claims_of : (ws vs : List W) → AllZip Ran ws vs → AllOf claims (map seat vs)
   claims_of [] [] z = tt
@@ -103,10 +101,11 @@ module _ {W : Type 0} (claims : TableId) (pieces : List Piece) (left : List ℕ)
           let q = both in
           omega (arith, here, same_here, q)
 
-  pub have_worked : (ws vs : List W) → AllZip Ran ws vs → HaveWorked claims pieces left (map shows ws) (map shows vs) (map out ws) (map out vs) (map seat vs) (flat_map answers vs)
-  have_worked ws vs z = record {
+  pub have_worked : (all : Piece → Answer → Type 0) (ws vs : List W) → AllZip Ran ws vs → AllZip (λ (w v : W). (p : Piece) (a : Answer) → is w v p a → all p a) ws vs
+      → HaveWorkedBy all claims pieces left (map out ws) (map out vs) (map seat vs) (flat_map answers vs)
+  have_worked all ws vs z so = record {
     claims_are = claims_of ws vs z;
-    each = each_of ws vs z;
+    each = each_of all ws vs z so;
     progress = λ some. step some (fewer_or_same (map out ws) (map out vs) (stay_of ws vs z));
   }
     where
@@ -114,3 +113,15 @@ module _ {W : Type 0} (claims : TableId) (pieces : List Piece) (left : List ℕ)
           → (count_in (map out vs) < count_in (map out ws)) ⊎ AreAllAnswered left (map seat vs) (flat_map answers vs)
       step some (inl fewer) = inl fewer
       step some (inr same) = inr (ended_of ws vs z same some, answered_of ws vs z same)
+
+-- what all may be taken to show, each may
+pub told_each : {W : Type 0} (pieces : List Piece) (shows : W → Option (List Volume)) (over : List Volume → Type 0) (ws vs : List W) → length vs ≡ length ws
+    → ((volumes : List Volume) → over volumes → AllZip (StandsTold pieces volumes) (map shows ws) (map shows vs))
+    → AllZip (λ (w v : W). (volumes : List Volume) → over volumes → StandsTold pieces volumes (shows w) (shows v)) ws vs
+told_each pieces shows over [] [] len told = tt
+told_each pieces shows over [] (v ∷ vs) len told = absurd (omega (arith, len))
+told_each pieces shows over (w ∷ ws) [] len told = absurd (omega (arith, len))
+told_each pieces shows over (w ∷ ws) (v ∷ vs) len told = (
+  λ volumes given. (told volumes given).0,
+  told_each pieces shows over ws vs (omega (arith, len)) (λ volumes given. (told volumes given).1),
+)

@@ -4,3 +4,8 @@ pub mod Workers
 pub mod Slots
 pub mod Reading
 pub mod Rounds
+pub mod Crew
+pub mod Gathering
+pub mod Sending
+pub mod Gathers
+pub mod Streaming

@@ -7,7 +7,7 @@ use Rattle.br_model.specs.Meaning.{Piece}
 use Rattle.br_match.specs.declared.hit.Found.{Found}
 use Rattle.br_match.specs.declared.fault.PieceFault.{PieceFault}
 use Rattle.br_match.specs.declared.fault.PieceFault.TheVariants as piece
-use Rattle.br_pool.specs.Workers.{Answer, AllAnswer, IsAnswer, count_in}
+use Rattle.br_pool.specs.Workers.{Answer, EachHolds, IsAnswer, count_in}
 use Rattle.br_pool.specs.declared.fault.PoolFault.{PoolFault}
 use Rattle.br_pool.specs.declared.fault.PoolFault.TheVariants.{Memory, Piece as OfPiece, NoDriveLeft}
 
@@ -22,14 +22,22 @@ with_each slots (a ∷ answers) = with_each (slice_set slots a.0 (Some a.1)) ans
 abbrev pub AllBelow : ℕ → List (ℕ × Answer) → Type 0
 AllBelow n answers = AllByRecursion (λ (a : ℕ × Answer). a.0 < n) answers
 
+-- this holds of the piece and of the answer in its slot, if there is one
+abbrev pub FillsBy : (Piece → Answer → Type 0) → Piece → Option Answer → Type 0
+FillsBy is p None = ⊤
+FillsBy is p (Some a) = is p a
+
 -- a slot that is filled has the answer for its piece
 abbrev pub Fills : (List Volume → Type 0) → Piece → Option Answer → Type 0
-Fills over p None = ⊤
-Fills over p (Some a) = IsAnswer over p a
+Fills over = FillsBy (IsAnswer over)
+
+-- answers of which this holds were put into their slots
+abbrev pub AddsBy : (Piece → Answer → Type 0) → List Piece → List (Option Answer) → List (Option Answer) → Type 0
+AddsBy is pieces before after = (answers : List (ℕ × Answer)) × (after ≡ with_each before answers) × EachHolds is pieces answers
 
 -- answers were put into their slots
 abbrev pub Adds : (List Volume → Type 0) → List Piece → List (Option Answer) → List (Option Answer) → Type 0
-Adds over pieces before after = (answers : List (ℕ × Answer)) × (after ≡ with_each before answers) × AllAnswer over pieces answers
+Adds over = AddsBy (IsAnswer over)
 
 -- ---- slots that are empty
 

@@ -34,15 +34,23 @@ pub record IsAnswer (over : List Volume → Type 0) (p : Piece) (a : Answer) : T
   pub hits : (volumes : List Volume) → over volumes → AnswersPiece volumes p a
   pub sound : is_failure a ≡ false
 
--- the same of the piece at a place
+-- this holds of the piece at a place and of its answer
+abbrev pub HoldsAt : (Piece → Answer → Type 0) → List Piece → ℕ → Answer → Type 0
+HoldsAt is [] x a = ⊥
+HoldsAt is (p ∷ ps) zero a = is p a
+HoldsAt is (p ∷ ps) (suc x) a = HoldsAt is ps x a
+
+-- this holds of each answer and of the piece at its number
+abbrev pub EachHolds : (Piece → Answer → Type 0) → List Piece → List (ℕ × Answer) → Type 0
+EachHolds is pieces answers = AllByRecursion (λ (a : ℕ × Answer). HoldsAt is pieces a.0 a.1) answers
+
+-- the answer is that of the piece at a place
 abbrev pub AnswersAt : (List Volume → Type 0) → List Piece → ℕ → Answer → Type 0
-AnswersAt over [] x a = ⊥
-AnswersAt over (p ∷ ps) zero a = IsAnswer over p a
-AnswersAt over (p ∷ ps) (suc x) a = AnswersAt over ps x a
+AnswersAt over = HoldsAt (IsAnswer over)
 
 -- each answer is that of the piece at its number
 abbrev pub AllAnswer : (List Volume → Type 0) → List Piece → List (ℕ × Answer) → Type 0
-AllAnswer over pieces answers = AllByRecursion (λ (a : ℕ × Answer). AnswersAt over pieces a.0 a.1) answers
+AllAnswer over = EachHolds (IsAnswer over)
 
 -- the numbers of answers
 abbrev pub numbers_of : List (ℕ × Answer) → List ℕ
@@ -95,15 +103,18 @@ pub record IsReady (claims : TableId) (n : ℕ) (seat : Seated) (answers : Vec (
   pub answered_none : answers.items ≡ []
   pub room : n ≤ vec_capacity answers
 
--- A worker served: each of its answers is over what its drive showed meanwhile. If it did not go
--- out, it answered each piece whose place among those left it drew. If it is not out, it drew until
--- none was left.
-pub record HasWorked (claims : TableId) (pieces : List Piece) (left : List ℕ) (before after : Option (List Volume)) (failed_before failed_after : ℕ) (was_out is_out : Bool) (seat : Seated) (answers : List (ℕ × Answer)) : Type 0 where
+-- A worker served: this holds of each of its answers. If it did not go out, it answered each piece
+-- whose place among those left it drew. If it is not out, it drew until none was left.
+pub record HasWorkedBy (is : Piece → Answer → Type 0) (claims : TableId) (pieces : List Piece) (left : List ℕ) (before after : Option (List Volume)) (failed_before failed_after : ℕ) (was_out is_out : Bool) (seat : Seated) (answers : List (ℕ × Answer)) : Type 0 where
   pub claims_are : seat.claims ≡ claims
   pub served : HasServed before after failed_before failed_after was_out is_out
-  pub each : AllAnswer (λ volumes. StandsTold pieces volumes before after) pieces answers
+  pub each : EachHolds is pieces answers
   pub answered : is_out ≡ was_out → numbers_of answers ≡ map (number_at left) seat.drawn
   pub ended : is_out ≡ false → seat.ended ≡ true
+
+-- A worker served, and each of its answers is over what its drive showed meanwhile.
+abbrev pub HasWorked : TableId → List Piece → List ℕ → Option (List Volume) → Option (List Volume) → ℕ → ℕ → Bool → Bool → Seated → List (ℕ × Answer) → Type 0
+HasWorked claims pieces left before after = HasWorkedBy (IsAnswer (λ volumes. StandsTold pieces volumes before after)) claims pieces left before after
 
 -- a worker before its run
 abbrev pub IsSetUp : {D : Type 0} → TableId → ℕ → Worker D → Type 0
@@ -128,10 +139,13 @@ abbrev pub AreAllAnswered : List ℕ → List Seated → List (ℕ × Answer) �
 AreAllAnswered left seats answers =
     (some_ended seats ≡ true) × ((x : ℕ) → 0 < times_in x (map (λ (s : Seated). s.drawn) seats) → 0 < times (number_at left x) (numbers_of answers))
 
--- Many workers, each with a drive of its own, gave these answers. Each is that over all volumes that
--- all drives may be taken to show. If some drive was not out before, a drive went out, or all that
--- was drawn was answered, until none was left.
-pub record HaveWorked (claims : TableId) (pieces : List Piece) (left : List ℕ) (before after : List (Option (List Volume))) (were_out are_out : List Bool) (seats : List Seated) (answers : List (ℕ × Answer)) : Type 0 where
+-- Many workers, each with a drive of its own, gave these answers. This holds of each. If some drive
+-- was not out before, a drive went out, or all that was drawn was answered, until none was left.
+pub record HaveWorkedBy (is : Piece → Answer → Type 0) (claims : TableId) (pieces : List Piece) (left : List ℕ) (were_out are_out : List Bool) (seats : List Seated) (answers : List (ℕ × Answer)) : Type 0 where
   pub claims_are : AllOf claims seats
-  pub each : AllAnswer (λ volumes. AllZip (StandsTold pieces volumes) before after) pieces answers
+  pub each : EachHolds is pieces answers
   pub progress : 0 < count_in were_out → (count_in are_out < count_in were_out) ⊎ AreAllAnswered left seats answers
+
+-- Many workers gave these answers, each over all volumes that all drives may be taken to show.
+abbrev pub HaveWorked : TableId → List Piece → List ℕ → List (Option (List Volume)) → List (Option (List Volume)) → List Bool → List Bool → List Seated → List (ℕ × Answer) → Type 0
+HaveWorked claims pieces left before after = HaveWorkedBy (IsAnswer (λ volumes. AllZip (StandsTold pieces volumes) before after)) claims pieces left

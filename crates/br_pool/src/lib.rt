@@ -1,19 +1,27 @@
 //! Many drives with one result: workers read pieces in threads, each worker with a drive of its
 //! own.
 //!
-//! `run_pool` returns what one drive would find of each piece, whichever worker reads it. The
-//! volumes of the drives may grow meanwhile, and drives may fail as long as one is left.
+//! `run_pool` returns what one drive would find of each piece, whichever worker reads it.
+//! `run_pool_streaming` gives it to a joiner block by block, as it is found, so that no more than
+//! some batches wait in a queue. The volumes of the drives may grow meanwhile, and drives may fail
+//! as long as one is left.
 #![tactic(auto)]
 
 mod fault;
 mod gate;
+mod gathering;
+mod line;
 mod pool;
 mod readers;
 mod rounds;
+mod sender;
+mod senders;
 mod slots;
+mod streaming;
 mod worker;
 mod workers;
 
 pub use fault::PoolFault;
 pub use gate::{Gate, OpenGate};
 pub use pool::run_pool;
+pub use streaming::{Streaming, run_pool_streaming};

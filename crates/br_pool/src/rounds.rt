@@ -67,7 +67,7 @@ fn has_drive<D: Drive>(readers: &[Reader<D>]) -> bool
 }
 
 /// Returns whether another round is to follow: a slot is empty, and a drive is not out.
-fn goes_on<D: Drive>(readers: &[Reader<D>], slots: &[Option<Answer>]) -> bool
+pub(crate) fn goes_on<D: Drive>(readers: &[Reader<D>], slots: &[Option<Answer>]) -> bool
     ensures { result ≡ is_turn readers.now slots.now }
 {
     has_empty(slots) && has_drive(readers)

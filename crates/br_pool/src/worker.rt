@@ -41,7 +41,7 @@ pub(crate) struct Round<'r, G: Gate> {
 }
 
 /// Returns whether the drive failed.
-fn is_failure(answer: &Answer) -> bool
+pub(crate) fn is_failure(answer: &Answer) -> bool
     ensures { result ≡ is_failure answer.now }
 {
     match answer {
@@ -75,7 +75,7 @@ fn read_one<D: Drive, G: Gate>(
 }
 
 /// Returns the number at a place.
-fn number_at(left: &[u32], place: u32) -> u32
+pub(crate) fn number_at(left: &[u32], place: u32) -> u32
     requires { place < length left.now }
     ensures { result ≡ number_at left.now place }
 {

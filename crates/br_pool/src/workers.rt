@@ -52,7 +52,7 @@ pub(crate) fn shares_for(
 }
 
 /// Makes a worker of each reader and a share, the last reader first.
-fn into_workers<D: Drive>(
+pub(crate) fn into_workers<D: Drive>(
     readers: &mut Vec<Reader<D>>,
     shares: Vec<Share>,
     workers: &mut Vec<Worker<D>>,
@@ -94,7 +94,7 @@ fn run_all<D: Drive + Send, G: Gate + Sync, R: Threads + Sync>(
 
 /// Takes the workers apart, the last one first. Their readers go back, and their answers into the
 /// slots.
-fn out_of_workers<D: Drive>(
+pub(crate) fn out_of_workers<D: Drive>(
     mut workers: Vec<Worker<D>>,
     readers: &mut Vec<Reader<D>>,
     seats: &mut Vec<ClaimSeat>,

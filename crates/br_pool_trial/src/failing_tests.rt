@@ -7,6 +7,7 @@ use br_sink::MemSink;
 use br_types::VolName;
 use br_volume::MemDrive;
 use std::alloc::Global;
+use std::sync::Wait;
 use std::test::Fail;
 use std::thread::Threads;
 
@@ -80,7 +81,7 @@ pub(crate) fn drives(alloc: Global, froms: &[FailsFrom]) -> Result<Vec<MemDrive>
 
 /// Returns the manifest by these drives, or the number of the refusal if nothing was written.
 fn extracted(
-    rt: &(impl Threads + Sync),
+    rt: &(impl Threads + Wait + Sync),
     alloc: Global,
     froms: &[FailsFrom],
 ) -> Result<Result<Vec<u8>, u32>, Fail>
@@ -101,7 +102,11 @@ fn extracted(
 }
 
 /// Returns whether these drives give both files.
-fn give_both(rt: &(impl Threads + Sync), alloc: Global, froms: &[FailsFrom]) -> Result<bool, Fail>
+fn give_both(
+    rt: &(impl Threads + Wait + Sync),
+    alloc: Global,
+    froms: &[FailsFrom],
+) -> Result<bool, Fail>
     requires { IsDriveCount (length froms.now) }
 {
     match extracted(rt, alloc, froms)? {
@@ -111,7 +116,11 @@ fn give_both(rt: &(impl Threads + Sync), alloc: Global, froms: &[FailsFrom]) -> 
 }
 
 /// Returns the number with which these drives are refused; 0 if they are not.
-fn refusal(rt: &(impl Threads + Sync), alloc: Global, froms: &[FailsFrom]) -> Result<u32, Fail>
+fn refusal(
+    rt: &(impl Threads + Wait + Sync),
+    alloc: Global,
+    froms: &[FailsFrom],
+) -> Result<u32, Fail>
     requires { IsDriveCount (length froms.now) }
 {
     Ok(extracted(rt, alloc, froms)?.err().unwrap_or(0))
@@ -126,7 +135,7 @@ fn any_number_of_drives_gives_both_files(rt: HostRuntime) -> Result<(), Fail> {
 }
 
 /// Returns the first call from which one of two drives fails and a file is missing.
-fn first_call_missed(rt: &(impl Threads + Sync), alloc: Global) -> Result<FailsFrom, Fail> {
+fn first_call_missed(rt: &(impl Threads + Wait + Sync), alloc: Global) -> Result<FailsFrom, Fail> {
     for k in 1..14 {
         if !give_both(rt, alloc, &[Some(k), None])? {
             return Ok(Some(k));

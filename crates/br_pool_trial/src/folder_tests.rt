@@ -8,6 +8,7 @@ use br_files::{FilePath, Kind, MemDisk};
 use br_folder::FolderDrive;
 use br_types::VolName;
 use std::alloc::{AllocError, Global};
+use std::sync::Wait;
 use std::test::Fail;
 use std::thread::Threads;
 
@@ -74,7 +75,7 @@ fn drives(
 
 /// Returns whether these drives print this.
 fn print(
-    rt: &(impl Threads + Sync),
+    rt: &(impl Threads + Wait + Sync),
     alloc: Global,
     at_b: AtB,
     afters: &[FailsAfter],
@@ -88,7 +89,10 @@ fn print(
 }
 
 /// Returns the first number of calls after which one of two drives fails and a file is missing.
-fn first_calls_missed(rt: &(impl Threads + Sync), alloc: Global) -> Result<FailsAfter, Fail> {
+fn first_calls_missed(
+    rt: &(impl Threads + Wait + Sync),
+    alloc: Global,
+) -> Result<FailsAfter, Fail> {
     for calls in 0..24 {
         if !print(rt, alloc, AtB::Volume, &[Some(calls), None], MANIFEST)? {
             return Ok(Some(calls));

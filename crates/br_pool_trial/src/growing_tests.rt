@@ -11,6 +11,7 @@ use br_sink::MemSink;
 use br_types::VolName;
 use br_volume::{Drive, MemDrive};
 use std::alloc::Global;
+use std::sync::Wait;
 use std::test::Fail;
 use std::thread::Threads;
 
@@ -131,7 +132,7 @@ fn drives(alloc: Global, grow: &[&[u8]]) -> Result<Vec<MemDrive>, Fail>
 
 /// Returns the manifest by these drives, or the line of the refusal.
 pub(crate) fn printed<D: Drive + Send>(
-    rt: &(impl Threads + Sync),
+    rt: &(impl Threads + Wait + Sync),
     alloc: Global,
     text: &[u8],
     drives: &mut Vec<D>,
@@ -155,7 +156,7 @@ pub(crate) type Print<'s> = (&'s [u8], &'s [u8]);
 
 /// Returns whether these drives print this.
 pub(crate) fn print(
-    rt: &(impl Threads + Sync),
+    rt: &(impl Threads + Wait + Sync),
     alloc: Global,
     grow: &[&[u8]],
     case: Print<'_>,

@@ -2,10 +2,11 @@
 ghost use Rattle.std.specs.Prelude.{◌≡◌, length};
 ghost use Rattle.br_pool.specs.Pool.{IsDriveCount};
 
-use crate::failing_tests::{FailsFrom, TEXT, drives};
+use crate::failing_tests::{FailsFrom, TEXT, drives, volumes};
 use crate::growing_tests::{Case, ON_A, Print, first_wrong, pieces_of, print};
-use br_match::Found;
+use br_match::{Found, match_piece};
 use br_pool::{OpenGate, PoolFault, run_pool};
+use br_volume::MemDrive;
 use std::alloc::Global;
 use std::test::Fail;
 use std::thread::Threads;
@@ -61,6 +62,28 @@ fn any_number_of_drives_finds_one_list(rt: HostRuntime) -> Result<(), Fail> {
     assert!(rt; find_the_list(&rt, rt.alloc(), &[None; 2])?);
     assert!(rt; find_the_list(&rt, rt.alloc(), &[None; 16])?);
     assert!(rt; find_the_list(&rt, rt.alloc(), &[Some(3), None])?);
+    Ok(())
+}
+
+/// Returns the number of bytes that one drive gives for the first piece of a bootstrap.
+fn bytes_given(alloc: Global, text: &[u8]) -> Result<u64, Fail> {
+    let pieces = pieces_of(alloc, text)?;
+    let piece = pieces.first().ok_or("a piece")?;
+    let mut drive = MemDrive::new(volumes(alloc)?);
+    match_piece(alloc, piece, &mut drive)?;
+    Ok(drive.bytes_read())
+}
+
+/// The bytes of A that are read for blocks 2 and 3: of the first block its header, and of the others,
+/// of 64 and 44 bytes, a header and then all.
+const LATER_ON_A: u64 = 24 + (24 + 64) + (24 + 44);
+
+#[test]
+fn a_block_that_is_not_asked_for_is_not_read(rt: HostRuntime) -> Result<(), Fail> {
+    assert_eq!(rt;
+        bytes_given(rt.alloc(), b"Volume=\"A\"\nVolAddr=64-171\n")?,
+        LATER_ON_A
+    );
     Ok(())
 }
 

@@ -1,13 +1,13 @@
-use Rattle.std.proofs.Common.{◌≡◌, ℕ, ◌<◌, ◌≤◌, Bool, true, List, map, reverse, length, Option, None, ap, sym, subst, ◌∙◌, arith}
+use Rattle.std.proofs.Common.{◌≡◌, ℕ, ◌<◌, Bool, true, List, length, Option, None, sym, subst, ◌∙◌, arith}
 use Rattle.std.specs.List.{AllByRecursion, AllZip}
 use Rattle.br_model.specs.Volume.{Volume}
-use Rattle.br_volume.specs.Drive.{OnlyGrows}
-use Rattle.br_pool.specs.Pool.{StandsTold, StayInPlace}
+use Rattle.br_pool.specs.Pool.{StandsTold}
 use Rattle.br_pool.specs.Rounds.{OverAll}
 use Rattle.br_pool.specs.Slots.{Fills, IsListed}
-use Rattle.br_pool.specs.Workers.{Answer, HaveServed, Served, outs}
+use Rattle.br_pool.specs.Workers.{Answer, IsAnswer, outs}
 use Rattle.br_pool.specs.declared.worker.Reader.{Reader}
-use Rattle.br_pool.proofs.ListLaws.{written, zip_length, zip_so}
+use Rattle.br_pool.proofs.ListLaws.{written, zip_length}
+use Rattle.br_pool.proofs.PlaceLaws.{places_of}
 use Rattle.br_pool.proofs.WorkedLaws.{all_kept}
 use Rattle.br_pool.proofs.ReaderLaws.{all_risen, zip_back, zip_there}
 use Rattle.br_pool.proofs.ResultLaws.{listed_decided, listed_hits, listed_left, listed_numbers}
@@ -30,13 +30,6 @@ out_of_readers-requires-clause-room g c =
 pub run_rounds-run-requires-clause-none : goal.run_rounds-run-requires-clause-none
 run_rounds-run-requires-clause-none g c κs within =
     subst (λ (l : List (Option Answer)). AllByRecursion (λ (s : Option Answer). s ≡ None) l) (sym c.deref_mut.ensures.value) c.in_ok-slots.ensures.none
-
--- the drives are in their places, whatever the rounds return
-places_of : {D : Type 0} (shows : D → Option (List Volume)) (fails : D → ℕ) (first last : List (Reader D)) (before after : List D) → HaveServed shows fails first last
-    → reverse (map (λ (r : Reader D). r.drive) first) ≡ before → after ≡ reverse (map (λ (r : Reader D). r.drive) last) → StayInPlace shows fails before after
-places_of {D} shows fails first last before after served there back =
-    zip_back (λ (r : Reader D). r.drive) (λ d e. OnlyGrows (shows d) (shows e) × (fails d ≤ fails e)) first last before after there back
-    (zip_so (Served shows fails) (λ r s. OnlyGrows (shows r.drive) (shows s.drive) × (fails r.drive ≤ fails s.drive)) (λ r s k. (k.grows, k.counted)) first last served)
 
 pub returns-in_err-run-clause-places : goal.returns-in_err-run-clause-places
 returns-in_err-run-clause-places g c =
@@ -68,6 +61,6 @@ returns g c =
       hits = λ volumes stands. listed_hits over pieces c.run_rounds-run.new.slots fills c.found_in_order.result listed volumes
           (zip_there drive (StandsTold pieces volumes) g.D.Drive.shows first last before after there back stands);
       places = places_of g.D.Drive.shows g.D.Drive.failures first last before after served there back;
-      decided = listed_decided over pieces c.run_rounds-run.new.slots fills c.found_in_order.result listed;
-      failed = listed_left over pieces c.run_rounds-run.new.slots fills c.found_in_order.result listed _ (λ empty. risen (c.in_ok-run.ensures.left empty));
+      decided = listed_decided (IsAnswer over) (λ p a h. h.sound) pieces c.run_rounds-run.new.slots fills c.found_in_order.result listed;
+      failed = listed_left c.run_rounds-run.new.slots c.found_in_order.result listed _ (λ empty. risen (c.in_ok-run.ensures.left empty));
     }

@@ -1,4 +1,4 @@
-use Rattle.std.proofs.Common.{◌≡◌, ℕ, ◌+◌, ◌<◌, ◌⊎◌, inl, inr, false, Bool, List, length, map, Vec, ap, sym, subst, ◌∙◌, arith}
+use Rattle.std.proofs.Common.{◌≡◌, ℕ, ◌<◌, ◌⊎◌, inl, inr, false, List, length, map, Vec, ap, sym, subst, ◌∙◌, arith}
 use Rattle.std.specs.Global.{Global}
 use Rattle.std.specs.List.{AllByRecursion, list_any}
 use Rattle.atomic_table.specs.Seated.{TableId}
@@ -6,10 +6,10 @@ use Rattle.br_model.specs.Volume.{Volume}
 use Rattle.br_claim.specs.Claims.{Claimed}
 use Rattle.br_pool.specs.Rounds.{OverAll}
 use Rattle.br_pool.specs.Slots.{AllBelow, empties, is_empty}
-use Rattle.br_pool.specs.Workers.{AreAllAnswered, IsReady, count_in, outs}
+use Rattle.br_pool.specs.Workers.{AreAllAnswered, IsAnswer, IsReady, outs}
 use Rattle.br_pool.specs.declared.workers.Share.{Share}
 use Rattle.br_pool.specs.declared.worker.Reader.{Reader}
-use Rattle.br_pool.proofs.AnswerLaws.{all_below}
+use Rattle.br_pool.proofs.AnswerLaws.{each_below}
 use Rattle.br_pool.proofs.EmptyLaws.{all_filled, empties_low, rounds_fall}
 use Rattle.br_pool.proofs.ReaderLaws.{all_served}
 use Rattle.br_pool.proofs.SlotLaws.{length_with_each}
@@ -53,7 +53,7 @@ returns g c =
     let limit : c.shares_for.new.claims.limit ≡ c.in_ok-left.left.len = ap (λ (k : Claimed). k.limit) c.in_ok-shares.ensures.claims ∙ c.in_ok-claims.ensures.0 ∙ c.in-Ok.ensures.1 ∙ c.len-room.ensures in
     let left : c.deref.result.now ≡ empties 0 c.args.slots.now = c.deref.ensures.value ∙ c.in_ok-left.ensures in
     let over : List Volume → Type 0 = OverAll g.D.Drive.shows pieces c.args.readers.now.items c.read_all.new.readers.items in
-    let below : AllBelow (length c.args.slots.now) r.0 = subst (λ n. AllBelow n r.0) (sym many) (all_below over pieces r.0 worked.each) in
+    let below : AllBelow (length c.args.slots.now) r.0 = subst (λ n. AllBelow n r.0) (sym many) (each_below (IsAnswer over) pieces r.0 worked.each) in
     let finished : AreAllAnswered c.deref.result.now c.in_ok-seats.seats.items r.0 → list_any is_empty c.read_all.new.into ≡ false =
     λ done. ap (list_any is_empty) r.1
     ∙ all_filled c.args.slots.now r.0 c.shares_for.new.claims.limit c.in_ok-seats.seats.items (map (λ (v : Vec ℕ Global). v.items) c.in-Ok-gather._lists.items) below

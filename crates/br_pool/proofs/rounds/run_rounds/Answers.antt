@@ -1,13 +1,13 @@
-use Rattle.std.proofs.Common.{◌≡◌, ℕ, List, Bool, Option, map, length, refl, ap, sym, subst, ◌∙◌, arith}
+use Rattle.std.proofs.Common.{ℕ, List, Bool, Option, refl, ap, sym, subst, ◌∙◌, arith}
 use Rattle.std.specs.Prelude.{not}
 use Rattle.std.specs.List.{AllZip, list_any}
 use Rattle.br_model.specs.Volume.{Volume}
-use Rattle.br_pool.specs.Pool.{StandsTold}
 use Rattle.br_pool.specs.Rounds.{OverAll, is_turn}
 use Rattle.br_pool.specs.Slots.{Fills, is_empty}
+use Rattle.br_pool.specs.Workers.{IsAnswer}
 use Rattle.br_pool.specs.declared.worker.Reader.{Reader}
-use Rattle.br_pool.proofs.AnswerLaws.{all_weaker}
-use Rattle.br_pool.proofs.FilledLaws.{each_fills, fills_weaker, none_fills}
+use Rattle.br_pool.proofs.AnswerLaws.{all_weaker, answer_weaker}
+use Rattle.br_pool.proofs.FilledLaws.{each_fills, fills_so, none_fills}
 use Rattle.br_pool.proofs.FlagLaws.{and_left, and_not, and_right, none_in, some_in}
 use Rattle.br_pool.proofs.ListLaws.{zip_length}
 use Rattle.br_pool.proofs.ReaderLaws.{all_served, served_on, stand_from, stand_so_far}
@@ -18,7 +18,7 @@ loop-alloc-init g c =
     let readers = c.args.readers.now.items in record {
       many = refl;
       served = all_served (λ (r : Reader g.row.D.Denot). g.D.Drive.shows r.drive) (λ (r : Reader g.row.D.Denot). g.D.Drive.failures r.drive) (λ (r : Reader g.row.D.Denot). r.out) readers;
-      filled = none_fills (OverAll g.D.Drive.shows c.args.task.now.pieces.now readers readers) c.args.task.now.pieces.now c.args.slots.now c.requires.many c.requires.none;
+      filled = none_fills (IsAnswer (OverAll g.D.Drive.shows c.args.task.now.pieces.now readers readers)) c.args.task.now.pieces.now c.args.slots.now c.requires.many c.requires.none;
     }
 
 pub loop-alloc-preserved : goal.loop-alloc-preserved
@@ -40,8 +40,9 @@ loop-alloc-preserved g c =
       served = served_on shows fails out first second third i.served served;
       filled =
           subst (AllZip (Fills whole) pieces) (sym added.1)
-          (each_fills whole pieces c.loop-alloc.slots added.0
-          (fills_weaker so_far whole (λ volumes told. stand_so_far shows fails out pieces volumes first second third i.served served told) pieces c.loop-alloc.slots i.filled)
+          (each_fills (IsAnswer whole) pieces c.loop-alloc.slots added.0
+          (fills_so (IsAnswer so_far) (IsAnswer whole)
+          (answer_weaker so_far whole (λ volumes told. stand_so_far shows fails out pieces volumes first second third i.served served told)) pieces c.loop-alloc.slots i.filled)
           (all_weaker round whole (λ volumes told. stand_from shows fails out pieces volumes first second third i.served served told) pieces added.0 added.2));
     }
 

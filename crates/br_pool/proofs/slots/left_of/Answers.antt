@@ -1,7 +1,7 @@
 use Rattle.std.proofs.Common.{Bool, ◌++◌, ◌∷◌, [], ap, ◌∙◌, arith}
 use Rattle.std.specs.Prelude.{if◌then◌else◌}
 use Rattle.br_pool.specs.Slots.{empties}
-use Rattle.br_pool.proofs.EmptyLaws.{empties_more, empties_done}
+use Rattle.br_pool.proofs.EmptyLaws.{empties_more}
 use Rattle.br_pool.proofs.slots.left_of.Goals as goal
 
 pub loop-number-preserved : goal.loop-number-preserved

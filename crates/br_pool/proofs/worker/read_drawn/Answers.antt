@@ -1,14 +1,13 @@
-use Rattle.std.proofs.Common.{◌≡◌, ℕ, ◌<◌, Bool, true, false, List, [], ◌∷◌, ◌++◌, map, length, length-append, refl, ap, sym, subst, ◌∙◌, arith}
-use Rattle.std.specs.List.{AllByRecursion}
+use Rattle.std.proofs.Common.{◌≡◌, ℕ, true, false, List, [], ◌∷◌, map, length, length-append, refl, ap, sym, subst, ◌∙◌, arith}
 use Rattle.std.specs.Prelude.{IfOk}
 use Rattle.br_claim.specs.Claims.{Seated}
 use Rattle.br_model.specs.Meaning.{Piece}
 use Rattle.br_match.specs.Matching.{FoundOver}
 use Rattle.br_match.proofs.GrowthLaws.{grows_itself, grows_more}
 use Rattle.br_pool.specs.Pool.{StandsTold}
-use Rattle.br_pool.specs.Workers.{Answer, AllAnswer, is_failure, number_at, numbers_of}
+use Rattle.br_pool.specs.Workers.{Answer, AllAnswer, number_at, numbers_of}
 use Rattle.br_pool.proofs.AnswerLaws.{answered_longer, answered_more}
-use Rattle.br_pool.proofs.ListLaws.{all_at, map_more}
+use Rattle.br_pool.proofs.DrawnLaws.{below_at, one_more}
 use Rattle.br_pool.proofs.worker.read_drawn.Goals as goal
 
 differ : true ≡ false → ⊥
@@ -16,17 +15,6 @@ differ e = absurd cc
 
 differ_too : false ≡ true → ⊥
 differ_too e = absurd cc
-
--- the number drawn is that of a piece
-below_at : (n : ℕ) (left : List ℕ) (place number : ℕ) → AllByRecursion (λ (x : ℕ). x < n) left → place < length left → number ≡ number_at left place → number < n
-below_at n left place number all low e = subst (λ m. m < n) (sym e) (all_at (λ (x : ℕ). x < n) left place 0 low all)
-
--- the numbers after one more answer
-one_more : (left : List ℕ) (place number : ℕ) (a : Answer) (drawn : List ℕ) (before after : List (ℕ × Answer)) → after ≡ before ++ (number, a) ∷ [] → number ≡ number_at left place
-    → numbers_of before ≡ map (number_at left) drawn → numbers_of after ≡ map (number_at left) (drawn ++ place ∷ [])
-one_more left place number a drawn before after e is so =
-    ap numbers_of e ∙ map_more (λ (x : ℕ × Answer). x.0) before (number, a) ∙ ap (λ (l : List ℕ). l ++ number ∷ []) so
-    ∙ ap (λ (n : ℕ). map (number_at left) drawn ++ n ∷ []) is ∙ sym (map_more (number_at left) drawn place)
 
 pub loop-place-init : goal.loop-place-init
 loop-place-init g c = let r = c.requires.ready in

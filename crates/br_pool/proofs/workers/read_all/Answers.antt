@@ -1,12 +1,11 @@
-use Rattle.std.proofs.Common.{◌≡◌, ℕ, Bool, List, Option, flat_map, reverse, length, arith}
-use Rattle.br_model.specs.Volume.{Volume}
+use Rattle.std.proofs.Common.{◌≡◌, flat_map, reverse, length, arith}
 use Rattle.br_pool.specs.Workers.{IsReady}
 use Rattle.br_pool.specs.declared.workers.Share.{Share}
 use Rattle.br_pool.specs.declared.worker.Reader.{Reader}
 use Rattle.br_pool.specs.declared.worker.Worker.{Worker}
 use Rattle.br_pool.proofs.ListLaws.{all_over, zip_length}
 use Rattle.br_pool.proofs.ReaderLaws.{all_served}
-use Rattle.br_pool.proofs.WorkedLaws.{numbers_below, places_kept, seats_many, have_served}
+use Rattle.br_pool.proofs.WorkedLaws.{by_drive, numbers_below, places_kept, seats_many, have_answered}
 use Rattle.br_pool.proofs.workers.read_all.Goals as goal
 
 pub returns-in_err-seats-clause-served : goal.returns-in_err-seats-clause-served
@@ -35,21 +34,24 @@ out_of_workers-requires-clause-room g c =
 pub out_of_workers-requires-clause-below : goal.out_of_workers-requires-clause-below
 out_of_workers-requires-clause-below g c =
     let round = c.args.round.now in
-    numbers_below round.claims.now.claims round.pieces.now round.left.now (λ (r : Reader g.row.D.Denot). g.D.Drive.shows r.drive) (λ (r : Reader g.row.D.Denot). g.D.Drive.failures r.drive)
+    numbers_below round.claims.now.claims round.pieces.now round.left.now
+    (by_drive round.pieces.now (λ (r : Reader g.row.D.Denot). g.D.Drive.shows r.drive) (λ (w : Worker g.row.D.Denot). w.reader)) (λ (r : Reader g.row.D.Denot). g.D.Drive.shows r.drive) (λ (r : Reader g.row.D.Denot). g.D.Drive.failures r.drive)
     (λ (r : Reader g.row.D.Denot). r.out) (λ (w : Worker g.row.D.Denot). w.reader) (λ (w : Worker g.row.D.Denot). w.seat) (λ (w : Worker g.row.D.Denot). w.answers.items) (length c.args.into.now)
     c.into_workers.new.workers.items c.run_all-workers.result.items c.requires.slots c.run_all-workers.ensures
 
 pub returns-clause-many : goal.returns-clause-many
 returns-clause-many g c =
     let round = c.args.round.now in
-    seats_many round.claims.now.claims round.pieces.now round.left.now (λ (r : Reader g.row.D.Denot). g.D.Drive.shows r.drive) (λ (r : Reader g.row.D.Denot). g.D.Drive.failures r.drive)
+    seats_many round.claims.now.claims round.pieces.now round.left.now
+    (by_drive round.pieces.now (λ (r : Reader g.row.D.Denot). g.D.Drive.shows r.drive) (λ (w : Worker g.row.D.Denot). w.reader)) (λ (r : Reader g.row.D.Denot). g.D.Drive.shows r.drive) (λ (r : Reader g.row.D.Denot). g.D.Drive.failures r.drive)
     (λ (r : Reader g.row.D.Denot). r.out) (λ (w : Worker g.row.D.Denot). w.reader) (λ (w : Worker g.row.D.Denot). w.seat) (λ (w : Worker g.row.D.Denot). w.answers.items)
     c.into_workers.new.workers.items c.run_all-workers.result.items c.args.readers.now.items c.out_of_workers.new.seats.items c.run_all-workers.ensures c.into_workers.ensures.readers c.out_of_workers.ensures.seats
 
 pub returns-clause-served : goal.returns-clause-served
 returns-clause-served g c =
     let round = c.args.round.now in
-    places_kept round.claims.now.claims round.pieces.now round.left.now (λ (r : Reader g.row.D.Denot). g.D.Drive.shows r.drive) (λ (r : Reader g.row.D.Denot). g.D.Drive.failures r.drive)
+    places_kept round.claims.now.claims round.pieces.now round.left.now
+    (by_drive round.pieces.now (λ (r : Reader g.row.D.Denot). g.D.Drive.shows r.drive) (λ (w : Worker g.row.D.Denot). w.reader)) (λ (r : Reader g.row.D.Denot). g.D.Drive.shows r.drive) (λ (r : Reader g.row.D.Denot). g.D.Drive.failures r.drive)
     (λ (r : Reader g.row.D.Denot). r.out) (λ (w : Worker g.row.D.Denot). w.reader) (λ (w : Worker g.row.D.Denot). w.seat) (λ (w : Worker g.row.D.Denot). w.answers.items)
     c.into_workers.new.workers.items c.run_all-workers.result.items c.args.readers.now.items c.out_of_workers.new.readers.items c.run_all-workers.ensures c.into_workers.ensures.readers c.out_of_workers.ensures.readers
 
@@ -58,7 +60,7 @@ returns-clause-read g c =
     let round = c.args.round.now in (
       flat_map (λ (w : Worker g.row.D.Denot). w.answers.items) (reverse c.run_all-workers.result.items),
       c.out_of_workers.ensures.slots,
-      have_served round.claims.now.claims round.pieces.now round.left.now (λ (r : Reader g.row.D.Denot). g.D.Drive.shows r.drive) (λ (r : Reader g.row.D.Denot). g.D.Drive.failures r.drive)
+      have_answered round.claims.now.claims round.pieces.now round.left.now (λ (r : Reader g.row.D.Denot). g.D.Drive.shows r.drive) (λ (r : Reader g.row.D.Denot). g.D.Drive.failures r.drive)
           (λ (r : Reader g.row.D.Denot). r.out) (λ (w : Worker g.row.D.Denot). w.reader) (λ (w : Worker g.row.D.Denot). w.seat) (λ (w : Worker g.row.D.Denot). w.answers.items)
           c.into_workers.new.workers.items c.run_all-workers.result.items c.args.readers.now.items c.out_of_workers.new.readers.items c.out_of_workers.new.seats.items
           c.run_all-workers.ensures c.into_workers.ensures.readers c.out_of_workers.ensures.readers c.out_of_workers.ensures.seats,

@@ -1,0 +1,79 @@
+//! The gatherer's part: it gives a joiner what workers send.
+ghost use Rattle.std.specs.Prelude.{◌≡◌, ◌≢◌, true, IsTrue};
+ghost use Rattle.crossbeam_queue.specs.Passes.{view, IsPassOf};
+ghost use Rattle.br_pool.specs.Crew.{HasAll};
+ghost use Rattle.br_pool.specs.Gathering.{IsStill, Takes};
+ghost use Rattle.br_pool.specs.declared.gathering.Look.TheVariants.{Empty, Lost};
+
+use crate::line::{CrewPass, Line, next_batch};
+use br_join::Joiner;
+use std::sync::Wait;
+use std::sync::atomic::{AtomicU64, Ordering};
+use std::thread;
+
+/// What became of one look at the queue.
+#[derive(Clone, Copy, Debug, PartialEq, Eq)]
+pub(crate) enum Look {
+    /// The joiner took a batch.
+    Taken,
+    /// There was no memory for a batch, which is lost.
+    Lost,
+    /// There was no batch.
+    Empty,
+}
+
+/// Gives the joiner the next batch, if there is one.
+fn take_one<R: Wait>(rt: &R, line: &Line, pass: &mut CrewPass, joiner: &mut Joiner) -> Look
+    requires pass { IsPassOf line.now pass.old }
+    requires gathers { (view pass.old).gathers ≡ true }
+    ensures pass { IsPassOf line.now pass.new }
+    ensures still { IsStill (view pass.old) (view pass.new) }
+    ensures took { Takes (result ≢ Lost) (view pass.old) (view pass.new) joiner.old joiner.new }
+    ensures all { result ≡ Empty → HasAll (view pass.new).pushed (view pass.new).popped }
+    ensures no_other { result ≡ Empty → (view pass.new).parts ≡ 65536 → HasAll (view pass.new).popped (view pass.new).pushed }
+{
+    match next_batch(rt, line, pass) {
+        None => Look::Empty,
+        Some(batch) => {
+            let Ok(()) = joiner.take_hits(batch) else {
+                return Look::Lost;
+            };
+            Look::Taken
+        }
+    }
+}
+
+/// Gives the joiner what is in the queue, until it finds the queue empty after `ended` was raised.
+/// Returns whether nothing was lost. If a batch is lost, the later ones are taken all the same, so
+/// that no worker waits for a place in the queue.
+pub(crate) fn gather<R: Wait>(
+    rt: &R,
+    line: &Line,
+    pass: &mut CrewPass,
+    joiner: &mut Joiner,
+    ended: &AtomicU64,
+) -> bool
+    requires pass { IsPassOf line.now pass.old }
+    requires gathers { (view pass.old).gathers ≡ true }
+    ensures pass { IsPassOf line.now pass.new }
+    ensures still { IsStill (view pass.old) (view pass.new) }
+    ensures took { Takes (IsTrue result) (view pass.old) (view pass.new) joiner.old joiner.new }
+    ensures all { HasAll (view pass.new).pushed (view pass.new).popped }
+    ensures no_other { (view pass.new).parts ≡ 65536 → HasAll (view pass.new).popped (view pass.new).pushed }
+{
+    let mut fine = true;
+    for _ in rt.forever() {
+        let over = ended.load(Ordering::SeqCst) != 0;
+        match take_one(rt, line, pass, joiner) {
+            Look::Taken => {}
+            Look::Lost => fine = false,
+            Look::Empty => {
+                if over {
+                    return fine;
+                }
+                thread::yield_now();
+            }
+        }
+    }
+    unreachable!()
+}
