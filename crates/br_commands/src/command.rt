@@ -8,6 +8,7 @@ use crate::extract::extract_files;
 use crate::script::serve;
 use br_options::Invocation;
 use std::io;
+use std::sync::Wait;
 use std::thread::Threads;
 
 /// Does what a command asks for, in as many threads as `threads` starts. Returns the exit status: 0 if
@@ -19,7 +20,7 @@ use std::thread::Threads;
 /// If memory ran out, or a stream of the program failed where that is no exit status of the command.
 pub fn run_command<C: Catalogue>(
     rt: &HostRuntime,
-    threads: &(impl Threads + Sync),
+    threads: &(impl Threads + Wait + Sync),
     catalogue: &C,
     command: &Invocation<'_>,
 ) -> io::Result<u8>

@@ -25,6 +25,7 @@ use br_volume::Drive;
 use std::alloc::{AllocError, Global};
 use std::fs;
 use std::io::{self, BufRead, BufReader, BufWriter, ErrorKind};
+use std::sync::Wait;
 use std::thread::Threads;
 use thiserror::Error;
 
@@ -262,7 +263,7 @@ impl<'r> ConsoleSetup<'r> {
 /// Carries out a task by the lines of a reader. The answers, the bootstrap and the manifest go to its
 /// writer, and then the files into its sink, if there is one.
 pub fn console_over<R: BufRead + Drop, D: Drive + Send, W: Flush + Drop, S: Sink>(
-    threads: &(impl Threads + Sync),
+    threads: &(impl Threads + Wait + Sync),
     alloc: Global,
     task: &mut ConsoleTask<D, W, S>,
     reader: &mut R,
@@ -303,7 +304,7 @@ pub fn console_over<R: BufRead + Drop, D: Drive + Send, W: Flush + Drop, S: Sink
 /// If memory ran out or standard error failed.
 pub fn restore_by_lines<C: Catalogue, R: BufRead + Drop>(
     rt: &HostRuntime,
-    threads: &(impl Threads + Sync),
+    threads: &(impl Threads + Wait + Sync),
     catalogue: &C,
     given: &ConsoleOptions<'_>,
     reader: &mut R,
@@ -323,7 +324,7 @@ pub fn restore_by_lines<C: Catalogue, R: BufRead + Drop>(
 /// Restores by the lines of standard input, as `restore_by_lines`.
 pub(crate) fn restore_marked<C: Catalogue>(
     rt: &HostRuntime,
-    threads: &(impl Threads + Sync),
+    threads: &(impl Threads + Wait + Sync),
     catalogue: &C,
     given: &ConsoleOptions<'_>,
 ) -> io::Result<u8>

@@ -17,6 +17,7 @@ use std::alloc::{AllocError, Global};
 use std::fs;
 use std::io::{self, BufWriter, ErrorKind};
 use std::rt::Files;
+use std::sync::Wait;
 use std::thread::Threads;
 use thiserror::Error;
 
@@ -189,7 +190,7 @@ impl<'r> ExtractSetup<'r, '_> {
 /// Carries out a task. The manifest goes to its writer, and then the files into its sink, if there is
 /// one.
 pub fn extract_over<D: Drive + Send, W: Flush, S: Sink>(
-    threads: &(impl Threads + Sync),
+    threads: &(impl Threads + Wait + Sync),
     alloc: Global,
     task: &mut ExtractTask<D, W, S>,
 ) -> Result<RestoreEnd, ExtractFault>
@@ -216,7 +217,7 @@ pub fn extract_over<D: Drive + Send, W: Flush, S: Sink>(
 /// If memory ran out or standard error failed.
 pub(crate) fn extract_files(
     rt: &HostRuntime,
-    threads: &(impl Threads + Sync),
+    threads: &(impl Threads + Wait + Sync),
     given: &ExtractOptions<'_>,
 ) -> io::Result<u8>
     requires few { AreFew given.now.drives }

@@ -7,6 +7,7 @@ use br_engine::Flush;
 use br_script::{ScriptEnd, run_script};
 use std::alloc::Global;
 use std::io::{self, BufRead, BufReader, BufWriter, ErrorKind};
+use std::sync::Wait;
 use std::thread::Threads;
 
 /// Returns the exit status of a script that ended so.
@@ -21,7 +22,7 @@ fn status_of(end: ScriptEnd) -> u8
 
 /// Runs a script, and writes and flushes its answers. Returns the exit status.
 pub fn answer<R: BufRead, W: Flush>(
-    threads: &(impl Threads + Sync),
+    threads: &(impl Threads + Wait + Sync),
     alloc: Global,
     reader: &mut R,
     writer: &mut W,
@@ -36,7 +37,7 @@ pub fn answer<R: BufRead, W: Flush>(
 /// Runs the script of standard input, and writes its answers to standard output. Returns the exit status.
 fn run_input<R: Input + Print + AllocGlobal>(
     rt: &R,
-    threads: &(impl Threads + Sync),
+    threads: &(impl Threads + Wait + Sync),
 ) -> io::Result<u8> {
     let mut reader = BufReader::new(rt.alloc(), rt.reader())?;
     let mut writer = BufWriter::new(rt.alloc(), io::writer(rt))?;
@@ -46,7 +47,7 @@ fn run_input<R: Input + Print + AllocGlobal>(
 /// Runs the script of standard input; an error for memory is a refusal of the script. Returns the exit status.
 pub(crate) fn serve<R: Input + Print + AllocGlobal>(
     rt: &R,
-    threads: &(impl Threads + Sync),
+    threads: &(impl Threads + Wait + Sync),
 ) -> io::Result<u8> {
     match run_input(rt, threads) {
         Err(e) if e.kind() == ErrorKind::OutOfMemory => {

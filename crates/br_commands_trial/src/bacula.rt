@@ -5,6 +5,7 @@ use br_sink::MemSink;
 use br_types::VolName;
 use br_volume::MemDrive;
 use std::alloc::Global;
+use std::sync::Wait;
 use std::test::Fail;
 use std::thread::Threads;
 
@@ -28,7 +29,7 @@ fn drive_over(alloc: Global, volume: &[u8]) -> Result<MemDrive, Fail> {
 
 /// Runs the bootstrap of a case over its volume. Returns how it ended, and appends the manifest.
 fn ended(
-    threads: &(impl Threads + Sync),
+    threads: &(impl Threads + Wait + Sync),
     alloc: Global,
     case: &Case,
     manifest: &mut Vec<u8>,
@@ -44,7 +45,7 @@ fn ended(
 }
 
 /// Returns if the restore of a case ends as expected.
-fn holds(threads: &(impl Threads + Sync), alloc: Global, case: &Case) -> Result<bool, Fail> {
+fn holds(threads: &(impl Threads + Wait + Sync), alloc: Global, case: &Case) -> Result<bool, Fail> {
     let mut manifest = Vec::new(alloc);
     let ending = ended(threads, alloc, case, &mut manifest)?;
     Ok(

@@ -13,6 +13,7 @@ use br_history::History;
 use br_options::{ConsoleOptions, Invocation};
 use std::fs;
 use std::io::Write;
+use std::sync::Wait;
 use std::test::Fail;
 use std::thread::Threads;
 
@@ -128,7 +129,7 @@ fn new_db(rt: &HostRuntime, place: &str) -> Result<String, Fail> {
 /// Returns how the session of a case ends in a place, and writes its text.
 fn ended<W: Write + Drop>(
     rt: &HostRuntime,
-    threads: &(impl Threads + Sync),
+    threads: &(impl Threads + Wait + Sync),
     place: &str,
     case: &Case,
     text: W,
@@ -151,7 +152,7 @@ fn ended<W: Write + Drop>(
 /// Returns if a session in a place ends with this status, this line and this text.
 fn ends(
     rt: &HostRuntime,
-    threads: &(impl Threads + Sync),
+    threads: &(impl Threads + Wait + Sync),
     place: &str,
     case: &Case,
 ) -> Result<bool, Fail> {
@@ -165,7 +166,11 @@ fn ends(
 }
 
 /// Returns if a delivery is as expected, and the files are there.
-fn holds(rt: &HostRuntime, threads: &(impl Threads + Sync), case: &Case) -> Result<bool, Fail> {
+fn holds(
+    rt: &HostRuntime,
+    threads: &(impl Threads + Wait + Sync),
+    case: &Case,
+) -> Result<bool, Fail> {
     let volume = [FRONT, case.second, BACK];
     let place = new_place(rt, case.name, &[("V", volume)])?;
     let ends = ends(rt, threads, place.as_str(), case)?;
@@ -206,7 +211,7 @@ fn nothing_is_delivered_if_the_answers_are_not_flushed(rt: HostRuntime) -> Resul
 /// Returns the status of `console` in a place, with these lines.
 fn status_in(
     rt: &HostRuntime,
-    threads: &(impl Threads + Sync),
+    threads: &(impl Threads + Wait + Sync),
     place: &str,
     into: &str,
     lines: &[u8],
@@ -249,7 +254,7 @@ fn a_refused_line_ends_console_with_status_1(rt: HostRuntime) -> Result<(), Fail
 /// Returns the status of the command in a place, with a folder to write into that is not empty.
 fn status_of_refused(
     rt: &HostRuntime,
-    threads: &(impl Threads + Sync),
+    threads: &(impl Threads + Wait + Sync),
     place: &str,
 ) -> Result<u8, Fail> {
     let db = new_db(rt, place)?;

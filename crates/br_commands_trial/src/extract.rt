@@ -10,6 +10,7 @@ use br_options::{ExtractOptions, Invocation};
 use std::alloc::Global;
 use std::fs;
 use std::io::Write;
+use std::sync::Wait;
 use std::test::Fail;
 use std::thread::Threads;
 
@@ -101,7 +102,7 @@ const TWO_VOLUMES: Case = Case {
 /// Delivers by a bootstrap from the volumes into the folder of a place. Returns how it ended, and writes the manifest.
 fn delivered<W: Write>(
     rt: &HostRuntime,
-    threads: &(impl Threads + Sync),
+    threads: &(impl Threads + Wait + Sync),
     place: &str,
     bootstrap: &[u8],
     manifest: &mut W,
@@ -124,7 +125,7 @@ fn delivered<W: Write>(
 /// Returns if a delivery by a bootstrap in a place is as expected of a case.
 fn ends(
     rt: &HostRuntime,
-    threads: &(impl Threads + Sync),
+    threads: &(impl Threads + Wait + Sync),
     place: &str,
     bootstrap: &[u8],
     case: &Case,
@@ -139,7 +140,11 @@ fn ends(
 }
 
 /// Returns if a delivery is as expected, and the files are there.
-fn holds(rt: &HostRuntime, threads: &(impl Threads + Sync), case: &Case) -> Result<bool, Fail> {
+fn holds(
+    rt: &HostRuntime,
+    threads: &(impl Threads + Wait + Sync),
+    case: &Case,
+) -> Result<bool, Fail> {
     let place = new_place(rt, case.name, case.volumes)?;
     let ends = ends(rt, threads, place.as_str(), case.bootstrap, case)?;
     let are_there = are_there(rt, place.as_str(), case.files)?;
@@ -211,7 +216,7 @@ impl Catalogue for NoCatalogue {
 /// Returns the status of the command `extract` in a place, by this bootstrap.
 fn status_in(
     rt: &HostRuntime,
-    threads: &(impl Threads + Sync),
+    threads: &(impl Threads + Wait + Sync),
     place: &str,
     bootstrap: &[u8],
     into: Option<&str>,

@@ -24,6 +24,7 @@ use br_view::View;
 use br_volume::Drive;
 use std::alloc::Global;
 use std::io::BufRead;
+use std::sync::Wait;
 use std::thread::Threads;
 
 /// The jobs over which the console runs.
@@ -130,7 +131,7 @@ fn console_fault(fault: ExtractFault) -> ConsoleFault
 ///
 /// After an error nothing is put into the sink.
 pub fn run_console<R: BufRead + Drop, D: Drive + Send, W: Flush + Drop, S: Sink>(
-    rt: &(impl Threads + Sync),
+    rt: &(impl Threads + Wait + Sync),
     alloc: Global,
     asked: &JobSelection<'_>,
     reader: &mut R,

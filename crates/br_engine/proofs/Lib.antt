@@ -1,4 +1,3 @@
-pub mod ReadyLaws
 pub mod JoinLaws
 pub mod ExtractLaws
 pub mod DeliverLaws

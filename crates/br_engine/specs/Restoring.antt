@@ -1,20 +1,17 @@
 -- What a bootstrap gives over the volumes of some drives, whatever these do meanwhile.
-use Rattle.std.specs.Prelude.{◌≡◌, List, [], ◌∷◌, map, flat_map, Vec, Option, None, option_map, Result, Ok}
+use Rattle.std.specs.Prelude.{List, map, Vec, Option, option_map, Result, Ok}
 use Rattle.std.specs.Global.{Global}
-use Rattle.std.specs.List.{AllByRecursion, AllZip}
-use Rattle.std.specs.FinMap.{get}
+use Rattle.std.specs.List.{AllZip}
 use Rattle.br_model.specs.Answer.{◌>>=◌, Answers}
 use Rattle.br_model.specs.Name.{FileKey}
 use Rattle.br_model.specs.Volume.{Volume}
 use Rattle.br_model.specs.Bootstrap.{Group}
 use Rattle.br_model.specs.Meaning as model
-use Rattle.br_model.specs.Meaning.{Piece, Hit, Hits, hits_on_each, hits_of, pieces_of, meaning}
+use Rattle.br_model.specs.Meaning.{Piece, Hits, hits_on_each, hits_of, pieces_of, meaning}
 use Rattle.br_model.specs.Restored.{Names, Planned, Restored, files, planned_in}
-use Rattle.br_match.specs.declared.hit.Found.{Found}
 use Rattle.br_pool.specs.Fault.{cause}
 use Rattle.br_pool.specs.Pool.{StandsTold}
 use Rattle.br_pool.specs.declared.fault.PoolFault.{PoolFault}
-use Rattle.br_join.specs.Joining.{Joining, taken}
 use Rattle.br_join.specs.Outcome.{restored}
 use Rattle.br_join.specs.declared.item.Outcome.{Outcome}
 
@@ -31,19 +28,6 @@ abbrev pub set_of_each : List Volume → List Piece → Result Hits model.PieceF
 set_of_each volumes pieces = do
   found ← hits_on_each volumes pieces
   Ok (hits_of found)
-
--- the set of the hits of what was found
-abbrev pub hits_found : List Found → Hits
-hits_found founds = hits_of (flat_map (λ (hits : List Hit). hits) (map (λ (f : Found). f.hits.items) founds))
-
--- a joiner has the pieces of what was found
-abbrev pub AreKnown : Joining → List Found → Type 0
-AreKnown j founds = AllByRecursion (λ (f : Found). get j.pieces f.piece ≡ None → ⊥) founds
-
--- a joiner that took what was found, one piece after the other
-abbrev pub all_taken : Joining → List Found → Joining
-all_taken j [] = j
-all_taken j (found ∷ founds) = all_taken (taken j found.piece found.hits.items) founds
 
 -- the files that a bootstrap gives over volumes, the planned ones if there is a plan; or the first fault of a piece
 unfoldable pub restored_files : List Group → Option (List Planned) → List Volume → Result (List Restored) model.PieceFault

@@ -18,6 +18,7 @@ use br_types::{FileKey, Names};
 use br_volume::Drive;
 use std::alloc::Global;
 use std::io::Read;
+use std::sync::Wait;
 use std::thread::Threads;
 
 /// Returns the end of a restore with these outcomes whose delivery did not stop.
@@ -78,7 +79,7 @@ fn finish<S: Sink>(
 ///
 /// After an error nothing is put into the sink.
 pub fn restore_into<D: Drive + Send, W: Flush, S: Sink>(
-    rt: &(impl Threads + Sync),
+    rt: &(impl Threads + Wait + Sync),
     alloc: Global,
     bootstrap: &Bootstrap,
     names: Option<Names>,
@@ -102,7 +103,7 @@ pub fn restore_into<D: Drive + Send, W: Flush, S: Sink>(
 
 /// Restores all that a bootstrap selects, as `restore_into`.
 pub fn extract<D: Drive + Send, W: Flush, S: Sink>(
-    rt: &(impl Threads + Sync),
+    rt: &(impl Threads + Wait + Sync),
     alloc: Global,
     bootstrap: &Bootstrap,
     drives: &mut Vec<D>,
@@ -127,7 +128,7 @@ pub fn extract<D: Drive + Send, W: Flush, S: Sink>(
 ///
 /// `Bootstrap` for a line that is refused, and then as `extract`.
 pub fn extract_text<D: Drive + Send, W: Flush, S: Sink>(
-    rt: &(impl Threads + Sync),
+    rt: &(impl Threads + Wait + Sync),
     alloc: Global,
     text: &[u8],
     drives: &mut Vec<D>,
@@ -154,7 +155,7 @@ pub fn extract_text<D: Drive + Send, W: Flush, S: Sink>(
 ///
 /// `Io` if the reader failed, `NoEnd` if it has not ended after 2^40 reads, and then as `extract_text`.
 pub fn run_extract<R: Read + Drop, D: Drive + Send, W: Flush, S: Sink>(
-    rt: &(impl Threads + Sync),
+    rt: &(impl Threads + Wait + Sync),
     alloc: Global,
     reader: &mut R,
     drives: &mut Vec<D>,

@@ -12,6 +12,7 @@ use br_types::{Name, VolName};
 use br_volume::MemDrive;
 use std::alloc::Global;
 use std::io::{self, Error, ErrorKind, Write};
+use std::sync::Wait;
 use std::test::Fail;
 use std::thread::Threads;
 
@@ -183,7 +184,7 @@ fn are_drives(drives: &[MemDrive]) -> bool
 
 /// Runs the console over these drives.
 fn ran_over<W: Write + Drop>(
-    rt: &(impl Threads + Sync),
+    rt: &(impl Threads + Wait + Sync),
     alloc: Global,
     asked: &JobSelection<'_>,
     drives: &mut Vec<MemDrive>,
@@ -197,7 +198,7 @@ fn ran_over<W: Write + Drop>(
 
 /// Runs the console on these lines.
 fn ran<W: Write + Drop>(
-    rt: &(impl Threads + Sync),
+    rt: &(impl Threads + Wait + Sync),
     alloc: Global,
     world: &mut World,
     lines: &[u8],
@@ -243,7 +244,7 @@ fn are_put(alloc: Global, items: &[Item], put: &[Put<'_>]) -> Result<bool, Fail>
 
 /// Runs the console on a case's lines, over a world of its own.
 fn ran_alone<W: Write + Drop>(
-    rt: &(impl Threads + Sync),
+    rt: &(impl Threads + Wait + Sync),
     alloc: Global,
     case: &Case<'_>,
     out: &mut Outputs<W, MemSink>,
@@ -259,7 +260,7 @@ fn is_expected(run: &ConsoleRun, case: &Case<'_>) -> bool {
 
 /// Returns if a run returns what is expected.
 fn is_told(
-    rt: &(impl Threads + Sync),
+    rt: &(impl Threads + Wait + Sync),
     alloc: Global,
     case: &Case<'_>,
     out: &mut Outputs<Vec<u8>, MemSink>,
@@ -280,7 +281,7 @@ fn are_given(
 }
 
 /// Returns if a run is as expected, and its text and the files in its sink are.
-fn holds(rt: &(impl Threads + Sync), alloc: Global, case: &Case<'_>) -> Result<bool, Fail> {
+fn holds(rt: &(impl Threads + Wait + Sync), alloc: Global, case: &Case<'_>) -> Result<bool, Fail> {
     let mut out = Outputs {
         writer: Vec::new(alloc),
         sink: Some(MemSink::failing_at(alloc, case.fails_at)),
@@ -324,7 +325,7 @@ impl Write for Clogging {
 
 /// Returns if a run ends with this number of flushes, and the number of files that it puts.
 fn put_with(
-    rt: &(impl Threads + Sync),
+    rt: &(impl Threads + Wait + Sync),
     alloc: Global,
     flushes: u32,
 ) -> Result<(bool, usize), Fail> {

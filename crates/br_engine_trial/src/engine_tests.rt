@@ -12,6 +12,7 @@ use br_volume::MemDrive;
 use std::alloc::Global;
 use std::io::{self, Error, ErrorKind, Read, Write};
 use std::process::Abort;
+use std::sync::Wait;
 use std::test::Fail;
 use std::thread::Threads;
 
@@ -48,7 +49,7 @@ fn bootstrap(rt: &HostRuntime, text: &[u8]) -> Result<Bootstrap, Fail> {
 /// Restores by a bootstrap over two drives.
 fn restored(
     rt: &HostRuntime,
-    threads: &(impl Threads + Sync),
+    threads: &(impl Threads + Wait + Sync),
     bootstrap: &Bootstrap,
 ) -> Result<Result<Vec<(FileKey, Outcome)>, PoolFault>, Fail> {
     let mut drives = drives(rt)?;
@@ -119,7 +120,7 @@ fn with_sink(alloc: Global, sink: MemSink) -> Memory {
 /// Runs what a reader gives over two drives.
 fn extracted<R: Read + Drop, W: Write + Drop>(
     rt: &HostRuntime,
-    threads: &(impl Threads + Sync),
+    threads: &(impl Threads + Wait + Sync),
     text: &mut R,
     out: &mut Outputs<W, MemSink>,
 ) -> Result<Result<RestoreEnd, ExtractFault>, Fail> {
@@ -130,7 +131,7 @@ fn extracted<R: Read + Drop, W: Write + Drop>(
 /// Runs a text over two drives.
 fn extracted_text<W: Write + Drop>(
     rt: &HostRuntime,
-    threads: &(impl Threads + Sync),
+    threads: &(impl Threads + Wait + Sync),
     text: &[u8],
     out: &mut Outputs<W, MemSink>,
 ) -> Result<Result<RestoreEnd, ExtractFault>, Fail> {
@@ -177,7 +178,7 @@ fn are_hello(alloc: Global, items: &[Item]) -> Result<bool, Fail> {
 /// Restores by a bootstrap over two drives, into outputs.
 fn extracted_by(
     rt: &HostRuntime,
-    threads: &(impl Threads + Sync),
+    threads: &(impl Threads + Wait + Sync),
     bootstrap: &Bootstrap,
     out: &mut Memory,
 ) -> Result<RestoreEnd, Fail> {

@@ -17,6 +17,7 @@ use std::alloc::Global;
 use std::fs::File;
 use std::process::Abort;
 use std::rt::Files;
+use std::sync::Wait;
 use std::test::Fail;
 use std::thread::Threads;
 use std::{env, fs, process};
@@ -166,7 +167,7 @@ fn take_from_drive(
 
 /// Returns the manifest of what was taken.
 fn manifest_of(
-    rt: &(impl Threads + Sync),
+    rt: &(impl Threads + Wait + Sync),
     alloc: Global,
     joiner: &mut Joiner,
 ) -> Result<Vec<u8>, Fail> {
@@ -179,7 +180,7 @@ fn manifest_of(
 
 /// Returns the manifest of the pieces, taken in this order.
 fn restored(
-    rt: &(impl Threads + Sync),
+    rt: &(impl Threads + Wait + Sync),
     alloc: Global,
     pieces: &[Piece],
     order: &[usize],
@@ -203,7 +204,7 @@ fn pieces(alloc: Global) -> Result<Vec<Piece>, Fail> {
 }
 
 /// Asserts that the pieces are restored if they are taken in this order.
-fn are_restored<R: Abort + AllocGlobal + Threads + Sync>(
+fn are_restored<R: Abort + AllocGlobal + Threads + Wait + Sync>(
     rt: &R,
     pieces: &[Piece],
     order: &[usize],
@@ -223,7 +224,7 @@ fn pieces_are_taken_in_any_order(rt: HostRuntime) -> Result<(), Fail> {
 
 /// Delivers the files of both sessions into a sink.
 fn deliver<S: Sink>(
-    rt: &(impl Threads + Sync),
+    rt: &(impl Threads + Wait + Sync),
     alloc: Global,
     out: &mut Outputs<Vec<u8>, S>,
 ) -> Result<(), Fail> {
@@ -238,7 +239,7 @@ fn deliver<S: Sink>(
 
 /// Delivers the files of both sessions into a new folder. Returns the manifest.
 fn delivered(
-    rt: &(impl Files<File = File> + AllocGlobal + Threads + Sync),
+    rt: &(impl Files<File = File> + AllocGlobal + Threads + Wait + Sync),
     folder: &str,
 ) -> Result<Vec<u8>, Fail> {
     fs::create_dir(rt, folder)?;

@@ -3,6 +3,7 @@ use br_script::{ScriptEnd, ScriptFault, run_script};
 use std::alloc::Global;
 use std::io::{self, BufReader, Error, ErrorKind, Read, Write};
 use std::process::Abort;
+use std::sync::Wait;
 use std::test::Fail;
 use std::thread::Threads;
 
@@ -47,7 +48,7 @@ fn script_of(alloc: Global, digits: &[u8], bootstrap: &[u8]) -> Result<Vec<u8>, 
 }
 
 /// Asserts what a script writes, and how it ends.
-fn answers<R: Abort + AllocGlobal + Threads + Sync>(
+fn answers<R: Abort + AllocGlobal + Threads + Wait + Sync>(
     rt: &R,
     script: &[u8],
     answer: &[u8],
@@ -65,7 +66,10 @@ fn answers<R: Abort + AllocGlobal + Threads + Sync>(
 type Case = (&'static [u8], &'static [u8], ScriptEnd);
 
 /// Asserts what each script writes, and how it ends.
-fn all_answer<R: Abort + AllocGlobal + Threads + Sync>(rt: &R, cases: &[Case]) -> Result<(), Fail> {
+fn all_answer<R: Abort + AllocGlobal + Threads + Wait + Sync>(
+    rt: &R,
+    cases: &[Case],
+) -> Result<(), Fail> {
     for (script, answer, end) in cases {
         answers(rt, script, answer, *end)?;
     }
@@ -193,7 +197,10 @@ const REFUSED_LINES: &[&[u8]] = &[
 ];
 
 /// Asserts that a line is refused after one that fits.
-fn is_refused<R: Abort + AllocGlobal + Threads + Sync>(rt: &R, line: &[u8]) -> Result<(), Fail> {
+fn is_refused<R: Abort + AllocGlobal + Threads + Wait + Sync>(
+    rt: &R,
+    line: &[u8],
+) -> Result<(), Fail> {
     let mut script = Vec::from_slice(rt.alloc(), b"volume V1 -\n")?;
     script.extend_from_slice(line)?;
     script.extend_from_slice(b"\n")?;
@@ -201,7 +208,7 @@ fn is_refused<R: Abort + AllocGlobal + Threads + Sync>(rt: &R, line: &[u8]) -> R
 }
 
 /// Asserts that each line is refused.
-fn all_are_refused<R: Abort + AllocGlobal + Threads + Sync>(
+fn all_are_refused<R: Abort + AllocGlobal + Threads + Wait + Sync>(
     rt: &R,
     lines: &[&[u8]],
 ) -> Result<(), Fail> {
@@ -218,7 +225,7 @@ fn lines_and_bootstraps_are_refused_by_line(rt: HostRuntime) -> Result<(), Fail>
 }
 
 /// Asserts what a script of this front, of `count` times a byte, and of this back writes.
-fn repeated_answers<R: Abort + AllocGlobal + Threads + Sync>(
+fn repeated_answers<R: Abort + AllocGlobal + Threads + Wait + Sync>(
     rt: &R,
     [front, back]: [&[u8]; 2],
     (count, byte): (u32, u8),
@@ -283,7 +290,7 @@ const VOLUMES: &[(&[u8], &[u8], &[u8], ScriptEnd)] = &[
 ];
 
 /// Asserts what restores of volumes write.
-fn volumes_answer<R: Abort + AllocGlobal + Threads + Sync>(
+fn volumes_answer<R: Abort + AllocGlobal + Threads + Wait + Sync>(
     rt: &R,
     cases: &[(&[u8], &[u8], &[u8], ScriptEnd)],
 ) -> Result<(), Fail> {
@@ -345,7 +352,7 @@ const BLOCKS: &[(Numbers, &[u8], &[u8], ScriptEnd)] = &[
 ];
 
 /// Asserts what restores of the block write.
-fn blocks_answer<R: Abort + AllocGlobal + Threads + Sync>(
+fn blocks_answer<R: Abort + AllocGlobal + Threads + Wait + Sync>(
     rt: &R,
     cases: &[(Numbers, &[u8], &[u8], ScriptEnd)],
 ) -> Result<(), Fail> {
@@ -386,7 +393,7 @@ const OF_THREE: &[u8] =
     X 3 100 5 63\nX 4 100 2 63\ntotal 1 2 0\n";
 
 /// Asserts what is written of three volumes after these lines.
-fn three_answer<R: Abort + AllocGlobal + Threads + Sync>(
+fn three_answer<R: Abort + AllocGlobal + Threads + Wait + Sync>(
     rt: &R,
     lines: &[u8],
     digits: &[u8],
@@ -408,7 +415,7 @@ fn any_number_of_drives_restores_the_same(rt: HostRuntime) -> Result<(), Fail> {
 }
 
 /// Asserts that each part of a block is refused.
-fn parts_are_refused<R: Abort + AllocGlobal + Threads + Sync>(
+fn parts_are_refused<R: Abort + AllocGlobal + Threads + Wait + Sync>(
     rt: &R,
     digits: &[u8],
 ) -> Result<(), Fail> {
@@ -421,7 +428,7 @@ fn parts_are_refused<R: Abort + AllocGlobal + Threads + Sync>(
 }
 
 /// Asserts that a block is restored of which two lines of a script give a part each.
-fn parts_are_appended<R: Abort + AllocGlobal + Threads + Sync>(
+fn parts_are_appended<R: Abort + AllocGlobal + Threads + Wait + Sync>(
     rt: &R,
     digits: &[u8],
 ) -> Result<(), Fail> {
@@ -457,7 +464,7 @@ fn long_script(alloc: Global, count: u32) -> Result<Vec<u8>, Fail> {
 
 /// Runs a script of which each byte takes a turn of reading.
 fn run_slowly(
-    rt: &(impl Threads + Sync),
+    rt: &(impl Threads + Wait + Sync),
     alloc: Global,
     script: &[u8],
     written: &mut Vec<u8>,
@@ -512,7 +519,7 @@ fn sound_script(alloc: Global) -> Result<Vec<u8>, Fail> {
 
 /// Returns the kind of error that a run of a script ends with, if reading fails after it.
 fn unread(
-    rt: &(impl Threads + Sync),
+    rt: &(impl Threads + Wait + Sync),
     alloc: Global,
     script: &[u8],
     written: &mut Vec<u8>,
@@ -532,7 +539,7 @@ fn a_reader_that_fails_ends_the_run(rt: HostRuntime) -> Result<(), Fail> {
 }
 
 /// Returns the kind of error that a run of a script ends with, if nothing can be written.
-fn unwritten(rt: &(impl Threads + Sync), alloc: Global, script: &[u8]) -> Option<ErrorKind> {
+fn unwritten(rt: &(impl Threads + Wait + Sync), alloc: Global, script: &[u8]) -> Option<ErrorKind> {
     let mut reader = script;
     error_of(run_script(rt, alloc, &mut reader, &mut Broken))
 }

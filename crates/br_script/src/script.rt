@@ -18,6 +18,7 @@ use br_types::VolName;
 use br_volume::BorrowedDrive;
 use std::alloc::{AllocError, Global};
 use std::io::{self, BufRead, Write};
+use std::sync::Wait;
 use std::thread::Threads;
 
 /// How a script ended.
@@ -226,7 +227,7 @@ impl Script {
     /// manifest.
     fn restore_by<'v, W: Write>(
         &self,
-        rt: &(impl Threads + Sync),
+        rt: &(impl Threads + Wait + Sync),
         bootstrap: &Bootstrap,
         drives: &mut Vec<BorrowedDrive<'v>>,
         writer: &mut W,
@@ -245,7 +246,7 @@ impl Script {
     /// Runs a bootstrap over the volumes, and writes the manifest.
     fn restore<W: Write>(
         &self,
-        rt: &(impl Threads + Sync),
+        rt: &(impl Threads + Wait + Sync),
         bootstrap: &Bootstrap,
         writer: &mut W,
     ) -> Result<RestoreEnd, ExtractFault> {
@@ -256,7 +257,7 @@ impl Script {
     /// Runs the kept bootstrap over the volumes, and writes the manifest.
     fn run_kept<W: Write>(
         &mut self,
-        rt: &(impl Threads + Sync),
+        rt: &(impl Threads + Wait + Sync),
         number: u64,
         writer: &mut W,
     ) -> Result<(), ScriptFault>
@@ -279,7 +280,7 @@ impl Script {
     /// Does what a line asks for.
     fn obey<R: BufRead, W: Write>(
         &mut self,
-        rt: &(impl Threads + Sync),
+        rt: &(impl Threads + Wait + Sync),
         line: ScriptLine,
         lines: &mut Lines<R>,
         writer: &mut W,
@@ -301,7 +302,7 @@ impl Script {
     /// Carries out a line, or writes why it is refused.
     fn carry_out<R: BufRead, W: Write>(
         &mut self,
-        rt: &(impl Threads + Sync),
+        rt: &(impl Threads + Wait + Sync),
         line: &[u8],
         lines: &mut Lines<R>,
         writer: &mut W,
@@ -329,7 +330,7 @@ impl Script {
 /// - `Io` if the reader or the writer failed.
 /// - `NoEnd` if the input does not end within 2^40 turns of reading.
 pub fn run_script<R: BufRead, W: Write>(
-    rt: &(impl Threads + Sync),
+    rt: &(impl Threads + Wait + Sync),
     alloc: Global,
     reader: &mut R,
     writer: &mut W,

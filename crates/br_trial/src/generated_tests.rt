@@ -8,6 +8,7 @@ use std::alloc::{AllocError, Global};
 use std::collections::BTreeMap;
 use std::fmt::Write;
 use std::str;
+use std::sync::Wait;
 use std::test::Fail;
 use std::thread::Threads;
 
@@ -341,7 +342,7 @@ fn lines_of(wish: Wish) -> &'static [u8] {
 
 /// Returns if a run for a wish is refused by this number, or restores if it is 0, and writes this.
 fn is_told(
-    rt: &(impl Threads + Sync),
+    rt: &(impl Threads + Wait + Sync),
     alloc: Global,
     history: &History,
     drives: &mut Vec<MemDrive>,
@@ -355,7 +356,7 @@ fn is_told(
 
 /// Returns if a wish is granted as expected.
 fn is_granted(
-    rt: &(impl Threads + Sync),
+    rt: &(impl Threads + Wait + Sync),
     alloc: Global,
     drawn: Drawn<'_>,
     drives: &mut Vec<MemDrive>,
@@ -369,7 +370,7 @@ fn is_granted(
 
 /// Returns if all files of a client, and those below `/l/` alone, are restored as expected before a moment.
 fn are_granted_before(
-    rt: &(impl Threads + Sync),
+    rt: &(impl Threads + Wait + Sync),
     alloc: Global,
     drawn: Drawn<'_>,
     drives: &mut Vec<MemDrive>,
@@ -393,7 +394,7 @@ fn are_granted_before(
 
 /// Returns if the wishes for a client are granted as expected before several moments.
 fn are_granted(
-    rt: &(impl Threads + Sync),
+    rt: &(impl Threads + Wait + Sync),
     alloc: Global,
     drawn: Drawn<'_>,
     drives: &mut Vec<MemDrive>,
@@ -408,7 +409,7 @@ fn are_granted(
 
 /// Returns if the wishes for each client are granted as expected.
 fn all_granted(
-    rt: &(impl Threads + Sync),
+    rt: &(impl Threads + Wait + Sync),
     alloc: Global,
     drawn: Drawn<'_>,
     drives: &mut Vec<MemDrive>,
@@ -421,7 +422,7 @@ fn all_granted(
 
 /// Returns if the jobs, which wrote these volumes, are restored as expected.
 fn are_restored(
-    rt: &(impl Threads + Sync),
+    rt: &(impl Threads + Wait + Sync),
     alloc: Global,
     jobs: &[Job],
     store: MemStore,
@@ -435,7 +436,7 @@ fn are_restored(
     all_granted(rt, alloc, drawn, &mut drives)
 }
 
-fn is_restored(rt: &(impl Threads + Sync), alloc: Global, seed: u32) -> Result<bool, Fail> {
+fn is_restored(rt: &(impl Threads + Wait + Sync), alloc: Global, seed: u32) -> Result<bool, Fail> {
     let mut dice = Dice { state: seed };
     let mut store = MemStore::new(alloc);
     let jobs = draw_jobs(alloc, &mut dice, &mut store)?;

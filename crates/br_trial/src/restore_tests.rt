@@ -11,6 +11,7 @@ use br_sink::MemSink;
 use br_types::{SessionKey, VolName};
 use br_volume::{MemDrive, MemStore, VolumeStore};
 use std::alloc::Global;
+use std::sync::Wait;
 use std::test::Fail;
 use std::thread::Threads;
 
@@ -127,7 +128,7 @@ pub(crate) struct Case {
 
 /// Returns if a run over these volumes is as expected.
 pub(crate) fn runs(
-    rt: &(impl Threads + Sync),
+    rt: &(impl Threads + Wait + Sync),
     alloc: Global,
     history: &History,
     drives: &mut Vec<MemDrive>,
@@ -140,7 +141,7 @@ pub(crate) fn runs(
 
 /// Returns if a run over three drives of these volumes is as expected.
 pub(crate) fn runs_over(
-    rt: &(impl Threads + Sync),
+    rt: &(impl Threads + Wait + Sync),
     alloc: Global,
     history: &History,
     store: MemStore,
@@ -152,7 +153,7 @@ pub(crate) fn runs_over(
 
 /// Returns if a run over what these jobs wrote is as expected.
 fn holds(
-    rt: &(impl Threads + Sync),
+    rt: &(impl Threads + Wait + Sync),
     alloc: Global,
     jobs: &[SaveJob],
     case: &Case,
@@ -163,7 +164,7 @@ fn holds(
 
 /// Returns what is asked of the first run that is not as expected, and its lines.
 fn first_wrong(
-    rt: &(impl Threads + Sync),
+    rt: &(impl Threads + Wait + Sync),
     alloc: Global,
     cases: &[(&'static [SaveJob], Case)],
 ) -> Result<Option<(Asked<'static>, &'static [u8])>, Fail> {
@@ -254,7 +255,10 @@ fn two_spoilt_jobs(alloc: Global) -> Result<World, Fail> {
 }
 
 /// Returns if what follows the planned bytes is not read.
-fn spoilt_blocks_are_not_read(rt: &(impl Threads + Sync), alloc: Global) -> Result<bool, Fail> {
+fn spoilt_blocks_are_not_read(
+    rt: &(impl Threads + Wait + Sync),
+    alloc: Global,
+) -> Result<bool, Fail> {
     let World { store, history } = two_spoilt_jobs(alloc)?;
     runs_over(rt, alloc, &history, store, &TWO_JOBS)
 }
@@ -269,7 +273,7 @@ fn number_of(run: Result<RestoreEnd, ExtractFault>) -> u32 {
 
 /// Returns the number of the refusal of a volume that is read whole, 0 if it is read.
 fn refusal_of_a(
-    rt: &(impl Threads + Sync),
+    rt: &(impl Threads + Wait + Sync),
     alloc: Global,
     out: &mut Outputs<Vec<u8>, MemSink>,
     volumes: Vec<(VolName, Vec<u8>)>,
@@ -279,7 +283,7 @@ fn refusal_of_a(
 }
 
 /// Returns the number of the refusal of reading a spoilt volume whole.
-fn refusal_of_all(rt: &(impl Threads + Sync), alloc: Global) -> Result<u32, Fail> {
+fn refusal_of_all(rt: &(impl Threads + Wait + Sync), alloc: Global) -> Result<u32, Fail> {
     let World { store, .. } = two_spoilt_jobs(alloc)?;
     let mut out = Outputs {
         writer: Vec::new(alloc),
@@ -369,7 +373,7 @@ const FAILED: Case = Case {
 };
 
 /// Returns if a run without volumes is refused after the bootstrap.
-fn runs_without_volumes(rt: &(impl Threads + Sync), alloc: Global) -> Result<bool, Fail> {
+fn runs_without_volumes(rt: &(impl Threads + Wait + Sync), alloc: Global) -> Result<bool, Fail> {
     let World { history, .. } = world_of(alloc, TWO)?;
     runs_over(rt, alloc, &history, MemStore::new(alloc), &NO_VOLUMES)
 }
@@ -382,7 +386,10 @@ fn failing(alloc: Global, store: MemStore) -> Result<Vec<MemDrive>, Fail> {
 }
 
 /// Returns if a run with a drive that fails at its third call is refused after the bootstrap.
-fn runs_with_a_failing_drive(rt: &(impl Threads + Sync), alloc: Global) -> Result<bool, Fail> {
+fn runs_with_a_failing_drive(
+    rt: &(impl Threads + Wait + Sync),
+    alloc: Global,
+) -> Result<bool, Fail> {
     let World { store, history } = world_of(alloc, TWO)?;
     let mut drives = failing(alloc, store)?;
     runs(rt, alloc, &history, &mut drives, &FAILED)
@@ -594,7 +601,7 @@ X 1 100 1 69\nX 1 100 2 63\ntotal 0 2 0\n",
 };
 
 /// Returns if volumes that differ from the rows are told in the manifest.
-fn differences_are_told(rt: &(impl Threads + Sync), alloc: Global) -> Result<bool, Fail> {
+fn differences_are_told(rt: &(impl Threads + Wait + Sync), alloc: Global) -> Result<bool, Fail> {
     let World { store, history } = disagreeing(alloc)?;
     runs_over(rt, alloc, &history, store, &DISAGREEING)
 }

@@ -5,6 +5,7 @@ use br_store::Store;
 use br_volume::MemStore;
 use sqlite::{Alter, Connection};
 use std::alloc::Global;
+use std::sync::Wait;
 use std::test::Fail;
 use std::thread::Threads;
 
@@ -33,7 +34,7 @@ fn are_in_order(jobs: &[JobRows]) -> bool {
 
 /// Returns if two jobs are stored, loaded in order of their numbers, and restored.
 fn are_restored(
-    rt: &(impl Threads + Sync),
+    rt: &(impl Threads + Wait + Sync),
     alloc: Global,
     history: &History,
     volumes: MemStore,
@@ -43,7 +44,10 @@ fn are_restored(
     Ok(are_in_order(loaded.jobs()) && is_restored)
 }
 
-fn two_stored_jobs_are_restored(rt: &(impl Threads + Sync), alloc: Global) -> Result<bool, Fail> {
+fn two_stored_jobs_are_restored(
+    rt: &(impl Threads + Wait + Sync),
+    alloc: Global,
+) -> Result<bool, Fail> {
     let World { store, history } = world_of(alloc, TWO)?;
     are_restored(rt, alloc, &history, store)
 }

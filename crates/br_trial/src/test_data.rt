@@ -12,6 +12,7 @@ use br_sink::MemSink;
 use br_types::{JobId, Letter, Name, Path, SessionKey, VolName};
 use br_volume::{MemDrive, MemStore, VolumeStore};
 use std::alloc::{AllocError, Global};
+use std::sync::Wait;
 use std::test::Fail;
 use std::thread::Threads;
 
@@ -340,7 +341,7 @@ fn are_drives(drives: &[MemDrive]) -> bool
 
 /// Runs the console on lines. Returns what it returned, or the number of its refusal.
 fn console_result(
-    rt: &(impl Threads + Sync),
+    rt: &(impl Threads + Wait + Sync),
     alloc: Global,
     asked: &JobSelection<'_>,
     drives: &mut Vec<MemDrive>,
@@ -354,7 +355,7 @@ fn console_result(
 
 /// Runs the console on these lines for a request.
 fn ran<'a>(
-    rt: &(impl Threads + Sync),
+    rt: &(impl Threads + Wait + Sync),
     alloc: Global,
     history: &History,
     drives: &mut Vec<MemDrive>,
@@ -381,7 +382,7 @@ fn ran<'a>(
 
 /// Runs the console on these lines for what is asked.
 pub(crate) fn tell<'a>(
-    rt: &(impl Threads + Sync),
+    rt: &(impl Threads + Wait + Sync),
     alloc: Global,
     history: &History,
     drives: &mut Vec<MemDrive>,

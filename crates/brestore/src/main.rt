@@ -19,6 +19,7 @@ use sqlite::Connection;
 use std::io::{self, ErrorKind};
 use std::process::ExitCode;
 use std::rt::Env;
+use std::sync::Wait;
 use std::thread::Threads;
 
 /// The exit status for a fault of the command line.
@@ -68,7 +69,7 @@ fn words_of<R: Env + AllocGlobal>(rt: &R) -> io::Result<Option<Vec<String>>> {
 }
 
 /// Does what the command line asks for, in as many threads as `threads` starts. Returns the exit status.
-fn run(rt: &HostRuntime, threads: &(impl Threads + Sync)) -> io::Result<u8> {
+fn run(rt: &HostRuntime, threads: &(impl Threads + Wait + Sync)) -> io::Result<u8> {
     let Some(words) = words_of(rt)? else {
         eprintln!(rt; "brestore: an argument is not UTF-8")?;
         return Ok(BAD_COMMAND);
