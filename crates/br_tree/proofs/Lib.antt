@@ -10,3 +10,6 @@ pub mod MarkLaws
 pub mod ChangeLaws
 pub mod ListsLaws
 pub mod ChildLaws
+pub mod PaintLaws
+pub mod SumLaws
+pub mod CutLaws

@@ -1,13 +1,15 @@
 -- Marks after a change.
-use Rattle.std.proofs.Common.{◌≡◌, ◌≤◌, ℕ, Bool, true, false, cond, List, [], ◌∷◌, length, filter, Some, None, Result, Ok, Err, refl, sym, ap, ◌∙◌, arith}
+use Rattle.std.proofs.Common.{◌≡◌, ℕ, Bool, true, false, cond, List, [], ◌∷◌, length, filter, Some, None, Result, Ok, Err, refl, sym, ap, ◌∙◌, arith}
 use Rattle.std.specs.List.{list_any}
+use Rattle.std.proofs.lemmas.List.Sums.{sum_by-cons}
+use Rattle.br_tree.specs.Sums.{set_in}
 use Rattle.br_model.specs.View.{Entry, view_paths}
 use Rattle.br_model.specs.Console.{some_of}
 use Rattle.br_tree.specs.Marking.{Marking, after_mark, newly_marked, after_unmark, newly_unmarked}
 use Rattle.br_tree.specs.Seen.{flagged}
-use Rattle.br_tree.specs.Walk.{set_where, changed, changes, recount, IsRising}
+use Rattle.br_tree.specs.Walk.{set_where, changed, changes, IsRising}
 use Rattle.br_tree.proofs.RunLaws.{to_pairs}
-use Rattle.br_tree.proofs.SetLaws.{set_marks, takes_marks, set_counts, taken_counts, more_marks, fewer_marks}
+use Rattle.br_tree.proofs.SetLaws.{set_marks, takes_marks, set_counts, taken_counts}
 use Rattle.br_tree.proofs.StepLaws.{some_is, none_set, none_from_any}
 
 -- a view and flags
@@ -54,19 +56,10 @@ module _ (test : List ℕ → Bool) (view : List Entry) (flags : List Bool) (ris
       go true = ap (λ (n : ℕ). Some n) (taken_counts test (view_paths view) flags (to_pairs (view_paths view) rises) long)
       go false = refl
 
--- the number of marks is kept
-pub recounted : (test : List ℕ → Bool) (value : Bool) (ps : List (List ℕ)) (flags : List Bool) → recount value (length (flagged ps flags)) (changes test value ps flags) ≡ length (flagged ps (set_where test value ps flags))
-recounted test value ps flags = go (list_any test ps) refl value
-  where
-    go : (b : Bool) → list_any test ps ≡ b → (value : Bool) → recount value (length (flagged ps flags)) (cond b (Some (changed test value ps flags)) None) ≡ length (flagged ps (set_where test value ps flags))
-    go true e true = omega (arith, more_marks test ps flags)
-    go true e false = omega (arith, fewer_marks test ps flags)
-    go false e true = ap (λ fs. length (flagged ps fs)) (sym (none_set test true ps flags (none_from_any test ps e)))
-    go false e false = ap (λ fs. length (flagged ps fs)) (sym (none_set test false ps flags (none_from_any test ps e)))
-
--- there are no more marks than paths
-pub few_marks : (ps : List (List ℕ)) (flags : List Bool) → length (flagged ps flags) ≤ length ps
-few_marks [] flags = omega arith
-few_marks (p ∷ ps) [] = omega arith
-few_marks (p ∷ ps) (true ∷ flags) = omega (arith, few_marks ps flags)
-few_marks (p ∷ ps) (false ∷ flags) = omega (arith, few_marks ps flags)
+-- there is a mark for each flag that is set
+pub marks_counted : (ps : List (List ℕ)) (flags : List Bool) → length flags ≡ length ps → length (flagged ps flags) ≡ set_in flags
+marks_counted [] [] long = refl
+marks_counted [] (flag ∷ flags) long = absurd (omega (arith, long))
+marks_counted (p ∷ ps) [] long = absurd (omega (arith, long))
+marks_counted (p ∷ ps) (true ∷ flags) long = omega (arith, sum_by-cons (λ f. cond f 1 0) true flags, marks_counted ps flags (omega (arith, long)))
+marks_counted (p ∷ ps) (false ∷ flags) long = omega (arith, sum_by-cons (λ f. cond f 1 0) false flags, marks_counted ps flags (omega (arith, long)))

@@ -50,6 +50,10 @@ seen_take zero xs = refl
 seen_take (suc n) [] = refl
 seen_take (suc n) (x ∷ xs) = ap (λ ps. x.0.now ∷ ps) (seen_take n xs)
 
+pub seen_push : (xs : List Pair) (x : Pair) → seen_paths (xs ++ x ∷ []) ≡ seen_paths xs ++ x.0.now ∷ []
+seen_push [] x = refl
+seen_push (y ∷ xs) x = ap (λ ps. y.0.now ∷ ps) (seen_push xs x)
+
 pub seen_part : (a b : ℕ) (xs : List Pair) → seen_paths (take (b - a) (drop a xs)) ≡ take (b - a) (drop a (seen_paths xs))
 seen_part a b xs = seen_take (b - a) (drop a xs) ∙ ap (take (b - a)) (seen_drop a xs)
 

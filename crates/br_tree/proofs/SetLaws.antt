@@ -189,30 +189,6 @@ as_many test value [] fs = refl
 as_many test value (p ∷ ps) [] = refl
 as_many test value (p ∷ ps) (f ∷ fs) = omega (arith, as_many test value ps fs)
 
--- the number of marks grows by that of the changes
-pub more_marks : (test : List ℕ → Bool) (ps : List (List ℕ)) (fs : List Bool) → length (flagged ps (set_where test true ps fs)) ≡ changed test true ps fs + length (flagged ps fs)
-more_marks test [] fs = refl
-more_marks test (p ∷ ps) [] = refl
-more_marks test (p ∷ ps) (f ∷ fs) = go _ _ _ (test p) f (more_marks test ps fs)
-  where
-    go : (R G : List (List ℕ)) (n : ℕ) (t f : Bool) → length R ≡ n + length G → length (cond (cond t true f) (p ∷ R) R) ≡ cond (t && not f) 1 0 + n + length (cond f (p ∷ G) G)
-    go R G n true true e = omega (arith, e)
-    go R G n true false e = omega (arith, e)
-    go R G n false true e = omega (arith, e)
-    go R G n false false e = omega (arith, e)
-
--- or falls by it
-pub fewer_marks : (test : List ℕ → Bool) (ps : List (List ℕ)) (fs : List Bool) → changed test false ps fs + length (flagged ps (set_where test false ps fs)) ≡ length (flagged ps fs)
-fewer_marks test [] fs = refl
-fewer_marks test (p ∷ ps) [] = refl
-fewer_marks test (p ∷ ps) (f ∷ fs) = go _ _ _ (test p) f (fewer_marks test ps fs)
-  where
-    go : (R G : List (List ℕ)) (n : ℕ) (t f : Bool) → n + length R ≡ length G → cond (t && f) 1 0 + n + length (cond (cond t false f) (p ∷ R) R) ≡ length (cond f (p ∷ G) G)
-    go R G n true true e = omega (arith, e)
-    go R G n true false e = omega (arith, e)
-    go R G n false true e = omega (arith, e)
-    go R G n false false e = omega (arith, e)
-
 -- no flags, no marks
 pub no_marks : (ps : List (List ℕ)) (n : ℕ) → flagged ps (replicate n false) ≡ []
 no_marks [] n = refl

@@ -1,8 +1,8 @@
 -- Setting flags run by run.
-use Rattle.std.proofs.Common.{filter, Ok, Err, ◌≡◌, ℕ, zero, suc, ◌+◌, ◌-◌, ◌≤◌, Bool, true, false, not, ◌&&◌, ◌||◌, cond, List, [], ◌∷◌, ◌++◌, length, take, drop, replicate, Some, None, refl, sym, ap, subst, ◌∙◌, add_assoc, append_assoc, append-nil, length-append, length-take, length-drop, take-append-drop, arith}
+use Rattle.std.proofs.Common.{filter, Ok, Err, ◌≡◌, ℕ, zero, suc, ◌+◌, ◌-◌, ◌≤◌, Bool, true, false, not, ◌&&◌, ◌||◌, cond, List, [], ◌∷◌, ◌++◌, length, take, drop, replicate, Some, None, refl, sym, ap, subst, ◌∙◌, add_assoc, append_assoc, length-append, length-take, length-drop, take-append-drop, arith}
 use Rattle.std.proofs.lemmas.Bool.{false_from_ne_true, lt-ltb, le-ltb}
 use Rattle.std.proofs.lemmas.List.Sums.{sum_by-cons}
-use Rattle.std.proofs.lemmas.List.{drop-drop, length-replicate}
+use Rattle.std.proofs.lemmas.List.{drop-drop, drop-take, take-take, length-replicate}
 use Rattle.std.proofs.lemmas.Slice.Eq.{bytes_eq-Decides}
 use Rattle.br_model.specs.Text.{is_empty}
 use Rattle.br_model.proofs.ListLaws.{none_in, none_pass, first_in, cons_not_empty, some_passes, from_some, contains_filter, kept_passes}
@@ -12,10 +12,9 @@ use Rattle.br_model.specs.Console.{begins_with, some_of}
 use Rattle.br_tree.specs.Walk.{set_where, changed, changes, differs, picks, is_picked, AllPassing, NonePassing, IsRun, IsStep, IsRising}
 use Rattle.br_tree.proofs.MatchLaws.{or_none}
 use Rattle.br_tree.proofs.FlagLaws.{Below}
-use borrow.Rule.Slice.PartMut.{put_mid}
 use Rattle.std.specs.Ordering.{is_lt}
 use Rattle.br_model.proofs.OrderLaws.{rank_cmp, not_below_itself}
-use Rattle.br_tree.proofs.RunLaws.{is_less, not_less}
+use Rattle.br_tree.proofs.RunLaws.{is_less, not_less, all_dropped}
 
 -- ---- one run
 
@@ -71,9 +70,6 @@ pub record Stands (test : List ℕ → Bool) (v : Bool) (paths : List (List ℕ)
   pub as_long : length flags ≡ length paths
   pub few : count ≤ place
   pub bound : place ≤ length paths
-
-pub stands_at_start : (test : List ℕ → Bool) (v : Bool) (paths : List (List ℕ)) (old : List Bool) → length old ≡ length paths → Stands test v paths old 0 old 0 false
-stands_at_start test v paths old long = record { sets = refl; counts = omega arith; finds = refl; as_long = long; few = omega arith; bound = omega arith }
 
 take_behind : (n l : ℕ) (gs xs : List Bool) → length gs ≡ n → take (n + l) (gs ++ xs) ≡ gs ++ take l xs
 take_behind n l [] xs long = let e : n + l ≡ l = omega (arith, long) in ap (λ k. take k xs) e
@@ -139,32 +135,6 @@ stands_on test v paths old place flags count found r l new more some at step is_
     or_assoc true b c = refl
     or_assoc false b c = refl
 
-no_paths : (test : List ℕ → Bool) (v : Bool) (ps : List (List ℕ)) (fs : List Bool) → length ps ≡ 0 → set_where test v ps fs ≡ fs
-no_paths test v [] fs e = refl
-no_paths test v (p ∷ ps) fs e = absurd (omega (arith, e))
-
-no_changes : (test : List ℕ → Bool) (v : Bool) (ps : List (List ℕ)) (fs : List Bool) → length ps ≡ 0 → changed test v ps fs ≡ 0
-no_changes test v [] fs e = refl
-no_changes test v (p ∷ ps) fs e = absurd (omega (arith, e))
-
-none_of : (test : List ℕ → Bool) (ps : List (List ℕ)) → length ps ≡ 0 → list_any test ps ≡ false
-none_of test [] e = refl
-none_of test (p ∷ ps) e = absurd (omega (arith, e))
-
--- at the end
-module _ (test : List ℕ → Bool) (v : Bool) (paths : List (List ℕ)) (old : List Bool) (place : ℕ) (flags : List Bool) (count : ℕ) (found : Bool) (at : Stands test v paths old place flags count found) (end : length paths ≤ place) where
-  nothing_left : length (drop place paths) ≡ 0
-  nothing_left = omega (arith, length-drop place paths, end)
-
-  pub all_set : flags ≡ set_where test v paths old
-  all_set = sym (take-append-drop place flags) ∙ ap (λ fs. take place flags ++ fs) (sym (no_paths test v (drop place paths) (drop place flags) nothing_left)) ∙ at.sets
-
-  pub all_counted : count ≡ changed test v paths old
-  all_counted = omega (arith, no_changes test v (drop place paths) (drop place flags) nothing_left, at.counts)
-
-  pub all_found : found ≡ list_any test paths
-  all_found = sym (or_none found) ∙ ap (λ b. found || b) (sym (none_of test (drop place paths) nothing_left)) ∙ at.finds
-
 -- what is answered
 pub answered : (test : List ℕ → Bool) (v : Bool) (paths : List (List ℕ)) (flags : List Bool) (count : ℕ) (found : Bool) → count ≡ changed test v paths flags → found ≡ list_any test paths
     → cond found (Some count) None ≡ changes test v paths flags
@@ -186,78 +156,10 @@ none_any : (test : List ℕ → Bool) (ps : List (List ℕ)) → NonePassing tes
 none_any test [] h = refl
 none_any test (p ∷ ps) h = ap (λ b. b || list_any test ps) h.0 ∙ none_any test ps h.1
 
-front_sets : (test : List ℕ → Bool) (v : Bool) (m : ℕ) (ps : List (List ℕ)) (fs : List Bool) → NonePassing test (drop m ps) → set_where test v (take m ps) (take m fs) ++ drop m fs ≡ set_where test v ps fs
-front_sets test v zero ps fs h = sym (none_set test v ps fs h)
-front_sets test v (suc m) [] fs h = take-append-drop (suc m) fs
-front_sets test v (suc m) (p ∷ ps) [] h = refl
-front_sets test v (suc m) (p ∷ ps) (f ∷ fs) h = ap (λ gs. cond (test p) v f ∷ gs) (front_sets test v m ps fs h)
-
-front_counts : (test : List ℕ → Bool) (v : Bool) (m : ℕ) (ps : List (List ℕ)) (fs : List Bool) → NonePassing test (drop m ps) → changed test v (take m ps) (take m fs) ≡ changed test v ps fs
-front_counts test v zero ps fs h = sym (none_changed test v ps fs h)
-front_counts test v (suc m) [] fs h = refl
-front_counts test v (suc m) (p ∷ ps) [] h = refl
-front_counts test v (suc m) (p ∷ ps) (f ∷ fs) h = omega (arith, front_counts test v m ps fs h)
-
 front_any : (test : List ℕ → Bool) (m : ℕ) (ps : List (List ℕ)) → NonePassing test (drop m ps) → list_any test (take m ps) ≡ list_any test ps
 front_any test zero ps h = sym (none_any test ps h)
 front_any test (suc m) [] h = refl
 front_any test (suc m) (p ∷ ps) h = ap (λ b. test p || b) (front_any test m ps h)
-
-pub within_sets : (test : List ℕ → Bool) (v : Bool) (a b : ℕ) (ps : List (List ℕ)) (fs : List Bool) → a ≤ b → NonePassing test (take a ps) → NonePassing test (drop b ps)
-    → take a fs ++ set_where test v (take (b - a) (drop a ps)) (take (b - a) (drop a fs)) ++ drop b fs ≡ set_where test v ps fs
-within_sets test v zero b ps fs le before after =
-    (let e : b - 0 ≡ b = omega arith in ap (λ k. set_where test v (take k ps) (take k fs) ++ drop b fs) e) ∙ front_sets test v b ps fs after
-within_sets test v (suc a) zero ps fs le before after = absurd (omega (arith, le))
-within_sets test v (suc a) (suc b) [] fs le before after =
-    ap (λ qs. take (suc a) fs ++ set_where test v qs (take (suc b - suc a) (drop (suc a) fs)) ++ drop (suc b) fs) (take_none (suc b - suc a))
-    ∙ three (suc a) (suc b) fs (omega (arith, le))
-  where
-    take_none : (n : ℕ) → take {A = List ℕ} n [] ≡ []
-    take_none zero = refl
-    take_none (suc n) = refl
-
-    three : (a b : ℕ) (gs : List Bool) → a ≤ b → take a gs ++ take (b - a) (drop a gs) ++ drop b gs ≡ gs
-    three a b gs le =
-        (let e : b ≡ a + (b - a) = omega (arith, le) in ap (λ k. take a gs ++ take (b - a) (drop a gs) ++ drop k gs) e)
-        ∙ ap (λ hs. take a gs ++ take (b - a) (drop a gs) ++ hs) (sym (drop-drop (b - a) a gs))
-        ∙ append_assoc (take a gs) (take (b - a) (drop a gs)) (drop (b - a) (drop a gs))
-        ∙ ap (λ hs. take a gs ++ hs) (take-append-drop (b - a) (drop a gs))
-        ∙ take-append-drop a gs
-within_sets test v (suc a) (suc b) (p ∷ ps) [] le before after = no_flags (suc b - suc a)
-  where
-    no_flags : (n : ℕ) → [] ++ set_where test v (take n (drop a ps)) (take n []) ++ [] ≡ []
-    no_flags n = append-nil (set_where test v (take n (drop a ps)) (take n [])) ∙ empty (take n (drop a ps)) n
-      where
-        empty : (qs : List (List ℕ)) (n : ℕ) → set_where test v qs (take n []) ≡ []
-        empty [] zero = refl
-        empty [] (suc n) = refl
-        empty (q ∷ qs) zero = refl
-        empty (q ∷ qs) (suc n) = refl
-within_sets test v (suc a) (suc b) (p ∷ ps) (f ∷ fs) le before after =
-    (let e : suc b - suc a ≡ b - a = omega arith in ap (λ k. (f ∷ take a fs) ++ set_where test v (take k (drop a ps)) (take k (drop a fs)) ++ drop b fs) e)
-    ∙ ap (λ gs. f ∷ gs) (within_sets test v a b ps fs (omega (arith, le)) before.1 after)
-    ∙ sym (ap (λ b. cond b v f ∷ set_where test v ps fs) before.0)
-
-pub within_counts : (test : List ℕ → Bool) (v : Bool) (a b : ℕ) (ps : List (List ℕ)) (fs : List Bool) → a ≤ b → NonePassing test (take a ps) → NonePassing test (drop b ps)
-    → changed test v (take (b - a) (drop a ps)) (take (b - a) (drop a fs)) ≡ changed test v ps fs
-within_counts test v zero b ps fs le before after =
-    (let e : b - 0 ≡ b = omega arith in ap (λ k. changed test v (take k ps) (take k fs)) e) ∙ front_counts test v b ps fs after
-within_counts test v (suc a) zero ps fs le before after = absurd (omega (arith, le))
-within_counts test v (suc a) (suc b) [] fs le before after = none (suc b - suc a)
-  where
-    none : (n : ℕ) → changed test v (take n []) (take n (drop (suc a) fs)) ≡ 0
-    none zero = refl
-    none (suc n) = refl
-within_counts test v (suc a) (suc b) (p ∷ ps) [] le before after = none (take (suc b - suc a) (drop a ps)) (suc b - suc a)
-  where
-    none : (qs : List (List ℕ)) (n : ℕ) → changed test v qs (take n []) ≡ 0
-    none [] n = refl
-    none (q ∷ qs) zero = refl
-    none (q ∷ qs) (suc n) = refl
-within_counts test v (suc a) (suc b) (p ∷ ps) (f ∷ fs) le before after =
-    (let e : suc b - suc a ≡ b - a = omega arith in ap (λ k. changed test v (take k (drop a ps)) (take k (drop a fs))) e)
-    ∙ within_counts test v a b ps fs (omega (arith, le)) before.1 after
-    ∙ omega (arith, ap {B = ℕ} (λ b. cond (b && differs v f) 1 0) before.0)
 
 pub within_any : (test : List ℕ → Bool) (a b : ℕ) (ps : List (List ℕ)) → a ≤ b → NonePassing test (take a ps) → NonePassing test (drop b ps)
     → list_any test (take (b - a) (drop a ps)) ≡ list_any test ps
@@ -272,12 +174,6 @@ within_any test (suc a) (suc b) (p ∷ ps) le before after =
     (let e : suc b - suc a ≡ b - a = omega arith in ap (λ k. list_any test (take k (drop a ps))) e)
     ∙ within_any test a b ps (omega (arith, le)) before.1 after
     ∙ sym (ap (λ b. b || list_any test ps) before.0)
-
-pub within_changes : (test : List ℕ → Bool) (v : Bool) (a b : ℕ) (ps : List (List ℕ)) (fs : List Bool) → a ≤ b → NonePassing test (take a ps) → NonePassing test (drop b ps)
-    → changes test v (take (b - a) (drop a ps)) (take (b - a) (drop a fs)) ≡ changes test v ps fs
-within_changes test v a b ps fs le before after =
-    ap (λ t. cond t (Some (changed test v (take (b - a) (drop a ps)) (take (b - a) (drop a fs)))) None) (within_any test a b ps le before after)
-    ∙ ap (λ n. cond (list_any test ps) (Some n) None) (within_counts test v a b ps fs le before after)
 
 -- what does not begin with a directory is not meant there
 pub none_picked : (deep : Bool) (d pattern : List ℕ) (ps : List (List ℕ)) → NonePassing (λ p. begins_with p d) ps → NonePassing (is_picked deep d pattern) ps
@@ -308,6 +204,57 @@ skip_any : (test : List ℕ → Bool) (a : ℕ) (ps : List (List ℕ)) → NoneP
 skip_any test zero ps h = refl
 skip_any test (suc a) [] h = refl
 skip_any test (suc a) (p ∷ ps) h = skip_any test a ps h.1 ∙ sym (ap (λ b. b || list_any test ps) h.0)
+
+-- ---- from the first path of a directory to the last one
+
+-- nothing is to be set before a run
+pub stands_at_run : (test : List ℕ → Bool) (v : Bool) (paths : List (List ℕ)) (old : List Bool) (first : ℕ) → NonePassing test (take first paths) → first ≤ length paths → length old ≡ length paths → Stands test v paths old first old 0 false
+stands_at_run test v paths old first before bound long = record {
+  sets = skip_sets test v first paths old before;
+  counts = omega (arith, skip_counts test v first paths old before);
+  finds = skip_any test first paths before;
+  as_long = long;
+  few = omega arith;
+  bound = bound;
+}
+
+-- nor after it
+module _ (test : List ℕ → Bool) (v : Bool) (paths : List (List ℕ)) (old : List Bool) (place : ℕ) (flags : List Bool) (count : ℕ) (found : Bool) (at : Stands test v paths old place flags count found) (none : NonePassing test (drop place paths)) where
+  pub all_set : flags ≡ set_where test v paths old
+  all_set = sym (take-append-drop place flags) ∙ ap (λ fs. take place flags ++ fs) (sym (none_set test v (drop place paths) (drop place flags) none)) ∙ at.sets
+
+  pub all_counted : count ≡ changed test v paths old
+  all_counted = omega (arith, none_changed test v (drop place paths) (drop place flags) none, at.counts)
+
+  pub all_found : found ≡ list_any test paths
+  all_found = sym (or_none found) ∙ ap (λ b. found || b) (sym (none_any test (drop place paths) none)) ∙ at.finds
+
+-- a step of the first paths is one of all
+pub step_within : (test : List ℕ → Bool) (k : ℕ) (paths : List (List ℕ)) (r l : ℕ) → IsStep test (take k paths) r l → IsStep test paths r l
+step_within test k paths r l step = record {
+  some = step.some;
+  ordered = step.ordered;
+  bound = omega (arith, step.bound, length-take k paths);
+  within = subst (AllPassing test) (take-take r k paths (omega (arith, fits, step.ordered))) step.within;
+  after = subst (λ qs. NonePassing test (drop r qs)) (take-take l k paths fits) step.after;
+}
+  where
+    fits : l ≤ k
+    fits = omega (arith, step.bound, length-take k paths)
+
+-- what all paths of a run pass, those from a later place on pass too
+pub later_pass : (test : List ℕ → Bool) (a b n : ℕ) (paths : List (List ℕ)) → a ≤ n → n ≤ b → AllPassing test (take (b - a) (drop a paths)) → AllPassing test (take (b - n) (drop n paths))
+later_pass test a b n paths from to all =
+    subst (AllPassing test)
+    ((let e : b - a ≡ (n - a) + (b - n) = omega (arith, from, to) in ap (λ k. drop (n - a) (take k (drop a paths))) e)
+    ∙ drop-take (n - a) (b - n) (drop a paths)
+    ∙ ap (take (b - n)) (drop-drop (n - a) a paths ∙ (let e : a + (n - a) ≡ n = omega (arith, from) in ap (λ k. drop k paths) e)))
+    (all_dropped (λ p. test p ≡ true) (n - a) (take (b - a) (drop a paths)) all)
+
+-- what no path after a run passes, none after a later place passes
+pub later_fail : (test : List ℕ → Bool) (b n : ℕ) (paths : List (List ℕ)) → b ≤ n → NonePassing test (drop b paths) → NonePassing test (drop n paths)
+later_fail test b n paths le none =
+    subst (NonePassing test) (drop-drop (n - b) b paths ∙ (let e : b + (n - b) ≡ n = omega (arith, le) in ap (λ k. drop k paths) e)) (all_dropped (λ p. test p ≡ false) (n - b) (drop b paths) none)
 
 -- ---- a directory's own path
 
@@ -412,9 +359,3 @@ some_is ps test = go (filter test ps) refl
 
 pub none_from_any : (test : List ℕ → Bool) (ps : List (List ℕ)) → list_any test ps ≡ false → NonePassing test ps
 none_from_any test ps e = none_pass test ps e
-
--- a part of the flags put back
-pub put_is : (a b : ℕ) (fs gs : List Bool) → a ≤ b → put_mid a (b - a) fs gs ≡ take a fs ++ gs ++ drop b fs
-put_is a b fs gs le =
-    (let e : a + (b - a) ≡ b = omega (arith, le) in ap (λ hs. take a fs ++ (gs ++ hs)) (drop-drop (b - a) a fs ∙ ap (λ k. drop k fs) e))
-    ∙ sym (append_assoc (take a fs) gs (drop b fs))

@@ -4,3 +4,5 @@ pub mod Fronts
 pub mod Walk
 pub mod Lists
 pub mod Change
+pub mod Sums
+pub mod Cut

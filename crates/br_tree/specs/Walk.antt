@@ -107,9 +107,3 @@ changed test value (path ∷ paths) (flag ∷ flags) = (if test path && differs 
 -- how many flags change, where a path passes
 abbrev pub changes : (List ℕ → Bool) → Bool → List (List ℕ) → List Bool → Option ℕ
 changes test value paths flags = if list_any test paths then Some (changed test value paths flags) else None
-
--- a number of set flags, after so many were set or taken
-abbrev pub recount : Bool → ℕ → Option ℕ → ℕ
-recount value n None = n
-recount true n (Some k) = n + k
-recount false n (Some k) = n - k

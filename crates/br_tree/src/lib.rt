@@ -5,11 +5,15 @@
 
 mod change;
 mod child;
+mod cut;
+mod flags;
 mod list;
 mod names;
 mod pattern;
 mod run;
 mod sign;
+mod spans;
+mod sums;
 mod tree;
 mod walk;
 

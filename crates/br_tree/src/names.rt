@@ -4,9 +4,11 @@ ghost use Rattle.br_tree.specs.Lists.{NotesChild, AreChildren};
 ghost use Rattle.br_tree.specs.Walk.{seen_paths, AllPassing, AreSorted, IsFirstChild, marked_in};
 
 use crate::child::Child;
+use crate::flags::Flags;
 use crate::list::pair_at;
 use crate::run::{Shown, child_len, child_name, run_of};
 use crate::sign::sign_of;
+use crate::spans::span_at;
 use crate::walk::part_of;
 use std::alloc::{AllocError, Global};
 
@@ -19,8 +21,9 @@ fn front_of<'p>(directory: &[u8], path: &'p [u8], name: &[u8]) -> &'p [u8]
     &path[..directory.len() + name.len()]
 }
 
-/// Returns the first of some paths in a directory, and the number of first ones that are of its child.
-fn next_child<'h>(entries: &[Shown<'h>], directory: &[u8]) -> (&'h [u8], usize)
+/// Returns the first of some paths in a directory, and the number of first ones that are of its child. A right guess of this
+/// number saves a search.
+fn next_child<'h>(entries: &[Shown<'h>], directory: &[u8], guess: usize) -> (&'h [u8], usize)
     requires sorted { AreSorted entries.now }
     requires begins { AllPassing (λ path. model.begins_with path directory.now) (seen_paths entries.now) }
     requires some { 0 < length entries.now }
@@ -29,17 +32,19 @@ fn next_child<'h>(entries: &[Shown<'h>], directory: &[u8]) -> (&'h [u8], usize)
     let path = pair_at(entries, 0).0.bytes();
     (
         path,
-        child_len(entries, directory, child_name(directory, path)),
+        child_len(entries, directory, child_name(directory, path), guess),
     )
 }
 
-/// Notes the child that has a path, with its sign; the directory itself is no child.
+/// Notes the child that has a path, with its sign; the directory itself is no child. A right guess of the places between which
+/// its paths are saves a search.
 fn note_child<'h>(
     noted: &mut Vec<Child<'h>>,
     entries: &[Shown<'_>],
-    flags: &[bool],
+    flags: &Flags,
     directory: &[u8],
     path: &'h [u8],
+    guess: (usize, usize),
 ) -> Result<(), AllocError>
     requires sorted { AreSorted entries.now }
     requires as_long { length flags.now ≡ length entries.now }
@@ -48,7 +53,7 @@ fn note_child<'h>(
 {
     let name = child_name(directory, path);
     if !name.is_empty() {
-        let sign = sign_of(entries, flags, front_of(directory, path, name));
+        let sign = sign_of(entries, flags, front_of(directory, path, name), guess);
         if noted.push(Child { name, sign }).is_err() {
             return Err(AllocError);
         }
@@ -60,7 +65,8 @@ fn note_child<'h>(
 pub(crate) fn names_in<'h>(
     alloc: Global,
     entries: &[Shown<'h>],
-    flags: &[bool],
+    flags: &Flags,
+    spans: &[u32],
     directory: &[u8],
 ) -> Result<Vec<Child<'h>>, AllocError>
     requires sorted { AreSorted entries.now }
@@ -72,8 +78,9 @@ pub(crate) fn names_in<'h>(
     let mut noted = Vec::new(alloc);
     let mut place = 0;
     while place < run.len() {
-        let (path, len) = next_child(run.split_at(place).1, directory);
-        note_child(&mut noted, entries, flags, directory, path)?;
+        let at = first + place;
+        let (path, len) = next_child(run.split_at(place).1, directory, span_at(spans, at));
+        note_child(&mut noted, entries, flags, directory, path, (at, at + len))?;
         place += len;
     }
     Ok(noted)

@@ -5,6 +5,7 @@ ghost use Rattle.br_model.specs.Console.{child_of, begins_with};
 ghost use Rattle.br_model.specs.Name.{is_slash};
 ghost use Rattle.br_tree.specs.Walk.{first_part, seen_paths, IsRun, AllPassing, NonePassing, AreSorted};
 
+use crate::cut::{Test, cut};
 use br_types::Path;
 use br_view::Entry;
 
@@ -43,32 +44,39 @@ pub(crate) fn child_name<'p>(directory: &[u8], path: &'p [u8]) -> &'p [u8]
     part_of(rest_of(directory, path))
 }
 
-/// Returns whether a path comes before a text in byte order.
-fn comes_before(path: &Path, text: &[u8]) -> bool
-    ensures { result ≡ is_lt (slice_cmp nat_cmp path.now text.now) }
-{
-    path.bytes().cmp(text).is_lt()
-}
-
-/// Returns the first place from which on no path comes before a text.
-pub(crate) fn not_before(entries: &[Shown<'_>], text: &[u8]) -> usize
+/// Returns the first place from which on no path comes before a text. A right guess saves the search.
+pub(crate) fn not_before(entries: &[Shown<'_>], text: &[u8], guess: usize) -> usize
     requires { AreSorted entries.now }
     ensures bound { result ≤ length entries.now }
     ensures before { AllPassing (λ path. is_lt (slice_cmp nat_cmp path text.now)) (take result (seen_paths entries.now)) }
     ensures after { NonePassing (λ path. is_lt (slice_cmp nat_cmp path text.now)) (drop result (seen_paths entries.now)) }
 {
-    entries.partition_point(|entry| comes_before(entry.0, text))
+    cut(entries, Test::Before(text), guess)
 }
 
-/// Returns the number of first paths that begin with a text, of paths of which none comes before it.
-fn begin_with(entries: &[Shown<'_>], text: &[u8]) -> usize
+/// Returns the number of first paths that begin with a text, of paths of which none comes before it. A right guess saves the
+/// search.
+fn begin_with(entries: &[Shown<'_>], text: &[u8], guess: usize) -> usize
     requires sorted { AreSorted entries.now }
     requires after { NonePassing (λ path. is_lt (slice_cmp nat_cmp path text.now)) (seen_paths entries.now) }
     ensures bound { result ≤ length entries.now }
     ensures within { AllPassing (λ path. begins_with path text.now) (take result (seen_paths entries.now)) }
     ensures after { NonePassing (λ path. begins_with path text.now) (drop result (seen_paths entries.now)) }
 {
-    entries.partition_point(|entry| entry.0.bytes().starts_with(text))
+    cut(entries, Test::Begins(text), guess)
+}
+
+/// Returns the places between which the paths begin with a text. A right guess saves the search.
+pub(crate) fn run_near(entries: &[Shown<'_>], text: &[u8], guess: (usize, usize)) -> (usize, usize)
+    requires { AreSorted entries.now }
+    ensures { IsRun (λ path. begins_with path text.now) (seen_paths entries.now) result.0 result.1 }
+{
+    let first = not_before(entries, text, guess.0);
+    let len = guess.1.saturating_sub(first);
+    (
+        first,
+        first + begin_with(entries.split_at(first).1, text, len),
+    )
 }
 
 /// Returns the places between which the paths begin with a text.
@@ -76,12 +84,12 @@ pub(crate) fn run_of(entries: &[Shown<'_>], text: &[u8]) -> (usize, usize)
     requires { AreSorted entries.now }
     ensures { IsRun (λ path. begins_with path text.now) (seen_paths entries.now) result.0 result.1 }
 {
-    let first = not_before(entries, text);
-    (first, first + begin_with(entries.split_at(first).1, text))
+    run_near(entries, text, (0, 0))
 }
 
-/// Returns the number of first paths in a directory that are of its first child: the child itself and what is below it.
-pub(crate) fn child_len(entries: &[Shown<'_>], directory: &[u8], name: &[u8]) -> usize
+/// Returns the number of first paths in a directory that are of its first child: the child itself and what is below it. A right
+/// guess saves the search.
+pub(crate) fn child_len(entries: &[Shown<'_>], directory: &[u8], name: &[u8], guess: usize) -> usize
     requires sorted { AreSorted entries.now }
     requires below { AllPassing (λ path. begins_with path directory.now) (seen_paths entries.now) }
     requires first { NonePassing (λ path. is_lt (slice_cmp nat_cmp (child_of directory.now path) name.now)) (seen_paths entries.now) }
@@ -89,5 +97,5 @@ pub(crate) fn child_len(entries: &[Shown<'_>], directory: &[u8], name: &[u8]) ->
     ensures within { AllPassing (λ path. bytes_eq (child_of directory.now path) name.now) (take result (seen_paths entries.now)) }
     ensures after { NonePassing (λ path. bytes_eq (child_of directory.now path) name.now) (drop result (seen_paths entries.now)) }
 {
-    entries.partition_point(|entry| child_name(directory, entry.0.bytes()) == name)
+    cut(entries, Test::OfChild(directory, name), guess)
 }

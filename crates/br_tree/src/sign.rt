@@ -6,7 +6,8 @@ ghost use Rattle.br_tree.specs.Seen.{sign_byte};
 ghost use Rattle.br_tree.specs.Walk.{AreSorted, marked_in};
 
 use crate::child::Sign;
-use crate::run::{Shown, not_before, run_of};
+use crate::flags::Flags;
+use crate::run::{Shown, not_before, run_near};
 use crate::walk::own_len;
 use br_types::is_directory_path;
 
@@ -17,7 +18,7 @@ fn any_set(flags: &[bool]) -> bool
     flags.iter().any(|flag| *flag)
 }
 
-/// Returns whether a flag of some places is set.
+/// Returns whether a flag of some places is set, of which there are few.
 fn any_between(flags: &[bool], from: usize, to: usize) -> bool
     requires ordered { from ≤ to }
     requires bound { to ≤ length flags.now }
@@ -26,36 +27,52 @@ fn any_between(flags: &[bool], from: usize, to: usize) -> bool
     any_set(&flags[from..to])
 }
 
-/// Returns whether a path is marked.
-fn is_marked(entries: &[Shown<'_>], flags: &[bool], path: &[u8]) -> bool
+/// Returns whether a flag of some places is set, by the number of those that are.
+fn counts_between(flags: &Flags, from: usize, to: usize) -> bool
+    requires ordered { from ≤ to }
+    requires bound { to ≤ length flags.now }
+    ensures { result ≡ list_any (λ flag. flag) (take (to - from) (drop from flags.now)) }
+{
+    0 < flags.count(from, to)
+}
+
+/// Returns whether a path is marked. A right guess of its place saves a search.
+fn is_marked(entries: &[Shown<'_>], flags: &Flags, path: &[u8], guess: usize) -> bool
     requires sorted { AreSorted entries.now }
     requires as_long { length flags.now ≡ length entries.now }
     ensures { result ≡ is_among (marked_in entries.now flags.now) path.now }
 {
-    let first = not_before(entries, path);
+    let first = not_before(entries, path, guess);
     let own = own_len(entries.split_at(first).1, path);
-    any_between(flags, first, first + own)
+    any_between(flags.as_slice(), first, first + own)
 }
 
-/// Returns whether a path that begins with a text is marked.
-fn begins_a_mark(entries: &[Shown<'_>], flags: &[bool], text: &[u8]) -> bool
+/// Returns whether a path that begins with a text is marked. A right guess of their run saves a
+/// search.
+fn begins_a_mark(entries: &[Shown<'_>], flags: &Flags, text: &[u8], guess: (usize, usize)) -> bool
     requires sorted { AreSorted entries.now }
     requires as_long { length flags.now ≡ length entries.now }
     ensures { result ≡ list_any (λ path. begins_with path text.now) (marked_in entries.now flags.now) }
 {
-    let (first, last) = run_of(entries, text);
-    any_between(flags, first, last)
+    let (first, last) = run_near(entries, text, guess);
+    counts_between(flags, first, last)
 }
 
-/// Returns whether a path is marked, or one below it.
-pub(crate) fn sign_of(entries: &[Shown<'_>], flags: &[bool], path: &[u8]) -> Sign
+/// Returns whether a path is marked, or one below it. A right guess of the places between which the
+/// paths begin with it saves the search.
+pub(crate) fn sign_of(
+    entries: &[Shown<'_>],
+    flags: &Flags,
+    path: &[u8],
+    guess: (usize, usize),
+) -> Sign
     requires sorted { AreSorted entries.now }
     requires as_long { length flags.now ≡ length entries.now }
     ensures { sign_byte result ≡ sign (marked_in entries.now flags.now) path.now }
 {
-    if is_marked(entries, flags, path) {
+    if is_marked(entries, flags, path, guess.0) {
         Sign::Marked
-    } else if is_directory_path(path) && begins_a_mark(entries, flags, path) {
+    } else if is_directory_path(path) && begins_a_mark(entries, flags, path, guess) {
         Sign::Within
     } else {
         Sign::Plain

@@ -1,8 +1,8 @@
-ghost use Rattle.std.specs.Prelude.{◌≡◌, map, length, ◌<◌, ◌^◌, replicate, false, IfOk};
+ghost use Rattle.std.specs.Prelude.{◌≡◌, map, length, IfOk};
 ghost use Rattle.std.specs.List.{list_any};
 ghost use Rattle.br_model.specs.Console as model;
 ghost use Rattle.br_tree.specs.Change.{flag_of, is_chosen, chosen, after_change, newly_changed};
-ghost use Rattle.br_tree.specs.Walk.{seen_paths, set_where, changes, recount, IsRising, AreSorted, marked_in};
+ghost use Rattle.br_tree.specs.Walk.{seen_paths, set_where, changes, IsRising, AreSorted, marked_in};
 ghost use Rattle.br_model.specs.View.{view_paths};
 ghost use Rattle.br_view.specs.Shown.{shown_pair};
 ghost use Rattle.br_tree.specs.Marking as marking;
@@ -10,9 +10,11 @@ ghost use Rattle.br_tree.specs.Seen.{flagged, seen_child, seen_path};
 
 use crate::change::{Change, Meant};
 use crate::child::Child;
+use crate::flags::Flags;
 use crate::list::{flagged_pairs, found_pairs, paths_of};
 use crate::names::names_in;
 use crate::run::run_of;
+use crate::spans::spans_of;
 use crate::walk::{set_matching, set_own};
 use br_types::Path;
 use br_view::{Entry, View};
@@ -29,35 +31,11 @@ fn as_number(count: Option<usize>) -> Option<u64>
     }
 }
 
-/// Returns `count` flags, none of which is set.
-fn flags_for(alloc: Global, count: usize) -> Result<Vec<bool>, AllocError>
-    ensures { IfOk result (λ flags. flags.items ≡ replicate count false) }
-{
-    vec![in alloc; false; count]
-}
-
-/// Returns the number of marks after `changed` of them were set or taken.
-fn recount_by(marks: usize, changed: Option<usize>, value: bool) -> usize
-    requires { recount value marks changed < 2 ^ 64 }
-    ensures { result ≡ recount value marks changed }
-{
-    match changed {
-        Some(count) => {
-            if value {
-                marks + count
-            } else {
-                marks.saturating_sub(count)
-            }
-        }
-        None => marks,
-    }
-}
-
 /// Sets the flags of the paths that are meant. Returns the number of those that had another value;
 /// `None` if no path is meant.
 fn set_meant(
     entries: &[(&Path, Entry)],
-    flags: &mut [bool],
+    flags: &mut Flags,
     directory: &[u8],
     meant: Meant<'_>,
     value: bool,
@@ -76,27 +54,21 @@ fn set_meant(
     }
 }
 
-/// Changes the flags of the paths that are meant and keeps the number of marks. Returns the number
-/// of flags that changed; `None` if no path is meant.
+/// Changes the flags of the paths that are meant. Returns the number of flags that changed; `None`
+/// if no path is meant.
 fn change_meant(
     entries: &[(&Path, Entry)],
-    flags: &mut [bool],
-    marks: &mut usize,
+    flags: &mut Flags,
     directory: &[u8],
     meant: Meant<'_>,
     change: Change,
 ) -> Option<u64>
     requires sorted { AreSorted entries.now }
     requires as_long { length flags.old ≡ length entries.now }
-    requires counted { marks.old ≡ length (marked_in entries.now flags.old) }
     ensures flags { flags.new ≡ set_where (is_chosen meant.entry directory.now) (flag_of change) (seen_paths entries.now) flags.old }
     ensures answer { result ≡ changes (is_chosen meant.entry directory.now) (flag_of change) (seen_paths entries.now) flags.old }
-    ensures counted { marks.new ≡ length (marked_in entries.now flags.new) }
 {
-    let value = change.flag();
-    let changed = set_meant(entries, flags, directory, meant, value);
-    *marks = recount_by(*marks, changed, value);
-    as_number(changed)
+    as_number(set_meant(entries, flags, directory, meant, change.flag()))
 }
 
 /// Returns whether some path begins with a text.
@@ -121,8 +93,8 @@ fn rows<'v, 'h>(view: &'v View<'h>) -> &'v [(&'h Path, Entry)]
 #[derive(Debug, Drop)]
 pub struct Tree<'h> {
     shown: View<'h>,
-    is_marked: Vec<bool>,
-    marks: usize,
+    is_marked: Flags,
+    spans: Vec<u32>,
 }
 
 impl<'h> Model for Tree<'h> {
@@ -133,10 +105,9 @@ impl<'h> Model for Tree<'h> {
 
     ghost Value = { Marking };
 
-    ghost view = { λ t. record { view = t.shown; marked = flagged (view_paths t.shown) t.is_marked.items } };
+    ghost view = { λ t. record { view = t.shown; marked = flagged (view_paths t.shown) t.is_marked } };
 
-    ghost invariant = { λ t. IsView t.shown × (length t.is_marked.items ≡ length t.shown)
-        × (t.marks ≡ length (flagged (view_paths t.shown) t.is_marked.items)) };
+    ghost invariant = { λ t. IsView t.shown × (length t.is_marked ≡ length t.shown) };
 }
 
 impl<'h> Tree<'h> {
@@ -144,11 +115,12 @@ impl<'h> Tree<'h> {
     pub fn build(alloc: Global, view: View<'h>) -> Result<Tree<'h>, AllocError>
         ensures { IfOk result (λ tree. tree ≡ marking.unmarked view.entry) }
     {
-        let is_marked = flags_for(alloc, view.len())?;
+        let is_marked = Flags::new(alloc, view.len())?;
+        let spans = spans_of(alloc, rows(&view))?;
         Ok(Tree {
             shown: view,
             is_marked,
-            marks: 0,
+            spans,
         })
     }
 
@@ -172,7 +144,8 @@ impl<'h> Tree<'h> {
         ensures paths { result.0 ≡ length self.now.view }
         ensures marked { result.1 ≡ length self.now.marked }
     {
-        (self.shown.len() as u64, self.marks as u64)
+        let paths = self.shown.len();
+        (paths as u64, self.is_marked.count(0, paths) as u64)
     }
 
     /// Returns whether the view has a directory: it has the root, and each text that a path begins with.
@@ -191,7 +164,6 @@ impl<'h> Tree<'h> {
         change_meant(
             rows(&self.shown),
             &mut self.is_marked,
-            &mut self.marks,
             directory,
             meant,
             change,
@@ -240,14 +212,20 @@ impl<'h> Tree<'h> {
     pub fn children(&self, alloc: Global, directory: &[u8]) -> Result<Vec<Child<'h>>, AllocError>
         ensures { IfOk result (λ children. map seen_child children.items ≡ marking.signed_children self.now directory.now) }
     {
-        names_in(alloc, rows(&self.shown), &self.is_marked, directory)
+        names_in(
+            alloc,
+            rows(&self.shown),
+            &self.is_marked,
+            &self.spans,
+            directory,
+        )
     }
 
     /// Returns the marked paths in byte order.
     pub fn marked(&self, alloc: Global) -> Result<Vec<Path>, AllocError>
         ensures { IfOk result (λ paths. paths.items ≡ self.now.marked) }
     {
-        let pairs = flagged_pairs(alloc, rows(&self.shown), &self.is_marked)?;
+        let pairs = flagged_pairs(alloc, rows(&self.shown), self.is_marked.as_slice())?;
         paths_of(alloc, &pairs)
     }
 
@@ -256,13 +234,13 @@ impl<'h> Tree<'h> {
         ensures entries { IfOk result (λ entries. map shown_pair entries.items ≡ marking.marked_entries self.now) }
         ensures paths { IfOk result (λ entries. map (λ e. e.0.now) entries.items ≡ self.now.marked) }
     {
-        flagged_pairs(alloc, rows(&self.shown), &self.is_marked)
+        flagged_pairs(alloc, rows(&self.shown), self.is_marked.as_slice())
     }
 
     /// Returns the paths whose last component matches the pattern, each with whether it is marked.
     pub fn find(&self, alloc: Global, pattern: &[u8]) -> Result<Vec<(&'h Path, bool)>, AllocError>
         ensures { IfOk result (λ found. map seen_path found.items ≡ marking.found_paths self.now pattern.now) }
     {
-        found_pairs(alloc, rows(&self.shown), &self.is_marked, pattern)
+        found_pairs(alloc, rows(&self.shown), self.is_marked.as_slice(), pattern)
     }
 }

@@ -1,35 +1,14 @@
-ghost use Rattle.std.specs.Prelude.{◌≡◌, true, ◌<◌, ◌≤◌, ◌-◌, ◌++◌, length, take, drop, count_by, replicate, bytes_eq};
+ghost use Rattle.std.specs.Prelude.{◌≡◌, true, ◌<◌, ◌≤◌, ◌-◌, length, take, drop, bytes_eq};
 ghost use Rattle.std.specs.Cmp.Lexicographic.{slice_cmp};
 ghost use Rattle.std.specs.Ordering.{nat_cmp, is_lt};
 ghost use Rattle.br_model.specs.Console.{begins_with, child_of};
-ghost use Rattle.br_tree.specs.Walk.{differs, seen_paths, is_picked, is_own, reach};
+ghost use Rattle.br_tree.specs.Walk.{seen_paths, is_picked, is_own, reach};
 ghost use Rattle.br_tree.specs.Walk.{set_where, changes, AllPassing, NonePassing, IsStep, AreSorted};
 
+use crate::flags::Flags;
 use crate::pattern::{bare_name, matches as fits};
 use crate::run::{Shown, child_len, child_name, not_before, rest_of, run_of};
 use br_types::is_directory_path;
-
-/// Sets flags to a value and returns the number of those that had another one.
-fn set_flags(flags: &mut [bool], value: bool) -> usize
-    ensures flags { flags.new ≡ replicate (length flags.old) value }
-    ensures count { result ≡ count_by (λ flag. differs value flag) flags.old }
-    ensures few { result ≤ length flags.old }
-{
-    let count = flags.iter().filter(|flag| **flag != value).count();
-    flags.fill(value);
-    count
-}
-
-/// Sets the flags of some places to a value and returns the number of those that had another one.
-fn set_range(flags: &mut [bool], from: usize, to: usize, value: bool) -> usize
-    requires ordered { from ≤ to }
-    requires bound { to ≤ length flags.old }
-    ensures flags { flags.new ≡ take from flags.old ++ replicate (to - from) value ++ drop to flags.old }
-    ensures count { result ≡ count_by (λ flag. differs value flag) (take (to - from) (drop from flags.old)) }
-    ensures few { result ≤ to - from }
-{
-    set_flags(&mut flags[from..to], value)
-}
 
 /// Returns whether a path in a directory, of a child of this name, is that of the directory that the child is.
 fn is_own_path(directory: &[u8], path: &[u8], name: &[u8]) -> bool
@@ -76,38 +55,10 @@ fn step(entries: &[Shown<'_>], directory: &[u8], pattern: &[u8], deep: bool) -> 
         Some((first, _)) => {
             let path = first.0.bytes();
             let name = child_name(directory, path);
-            let len = child_len(entries, directory, name);
+            let len = child_len(entries, directory, name, 1);
             (reach_of(path, name, len, directory, pattern, deep), len)
         }
     }
-}
-
-/// Sets the flags of the children of a directory that match a pattern and of all below them, or of the directories among them
-/// alone. Returns the number of those that had another value, or nothing if no path is meant.
-fn set_children(
-    entries: &[Shown<'_>],
-    flags: &mut [bool],
-    directory: &[u8],
-    pattern: &[u8],
-    deep: bool,
-    value: bool,
-) -> Option<usize>
-    requires sorted { AreSorted entries.now }
-    requires begins { AllPassing (λ path. begins_with path directory.now) (seen_paths entries.now) }
-    requires as_long { length flags.old ≡ length entries.now }
-    ensures flags { flags.new ≡ set_where (is_picked deep directory.now pattern.now) value (seen_paths entries.now) flags.old }
-    ensures answer { result ≡ changes (is_picked deep directory.now pattern.now) value (seen_paths entries.now) flags.old }
-{
-    let mut place = 0;
-    let mut count = 0;
-    let mut found = false;
-    while place < entries.len() {
-        let (reach, len) = step(entries.split_at(place).1, directory, pattern, deep);
-        count += set_range(flags, place, place + reach, value);
-        found = found || 0 < reach;
-        place += len;
-    }
-    if found { Some(count) } else { None }
 }
 
 /// Returns the pairs from a place to another.
@@ -137,10 +88,29 @@ pub(crate) fn own_len(entries: &[Shown<'_>], directory: &[u8]) -> usize
     }
 }
 
-/// Sets the flags in a whole view as `set_children` does.
+/// Returns what `step` does of the paths from a place to another, all in a directory.
+fn step_at(
+    entries: &[Shown<'_>],
+    place: usize,
+    last: usize,
+    directory: &[u8],
+    pattern: &[u8],
+    deep: bool,
+) -> (usize, usize)
+    requires sorted { AreSorted entries.now }
+    requires some { place < last }
+    requires bound { last ≤ length entries.now }
+    requires begins { AllPassing (λ path. begins_with path directory.now) (take (last - place) (drop place (seen_paths entries.now))) }
+    ensures { IsStep (is_picked deep directory.now pattern.now) (drop place (seen_paths entries.now)) result.0 result.1 }
+{
+    step(part_of(entries, place, last), directory, pattern, deep)
+}
+
+/// Sets the flags of the children of a directory that match a pattern and of all below them, or of the directories among them
+/// alone. Returns the number of those that had another value, or nothing if no path is meant.
 pub(crate) fn set_matching(
     entries: &[Shown<'_>],
-    flags: &mut [bool],
+    flags: &mut Flags,
     directory: &[u8],
     pattern: &[u8],
     deep: bool,
@@ -152,20 +122,22 @@ pub(crate) fn set_matching(
     ensures answer { result ≡ changes (is_picked deep directory.now pattern.now) value (seen_paths entries.now) flags.old }
 {
     let (first, last) = run_of(entries, directory);
-    set_children(
-        part_of(entries, first, last),
-        &mut flags[first..last],
-        directory,
-        pattern,
-        deep,
-        value,
-    )
+    let mut place = first;
+    let mut count = 0;
+    let mut found = false;
+    while place < last {
+        let (reach, len) = step_at(entries, place, last, directory, pattern, deep);
+        count += flags.set(place, place + reach, value);
+        found = found || 0 < reach;
+        place += len;
+    }
+    if found { Some(count) } else { None }
 }
 
 /// Sets the flag of the path of a directory. Returns the number of those that had another value, or nothing if it is no path.
 pub(crate) fn set_own(
     entries: &[Shown<'_>],
-    flags: &mut [bool],
+    flags: &mut Flags,
     directory: &[u8],
     value: bool,
 ) -> Option<usize>
@@ -174,8 +146,8 @@ pub(crate) fn set_own(
     ensures flags { flags.new ≡ set_where (bytes_eq directory.now) value (seen_paths entries.now) flags.old }
     ensures answer { result ≡ changes (bytes_eq directory.now) value (seen_paths entries.now) flags.old }
 {
-    let first = not_before(entries, directory);
+    let first = not_before(entries, directory, 0);
     let own = own_len(entries.split_at(first).1, directory);
-    let count = set_range(flags, first, first + own, value);
+    let count = flags.set(first, first + own, value);
     if 0 < own { Some(count) } else { None }
 }

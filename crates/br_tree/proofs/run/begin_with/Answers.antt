@@ -1,20 +1,14 @@
-use Rattle.std.proofs.Common.{ℕ, Bool, List, rules}
-use Rattle.std.proofs.lemmas.List.Sorted.{IsPartitionPoint-from_clause}
+use Rattle.std.proofs.Common.{◌≤◌, subst}
 use Rattle.br_model.specs.Console.{begins_with}
-use Rattle.br_tree.specs.Walk.{Pair, seen_paths}
-use Rattle.br_tree.proofs.RunLaws.{parted, passing_taken, none_dropped, fronts_fall}
+use Rattle.br_tree.specs.Walk.{seen_paths}
+use Rattle.br_tree.proofs.RunLaws.{fronts_fall, seen_length}
+use Rattle.br_tree.proofs.CutLaws.{falling}
 use Rattle.br_tree.proofs.run.begin_with.Goals as goal
 
-pub returns-clause-within : goal.returns-clause-within
-returns-clause-within c =
-    let test : List ℕ → Bool = λ p. begins_with p c.args.text.now in
-    let parts = fronts_fall c.args.text.now (seen_paths c.args.entries.now) c.requires.sorted c.requires.after in
-    let point = IsPartitionPoint-from_clause (λ (x : Pair). test x.0.now) _ _ c.partition_point.ensures.partitioned (parted test c.args.entries.now parts) (λ a r q k. search rules) in
-    passing_taken test c.args.entries.now c.partition_point.result point.0
+pub cut-requires : goal.cut-requires
+cut-requires c =
+    let ps = seen_paths c.args.entries.now in
+    falling (λ p. begins_with p c.args.text.now) ps (fronts_fall c.args.text.now ps c.requires.sorted c.requires.after)
 
-pub returns-clause-after : goal.returns-clause-after
-returns-clause-after c =
-    let test : List ℕ → Bool = λ p. begins_with p c.args.text.now in
-    let parts = fronts_fall c.args.text.now (seen_paths c.args.entries.now) c.requires.sorted c.requires.after in
-    let point = IsPartitionPoint-from_clause (λ (x : Pair). test x.0.now) _ _ c.partition_point.ensures.partitioned (parted test c.args.entries.now parts) (λ a r q k. search rules) in
-    none_dropped test c.args.entries.now c.partition_point.result point.1
+pub returns-clause-bound : goal.returns-clause-bound
+returns-clause-bound c = subst (λ n. c.cut.result ≤ n) (seen_length c.args.entries.now) c.cut.ensures.bound

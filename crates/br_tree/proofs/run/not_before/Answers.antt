@@ -1,21 +1,15 @@
-use Rattle.std.proofs.Common.{ℕ, Bool, List, rules}
-use Rattle.std.proofs.lemmas.List.Sorted.{IsPartitionPoint-from_clause}
+use Rattle.std.proofs.Common.{◌≤◌, subst}
 use Rattle.std.specs.Ordering.{is_lt}
 use Rattle.br_model.proofs.OrderLaws.{rank_cmp}
-use Rattle.br_tree.specs.Walk.{Pair, seen_paths}
-use Rattle.br_tree.proofs.RunLaws.{parted, passing_taken, none_dropped, before_falls}
+use Rattle.br_tree.specs.Walk.{seen_paths}
+use Rattle.br_tree.proofs.RunLaws.{before_falls, seen_length}
+use Rattle.br_tree.proofs.CutLaws.{falling}
 use Rattle.br_tree.proofs.run.not_before.Goals as goal
 
-pub returns-clause-before : goal.returns-clause-before
-returns-clause-before c =
-    let test : List ℕ → Bool = λ p. is_lt (rank_cmp p c.args.text.now) in
-    let parts = before_falls c.args.text.now (seen_paths c.args.entries.now) c.requires in
-    let point = IsPartitionPoint-from_clause (λ (x : Pair). test x.0.now) _ _ c.partition_point.ensures.partitioned (parted test c.args.entries.now parts) (λ a r q k. search rules) in
-    passing_taken test c.args.entries.now c.partition_point.result point.0
+pub cut-requires : goal.cut-requires
+cut-requires c =
+    let ps = seen_paths c.args.entries.now in
+    falling (λ p. is_lt (rank_cmp p c.args.text.now)) ps (before_falls c.args.text.now ps c.requires)
 
-pub returns-clause-after : goal.returns-clause-after
-returns-clause-after c =
-    let test : List ℕ → Bool = λ p. is_lt (rank_cmp p c.args.text.now) in
-    let parts = before_falls c.args.text.now (seen_paths c.args.entries.now) c.requires in
-    let point = IsPartitionPoint-from_clause (λ (x : Pair). test x.0.now) _ _ c.partition_point.ensures.partitioned (parted test c.args.entries.now parts) (λ a r q k. search rules) in
-    none_dropped test c.args.entries.now c.partition_point.result point.1
+pub returns-clause-bound : goal.returns-clause-bound
+returns-clause-bound c = subst (λ n. c.cut.result ≤ n) (seen_length c.args.entries.now) c.cut.ensures.bound

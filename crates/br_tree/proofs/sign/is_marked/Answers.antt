@@ -1,5 +1,6 @@
-use Rattle.std.proofs.Common.{ap, sym, subst, ◌∙◌, ◌≡◌, ◌≤◌, length, drop, take}
+use Rattle.std.proofs.Common.{ap, sym, subst, ◌∙◌, ◌≡◌, ◌≤◌, ◌+◌, ◌-◌, length, drop, take}
 use Rattle.std.specs.Prelude.{bytes_eq}
+use Rattle.std.specs.List.{list_any}
 use Rattle.br_tree.specs.Walk.{seen_paths, IsRising, AllPassing, NonePassing}
 use Rattle.br_tree.proofs.RunLaws.{seen_drop, seen_length, rising_drop}
 use Rattle.br_tree.proofs.ChildLaws.{own_flag}
@@ -23,4 +24,5 @@ returns c =
     let long : length fs ≡ length ps = c.requires.as_long ∙ sym (seen_length xs) in
     let within = subst (λ qs. AllPassing (bytes_eq d) (take r qs)) seen c.own_len-own.ensures.within in
     let after = subst (λ qs. NonePassing (bytes_eq d) (drop r qs)) seen c.own_len-own.ensures.after in
-    c.any_between.ensures ∙ sym (own_flag d a r ps fs c.not_before-first.ensures.before within after rest long)
+    c.any_between.ensures ∙ ap (λ gs. list_any (λ f. f) (take (a + r - a) (drop a gs))) c.as_slice.ensures
+    ∙ sym (own_flag d a r ps fs c.not_before-first.ensures.before within after rest long)

@@ -1,47 +1,78 @@
-use Rattle.std.proofs.Common.{ap, sym, subst, ◌∙◌, ◌++◌, ◌-◌, take, drop}
+use Rattle.std.proofs.Common.{ap, sym, subst, refl, ◌≡◌, ◌∙◌, ◌+◌, ◌||◌, nat_lt, cond, Some, None, take, drop, arith}
 use Rattle.br_model.specs.Console.{begins_with}
-use Rattle.br_tree.specs.Walk.{seen_paths, is_picked, set_where, changes, IsRising, AllPassing}
-use Rattle.br_tree.proofs.RunLaws.{seen_part, rising_drop, rising_take}
-use Rattle.br_tree.proofs.StepLaws.{put_is, within_sets, within_changes, none_picked}
+use Rattle.br_tree.specs.Walk.{seen_paths, is_picked}
+use Rattle.br_tree.proofs.RunLaws.{seen_length}
+use Rattle.br_tree.proofs.StepLaws.{Stands, stands_at_run, stands_on, all_set, all_counted, all_found, answered, none_picked, later_pass, later_fail}
 use Rattle.br_tree.proofs.walk.set_matching.Goals as goal
+use Rattle.br_tree.proofs.walk.set_matching.Goals.{then-found, else-found}
 
-pub set_children-requires-clause-sorted : goal.set_children-requires-clause-sorted
-set_children-requires-clause-sorted c =
+pub loop-place-init : goal.loop-place-init
+loop-place-init c =
     let a = c.run_of-first.result.0 in
-    let b = c.run_of-first.result.1 in
-    subst IsRising (sym (ap seen_paths c.part_of.ensures ∙ seen_part a b c.args.entries.now)) (rising_take (b - a) (drop a (seen_paths c.args.entries.now)) (rising_drop a (seen_paths c.args.entries.now) c.requires.sorted))
-
-pub set_children-requires-clause-begins : goal.set_children-requires-clause-begins
-set_children-requires-clause-begins c =
-    let a = c.run_of-first.result.0 in
-    let b = c.run_of-first.result.1 in
-    subst (AllPassing (λ p. begins_with p c.args.directory.now)) (sym (ap seen_paths c.part_of.ensures ∙ seen_part a b c.args.entries.now)) c.run_of-first.ensures.within
-
-pub returns-clause-flags : goal.returns-clause-flags
-returns-clause-flags c =
-    let a = c.run_of-first.result.0 in
-    let b = c.run_of-first.result.1 in
     let run = c.run_of-first.ensures in
+    let ps = seen_paths c.args.entries.now in (
+      stands_at_run (is_picked c.args.deep c.args.directory.now c.args.pattern.now) c.args.value ps c.args.flags.now a
+          (none_picked c.args.deep c.args.directory.now c.args.pattern.now (take a ps) run.before) (omega (arith, run.ordered, run.bound)) (c.requires.as_long ∙ sym (seen_length c.args.entries.now)),
+      omega arith,
+    )
+
+pub step_at-reach-requires-clause-begins : goal.step_at-reach-requires-clause-begins
+step_at-reach-requires-clause-begins c =
+    let run = c.run_of-first.ensures in
+    later_pass (λ p. begins_with p c.args.directory.now) c.run_of-first.result.0 c.run_of-first.result.1 c.loop-place.place (seen_paths c.args.entries.now) c.loop-place.invariant.1
+    (omega (arith, c.loop-place-test.true)) run.within
+
+pub loop-place-preserved : goal.loop-place-preserved
+loop-place-preserved c =
+    let test = is_picked c.args.deep c.args.directory.now c.args.pattern.now in
+    let paths = seen_paths c.args.entries.now in
+    let r = c.step_at-reach.result.0 in
+    let l = c.step_at-reach.result.1 in
+    let found : c.if-found.found ≡ (c.loop-place.found || nat_lt 0 r) =
+    elim c.if-found.branch [
+      | then-found w ↦ w.found-is ∙ w.if-found.true ∙ sym (ap (λ b. b || nat_lt 0 r) w.if-found.true)
+      | else-found w ↦ w.found-is ∙ sym (ap (λ b. b || nat_lt 0 r) w.if-found.false)
+    ] in (
+      subst (λ b. Stands test c.args.value paths c.args.flags.now (c.loop-place.place + l) c.set-count.new.self (c.loop-place.count + c.set-count.result) b) (sym found)
+          (stands_on test c.args.value paths c.args.flags.now c.loop-place.place c.loop-place.flags c.loop-place.count c.loop-place.found r l c.set-count.new.self c.set-count.result (nat_lt 0 r)
+          c.loop-place.invariant.0 c.step_at-reach.ensures c.set-count.ensures.flags c.set-count.ensures.count c.set-count.ensures.few refl),
+      omega (arith, c.loop-place.invariant.1),
+    )
+
+pub returns-then-found-2-clause-flags : goal.returns-then-found-2-clause-flags
+returns-then-found-2-clause-flags c =
     let test = is_picked c.args.deep c.args.directory.now c.args.pattern.now in
     let ps = seen_paths c.args.entries.now in
-    let fs = c.args.flags.now in
-    let part = ap seen_paths c.part_of.ensures ∙ seen_part a b c.args.entries.now in
-    let before = none_picked c.args.deep c.args.directory.now c.args.pattern.now (take a ps) run.before in
-    let after = none_picked c.args.deep c.args.directory.now c.args.pattern.now (drop b ps) run.after in
-    put_is a b fs c.set_children.new.flags run.ordered
-    ∙ ap (λ gs. take a fs ++ gs ++ drop b fs) (c.set_children.ensures.flags ∙ ap (λ qs. set_where test c.args.value qs (take (b - a) (drop a fs))) part)
-    ∙ within_sets test c.args.value a b ps fs run.ordered before after
-
-pub returns-clause-answer : goal.returns-clause-answer
-returns-clause-answer c =
-    let a = c.run_of-first.result.0 in
     let b = c.run_of-first.result.1 in
-    let run = c.run_of-first.ensures in
+    let none = later_fail test b c.loop-place.place ps c.loop-place-test.false (none_picked c.args.deep c.args.directory.now c.args.pattern.now (drop b ps) c.run_of-first.ensures.after) in
+    all_set test c.args.value ps c.args.flags.now c.loop-place.place c.loop-place.flags c.loop-place.count c.loop-place.found c.loop-place.invariant.0 none
+
+pub returns-then-found-2-clause-answer : goal.returns-then-found-2-clause-answer
+returns-then-found-2-clause-answer c =
     let test = is_picked c.args.deep c.args.directory.now c.args.pattern.now in
     let ps = seen_paths c.args.entries.now in
-    let fs = c.args.flags.now in
-    let part = ap seen_paths c.part_of.ensures ∙ seen_part a b c.args.entries.now in
-    let before = none_picked c.args.deep c.args.directory.now c.args.pattern.now (take a ps) run.before in
-    let after = none_picked c.args.deep c.args.directory.now c.args.pattern.now (drop b ps) run.after in
-    c.set_children.ensures.answer ∙ ap (λ qs. changes test c.args.value qs (take (b - a) (drop a fs))) part
-    ∙ within_changes test c.args.value a b ps fs run.ordered before after
+    let b = c.run_of-first.result.1 in
+    let none = later_fail test b c.loop-place.place ps c.loop-place-test.false (none_picked c.args.deep c.args.directory.now c.args.pattern.now (drop b ps) c.run_of-first.ensures.after) in
+    sym (ap (λ b. cond b (Some c.loop-place.count) None) c.if-found-2.true)
+    ∙ answered test c.args.value ps c.args.flags.now c.loop-place.count c.loop-place.found
+    (all_counted test c.args.value ps c.args.flags.now c.loop-place.place c.loop-place.flags c.loop-place.count c.loop-place.found c.loop-place.invariant.0 none)
+    (all_found test c.args.value ps c.args.flags.now c.loop-place.place c.loop-place.flags c.loop-place.count c.loop-place.found c.loop-place.invariant.0 none)
+
+pub returns-else-found-2-clause-flags : goal.returns-else-found-2-clause-flags
+returns-else-found-2-clause-flags c =
+    let test = is_picked c.args.deep c.args.directory.now c.args.pattern.now in
+    let ps = seen_paths c.args.entries.now in
+    let b = c.run_of-first.result.1 in
+    let none = later_fail test b c.loop-place.place ps c.loop-place-test.false (none_picked c.args.deep c.args.directory.now c.args.pattern.now (drop b ps) c.run_of-first.ensures.after) in
+    all_set test c.args.value ps c.args.flags.now c.loop-place.place c.loop-place.flags c.loop-place.count c.loop-place.found c.loop-place.invariant.0 none
+
+pub returns-else-found-2-clause-answer : goal.returns-else-found-2-clause-answer
+returns-else-found-2-clause-answer c =
+    let test = is_picked c.args.deep c.args.directory.now c.args.pattern.now in
+    let ps = seen_paths c.args.entries.now in
+    let b = c.run_of-first.result.1 in
+    let none = later_fail test b c.loop-place.place ps c.loop-place-test.false (none_picked c.args.deep c.args.directory.now c.args.pattern.now (drop b ps) c.run_of-first.ensures.after) in
+    sym (ap (λ b. cond b (Some c.loop-place.count) None) c.if-found-2.false)
+    ∙ answered test c.args.value ps c.args.flags.now c.loop-place.count c.loop-place.found
+    (all_counted test c.args.value ps c.args.flags.now c.loop-place.place c.loop-place.flags c.loop-place.count c.loop-place.found c.loop-place.invariant.0 none)
+    (all_found test c.args.value ps c.args.flags.now c.loop-place.place c.loop-place.flags c.loop-place.count c.loop-place.found c.loop-place.invariant.0 none)

@@ -22,7 +22,7 @@ returns-then-own-gt0-clause-flags c =
     let before = less_not_own d (take a ps) c.not_before-first.ensures.before in
     let within = subst (λ qs. AllPassing (bytes_eq d) (take r qs)) seen c.own_len-own.ensures.within in
     let after = subst (λ qs. NonePassing (bytes_eq d) (drop r qs)) seen c.own_len-own.ensures.after in
-    c.set_range-count.ensures.flags ∙ run_sets (bytes_eq d) c.args.value ps fs a r bound more long before within after
+    c.set-count.ensures.flags ∙ run_sets (bytes_eq d) c.args.value ps fs a r bound more long before within after
 
 pub returns-then-own-gt0-clause-answer : goal.returns-then-own-gt0-clause-answer
 returns-then-own-gt0-clause-answer c =
@@ -41,9 +41,9 @@ returns-then-own-gt0-clause-answer c =
     let within = subst (λ qs. AllPassing (bytes_eq d) (take r qs)) seen c.own_len-own.ensures.within in
     let after = subst (λ qs. NonePassing (bytes_eq d) (drop r qs)) seen c.own_len-own.ensures.after in
     let some = lt-ltb 0 r c.if-own-gt0.true in
-    sym (ap (λ b. cond b (Some c.set_range-count.result) None) some)
-    ∙ answered (bytes_eq d) c.args.value ps fs c.set_range-count.result (nat_lt 0 r)
-    (c.set_range-count.ensures.count ∙ run_counts (bytes_eq d) c.args.value ps fs a r bound more long before within after)
+    sym (ap (λ b. cond b (Some c.set-count.result) None) some)
+    ∙ answered (bytes_eq d) c.args.value ps fs c.set-count.result (nat_lt 0 r)
+    (c.set-count.ensures.count ∙ run_counts (bytes_eq d) c.args.value ps fs a r bound more long before within after)
     (sym (run_finds (bytes_eq d) c.args.value ps fs a r bound more long before within after))
 
 pub returns-else-own-gt0-clause-flags : goal.returns-else-own-gt0-clause-flags
@@ -62,7 +62,7 @@ returns-else-own-gt0-clause-flags c =
     let before = less_not_own d (take a ps) c.not_before-first.ensures.before in
     let within = subst (λ qs. AllPassing (bytes_eq d) (take r qs)) seen c.own_len-own.ensures.within in
     let after = subst (λ qs. NonePassing (bytes_eq d) (drop r qs)) seen c.own_len-own.ensures.after in
-    c.set_range-count.ensures.flags ∙ run_sets (bytes_eq d) c.args.value ps fs a r bound more long before within after
+    c.set-count.ensures.flags ∙ run_sets (bytes_eq d) c.args.value ps fs a r bound more long before within after
 
 pub returns-else-own-gt0-clause-answer : goal.returns-else-own-gt0-clause-answer
 returns-else-own-gt0-clause-answer c =
@@ -81,9 +81,9 @@ returns-else-own-gt0-clause-answer c =
     let within = subst (λ qs. AllPassing (bytes_eq d) (take r qs)) seen c.own_len-own.ensures.within in
     let after = subst (λ qs. NonePassing (bytes_eq d) (drop r qs)) seen c.own_len-own.ensures.after in
     let some = le-ltb 0 r c.if-own-gt0.false in
-    sym (ap (λ b. cond b (Some c.set_range-count.result) None) some)
-    ∙ answered (bytes_eq d) c.args.value ps fs c.set_range-count.result (nat_lt 0 r)
-    (c.set_range-count.ensures.count ∙ run_counts (bytes_eq d) c.args.value ps fs a r bound more long before within after)
+    sym (ap (λ b. cond b (Some c.set-count.result) None) some)
+    ∙ answered (bytes_eq d) c.args.value ps fs c.set-count.result (nat_lt 0 r)
+    (c.set-count.ensures.count ∙ run_counts (bytes_eq d) c.args.value ps fs a r bound more long before within after)
     (sym (run_finds (bytes_eq d) c.args.value ps fs a r bound more long before within after))
 
 pub own_len-own-requires-clause-sorted : goal.own_len-own-requires-clause-sorted

@@ -1,8 +1,7 @@
-use Rattle.std.proofs.Common.{rules, ℕ, false, List, length, sym, ap, ◌∙◌}
+use Rattle.std.proofs.Common.{rules, ℕ, false, List, length, ap, ◌∙◌}
 use Rattle.std.proofs.lemmas.List.{length-replicate}
 use Rattle.br_model.specs.View.{view_paths}
 use Rattle.br_tree.specs.Marking.{Marking}
-use Rattle.br_tree.specs.Seen.{flagged}
 use Rattle.br_tree.proofs.SetLaws.{no_marks}
 use Rattle.br_tree.proofs.MarkLaws.{seen}
 use Rattle.br_tree.proofs.tree.Tree.build.Goals as goal
@@ -13,6 +12,4 @@ returns c =
     ap (λ fs. seen c.args.view fs) c.in_ok-is_marked.ensures ∙ ap marking (no_marks (view_paths c.args.view) c.len.result)
 
 pub invariant_of-result : goal.invariant_of-result
-invariant_of-result c =
-    let none = ap (λ fs. length (flagged (view_paths c.args.view) fs)) c.in_ok-is_marked.ensures ∙ ap length (no_marks (view_paths c.args.view) c.len.result) in
-    (search rules, ap length c.in_ok-is_marked.ensures ∙ length-replicate c.len.result false ∙ c.len.ensures, sym none)
+invariant_of-result c = (search rules, ap length c.in_ok-is_marked.ensures ∙ length-replicate c.len.result false ∙ c.len.ensures)

@@ -8,8 +8,8 @@ pub returns : goal.returns
 returns c =
     let view = c.self.inside.shown in
     let xs = c.rows.result.now in
-    let fs = c.self.inside.is_marked.items in
+    let fs = c.self.inside.is_marked in
     ok_to _ _ c.found_pairs.result
-    (λ found h. h ∙ ap (found_in c.args.pattern.now xs) c.deref.ensures.value
+    (λ found h. h ∙ ap (found_in c.args.pattern.now xs) c.as_slice.ensures
     ∙ found_are_paths view xs fs c.rows.ensures.same c.rows.ensures.paths c.rows.ensures.rising c.self.invariant.1 c.args.pattern.now ∙ ap (λ (m : Marking). found_paths m c.args.pattern.now) c.self.view_is)
     c.found_pairs.ensures

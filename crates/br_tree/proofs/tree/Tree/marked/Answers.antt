@@ -9,8 +9,8 @@ pub returns : goal.returns
 returns c =
     let view = c.self.inside.shown in
     let xs = c.rows.result.now in
-    let fs = c.self.inside.is_marked.items in
+    let fs = c.self.inside.is_marked in
     ok_to _ _ c.paths_of.result
-    (λ paths h. h ∙ ap (map (λ (p : Pair). p.0.now)) (c.deref-2.ensures.value ∙ c.in_ok-pairs.ensures ∙ ap (kept xs) c.deref.ensures.value)
+    (λ paths h. h ∙ ap (map (λ (p : Pair). p.0.now)) (c.deref.ensures.value ∙ c.in_ok-pairs.ensures ∙ ap (kept xs) c.as_slice.ensures)
     ∙ pairs_are_paths view xs fs c.rows.ensures.same c.rows.ensures.paths c.rows.ensures.rising c.self.invariant.1 ∙ ap (λ (m : Marking). m.marked) c.self.view_is)
     c.paths_of.ensures

@@ -5,7 +5,7 @@ use Rattle.br_model.specs.Console.{begins_with}
 use Rattle.br_model.proofs.OrderLaws.{rank_cmp}
 use Rattle.br_tree.specs.Walk.{Pair, seen_paths, IsRising, AllPassing, NonePassing}
 use Rattle.br_tree.proofs.RunLaws.{seen_drop, seen_length, rising_drop, front_run}
-use Rattle.br_tree.proofs.run.run_of.Goals as goal
+use Rattle.br_tree.proofs.run.run_near.Goals as goal
 
 pub begin_with-requires-clause-sorted : goal.begin_with-requires-clause-sorted
 begin_with-requires-clause-sorted c =

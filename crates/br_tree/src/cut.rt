@@ -1,0 +1,74 @@
+ghost use Rattle.std.specs.Prelude.{◌≡◌, true};
+ghost use Rattle.br_tree.specs.Cut.{passes, IsFalling, IsCut};
+ghost use Rattle.br_tree.specs.Walk.{seen_paths, AllPassing, NonePassing};
+
+use crate::run::{Shown, child_name};
+use br_types::Path;
+
+/// A test that the first ones of some paths pass, and no later one.
+#[derive(Clone, Copy, Debug)]
+pub(crate) enum Test<'t> {
+    /// The path comes before a text in byte order.
+    Before(&'t [u8]),
+    /// The path begins with a text.
+    Begins(&'t [u8]),
+    /// The path is that of a child of a directory, or below it.
+    OfChild(&'t [u8], &'t [u8]),
+}
+
+/// Returns whether a path passes.
+fn does_pass(test: Test<'_>, path: &Path) -> bool
+    ensures { result ≡ passes test.entry path.now }
+{
+    match test {
+        Test::Before(text) => path.bytes().cmp(text).is_lt(),
+        Test::Begins(text) => path.bytes().starts_with(text),
+        Test::OfChild(directory, name) => child_name(directory, path.bytes()) == name,
+    }
+}
+
+/// Returns whether the last of some paths passes, and with it all.
+fn last_passes(entries: &[Shown<'_>], test: Test<'_>) -> bool
+    requires { IsFalling (passes test) (seen_paths entries.now) }
+    ensures { result ≡ true → AllPassing (passes test.entry) (seen_paths entries.now) }
+{
+    match entries.split_last() {
+        Some((last, _)) => does_pass(test, last.0),
+        None => true,
+    }
+}
+
+/// Returns whether the first of some paths fails, and with it all.
+fn first_fails(entries: &[Shown<'_>], test: Test<'_>) -> bool
+    requires { IsFalling (passes test) (seen_paths entries.now) }
+    ensures { result ≡ true → NonePassing (passes test.entry) (seen_paths entries.now) }
+{
+    match entries.split_first() {
+        Some((first, _)) => !does_pass(test, first.0),
+        None => true,
+    }
+}
+
+/// Returns whether the paths before a place pass and no other does.
+fn is_cut(entries: &[Shown<'_>], test: Test<'_>, place: usize) -> bool
+    requires { IsFalling (passes test) (seen_paths entries.now) }
+    ensures { result ≡ true → IsCut (passes test.entry) (seen_paths entries.now) place }
+{
+    if entries.len() < place {
+        return false;
+    }
+    let (front, back) = entries.split_at(place);
+    last_passes(front, test) && first_fails(back, test)
+}
+
+/// Returns the number of first paths that pass. It is found without a search if it is what was guessed.
+pub(crate) fn cut(entries: &[Shown<'_>], test: Test<'_>, guess: usize) -> usize
+    requires { IsFalling (passes test) (seen_paths entries.now) }
+    ensures { IsCut (passes test.entry) (seen_paths entries.now) result }
+{
+    if is_cut(entries, test, guess) {
+        guess
+    } else {
+        entries.partition_point(|entry| does_pass(test, entry.0))
+    }
+}
