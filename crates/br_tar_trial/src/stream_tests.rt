@@ -1,8 +1,8 @@
 use br_attr::Stat;
-use br_join::{FileBytes, Item};
+use br_join::{FileBytes, Item, Outcome};
 use br_sink::{Sink, SinkFault};
-use br_tar::TarSink;
-use br_types::Path;
+use br_tar::{TarSink, write_tar};
+use br_types::{FileIndex, FileKey, Path, SessionKey};
 use std::io;
 use std::io::{Error, ErrorKind, Write};
 use std::test::Fail;
@@ -51,7 +51,7 @@ const LEFT_OUT: &[Content<'static>] = &[
 /// The MD5 digest of the stream of `FILES`, written byte by byte by a script in Python that knows the
 /// format. GNU tar and Python's `tarfile` list the stream as these files.
 const DIGEST: [u8; 16] = [
-    0x5d, 0xc7, 0x8b, 0xfe, 0xf1, 0x98, 0x32, 0x83, 0xff, 0x4b, 0x73, 0x60, 0x44, 0x24, 0x07, 0xc1,
+    0xf9, 0x15, 0x1c, 0x0a, 0x0d, 0x35, 0x7d, 0x0c, 0x04, 0x7c, 0xc5, 0xb1, 0xfb, 0x62, 0x07, 0x6d,
 ];
 
 /// A writer that fails after 700 bytes.
@@ -125,7 +125,7 @@ fn stream_is_that_of_the_format(rt: HostRuntime) -> Result<(), Fail> {
     assert_eq!(rt; put_each(&rt, &mut sink, FILES)?, 0);
     let (bytes, written) = sink.finish();
     assert!(rt; written.is_ok());
-    assert_eq!(rt; digest_of(&rt, bytes)?, (7680, DIGEST));
+    assert_eq!(rt; digest_of(&rt, bytes)?, (10240, DIGEST));
     Ok(())
 }
 
@@ -135,7 +135,7 @@ fn what_has_no_entry_is_counted(rt: HostRuntime) -> Result<(), Fail> {
     assert_eq!(rt; put_each(&rt, &mut sink, LEFT_OUT)?, 0);
     assert_eq!(rt; sink.left_out(), 6);
     let (bytes, _) = sink.finish();
-    assert_eq!(rt; bytes.len(), 1024);
+    assert_eq!(rt; bytes.len(), 10240);
     Ok(())
 }
 
@@ -143,5 +143,38 @@ fn what_has_no_entry_is_counted(rt: HostRuntime) -> Result<(), Fail> {
 fn sink_that_failed_writes_nothing(rt: HostRuntime) -> Result<(), Fail> {
     let mut sink = TarSink::new(rt.alloc(), Small { room: 700 });
     assert_eq!(rt; put_each(&rt, &mut sink, FILES)?, 6);
+    Ok(())
+}
+
+/// Returns the key of a file.
+fn key(index: u32) -> Result<FileKey, Fail> {
+    let session = SessionKey { id: 1, time: 2 };
+    let index = FileIndex::new(index).ok_or("an index")?;
+    Ok(FileKey { session, index })
+}
+
+/// Returns a fault, and files with these contents.
+fn outcomes_of(
+    rt: &HostRuntime,
+    contents: &[Content<'_>],
+) -> Result<Vec<(FileKey, Outcome)>, Fail> {
+    let mut outcomes = Vec::new(rt.alloc());
+    let fault = Outcome::Fault {
+        number: 63,
+        stream: 0,
+    };
+    outcomes.push((key(1)?, fault))?;
+    for content in contents {
+        outcomes.push((key(2)?, Outcome::File(item_of(rt, content)?)))?;
+    }
+    Ok(outcomes)
+}
+
+#[test]
+fn delivery_is_the_stream_of_its_files(rt: HostRuntime) -> Result<(), Fail> {
+    let outcomes = outcomes_of(&rt, FILES)?;
+    let (bytes, delivered) = write_tar(&rt, rt.alloc(), &outcomes, Vec::new(rt.alloc()));
+    assert!(rt; delivered.is_ok());
+    assert_eq!(rt; digest_of(&rt, bytes)?, (10240, DIGEST));
     Ok(())
 }
