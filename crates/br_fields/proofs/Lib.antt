@@ -1,0 +1,3 @@
+pub mod SpaceLaws
+pub mod SpellingLaws
+pub mod NumberLaws
