@@ -197,7 +197,7 @@ fn changed(alloc: Global, change: &str) -> Result<u32, Fail> {
 
 /// Changes of a catalogue with one job, and the number with which it is refused after each; 0 if it
 /// is loaded.
-const CHANGES: [(&str, u32); 10] = [
+const CHANGES: [(&str, u32); 13] = [
     ("UPDATE Version SET VersionId = 3", 47),
     ("INSERT INTO Version (VersionId) VALUES (1)", 47),
     (
@@ -222,6 +222,18 @@ const CHANGES: [(&str, u32); 10] = [
     ),
     (
         "UPDATE File SET FileIndex = 2147483648 WHERE FileIndex = 1",
+        47,
+    ),
+    (
+        "INSERT INTO Job SELECT 4294967295, Type, Level, ClientId, JobStatus, StartTime, FileSetId, 7, VolSessionTime FROM Job; UPDATE File SET JobId = 4294967295; UPDATE JobMedia SET JobId = 4294967295; DELETE FROM Job WHERE JobId = 2",
+        0,
+    ),
+    (
+        "INSERT INTO Job SELECT 4294967296, Type, Level, ClientId, JobStatus, StartTime, FileSetId, 7, VolSessionTime FROM Job; UPDATE File SET JobId = 4294967296; UPDATE JobMedia SET JobId = 4294967296; DELETE FROM Job WHERE JobId = 2",
+        47,
+    ),
+    (
+        "INSERT INTO Job SELECT 0, Type, Level, ClientId, JobStatus, StartTime, FileSetId, 7, VolSessionTime FROM Job; UPDATE File SET JobId = 0; UPDATE JobMedia SET JobId = 0; DELETE FROM Job WHERE JobId = 2",
         47,
     ),
     ("DROP TABLE File", 45),
