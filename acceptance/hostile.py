@@ -1,0 +1,271 @@
+#!/usr/bin/env python3
+"""Hands `brestore` inputs that were made to harm it, and measures what the worst of them cost.
+
+    acceptance/hostile.py [--program FILE] [NAME..]
+
+Each case is compared with the second reading of the formats (reading.py), or with the refusal that docs/formats.md states. A run
+may take one second and 64 MiB for each MiB of input, if the case does not say otherwise. The status is 1 if a case differs.
+"""
+
+import argparse
+import contextlib
+import os
+import shlex
+import sqlite3
+import struct
+import subprocess
+import sys
+import tempfile
+from pathlib import Path
+
+# Nothing is left beside the script.
+sys.dont_write_bytecode = True
+sys.path.insert(0, os.path.join(os.path.dirname(os.path.dirname(os.path.abspath(__file__))), "tools"))
+from common import MIB, ORDER_SQL, PROGRAM, SETS, run_measured
+from reading import extracted
+
+HELLO = bytes.fromhex(
+    "000000000000005b0000000042423032000000010000006400000001000000010000002631203320"
+    "2f61004120412049476b2042204120412041204620412041204120412041204100000000000100000002" "0000000568656c6c6f"
+)
+ONE = b'Volume="V"\nFileIndex=1\n'
+PLAIN = "A A IGk B A A A F A A A A A A"
+
+
+def block(records, session=(1, 100), size=None):
+    """Returns a block of records: index, stream, size or None for that of the data, and data."""
+    body = b"".join(struct.pack(">iiI", index, stream, len(data) if said is None else said) + data for index, stream, said, data in records)
+    return struct.pack(">III4sII", 0, 24 + len(body) if size is None else size, 0, b"BB02", *session) + body
+
+
+def attributes(index, path=b"/a", kind=3):
+    return index, 1, None, b"%d %d %s\0%s\0\0" % (index, kind, path, PLAIN.encode())
+
+
+def sparse(address, data=b""):
+    return 1, 6, None, struct.pack(">Q", address) + data
+
+
+class Runs:
+    """Runs of the program in a folder, and what was not as expected."""
+
+    def __init__(self, program, folder):
+        self.program, self.folder, self.count, self.worst, self.wrong = os.path.abspath(program), folder, 0, (0.0, 0), []
+
+    def run(self, words, lines=os.devnull):
+        out, errors = os.path.join(self.folder, "out"), os.path.join(self.folder, "errors")
+        command = f"ulimit -t 120; {shlex.join([self.program, *words])} < {shlex.quote(lines)}"
+        _, memory, seconds, status = run_measured(["sh", "-c", command], out, errors)
+        self.count, self.worst = self.count + 1, (max(self.worst[0], seconds), max(self.worst[1], memory))
+        return status, Path(out).read_bytes(), Path(errors).read_bytes()
+
+    def write(self, name, data):
+        path = Path(self.folder) / name
+        path.parent.mkdir(exist_ok=True)
+        path.write_bytes(data)
+        return str(path)
+
+    def extract(self, label, text, volumes, *more, expected=None):
+        """Runs `extract` over volumes, and compares it with what is expected, or with the second reading."""
+        for old in Path(self.folder).glob("volumes/*"):
+            old.unlink()
+        for name, data in volumes.items():
+            self.write(f"volumes/{name}", data)
+        words = ["extract", "--bsr", self.write("x.bsr", text), "--volumes", os.path.join(self.folder, "volumes"), *more]
+        if expected is None:
+            expected = extracted(text, {os.fsencode(name): data for name, data in volumes.items()})
+        self.compare(label, self.run(words), expected)
+
+    def compare(self, label, found, expected):
+        if found != expected:
+            self.wrong.append(f"{label}: {shortened(found)} in place of {shortened(expected)}")
+
+
+def shortened(result):
+    return f"{result[0]} {result[1][-120:]} {result[2][-120:]}"
+
+
+# ---- cases: each takes the runs and returns the seconds and MiB that one run may cost
+
+
+def prefixes(runs):
+    """Each front of a small volume."""
+    for length in range(len(HELLO)):
+        runs.extract(f"{length} bytes", ONE, {"V": HELLO[:length]})
+    return 1, 64
+
+
+def sizes(runs):
+    """Each kind of BlockSize and DataSize that lies."""
+    for size in (0, 1, 23, 24, 25, 36, 90, 91, 92, 4_194_303, 4_194_304, 4_194_305, 2**31 - 1, 2**31, 2**32 - 1):
+        runs.extract(f"BlockSize {size}", ONE, {"V": HELLO[:4] + struct.pack(">I", size) + HELLO[8:]})
+    for at in (32, 82):
+        for size in (0, 1, 4, 5, 6, 37, 39, 2**31 - 1, 2**31, 2**32 - 1):
+            runs.extract(f"DataSize {size} at {at}", ONE, {"V": HELLO[:at] + struct.pack(">I", size) + HELLO[at + 4 :]})
+    return 1, 64
+
+
+def letters(runs):
+    """Each byte of a small volume, changed in eight ways."""
+    for at in range(len(HELLO)):
+        for bit in range(8):
+            changed = HELLO[:at] + bytes([HELLO[at] ^ 1 << bit]) + HELLO[at + 1 :]
+            runs.extract(f"bit {bit} of byte {at}", ONE, {"V": changed})
+    return 1, 64
+
+
+def lines_of_4096(runs):
+    """Bootstrap lines at the greatest length, by comments, lists and blanks."""
+    for length in (4095, 4096, 4097, 10_000, MIB):
+        for line in (b"#" * length, b"FileIndex=1" + b" " * (length - 11), (b"FileIndex=" + b"1," * length)[: length - 1] + b"1"):
+            for end in (b"\n", b"\r\n", b""):
+                runs.extract(f"line of {length}", b'Volume="V"\n' + line + end, {"V": HELLO})
+    return 1, 64
+
+
+def many_groups(runs):
+    """Bootstraps of 10,000 and 100,000 groups, of one volume and of volumes that are not there."""
+    for count in (10_000, 100_000):
+        runs.extract(f"{count} groups", ONE * count, {"V": HELLO})
+        ranges = b"".join(b'Volume="V"\nVolAddr=%d-%d\nFileIndex=1\n' % (n * 91, n * 91 + 90) for n in range(count))
+        runs.extract(f"{count} addresses", ranges, {"V": HELLO})
+        others = b"".join(b'Volume="N%d"\n' % n for n in range(count))
+        runs.extract(f"{count} volumes", others, {"V": HELLO}, expected=(1, b"", b"refused 14 N0 0\n"))
+    return 5, 256
+
+
+def many_ranges(runs):
+    """One group of 100,000 ranges, and files that all of them are asked about."""
+    text = b'Volume="V"\n' + b"".join(b"FileIndex=%d-%d\n" % (2 * n + 2, 2 * n + 2) for n in range(100_000))
+    records = [record for index in range(1, 3001) for record in (attributes(index, b"/f%d" % index), (index, 2, None, b"x"))]
+    volume = b"".join(block(records[at : at + 100]) for at in range(0, len(records), 100))
+    runs.extract("100,000 ranges", text, {"V": volume})
+    return 5, 256
+
+
+def small_blocks(runs):
+    """A million blocks of 24 bytes, which hold nothing, and 40,000 records without data in one block."""
+    runs.extract("blocks of 24 bytes", ONE, {"V": block([]) * 1_000_000}, expected=(0, b"total 0 0 0\n", b""))
+    runs.extract("records without data", ONE, {"V": block([attributes(1), *[(1, 2, None, b"")] * 40_000])})
+    return 25, 600
+
+
+def jumps(runs):
+    """Sparse records that jump to the greatest addresses, forwards and back."""
+    for address in (0, 1, 2**30 - 1, 2**30, 2**30 + 1, 2**31, 2**32, 2**63 - 1, 2**63, 2**64 - 1):
+        for data in (b"", b"x"):
+            if address + len(data) <= 2**20 or address + len(data) > 2**30:
+                runs.extract(f"jump to {address}", ONE, {"V": block([attributes(1), sparse(address, data)])})
+                runs.extract(f"jump to {address} and back", ONE, {"V": block([attributes(1), sparse(address, data), sparse(0, b"x")])})
+    return 1, 64
+
+
+def gibibyte(runs):
+    """A file of 1 GiB that is zeros but for one byte: its digest is computed, its zeros are not stored."""
+    words = {"V": block([attributes(1), sparse(2**30 - 1, b"x")])}
+    digest = subprocess.run("(head -c 1073741823 /dev/zero; printf x) | md5sum", shell=True, capture_output=True, check=True).stdout[:32]
+    line = b"F 1 100 1 3 /a 0,0,33188,1,0,0,0,5,0,0,0,0,0,0 = 1073741824 " + digest + b"\ntotal 1 0 0\n"
+    runs.extract("1 GiB of zeros", ONE, words, expected=(0, line, b""))
+    return 20, 64
+
+
+def names(runs):
+    """Names of volumes of 127 and 128 bytes, and paths of 4,096 and 4,097."""
+    for length in (126, 127):
+        runs.extract(f"name of {length}", b"Volume=%s\n" % (b"v" * length), {"v" * length: HELLO})
+    runs.extract("name of 128", b"Volume=%s\n" % (b"v" * 128), {"V": HELLO})
+    for length in (4095, 4096, 4097, 60_000):
+        runs.extract(f"path of {length}", ONE, {"V": block([attributes(1, b"/" + b"p" * (length - 1)), (1, 2, None, b"x")])})
+    return 1, 64
+
+
+def odd_files(runs):
+    """Links, pipes, sockets, folders and files without permission under the name of a volume: 13 or 14, and nothing hangs."""
+    volumes = Path(runs.folder) / "volumes"
+    volumes.mkdir(exist_ok=True)
+
+    def clear():
+        path = volumes / "V"
+        if path.is_dir() and not path.is_symlink():
+            path.rmdir()
+        elif path.is_symlink() or path.exists():
+            path.unlink()
+
+    text = runs.write("x.bsr", ONE)
+    words = ["extract", "--bsr", text, "--volumes", str(volumes)]
+    hello = extracted(ONE, {b"V": HELLO})
+    refused = {number: (1, b"", b"refused %d\n" % number) for number in (70,)}
+    missing = (1, b"", b"refused 14 V 0\n")
+    makers = {
+        "a pipe": (lambda path: os.mkfifo(path), refused[70]),
+        "a folder": (lambda path: path.mkdir(), refused[70]),
+        "a link to nothing": (lambda path: path.symlink_to("nothing"), missing),
+        "a link to itself": (lambda path: path.symlink_to("V"), refused[70]),
+        "a link to a device": (lambda path: path.symlink_to("/dev/zero"), refused[70]),
+        "a link to a volume": (lambda path: path.symlink_to(runs.write("other", HELLO)), hello),
+        "nothing": (lambda path: None, missing),
+    }
+    for label, (make, expected) in makers.items():
+        clear()
+        make(volumes / "V")
+        runs.compare(label, runs.run(words), expected)
+    clear()
+    return 1, 64
+
+
+def cut_catalogues(runs):
+    """A catalogue cut after each page, and each page of it overwritten: refused with 45 or 47, or read as before."""
+    whole = os.path.join(runs.folder, "whole.db")
+    with contextlib.closing(sqlite3.connect(whole)) as connection:
+        connection.executescript(Path(ORDER_SQL).read_text())
+    data, size = Path(whole).read_bytes(), 4096
+    words = ["--volumes", os.path.join(SETS, "order"), "--client", "peer-fd", "--fileset", "Peer", "--before", "2026-11-21 23:15:46"]
+    lines = runs.write("lines", b"mark *\nfind *\nquit\n")
+    allowed = [runs.run(["console", "--db", whole, *words], lines)] + [(1, b"", b"refused %d\n" % number) for number in (45, 47)]
+    if allowed[0][0] != 0:
+        runs.wrong.append(f"the whole catalogue: {shortened(allowed[0])}")
+    for page in range(len(data) // size):
+        front, own, rest = data[: page * size], data[page * size : (page + 1) * size], data[(page + 1) * size :]
+        for label, changed in {
+            "cut before": front,
+            "cut within": front + own[:1000],
+            "zeros in": front + bytes(size) + rest,
+            "ones in": front + b"\xff" * size + rest,
+            "the first page in": front + data[:size] + rest,
+            "random bytes in": front + os.urandom(size) + rest,
+        }.items():
+            if changed:
+                found = runs.run(["console", "--db", runs.write("x.db", changed), *words], lines)
+                for left in Path(runs.folder).glob("x.db-*"):
+                    left.unlink()
+                if found not in allowed:
+                    runs.wrong.append(f"{label} page {page}: {shortened(found)}")
+    return 1, 64
+
+
+CASES = (prefixes, sizes, letters, lines_of_4096, many_groups, many_ranges, small_blocks, jumps, gibibyte, names, odd_files, cut_catalogues)
+
+
+def main():
+    parser = argparse.ArgumentParser(description=__doc__.splitlines()[0])
+    parser.add_argument("--program", default=PROGRAM)
+    parser.add_argument("names", nargs="*")
+    given, failed = parser.parse_args(), 0
+    for case in CASES:
+        if given.names and case.__name__ not in given.names:
+            continue
+        with tempfile.TemporaryDirectory(prefix="hostile-") as folder:
+            runs = Runs(given.program, folder)
+            seconds, memory = case(runs)
+        costs = runs.worst[0] > seconds, runs.worst[1] > memory * MIB
+        failed += bool(runs.wrong or any(costs))
+        verdict = "differs" if runs.wrong else "costs too much" if any(costs) else "as expected"
+        print(f"{case.__name__}: {runs.count} runs, at most {runs.worst[0]:.2f} s and {runs.worst[1] / MIB:.0f} MiB: {verdict}", flush=True)
+        for line in runs.wrong[:5]:
+            print(f"    {line}")
+    print(f"{failed} cases not as expected")
+    return 1 if failed else 0
+
+
+if __name__ == "__main__":
+    sys.exit(main())
