@@ -7,7 +7,7 @@ use Rattle.std.specs.Str.Parse.{ExplainsUnsignedError, HasUnsignedDigitsIfOk, Pa
 use Rattle.std.proofs.lemmas.Bool.{le-leb, leb-true, true≢false}
 use Rattle.clap.specs.Kinds.{FailsBy, HasKind}
 use Rattle.clap.specs.Faults.{fault_of, is_simple_and_free}
-use Rattle.clap.specs.Simple.{App, HasMatchesOf, app_of, app_of_fields, is_simple, new_app, on_top, with_rule, with_subcommand, subcommand_rows, subcommand_rows_of}
+use Rattle.clap.specs.Simple.{App, HasMatchesOf, app_of, app_of_fields, is_simple, new_app, on_top, with_rule, with_subcommand, subcommand_of, subcommand_rows, subcommand_rows_of}
 use Rattle.clap.specs.Walk.{Rule, Text, one_of, rows_of, rule_of}
 use Rattle.clap.specs.Built.{AddsArg, AddsSubcommand}
 use Rattle.clap.specs.Matches.{ReadsOne, found_of, one_text}
@@ -20,7 +20,6 @@ use Rattle.clap.specs.declared.builder.command.Command.TheOpen.{Command-F}
 use Rattle.clap.specs.declared.builder.command.Command.TheViews.{out-Command}
 use Rattle.clap.specs.declared.parser.matches.Found.{Found}
 use Rattle.clap.specs.declared.error.Error.{Error}
-use Rattle.clap.specs.declared.error.kind.ErrorKind.TheVariants.{MissingRequiredArgument}
 use Rattle.clap.specs.declared.parser.matches.ArgMatches.{ArgMatches}
 use Rattle.clap.specs.declared.parser.matches.ArgMatches.TheViews.{out-SubCommand}
 use Rattle.clap.specs.declared.parser.matches.SubCommand.{SubCommand}
@@ -28,7 +27,7 @@ use Rattle.clap.proofs.FaultLemmas.{first_fails}
 use Rattle.clap.proofs.WalkLemmas.{both, one_text-rows}
 use Rattle.clap.proofs.ValueTestLemmas.{Accepts-accepts, accepts-Accepts}
 use Rattle.clap.proofs.OnLiterals.{clap_on_literals}
-use Rattle.br_command.specs.Words.{Asked, asked_by, console_app, console_jobs_app, console_start_app, explain_app, extract_app, extracting_app, number_in, program_app, restoring_app, value_rule, words_asked, words_fault}
+use Rattle.br_command.specs.Words.{Asked, asked_by, console_app, console_jobs_app, console_start_app, explain_app, extract_app, extracting_app, kind_by, number_in, program_app, restoring_app, value_rule, words_asked, words_fault, words_kind}
 
 program_is_simple : is_simple program_app ≡ true
 unfolding program_app restoring_app extracting_app explain_app extract_app console_start_app console_jobs_app console_app clap_on_literals
@@ -38,13 +37,24 @@ program_is_free : is_simple_and_free program_app ≡ true
 unfolding program_app restoring_app extracting_app explain_app extract_app console_start_app console_jobs_app console_app clap_on_literals
 program_is_free = refl
 
--- what clap finds in words is what they ask for
+-- what clap finds in words is what the program's commands say of them
+found_subcommand : (app : App) (words : List Text) (found : ArgMatches) → app ≡ program_app → HasMatchesOf app words found
+    → subcommand_of program_app words ≡ subcommand_rows_of found
+found_subcommand app words found is has =
+    let m : HasMatchesOf program_app words found = subst (λ (a : App). HasMatchesOf a words found) is has in
+    sym (m program_is_simple).1
+
+-- so is what they ask for
 pub parsed_asks : (app : App) (words : List Text) (found : ArgMatches) → app ≡ program_app → HasMatchesOf app words found
     → words_asked words ≡ asked_by (subcommand_rows_of found)
 unfolding words_asked
-parsed_asks app words found is has =
-    let m : HasMatchesOf program_app words found = subst (λ (a : App). HasMatchesOf a words found) is has in
-    ap asked_by (sym (m program_is_simple).1)
+parsed_asks app words found is has = ap asked_by (found_subcommand app words found is has)
+
+-- and the kind of their fault if they ask for nothing
+pub parsed_misses : (app : App) (words : List Text) (found : ArgMatches) → app ≡ program_app → HasMatchesOf app words found
+    → words_kind words ≡ kind_by (subcommand_rows_of found)
+unfolding words_kind
+parsed_misses app words found is has = ap kind_by (found_subcommand app words found is has)
 
 pub parsed_fails : (app : App) (words : List Text) (r : Result ArgMatches Error) → app ≡ program_app → (is_simple_and_free app ≡ true → FailsBy (fault_of app words) r)
     → FailsBy (fault_of program_app words) r
@@ -62,10 +72,10 @@ pub no_fault : (words : List Text) (a : Asked) → fault_of program_app words �
 unfolding words_fault
 no_fault words a none is = rw (none, is) refl
 
-pub value_missing : (words : List Text) (e : Error) → fault_of program_app words ≡ [] → words_asked words ≡ None → kind_of e ≡ MissingRequiredArgument
+pub nothing_asked : (words : List Text) (e : Error) → fault_of program_app words ≡ [] → words_asked words ≡ None → kind_of e ≡ words_kind words
     → HasKind (words_fault words) e
 unfolding words_fault
-value_missing words e none is kind = rw (none, is) (inr (inl kind))
+nothing_asked words e none is kind = rw (none, is) (inr (inl kind))
 
 -- the subcommand that was found, by its name and by its rows
 module _ {Z : Type 0} where

@@ -8,27 +8,44 @@ use Rattle.clap.specs.Walk.{Row, Rule, Text, first_of, one_of}
 use Rattle.clap.specs.Faults.{fault_of}
 use Rattle.clap.specs.declared.builder.action.ArgAction.TheVariants.{Set}
 use Rattle.clap.specs.declared.builder.value_parser.ValueParser.TheVariants.{NonEmptyString, Unsigned}
-use Rattle.clap.specs.declared.error.kind.ErrorKind.TheVariants.{MissingRequiredArgument}
+use Rattle.clap.specs.declared.error.kind.ErrorKind.{ErrorKind}
+use Rattle.clap.specs.declared.error.kind.ErrorKind.TheVariants.{ArgumentConflict, MissingRequiredArgument}
 use Rattle.clap.specs.Simple.{subcommand_rows_of}
 use Rattle.clap.specs.declared.parser.matches.ArgMatches.{ArgMatches}
 use Rattle.br_options.specs.declared.options.Invocation.{Invocation}
 use Rattle.br_options.specs.declared.options.Invocation.TheVariants as commands
+use Rattle.br_options.specs.declared.options.Target.{Target}
+use Rattle.br_options.specs.declared.options.Target.TheVariants as targets
 
--- a command of the program: a script; a bootstrap's file, the folder of the volumes, the folder to write into, if any, and the number
--- of drives; a catalogue's file, the folder of the volumes, client, file set and moment, and the same two; a number; all numbers
+-- where the restored files go: nowhere, into a folder, and as a tar stream into a file or to standard output
+pub data Goal : Type 0 where
+  Nowhere : Goal
+  Folder : Text → Goal
+  TarFile : Text → Goal
+  TarOutput : Goal
+
+-- a command of the program: a script; a bootstrap's file, the folder of the volumes, where the files go, and the number of drives;
+-- a catalogue's file, the folder of the volumes, client, file set and moment, and the same two; a number; all numbers
 pub data Asked : Type 0 where
   Serve : Asked
-  Extract : Text → Text → Option Text → ℕ → Asked
-  Console : Text → Text → Text → Text → Text → Option Text → ℕ → Asked
+  Extract : Text → Text → Goal → ℕ → Asked
+  Console : Text → Text → Text → Text → Text → Goal → ℕ → Asked
   Explain : ℕ → Asked
   ExplainAll : Asked
+
+-- where the program has the restored files go
+abbrev pub target : Target → Goal
+target targets.Nowhere = Nowhere
+target (targets.Folder folder) = Folder folder.now
+target (targets.TarFile file) = TarFile file.now
+target targets.TarOutput = TarOutput
 
 -- what the program holds of a command line
 abbrev pub asked : Invocation → Asked
 asked commands.Serve = Serve
-asked (commands.Extract o) = Extract o.bsr.now o.volumes.now (option_map (λ s. s.now) o.into) o.drives
+asked (commands.Extract o) = Extract o.bsr.now o.volumes.now (target o.target) o.drives
 asked (commands.Console o) =
-    Console o.db.now o.volumes.now o.client.now o.fileset.now o.before.now (option_map (λ s. s.now) o.into) o.drives
+    Console o.db.now o.volumes.now o.client.now o.fileset.now o.before.now (target o.target) o.drives
 asked (commands.Explain number) = Explain number
 asked commands.ExplainAll = ExplainAll
 
@@ -46,9 +63,13 @@ value_rule name is_required = record (new_rule name) {
 abbrev pub drives_rule : Rule
 drives_rule = record (value_rule (codes "drives") false) { parser = Some (Unsigned 1 16); defaults = codes "1" ∷ [] }
 
--- a command with `--into DIR` and `--drives N`, which may be left out
+-- a command with `--into DIR` and `--tar FILE`, which may be left out
+abbrev pub with_target_rules : App → App
+with_target_rules app = with_rule (with_rule app (value_rule (codes "into") false)) (value_rule (codes "tar") false)
+
+-- a command with `--into DIR`, `--tar FILE` and `--drives N`, which may be left out
 abbrev pub with_run_rules : App → App
-with_run_rules app = with_rule (with_rule app (value_rule (codes "into") false)) drives_rule
+with_run_rules app = with_rule (with_target_rules app) drives_rule
 
 -- `extract --bsr FILE --volumes DIR`, and the options that may be left out
 unfoldable pub extract_app : App
@@ -101,6 +122,21 @@ drives_asked rows = option_and_then (number_in 1 16) (one_of (codes "drives") ro
 unfoldable pub number_asked : List Row → Option ℕ
 number_asked rows = option_and_then (number_in 0 4294967295) (one_of (codes "number") rows)
 
+-- where a tar stream goes: - is standard output
+abbrev pub tar_target : Text → Goal
+tar_target file = if bytes_eq file (codes "-") then TarOutput else TarFile file
+
+-- where the restored files go by the values of `--into` and `--tar`, of which one may be given
+abbrev pub target_by : Option Text → Option Text → Option Goal
+target_by None None = Some Nowhere
+target_by (Some folder) None = Some (Folder folder)
+target_by None (Some file) = Some (tar_target file)
+target_by (Some folder) (Some file) = None
+
+-- the same by the values that were found for the options
+unfoldable pub target_asked : List Row → Option Goal
+target_asked rows = target_by (first_of (codes "into") rows) (first_of (codes "tar") rows)
+
 -- the command `explain` by the value that was found, if any
 unfoldable pub explain_asked : List Row → Option Asked
 explain_asked rows =
@@ -111,7 +147,9 @@ explain_asked rows =
 unfoldable pub extract_asked : List Row → Option Asked
 extract_asked rows =
     option_and_then (λ bsr.
-    option_and_then (λ volumes. option_map (Extract bsr volumes (first_of (codes "into") rows)) (drives_asked rows))
+    option_and_then (λ volumes.
+    option_and_then (λ goal. option_map (Extract bsr volumes goal) (drives_asked rows))
+    (target_asked rows))
     (first_of (codes "volumes") rows))
     (first_of (codes "bsr") rows)
 
@@ -122,7 +160,9 @@ console_asked rows =
     option_and_then (λ volumes.
     option_and_then (λ client.
     option_and_then (λ fileset.
-    option_and_then (λ before. option_map (Console db volumes client fileset before (first_of (codes "into") rows)) (drives_asked rows))
+    option_and_then (λ before.
+    option_and_then (λ goal. option_map (Console db volumes client fileset before goal) (drives_asked rows))
+    (target_asked rows))
     (first_of (codes "before") rows))
     (first_of (codes "fileset") rows))
     (first_of (codes "client") rows))
@@ -147,8 +187,25 @@ words_asked words = asked_by (subcommand_of program_app words)
 abbrev pub AsksFor : List Text → ArgMatches → Type 0
 AsksFor words found = words_asked words ≡ asked_by (subcommand_rows_of found)
 
+-- the kind of fault of options that ask for no command: two that exclude each other, or a value that is missing
+abbrev pub kind_in : List Row → ErrorKind
+kind_in rows = if is_some (target_asked rows) then MissingRequiredArgument else ArgumentConflict
+
+-- the same by the subcommand that was found, if any
+unfoldable pub kind_by : Option (Text × List Row) → ErrorKind
+kind_by None = MissingRequiredArgument
+kind_by (Some (name, rows)) = kind_in rows
+
+-- the kind of fault of words that ask for no command
+unfoldable pub words_kind : List Text → ErrorKind
+words_kind words = kind_by (subcommand_of program_app words)
+
+-- this is the kind of fault by what was found in the words
+abbrev pub MissesBy : List Text → ArgMatches → Type 0
+MissesBy words found = words_kind words ≡ kind_by (subcommand_rows_of found)
+
 -- the kinds of fault that words have, none if they are taken
 unfoldable pub words_fault : List Text → Kinds
 words_fault words =
     or_else (fault_of program_app words)
-    (if is_some (words_asked words) then [] else MissingRequiredArgument ∷ [])
+    (if is_some (words_asked words) then [] else words_kind words ∷ [])

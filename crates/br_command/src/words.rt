@@ -4,12 +4,13 @@ ghost use Rattle.clap.specs.Walk.{first_of};
 ghost use Rattle.clap.specs.Words.{FailsBy, app_of, fault_of, found_of, rows_of, rule_of, subcommand_rows_of};
 ghost use Rattle.clap.specs.declared.builder.command.Command.TheViews.{out-Command as fields_of};
 ghost use Rattle.br_options.specs.Options.{AreFew, HasDrives};
-ghost use Rattle.br_command.specs.Words.{AsksFor, asked, asked_by, words_asked, words_fault, with_run_rules};
-ghost use Rattle.br_command.specs.Words.{console_asked, drives_asked, explain_asked, extract_asked, number_asked};
+ghost use Rattle.br_command.specs.Words.{AsksFor, MissesBy, asked, asked_by, words_asked, words_fault, words_kind, with_run_rules};
+ghost use Rattle.br_command.specs.Words.{console_asked, drives_asked, explain_asked, extract_asked, number_asked, target_asked};
+ghost use Rattle.br_command.specs.Words.{kind_by, kind_in, tar_target, target, target_by, with_target_rules};
 ghost use Rattle.br_command.specs.Words.{console_app, console_jobs_app, console_start_app, explain_app, extract_app};
 ghost use Rattle.br_command.specs.Words.{drives_rule, extracting_app, number_rule, program_app, restoring_app, value_rule};
 
-use br_options::{ConsoleOptions, ExtractOptions, Invocation};
+use br_options::{ConsoleOptions, ExtractOptions, Invocation, Target};
 use clap::builder::ValueParser;
 use clap::error::ErrorKind;
 use clap::{Arg, ArgAction, ArgMatches, Command, Error};
@@ -52,6 +53,20 @@ fn into_option<'a>(alloc: Global) -> Arg<'a>
     )
 }
 
+/// Returns the option for the file to write a tar stream into, which may be left out.
+fn tar_option<'a>(alloc: Global) -> Arg<'a>
+    ensures rule { rule_of result ≡ value_rule (codes "tar") false }
+    ensures local { result.global ≡ false }
+{
+    value_option(
+        alloc,
+        "tar",
+        "FILE",
+        false,
+        "The new file to write the restored files into as a tar stream, - for standard output",
+    )
+}
+
 /// Returns the option for the number of drives, which is 1 if it is left out.
 fn drives_option<'a>(alloc: Global) -> Arg<'a>
     ensures rule { rule_of result ≡ drives_rule }
@@ -66,13 +81,22 @@ fn drives_option<'a>(alloc: Global) -> Arg<'a>
         .help("The number of drives that read the volumes at once, 1 to 16")
 }
 
-/// Returns the command with the two options of a restore that may be left out, `--into` and `--drives`.
+/// Returns the command with the two options for where the restored files go, `--into` and `--tar`.
+fn with_target_options<'a>(alloc: Global, command: Command<'a>) -> Result<Command<'a>, AllocError>
+    requires { (fields_of command).has_globals ≡ false }
+    ensures app { IfOk result (λ r. app_of r ≡ with_target_rules (app_of command.entry)) }
+    ensures local { IfOk result (λ r. (fields_of r).has_globals ≡ false) }
+{
+    command.arg(into_option(alloc))?.arg(tar_option(alloc))
+}
+
+/// Returns the command with the options of a restore that may be left out, `--into`, `--tar` and `--drives`.
 fn with_run_options<'a>(alloc: Global, command: Command<'a>) -> Result<Command<'a>, AllocError>
     requires { (fields_of command).has_globals ≡ false }
     ensures app { IfOk result (λ r. app_of r ≡ with_run_rules (app_of command.entry)) }
     ensures local { IfOk result (λ r. (fields_of r).has_globals ≡ false) }
 {
-    command.arg(into_option(alloc))?.arg(drives_option(alloc))
+    with_target_options(alloc, command)?.arg(drives_option(alloc))
 }
 
 /// Returns `extract` with its options.
@@ -192,11 +216,35 @@ fn value_of<'a>(found: &ArgMatches<'a>, name: &str) -> Option<&'a str>
     found.get_str(name)
 }
 
-/// Returns the folder to write into that was found, if any.
-fn into_of<'a>(found: &ArgMatches<'a>) -> Option<&'a str>
-    ensures { option_map (λ s. s.now) result ≡ first_of (codes "into") (rows_of (found_of found.now)) }
+/// Returns where a tar stream goes: `-` is standard output.
+fn tar_target(file: &str) -> Target<'_>
+    ensures { target result ≡ tar_target file.now }
 {
-    value_of(found, "into")
+    if file == "-" {
+        return Target::TarOutput;
+    }
+    Target::TarFile(file)
+}
+
+/// Returns where the restored files go by the values of `--into` and `--tar`, of which one may be given.
+fn target_by<'a>(into: Option<&'a str>, tar: Option<&'a str>) -> Option<Target<'a>>
+    ensures {
+        option_map target result ≡ target_by (option_map (λ s. s.now) into.entry) (option_map (λ s. s.now) tar.entry)
+    }
+{
+    match (into, tar) {
+        (None, None) => Some(Target::Nowhere),
+        (Some(folder), None) => Some(Target::Folder(folder)),
+        (None, Some(file)) => Some(tar_target(file)),
+        (Some(_), Some(_)) => None,
+    }
+}
+
+/// Returns where the restored files go, unless two places were found.
+fn target_of<'a>(found: &ArgMatches<'a>) -> Option<Target<'a>>
+    ensures { option_map target result ≡ target_asked (rows_of (found_of found.now)) }
+{
+    target_by(value_of(found, "into"), value_of(found, "tar"))
 }
 
 /// Returns the number of drives that was found, if it is from 1 to 16.
@@ -232,7 +280,7 @@ fn extract_found<'a>(found: &ArgMatches<'a>) -> Option<Invocation<'a>>
     Some(Invocation::Extract(ExtractOptions {
         bsr: value_of(found, "bsr")?,
         volumes: value_of(found, "volumes")?,
-        into: into_of(found),
+        target: target_of(found)?,
         drives: drives_of(found)?,
     }))
 }
@@ -249,7 +297,7 @@ fn console_found<'a>(found: &ArgMatches<'a>) -> Option<Invocation<'a>>
         client: value_of(found, "client")?,
         fileset: value_of(found, "fileset")?,
         before: value_of(found, "before")?,
-        into: into_of(found),
+        target: target_of(found)?,
         drives: drives_of(found)?,
     }))
 }
@@ -289,10 +337,51 @@ fn invocation_of<'a>(matches: &ArgMatches<'a>) -> Option<Invocation<'a>>
     }
 }
 
+/// Returns the kind of fault of options that ask for no command: two that exclude each other, or a value that is missing.
+fn kind_in(found: &ArgMatches<'_>) -> ErrorKind
+    ensures { result ≡ kind_in (rows_of (found_of found.now)) }
+{
+    match target_of(found) {
+        None => ErrorKind::ArgumentConflict,
+        Some(_) => ErrorKind::MissingRequiredArgument,
+    }
+}
+
+/// Returns the kind of fault of a command line that asks for no command.
+#[tactic(auto, unfolding(crate::specs::Words::kind_by))]
+fn kind_of_fault(matches: &ArgMatches<'_>) -> ErrorKind
+    ensures { result ≡ kind_by (subcommand_rows_of matches.now) }
+{
+    match found_command(matches) {
+        None => ErrorKind::MissingRequiredArgument,
+        Some((_, found)) => kind_in(found),
+    }
+}
+
+/// Returns what to tell of a fault of this kind.
+fn text_of_fault(kind: ErrorKind) -> &'static str {
+    match kind {
+        ErrorKind::ArgumentConflict => {
+            "the argument '--into <DIR>' cannot be used with '--tar <FILE>'"
+        }
+        _ => "a value is missing",
+    }
+}
+
+/// Returns the command that was found, if all its required options were, and the kind of fault if not.
+fn found_in<'a>(matches: &ArgMatches<'a>) -> (Option<Invocation<'a>>, ErrorKind)
+    ensures asked { option_map asked result.0 ≡ asked_by (subcommand_rows_of matches.now) }
+    ensures drives { IfSome result.0 HasDrives }
+    ensures kind { result.1 ≡ kind_by (subcommand_rows_of matches.now) }
+{
+    (invocation_of(matches), kind_of_fault(matches))
+}
+
 /// Returns what clap finds in the words of a command line.
 fn parsed<'a>(command: &mut Command<'a>, words: &'a [String]) -> Result<ArgMatches<'a>, Error>
     requires { app_of command.old ≡ program_app }
     ensures asks { IfOk result (AsksFor (map string_bytes words.entry.now)) }
+    ensures misses { IfOk result (MissesBy (map string_bytes words.entry.now)) }
     ensures fails { FailsBy (fault_of program_app (map string_bytes words.entry.now)) result }
 {
     command.try_get_matches_from_mut(words)
@@ -305,18 +394,18 @@ fn read_by<'a>(command: &mut Command<'a>, words: &'a [String]) -> Result<Invocat
     ensures fails { FailsBy (words_fault (map string_bytes words.entry.now)) result }
     ensures drives { IfOk result HasDrives }
 {
-    let found = invocation_of(&parsed(command, words)?);
+    let (found, kind) = found_in(&parsed(command, words)?);
     match found {
         Some(invocation) => Ok(invocation),
-        None => Err(command.error(ErrorKind::MissingRequiredArgument, "a value is missing")?),
+        None => Err(command.error(kind, text_of_fault(kind))?),
     }
 }
 
 /// Reads the words of a command line, of which the first is the program's name.
 ///
 /// The commands are `extract --bsr FILE --volumes DIR`, `console --db FILE --volumes DIR --client NAME --fileset NAME
-/// --before MOMENT`, `explain [N]` and `serve`. The first two also take `--into DIR` and `--drives N`. No command is the same as
-/// `serve`.
+/// --before MOMENT`, `explain [N]` and `serve`. The first two also take `--into DIR` or `--tar FILE`, and `--drives N`. No command is
+/// the same as `serve`.
 ///
 /// # Errors
 ///

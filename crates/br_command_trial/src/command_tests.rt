@@ -1,5 +1,5 @@
 use br_command::read_words;
-use br_options::{ConsoleOptions, ExtractOptions, Invocation};
+use br_options::{ConsoleOptions, ExtractOptions, Invocation, Target};
 use clap::error::ErrorKind;
 use std::alloc::Global;
 use std::test::Fail;
@@ -89,12 +89,17 @@ fn first_taken<'l>(alloc: Global, lines: &[&'l str]) -> Result<Option<&'l str>, 
 const EXTRACT: ExtractOptions<'static> = ExtractOptions {
     bsr: "x.bsr",
     volumes: "sets/V",
-    into: None,
+    target: Target::Nowhere,
     drives: 1,
 };
 
 const EXTRACT_INTO: ExtractOptions<'static> = ExtractOptions {
-    into: Some("e"),
+    target: Target::Folder("e"),
+    ..EXTRACT
+};
+
+const EXTRACT_TAR: ExtractOptions<'static> = ExtractOptions {
+    target: Target::TarFile("e.tar"),
     ..EXTRACT
 };
 
@@ -104,12 +109,17 @@ const CONSOLE: ConsoleOptions<'static> = ConsoleOptions {
     client: "mars",
     fileset: "home",
     before: "2026-11-22",
-    into: None,
+    target: Target::Nowhere,
     drives: 1,
 };
 
 const CONSOLE_INTO: ConsoleOptions<'static> = ConsoleOptions {
-    into: Some("e"),
+    target: Target::Folder("e"),
+    ..CONSOLE
+};
+
+const CONSOLE_TAR: ConsoleOptions<'static> = ConsoleOptions {
+    target: Target::TarOutput,
     ..CONSOLE
 };
 
@@ -123,6 +133,11 @@ const EXTRACT_INTO_LINES: [&str; 2] = [
     "brestore extract --into=e --volumes sets/V --bsr x.bsr",
 ];
 
+const EXTRACT_TAR_LINES: [&str; 2] = [
+    "brestore extract --bsr x.bsr --volumes sets/V --tar e.tar",
+    "brestore extract --tar=e.tar --volumes sets/V --bsr x.bsr",
+];
+
 const CONSOLE_LINES: [&str; 2] = [
     "brestore console --db j.db --volumes d --client mars --fileset home --before 2026-11-22",
     "brestore console --before=2026-11-22 --fileset=home --client=mars --volumes=d --db=j.db",
@@ -131,6 +146,11 @@ const CONSOLE_LINES: [&str; 2] = [
 const CONSOLE_INTO_LINES: [&str; 2] = [
     "brestore console --db j.db --volumes d --client mars --fileset home --before 2026-11-22 --into e",
     "brestore console --into=e --before=2026-11-22 --fileset=home --client=mars --volumes=d --db=j.db",
+];
+
+const CONSOLE_TAR_LINES: [&str; 2] = [
+    "brestore console --db j.db --volumes d --client mars --fileset home --before 2026-11-22 --tar -",
+    "brestore console --tar=- --before=2026-11-22 --fileset=home --client=mars --volumes=d --db=j.db",
 ];
 
 #[test]
@@ -176,6 +196,40 @@ fn restores_are_asked_for(rt: HostRuntime) -> Result<(), Fail> {
     assert_eq!(rt; extract_into, None);
     assert_eq!(rt; console, None);
     assert_eq!(rt; console_into, None);
+    Ok(())
+}
+
+#[test]
+fn tar_streams_are_asked_for(rt: HostRuntime) -> Result<(), Fail> {
+    let extract = first_other(
+        rt.alloc(),
+        &EXTRACT_TAR_LINES,
+        &Invocation::Extract(EXTRACT_TAR),
+    )?;
+    let console = first_other(
+        rt.alloc(),
+        &CONSOLE_TAR_LINES,
+        &Invocation::Console(CONSOLE_TAR),
+    )?;
+    assert_eq!(rt; extract, None);
+    assert_eq!(rt; console, None);
+    Ok(())
+}
+
+#[test]
+fn files_go_to_one_place(rt: HostRuntime) -> Result<(), Fail> {
+    let both = [
+        "brestore extract --bsr x --volumes d --into e --tar f",
+        "brestore extract --tar - --into e --bsr x --volumes d",
+        "brestore console --db j --volumes d --client c --fileset f --before b --tar f --into e",
+        "brestore extract --bsr x --volumes d --tar f --tar f",
+    ];
+    let other = first_with_another_fault(rt.alloc(), &both, ErrorKind::ArgumentConflict)?;
+    let none = fault_of(rt.alloc(), "brestore extract --bsr x --volumes d --tar")?;
+    let nowhere = fault_of(rt.alloc(), "brestore serve --tar f")?;
+    assert_eq!(rt; other, None);
+    assert_eq!(rt; none, Some((ErrorKind::InvalidValue, 2)));
+    assert_eq!(rt; nowhere, Some((ErrorKind::UnknownArgument, 2)));
     Ok(())
 }
 
@@ -247,7 +301,7 @@ fn drives_are_named_once_and_if_volumes_are_read(rt: HostRuntime) -> Result<(), 
     Ok(())
 }
 
-const REFUSED: [&str; 24] = [
+const REFUSED: [&str; 26] = [
     "brestore x",
     "brestore --bsr x",
     "brestore serve x",
@@ -260,6 +314,8 @@ const REFUSED: [&str; 24] = [
     "brestore extract --bsr x --volumes d --bsr y",
     "brestore extract --bsr x --volumes d --into=",
     "brestore extract --bsr x --volumes d --into e --into f",
+    "brestore extract --bsr x --volumes d --tar=",
+    "brestore extract --bsr x --tar f",
     "brestore console",
     "brestore console --db j.db --volumes d --client mars --fileset home",
     "brestore console --db j.db --volumes d --client mars --before 2026-11-22",

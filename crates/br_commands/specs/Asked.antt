@@ -1,10 +1,12 @@
 -- What the options of the commands ask for.
-use Rattle.std.specs.Prelude.{◌≡◌, ℕ, List, Option, Result, IfSome}
+use Rattle.std.specs.Prelude.{◌≡◌, ℕ, List, Option, Some, None, Result, IfSome}
 use Rattle.std.specs.List.{AllByRecursion}
 use Rattle.br_model.specs.Choice.{Request}
 use Rattle.br_model.specs.Job.{JobRows}
 use Rattle.br_folder.specs.Folder.{InFolder}
 use Rattle.br_options.specs.declared.options.ConsoleOptions.{ConsoleOptions}
+use Rattle.br_options.specs.declared.options.Target.{Target}
+use Rattle.br_options.specs.declared.options.Target.TheVariants.{Nowhere, Folder, TarFile, TarOutput}
 use Rattle.br_request.specs.Asking.{checked_request}
 use Rattle.br_commands.specs.declared.catalogue.CatalogueFault.{CatalogueFault}
 use Rattle.br_commands.specs.declared.catalogue.CatalogueFault.TheVariants.{Memory, Unreadable, BadCatalogue}
@@ -12,6 +14,13 @@ use Rattle.br_commands.specs.declared.catalogue.CatalogueFault.TheVariants.{Memo
 -- the request of `console`, or why it is refused
 abbrev pub request_asked : ConsoleOptions → Result Request ℕ
 request_asked given = checked_request given.client.now given.fileset.now given.before.now
+
+-- the folder that the restored files go into, if they go into one
+abbrev pub folder_asked : Target → Option (List ℕ)
+folder_asked Nowhere = None
+folder_asked (Folder folder) = Some folder.now
+folder_asked (TarFile file) = None
+folder_asked TarOutput = None
 
 -- each of the drives reads the volumes of this folder
 abbrev pub AreOver : List ℕ → List InFolder → Type 0

@@ -10,6 +10,8 @@ use Rattle.br_console.specs.declared.ending.End.TheVariants.{Done, Quit}
 use Rattle.br_console.specs.declared.ending.ConsoleRun.{ConsoleRun}
 use Rattle.br_console.specs.declared.console_fault.ConsoleFault.{ConsoleFault}
 use Rattle.br_console.specs.declared.console_fault.ConsoleFault.TheVariants.{Io, NoEnd}
+use Rattle.br_commands.specs.declared.tar.Extent.{Extent}
+use Rattle.br_commands.specs.declared.tar.Extent.TheVariants.{All, Part}
 
 abbrev pub fault_status : ConsoleFault → ℕ
 fault_status (Io e) = 3
@@ -27,6 +29,17 @@ status_by lines Quit = lines_status lines
 status_by lines (Done AllFiles) = lines_status lines
 status_by lines (Done SomeFaults) = 1
 status_by lines (Done (Stopped stop)) = 1
+
+-- how many of the marked files a session put into its sink; if it was quit, there are none
+abbrev pub extent_by : End → Extent
+extent_by Quit = All
+extent_by (Done AllFiles) = All
+extent_by (Done SomeFaults) = All
+extent_by (Done (Stopped stop)) = Part
+
+abbrev pub extent : Result ConsoleRun ConsoleFault → Extent
+extent (Ok run) = extent_by run.end
+extent (Err fault) = Part
 
 -- the line of a delivery that stopped
 abbrev pub end_line : End → List ℕ

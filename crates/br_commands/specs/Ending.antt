@@ -6,6 +6,8 @@ use Rattle.br_engine.specs.declared.outputs.RestoreEnd.{RestoreEnd}
 use Rattle.br_engine.specs.declared.outputs.RestoreEnd.TheVariants.{AllFiles, SomeFaults, Stopped}
 use Rattle.br_engine.specs.declared.fault.ExtractFault.{ExtractFault}
 use Rattle.br_engine.specs.declared.fault.ExtractFault.TheVariants.{Io, NoEnd}
+use Rattle.br_commands.specs.declared.tar.Extent.{Extent}
+use Rattle.br_commands.specs.declared.tar.Extent.TheVariants.{All, Part}
 
 abbrev pub fault_status : ExtractFault → ℕ
 fault_status (Io e) = 3
@@ -22,6 +24,13 @@ end_status (Stopped stop) = 1
 abbrev pub run_status : Result RestoreEnd ExtractFault → ℕ
 run_status (Ok end) = end_status end
 run_status (Err fault) = fault_status fault
+
+-- how many of the files a run put into its sink
+abbrev pub extent : Result RestoreEnd ExtractFault → Extent
+extent (Ok AllFiles) = All
+extent (Ok SomeFaults) = All
+extent (Ok (Stopped stop)) = Part
+extent (Err fault) = Part
 
 -- the line of the refusal or of the stop, if there is one
 abbrev pub run_refusal : Result RestoreEnd ExtractFault → List ℕ

@@ -4,27 +4,29 @@ ghost use Rattle.br_model.specs.Answer.{Answers};
 ghost use Rattle.br_options.specs.Options.{AreFew};
 ghost use Rattle.br_pool.specs.Pool.{AreDrives};
 ghost use Rattle.br_request.specs.Asking.{cause};
-ghost use Rattle.br_commands.specs.Asked.{AreJobs, AreOver, request_asked};
-ghost use Rattle.br_commands.specs.ConsoleEnding.{end_line, run_refusal, run_status, status_by};
+ghost use Rattle.br_commands.specs.Asked.{AreJobs, AreOver, folder_asked, request_asked};
+ghost use Rattle.br_commands.specs.ConsoleEnding.{end_line, extent, extent_by, run_refusal, run_status, status_by};
 ghost use Rattle.br_commands.specs.Starting.{start_number};
-ghost use Rattle.br_commands.specs.Tasks.{RunsTask};
+ghost use Rattle.br_commands.specs.Tasks.{RunsTask, StreamsRun};
 ghost use Rattle.br_commands.specs.declared.console.ConsoleStartFault.TheVariants as start;
 
 use crate::catalogue::{Catalogue, CatalogueFault};
-use crate::folders::{HostDrive, HostSink, drives_over, sink_over};
+use crate::folders::{HostDrive, HostSink, drives_over, folder_of, sink_over};
 use crate::status::{BAD_STREAM, CLEAN, Ending, REFUSED};
+use crate::tar::{Extent, TarEnd, TarFault, add_tar_end, end_stream, tar_into, tar_onto};
 use br_console::{ConsoleFault, ConsoleRun, End, JobSelection, Lines, run_console};
 use br_engine::{Flush, Outputs, RestoreEnd};
 use br_folder_sink::FolderFault;
 use br_history::History;
-use br_options::ConsoleOptions;
+use br_options::{ConsoleOptions, Target};
 use br_plan::Request;
 use br_request::{RequestFault, read_request};
 use br_sink::Sink;
+use br_tar::TarSink;
 use br_volume::Drive;
 use std::alloc::{AllocError, Global};
-use std::fs;
-use std::io::{self, BufRead, BufReader, BufWriter, ErrorKind};
+use std::fs::{self, File};
+use std::io::{self, BufRead, BufReader, BufWriter, ErrorKind, Printer, Write};
 use std::sync::Wait;
 use std::thread::Threads;
 use thiserror::Error;
@@ -107,6 +109,9 @@ pub enum ConsoleStartFault {
     /// The folder to deliver into was refused.
     #[error("{0}")]
     Folder(FolderFault),
+    /// The file to write a tar stream into was refused.
+    #[error("{0}")]
+    Tar(TarFault),
     #[error("the file of the catalogue is not there")]
     NoCatalogue,
     /// The catalogue was refused.
@@ -130,6 +135,14 @@ impl From<FolderFault> for ConsoleStartFault {
     }
 }
 
+impl From<TarFault> for ConsoleStartFault {
+    ghost from_gives = { λ fault e. e ≡ start.Tar fault };
+
+    fn from(fault: TarFault) -> ConsoleStartFault {
+        ConsoleStartFault::Tar(fault)
+    }
+}
+
 impl From<CatalogueFault> for ConsoleStartFault {
     ghost from_gives = { λ fault e. e ≡ start.Catalogue fault };
 
@@ -148,7 +161,7 @@ impl From<AllocError> for ConsoleStartFault {
 
 impl ConsoleStartFault {
     /// Returns the number of the refusal: 1 out of memory, 2 client or file set, 52 the moment, 81 the
-    /// folder, 45 and 47 the catalogue.
+    /// folder or the file of a tar stream, 45 and 47 the catalogue.
     pub fn number(&self) -> u32
         ensures { result ≡ start_number self.now }
     {
@@ -156,6 +169,7 @@ impl ConsoleStartFault {
             ConsoleStartFault::Memory => 1,
             ConsoleStartFault::Request(fault) => fault.number(),
             ConsoleStartFault::Folder(fault) => fault.number(),
+            ConsoleStartFault::Tar(fault) => fault.number(),
             ConsoleStartFault::NoCatalogue => 45,
             ConsoleStartFault::Catalogue(fault) => fault.number(),
         }
@@ -189,9 +203,9 @@ fn jobs_in<C: Catalogue>(
 
 /// All that is there before a line is read.
 #[derive(Drop)]
-pub struct ConsoleSetup<'r> {
+pub struct ConsoleSetup<'r, S> {
     request: Request,
-    sink: Option<HostSink<'r>>,
+    sink: Option<S>,
     history: History,
     drives: Vec<HostDrive<'r>>,
 }
@@ -203,21 +217,38 @@ fn request_of(alloc: Global, given: &ConsoleOptions<'_>) -> Result<Request, Requ
     read_request(alloc, given.client, given.fileset, given.before)
 }
 
-/// Makes all that is there before a line is read: client and file set (2), moment (52), the folder to
-/// deliver into (81), and the catalogue (45, 47) are tested in this order.
+/// Makes all that is there before a line is read, to deliver into a folder if there is one: client and file
+/// set (2), moment (52), the folder (81), and the catalogue (45, 47) are tested in this order.
 pub fn set_up_console<'r, C: Catalogue>(
     rt: &'r HostRuntime,
     catalogue: &C,
     given: &ConsoleOptions<'_>,
-) -> Result<ConsoleSetup<'r>, ConsoleStartFault>
+) -> Result<ConsoleSetup<'r, HostSink<'r>>, ConsoleStartFault>
     ensures asked { IfOk result (λ setup. request_asked given.now ≡ Ok setup.request) }
-    ensures into { IfOk result (λ setup. option_map (λ s. s.path) setup.sink ≡ option_map (λ f. f.now) given.now.into) }
+    ensures into { IfOk result (λ setup. option_map (λ s. s.path) setup.sink ≡ folder_asked given.now.target) }
     ensures jobs { IfOk result (λ setup. AreJobs (C.jobs_at catalogue.now given.now.db.now) setup.history) }
     ensures drives { IfOk result (λ setup. length setup.drives.items ≡ given.now.drives) }
     ensures volumes { IfOk result (λ setup. AreOver given.now.volumes.now setup.drives.items) }
 {
     let request = request_of(rt.alloc(), given)?;
-    let sink = sink_over(rt, given.into)?;
+    let sink = sink_over(rt, folder_of(given.target))?;
+    set_up_over(rt, catalogue, given, request, sink)
+}
+
+/// Makes what else is there before a line is read, beside the request and the sink.
+fn set_up_over<'r, C: Catalogue, S: Drop>(
+    rt: &'r HostRuntime,
+    catalogue: &C,
+    given: &ConsoleOptions<'_>,
+    request: Request,
+    sink: Option<S>,
+) -> Result<ConsoleSetup<'r, S>, ConsoleStartFault>
+    ensures request { IfOk result (λ setup. setup.request ≡ request.entry) }
+    ensures sink { IfOk result (λ setup. setup.sink ≡ sink.entry) }
+    ensures jobs { IfOk result (λ setup. AreJobs (C.jobs_at catalogue.now given.now.db.now) setup.history) }
+    ensures drives { IfOk result (λ setup. length setup.drives.items ≡ given.now.drives) }
+    ensures volumes { IfOk result (λ setup. AreOver given.now.volumes.now setup.drives.items) }
+{
     let history = jobs_in(rt, catalogue, given.db)?;
     let drives = drives_over(rt, given.volumes, given.drives)?;
     Ok(ConsoleSetup {
@@ -237,9 +268,9 @@ pub struct ConsoleTask<D, W, S> {
     out: Outputs<W, S>,
 }
 
-impl<'r> ConsoleSetup<'r> {
+impl<'r, S> ConsoleSetup<'r, S> {
     /// Returns the task to run a session by what was set up, with the answers to this writer.
-    pub fn onto<W>(self, writer: W) -> ConsoleTask<HostDrive<'r>, W, HostSink<'r>>
+    pub fn onto<W>(self, writer: W) -> ConsoleTask<HostDrive<'r>, W, S>
         ensures history { result.history ≡ self.entry.history }
         ensures request { result.request ≡ self.entry.request }
         ensures drives { result.drives ≡ self.entry.drives }
@@ -287,22 +318,69 @@ pub fn console_over<R: BufRead + Drop, D: Drive + Send, W: Flush + Drop, S: Sink
     )
 }
 
-/// Reads lines and answers them on standard output, over the jobs of a client's file set before a
-/// moment in a catalogue. After `done` prints the bootstrap and the manifest, and puts the restored files
-/// into the folder `into`, if there is one. What is refused of a line is part of the answers; any other
-/// refusal goes to standard error, and so does the stop of a delivery.
-///
-/// Client and file set (2), moment (52), the folder `into`, which has to exist and be empty (81), and
-/// the catalogue (45, 47) are tested in this order before a line is read. The manifest is printed before
-/// anything is written into the folder.
-///
-/// Returns the exit status: 0 if nothing was refused and each outcome is a file; 1 if something was
-/// refused or some outcome is not a file; 3 if the reader or standard output failed.
-///
-/// # Errors
-///
-/// If memory ran out or standard error failed.
-pub fn restore_by_lines<C: Catalogue, R: BufRead + Drop>(
+/// Returns how many of the marked files a run put into its sink.
+fn extent_of(run: &Result<ConsoleRun, ConsoleFault>) -> Extent
+    ensures { result ≡ extent run.now }
+{
+    match run {
+        Ok(run) => extent_by(&run.end),
+        Err(_) => Extent::Part,
+    }
+}
+
+/// Returns the same by the end of a session. One that was quit has no files to put.
+fn extent_by(end: &End) -> Extent
+    ensures { result ≡ extent_by end.now }
+{
+    match end {
+        End::Quit | End::Done(RestoreEnd::AllFiles | RestoreEnd::SomeFaults) => Extent::All,
+        End::Done(RestoreEnd::Stopped(_)) => Extent::Part,
+    }
+}
+
+/// What came of a session whose files go into a tar stream.
+#[derive(Debug, Drop)]
+pub(crate) struct ConsoleStream<W> {
+    run: Result<ConsoleRun, ConsoleFault>,
+    /// What became of the stream.
+    end: TarEnd,
+    /// What it was written to, if the task has a sink.
+    writer: Option<W>,
+}
+
+/// Carries out a task whose sink writes a tar stream, and ends the stream if all files were put.
+fn console_stream<R: BufRead + Drop, D: Drive + Send, W: Flush + Drop, T: Write + Drop>(
+    threads: &(impl Threads + Wait + Sync),
+    alloc: Global,
+    task: &mut ConsoleTask<D, W, TarSink<T>>,
+    reader: &mut R,
+) -> ConsoleStream<T>
+    requires drives { AreDrives task.old.drives.items }
+    requires shown { W.is_flushed task.old.out.writer }
+    ensures streams { StreamsRun (R.remaining reader.old) D.shows W.contents T.contents task.old task.new result }
+    ensures flushed { OnOk result.run (W.is_flushed task.new.out.writer) }
+{
+    let run = console_over(threads, alloc, task, reader);
+    let (writer, end) = end_stream(task.out.sink.take(), extent_of(&run));
+    ConsoleStream { run, end, writer }
+}
+
+/// Prints how a run with a tar stream ended to standard error. Returns the exit status.
+fn report_tar<R: Eprint + AllocGlobal>(
+    rt: &R,
+    run: Result<ConsoleRun, ConsoleFault>,
+    end: TarEnd,
+) -> io::Result<u8> {
+    let mut ending = console_ending(rt.alloc(), &run)?;
+    add_tar_end(&mut ending, end)?;
+    if let Err(fault) = &run {
+        report_stream(rt, fault)?;
+    }
+    ending.print(rt)
+}
+
+/// Restores by lines into a folder, or prints the manifest alone if there is none.
+fn restore_into<C: Catalogue, R: BufRead + Drop>(
     rt: &HostRuntime,
     threads: &(impl Threads + Wait + Sync),
     catalogue: &C,
@@ -319,6 +397,94 @@ pub fn restore_by_lines<C: Catalogue, R: BufRead + Drop>(
     let mut task = setup.onto(writer);
     let run = console_over(threads, rt.alloc(), &mut task, reader);
     report(rt, run)
+}
+
+/// Makes all that is there before a line is read, to deliver into a new file as a tar stream. The file is
+/// tested where a folder would be.
+fn set_up_tar_file<'r, C: Catalogue>(
+    rt: &'r HostRuntime,
+    catalogue: &C,
+    given: &ConsoleOptions<'_>,
+    path: &str,
+) -> Result<ConsoleSetup<'r, TarSink<BufWriter<File>>>, ConsoleStartFault>
+    ensures asked { IfOk result (λ setup. request_asked given.now ≡ Ok setup.request) }
+    ensures jobs { IfOk result (λ setup. AreJobs (C.jobs_at catalogue.now given.now.db.now) setup.history) }
+    ensures drives { IfOk result (λ setup. length setup.drives.items ≡ given.now.drives) }
+    ensures volumes { IfOk result (λ setup. AreOver given.now.volumes.now setup.drives.items) }
+{
+    let request = request_of(rt.alloc(), given)?;
+    let sink = tar_into(rt, path)?;
+    set_up_over(rt, catalogue, given, request, Some(sink))
+}
+
+/// Makes all that is there before a line is read, to deliver to standard output as a tar stream.
+fn set_up_tar_output<'r, C: Catalogue>(
+    rt: &'r HostRuntime,
+    catalogue: &C,
+    given: &ConsoleOptions<'_>,
+) -> Result<ConsoleSetup<'r, TarSink<BufWriter<Printer<'r, HostRuntime>>>>, ConsoleStartFault>
+    ensures asked { IfOk result (λ setup. request_asked given.now ≡ Ok setup.request) }
+    ensures jobs { IfOk result (λ setup. AreJobs (C.jobs_at catalogue.now given.now.db.now) setup.history) }
+    ensures drives { IfOk result (λ setup. length setup.drives.items ≡ given.now.drives) }
+    ensures volumes { IfOk result (λ setup. AreOver given.now.volumes.now setup.drives.items) }
+{
+    let request = request_of(rt.alloc(), given)?;
+    let sink = tar_onto(rt.alloc(), io::writer(rt))?;
+    set_up_over(rt, catalogue, given, request, Some(sink))
+}
+
+/// Restores by lines into the tar stream that was set up, with the answers to this writer.
+fn restore_onto<R: BufRead + Drop, T: Write + Drop, W: Write + Drop>(
+    rt: &HostRuntime,
+    threads: &(impl Threads + Wait + Sync),
+    setup: ConsoleSetup<'_, TarSink<T>>,
+    reader: &mut R,
+    answers: W,
+) -> io::Result<u8>
+    requires few { AreFew (length setup.drives.items) }
+{
+    let writer = BufWriter::new(rt.alloc(), answers)?;
+    let mut task = setup.onto(writer);
+    let stream = console_stream(threads, rt.alloc(), &mut task, reader);
+    report_tar(rt, stream.run, stream.end)
+}
+
+/// Reads lines and answers them on standard output, over the jobs of a client's file set before a
+/// moment in a catalogue. After `done` prints the bootstrap and the manifest, and puts the restored files
+/// where they are to go: into a folder, or as a tar stream into a file or to standard output. In the last
+/// case all that is printed goes to standard error. What is refused of a line is part of the answers; any
+/// other refusal goes to standard error, and so does the stop of a delivery.
+///
+/// Client and file set (2), moment (52), the folder, which has to exist and be empty, or the file, which
+/// must not be there (81), and the catalogue (45, 47) are tested in this order before a line is read. The
+/// manifest is printed before any file is put.
+///
+/// Returns the exit status: 0 if nothing was refused and each outcome is a file; 1 if something was
+/// refused or some outcome is not a file; 3 if the reader or standard output failed.
+///
+/// # Errors
+///
+/// If memory ran out or standard error failed.
+pub fn restore_by_lines<C: Catalogue, R: BufRead + Drop>(
+    rt: &HostRuntime,
+    threads: &(impl Threads + Wait + Sync),
+    catalogue: &C,
+    given: &ConsoleOptions<'_>,
+    reader: &mut R,
+) -> io::Result<u8>
+    requires few { AreFew given.now.drives }
+{
+    match given.target {
+        Target::Nowhere | Target::Folder(_) => restore_into(rt, threads, catalogue, given, reader),
+        Target::TarFile(path) => match set_up_tar_file(rt, catalogue, given, path) {
+            Ok(setup) => restore_onto(rt, threads, setup, reader, io::writer(rt)),
+            Err(fault) => refuse(rt, &fault),
+        },
+        Target::TarOutput => match set_up_tar_output(rt, catalogue, given) {
+            Ok(setup) => restore_onto(rt, threads, setup, reader, rt.stderr()),
+            Err(fault) => refuse(rt, &fault),
+        },
+    }
 }
 
 /// Restores by the lines of standard input, as `restore_by_lines`.

@@ -2,20 +2,22 @@
 ghost use Rattle.std.specs.Prelude.{◌≡◌, length, option_map, IfOk};
 ghost use Rattle.br_options.specs.Options.{AreFew};
 ghost use Rattle.br_pool.specs.Pool.{AreDrives};
-ghost use Rattle.br_commands.specs.Asked.{AreOver};
-ghost use Rattle.br_commands.specs.Ending.{run_refusal, run_status};
-ghost use Rattle.br_commands.specs.Tasks.{ExtractsTask};
+ghost use Rattle.br_commands.specs.Asked.{AreOver, folder_asked};
+ghost use Rattle.br_commands.specs.Ending.{extent, run_refusal, run_status};
+ghost use Rattle.br_commands.specs.Tasks.{ExtractsTask, StreamsTask};
 
-use crate::folders::{HostDrive, HostSink, drives_over, sink_over};
+use crate::folders::{HostDrive, HostSink, drives_over, folder_of, sink_over};
 use crate::status::{BAD_STREAM, CLEAN, Ending, REFUSED};
+use crate::tar::{Extent, TarEnd, TarFault, add_tar_end, end_stream, tar_into, tar_onto};
 use br_engine::{ExtractFault, Flush, Outputs, RestoreEnd, extract_text};
 use br_folder_sink::FolderFault;
-use br_options::ExtractOptions;
+use br_options::{ExtractOptions, Target};
 use br_sink::Sink;
+use br_tar::TarSink;
 use br_volume::Drive;
 use std::alloc::{AllocError, Global};
 use std::fs;
-use std::io::{self, BufWriter, ErrorKind};
+use std::io::{self, BufWriter, ErrorKind, Write};
 use std::rt::Files;
 use std::sync::Wait;
 use std::thread::Threads;
@@ -92,6 +94,9 @@ pub enum ExtractStartFault {
     /// The folder to deliver into was refused.
     #[error("{0}")]
     Folder(FolderFault),
+    /// The file to write a tar stream into was refused.
+    #[error("{0}")]
+    Tar(TarFault),
     /// The file of the bootstrap can't be read, or memory ran out.
     #[error("{0}")]
     Io(io::Error),
@@ -117,24 +122,38 @@ impl From<AllocError> for ExtractStartFault {
 
 /// All that is there before a drive is asked.
 #[derive(Drop)]
-pub struct ExtractSetup<'r, 'p> {
+pub struct ExtractSetup<'r, 'p, S> {
     bootstrap: BootstrapFile<'p>,
     drives: Vec<HostDrive<'r>>,
-    sink: Option<HostSink<'r>>,
+    sink: Option<S>,
 }
 
-/// Makes all that is there before a drive is asked. The folder to deliver into is tested (81) before
-/// the bootstrap is read.
+/// Makes all that is there before a drive is asked, to deliver into a folder if there is one. The folder
+/// is tested (81) before the bootstrap is read.
 pub fn set_up_extract<'r, 'p>(
     rt: &'r HostRuntime,
     given: &ExtractOptions<'p>,
-) -> Result<ExtractSetup<'r, 'p>, ExtractStartFault>
+) -> Result<ExtractSetup<'r, 'p, HostSink<'r>>, ExtractStartFault>
     ensures bootstrap { IfOk result (λ setup. setup.bootstrap.path.now ≡ given.now.bsr.now) }
-    ensures into { IfOk result (λ setup. option_map (λ s. s.path) setup.sink ≡ option_map (λ f. f.now) given.now.into) }
+    ensures into { IfOk result (λ setup. option_map (λ s. s.path) setup.sink ≡ folder_asked given.now.target) }
     ensures drives { IfOk result (λ setup. length setup.drives.items ≡ given.now.drives) }
     ensures volumes { IfOk result (λ setup. AreOver given.now.volumes.now setup.drives.items) }
 {
-    let sink = sink_over(rt, given.into)?;
+    let sink = sink_over(rt, folder_of(given.target))?;
+    set_up_over(rt, given, sink)
+}
+
+/// Makes what else is there before a drive is asked, beside the sink.
+fn set_up_over<'r, 'p, S: Drop>(
+    rt: &'r HostRuntime,
+    given: &ExtractOptions<'p>,
+    sink: Option<S>,
+) -> Result<ExtractSetup<'r, 'p, S>, ExtractStartFault>
+    ensures bootstrap { IfOk result (λ setup. setup.bootstrap.path.now ≡ given.now.bsr.now) }
+    ensures sink { IfOk result (λ setup. setup.sink ≡ sink.entry) }
+    ensures drives { IfOk result (λ setup. length setup.drives.items ≡ given.now.drives) }
+    ensures volumes { IfOk result (λ setup. AreOver given.now.volumes.now setup.drives.items) }
+{
     let bootstrap = BootstrapFile::read(rt, given.bsr)?;
     let drives = drives_over(rt, given.volumes, given.drives)?;
     Ok(ExtractSetup {
@@ -148,6 +167,11 @@ pub fn set_up_extract<'r, 'p>(
 fn refuse<R: Eprint>(rt: &R, bsr: &str, fault: ExtractStartFault) -> io::Result<u8> {
     match fault {
         ExtractStartFault::Folder(fault) => {
+            eprintln!(rt; "refused {}", fault.number())?;
+            Ok(REFUSED)
+        }
+        ExtractStartFault::Tar(TarFault::Memory) => Err(ErrorKind::OutOfMemory.into()),
+        ExtractStartFault::Tar(fault) => {
             eprintln!(rt; "refused {}", fault.number())?;
             Ok(REFUSED)
         }
@@ -167,9 +191,9 @@ pub struct ExtractTask<D, W, S> {
     out: Outputs<W, S>,
 }
 
-impl<'r> ExtractSetup<'r, '_> {
+impl<'r, S> ExtractSetup<'r, '_, S> {
     /// Returns the task to restore by what was set up, with the manifest to this writer.
-    pub fn onto<W>(self, writer: W) -> ExtractTask<HostDrive<'r>, W, HostSink<'r>>
+    pub fn onto<W>(self, writer: W) -> ExtractTask<HostDrive<'r>, W, S>
         ensures text { result.text ≡ self.entry.bootstrap.text }
         ensures drives { result.drives ≡ self.entry.drives }
         ensures out { result.out ≡ record { writer = writer; sink = self.entry.sink } }
@@ -201,12 +225,101 @@ pub fn extract_over<D: Drive + Send, W: Flush, S: Sink>(
     extract_text(threads, alloc, &task.text, &mut task.drives, &mut task.out)
 }
 
+/// Returns how many of the restored files a run put into its sink.
+fn extent_of(run: &Result<RestoreEnd, ExtractFault>) -> Extent
+    ensures { result ≡ extent run.now }
+{
+    match run {
+        Ok(RestoreEnd::AllFiles | RestoreEnd::SomeFaults) => Extent::All,
+        Ok(RestoreEnd::Stopped(_)) | Err(_) => Extent::Part,
+    }
+}
+
+/// What came of a run whose files go into a tar stream.
+#[derive(Debug, Drop)]
+pub(crate) struct ExtractStream<W> {
+    run: Result<RestoreEnd, ExtractFault>,
+    /// What became of the stream.
+    end: TarEnd,
+    /// What it was written to, if the task has a sink.
+    writer: Option<W>,
+}
+
+/// Carries out a task whose sink writes a tar stream, and ends the stream if all files were put. The
+/// manifest goes to the task's writer before.
+fn extract_stream<D: Drive + Send, W: Flush, T: Write + Drop>(
+    threads: &(impl Threads + Wait + Sync),
+    alloc: Global,
+    task: &mut ExtractTask<D, W, TarSink<T>>,
+) -> ExtractStream<T>
+    requires drives { AreDrives task.old.drives.items }
+    ensures streams { StreamsTask D.shows W.contents T.contents task.old task.new result }
+    ensures flushed { IfOk result.run (λ _. W.is_flushed task.new.out.writer) }
+{
+    let run = extract_over(threads, alloc, task);
+    let (writer, end) = end_stream(task.out.sink.take(), extent_of(&run));
+    ExtractStream { run, end, writer }
+}
+
+/// Prints how a run with a tar stream ended to standard error. Returns the exit status.
+fn report_tar<R: Eprint + AllocGlobal>(
+    rt: &R,
+    run: Result<RestoreEnd, ExtractFault>,
+    end: TarEnd,
+) -> io::Result<u8> {
+    let mut ending = extract_ending(rt.alloc(), &run)?;
+    add_tar_end(&mut ending, end)?;
+    if let Err(fault) = &run {
+        report_stream(rt, fault)?;
+    }
+    ending.print(rt)
+}
+
+/// Restores into a folder, or prints the manifest alone if there is none.
+fn extract_into(
+    rt: &HostRuntime,
+    threads: &(impl Threads + Wait + Sync),
+    given: &ExtractOptions<'_>,
+) -> io::Result<u8>
+    requires few { AreFew given.now.drives }
+{
+    let setup = match set_up_extract(rt, given) {
+        Ok(setup) => setup,
+        Err(fault) => return refuse(rt, given.bsr, fault),
+    };
+    let writer = BufWriter::new(rt.alloc(), io::writer(rt))?;
+    let mut task = setup.onto(writer);
+    let run = extract_over(threads, rt.alloc(), &mut task);
+    report(rt, run)
+}
+
+/// Restores into the tar stream of a sink, with the manifest to this writer.
+fn extract_onto<T: Write + Drop, W: Write + Drop>(
+    rt: &HostRuntime,
+    threads: &(impl Threads + Wait + Sync),
+    given: &ExtractOptions<'_>,
+    sink: TarSink<T>,
+    manifest: W,
+) -> io::Result<u8>
+    requires few { AreFew given.now.drives }
+{
+    let setup = match set_up_over(rt, given, Some(sink)) {
+        Ok(setup) => setup,
+        Err(fault) => return refuse(rt, given.bsr, fault),
+    };
+    let writer = BufWriter::new(rt.alloc(), manifest)?;
+    let mut task = setup.onto(writer);
+    let stream = extract_stream(threads, rt.alloc(), &mut task);
+    report_tar(rt, stream.run, stream.end)
+}
+
 /// Restores by the bootstrap in a file over the volumes in a folder. The manifest goes to standard
-/// output, and what is refused to standard error. If there is a folder `into`, the restored files are
-/// then put into it.
+/// output, and what is refused to standard error. Then the restored files are put where they are to go:
+/// into a folder, or as a tar stream into a file or to standard output. In the last case the manifest
+/// goes to standard error.
 ///
-/// The folder `into` has to exist and be empty, else it is refused (81) before anything is read. The
-/// manifest is printed before anything is written into it.
+/// A folder has to exist and be empty, and a file must not be there, else it is refused (81) before
+/// anything is read. The manifest is printed before any file is put.
 ///
 /// Returns the exit status: 0 if nothing was refused and each outcome is a file; 1 if something was
 /// refused or some outcome is not a file; 3 if the bootstrap could not be read or the manifest could not
@@ -222,12 +335,15 @@ pub(crate) fn extract_files(
 ) -> io::Result<u8>
     requires few { AreFew given.now.drives }
 {
-    let setup = match set_up_extract(rt, given) {
-        Ok(setup) => setup,
-        Err(fault) => return refuse(rt, given.bsr, fault),
-    };
-    let writer = BufWriter::new(rt.alloc(), io::writer(rt))?;
-    let mut task = setup.onto(writer);
-    let run = extract_over(threads, rt.alloc(), &mut task);
-    report(rt, run)
+    match given.target {
+        Target::Nowhere | Target::Folder(_) => extract_into(rt, threads, given),
+        Target::TarFile(path) => match tar_into(rt, path) {
+            Ok(sink) => extract_onto(rt, threads, given, sink, io::writer(rt)),
+            Err(fault) => refuse(rt, given.bsr, ExtractStartFault::Tar(fault)),
+        },
+        Target::TarOutput => match tar_onto(rt.alloc(), io::writer(rt)) {
+            Ok(sink) => extract_onto(rt, threads, given, sink, rt.stderr()),
+            Err(fault) => refuse(rt, given.bsr, ExtractStartFault::Tar(fault)),
+        },
+    }
 }

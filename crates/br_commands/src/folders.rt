@@ -1,10 +1,11 @@
 //! Drives and a sink over the folders of the command line.
 ghost use Rattle.std.specs.Prelude.{◌≡◌, length, option_map, IfOk};
-ghost use Rattle.br_commands.specs.Asked.{AreOver};
+ghost use Rattle.br_commands.specs.Asked.{AreOver, folder_asked};
 
 use br_files::HostDisk;
 use br_folder::FolderDrive;
 use br_folder_sink::{FolderFault, FolderSink};
+use br_options::Target;
 use std::alloc::AllocError;
 
 /// A drive over a folder of the system.
@@ -27,6 +28,16 @@ pub(crate) fn drives_over<'r>(
         drives.push_reserved(FolderDrive::new(rt.alloc(), rt, volumes)?);
     }
     Ok(drives)
+}
+
+/// Returns the folder that the restored files go into, if they go into one.
+pub(crate) fn folder_of(target: Target<'_>) -> Option<&str>
+    ensures { option_map (λ f. f.now) result ≡ folder_asked target.entry }
+{
+    match target {
+        Target::Folder(folder) => Some(folder),
+        Target::Nowhere | Target::TarFile(_) | Target::TarOutput => None,
+    }
 }
 
 /// Returns the sink over the folder to deliver into, if there is one.

@@ -12,6 +12,7 @@ mod extract;
 mod folders;
 mod script;
 mod status;
+mod tar;
 
 pub use catalogue::{Catalogue, CatalogueFault};
 pub use command::run_command;
@@ -24,3 +25,4 @@ pub use extract::{
 };
 pub use script::answer;
 pub use status::{BAD_STREAM, CLEAN, Ending, REFUSED};
+pub use tar::TarFault;

@@ -10,7 +10,7 @@ use br_commands::{
     set_up_console,
 };
 use br_history::History;
-use br_options::{ConsoleOptions, Invocation};
+use br_options::{ConsoleOptions, Invocation, Target};
 use std::fs;
 use std::io::Write;
 use std::sync::Wait;
@@ -31,7 +31,7 @@ fn given_of<'x>(db: &'x str, volumes: &'x str, into: &'x str) -> ConsoleOptions<
         client: "mars",
         fileset: "home",
         before: AFTER,
-        into: Some(into),
+        target: Target::Folder(into),
         drives: 2,
     }
 }
@@ -310,7 +310,7 @@ fn refusal_of<'x>(
         client,
         fileset: "home",
         before,
-        into: Some(folder),
+        target: Target::Folder(folder),
         drives: 1,
     };
     match set_up_console(rt, &NewCatalogues { rt }, &given) {

@@ -6,7 +6,7 @@ use br_commands::{
     run_command, set_up_extract,
 };
 use br_history::History;
-use br_options::{ExtractOptions, Invocation};
+use br_options::{ExtractOptions, Invocation, Target};
 use std::alloc::Global;
 use std::fs;
 use std::io::Write;
@@ -114,7 +114,7 @@ fn delivered<W: Write>(
     let given = ExtractOptions {
         bsr: bsr.as_str(),
         volumes: volumes.as_str(),
-        into: Some(into.as_str()),
+        target: Target::Folder(into.as_str()),
         drives: 3,
     };
     let mut task = set_up_extract(rt, &given)?.onto(manifest);
@@ -219,7 +219,7 @@ fn status_in(
     threads: &(impl Threads + Wait + Sync),
     place: &str,
     bootstrap: &[u8],
-    into: Option<&str>,
+    target: Target<'_>,
 ) -> Result<u8, Fail> {
     let bsr = path_in(rt, place, "one.bsr")?;
     let volumes = path_in(rt, place, "volumes")?;
@@ -227,7 +227,7 @@ fn status_in(
     let command = Invocation::Extract(ExtractOptions {
         bsr: bsr.as_str(),
         volumes: volumes.as_str(),
-        into,
+        target,
         drives: 2,
     });
     Ok(run_command(rt, threads, &NoCatalogue, &command)?)
@@ -238,12 +238,18 @@ fn extract_delivers_only_if_asked(rt: HostRuntime) -> Result<(), Fail> {
     let place = new_place(&rt, "whole", FOLDERS.volumes)?;
     let into = path_in(&rt, place.as_str(), "into")?;
     assert_eq!(rt;
-        status_in(&rt, &rt, place.as_str(), b"Volume=V\n", None)?,
+        status_in(&rt, &rt, place.as_str(), b"Volume=V\n", Target::Nowhere)?,
         0
     );
     assert_eq!(rt; entries_in(&rt, place.as_str(), "into")?, 0);
     assert_eq!(rt;
-        status_in(&rt, &rt, place.as_str(), b"Volume=V\n", Some(into.as_str()))?,
+        status_in(
+            &rt,
+            &rt,
+            place.as_str(),
+            b"Volume=V\n",
+            Target::Folder(into.as_str())
+        )?,
         0
     );
     assert!(rt; are_there(&rt, place.as_str(), FOLDERS.files)?);
@@ -258,7 +264,10 @@ const REFUSED: [&[u8]; 2] = [b"Volume=W\n", b"Volume=V\nJob=1\n"];
 fn a_refused_restore_ends_extract_with_status_1(rt: HostRuntime) -> Result<(), Fail> {
     let place = new_place(&rt, "refused", FOLDERS.volumes)?;
     for bootstrap in REFUSED {
-        assert_eq!(rt; status_in(&rt, &rt, place.as_str(), bootstrap, None)?, 1);
+        assert_eq!(rt;
+            status_in(&rt, &rt, place.as_str(), bootstrap, Target::Nowhere)?,
+            1
+        );
     }
     fs::remove_dir_all(&rt, place.as_str())?;
     Ok(())
@@ -269,7 +278,7 @@ fn is_refused(rt: &HostRuntime, folder: &str) -> bool {
     let given = ExtractOptions {
         bsr: "/no/such.bsr",
         volumes: folder,
-        into: Some(folder),
+        target: Target::Folder(folder),
         drives: 1,
     };
     matches!(set_up_extract(rt, &given), Err(ExtractStartFault::Folder(fault)) if fault.number() == 81)
@@ -288,7 +297,7 @@ fn a_folder_that_is_not_empty_is_refused_before_anything_is_read(
             &rt,
             place.as_str(),
             b"Volume=V\n",
-            Some(volumes.as_str())
+            Target::Folder(volumes.as_str())
         )?,
         1
     );

@@ -3,4 +3,4 @@
 
 mod options;
 
-pub use options::{ConsoleOptions, ExtractOptions, Invocation};
+pub use options::{ConsoleOptions, ExtractOptions, Invocation, Target};

@@ -1,3 +1,16 @@
+/// Where the restored files go.
+#[derive(Clone, Copy, Debug, PartialEq, Eq)]
+pub enum Target<'a> {
+    /// Nowhere: the manifest alone is printed.
+    Nowhere,
+    /// Into this folder.
+    Folder(&'a str),
+    /// Into this new file, as a tar stream.
+    TarFile(&'a str),
+    /// To standard output, as a tar stream.
+    TarOutput,
+}
+
 /// The options of `extract`.
 #[derive(Clone, Copy, Debug, PartialEq, Eq)]
 pub struct ExtractOptions<'a> {
@@ -5,8 +18,7 @@ pub struct ExtractOptions<'a> {
     pub bsr: &'a str,
     /// The folder of the volumes.
     pub volumes: &'a str,
-    /// The folder to write the restored files into.
-    pub into: Option<&'a str>,
+    pub target: Target<'a>,
     /// The number of drives that read the volumes at once, from 1 to 16.
     pub drives: usize,
 }
@@ -22,8 +34,7 @@ pub struct ConsoleOptions<'a> {
     pub fileset: &'a str,
     /// The moment, as text.
     pub before: &'a str,
-    /// The folder to write the restored files into.
-    pub into: Option<&'a str>,
+    pub target: Target<'a>,
     /// The number of drives that read the volumes at once, from 1 to 16.
     pub drives: usize,
 }

@@ -1,7 +1,7 @@
 use Rattle.std.proofs.Common.{rules}
 use Rattle.std.proofs.lemmas.Result.{err_from_is_err_and}
 use Rattle.br_command.specs.Words.{asked}
-use Rattle.br_command.proofs.WordsLaws.{no_fault, of_parse, value_missing}
+use Rattle.br_command.proofs.WordsLaws.{no_fault, nothing_asked, of_parse}
 use Rattle.br_command.proofs.words.read_by.Goals as goal
 
 pub returns-in_err-parsed-clause-fails : goal.returns-in_err-parsed-clause-fails
@@ -13,4 +13,4 @@ pub returns-in-Some-clause-fails : goal.returns-in-Some-clause-fails
 returns-in-Some-clause-fails c = no_fault _ (asked c.in-Some.invocation) c.in_ok-parsed.ensures.fails (search rules)
 
 pub returns-in_ok-error-in-None-clause-fails : goal.returns-in_ok-error-in-None-clause-fails
-returns-in_ok-error-in-None-clause-fails c = value_missing _ c.in_ok-error-in-None.field-0 c.in_ok-parsed.ensures.fails (search rules) (search rules)
+returns-in_ok-error-in-None-clause-fails c = nothing_asked _ c.in_ok-error-in-None.field-0 c.in_ok-parsed.ensures.fails (search rules) (search rules)

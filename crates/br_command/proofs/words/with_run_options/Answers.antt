@@ -1,12 +1,12 @@
-use Rattle.std.proofs.Common.{refl}
+use Rattle.std.proofs.Common.{ap₂, ◌∙◌}
 use Rattle.std.proofs.lemmas.Result.{IfOk-weaker}
-use Rattle.br_command.proofs.WordsLaws.{two_added}
+use Rattle.clap.specs.Simple.{with_rule}
 use Rattle.br_command.proofs.words.with_run_options.Goals as goal
 
 pub returns-clause-app : goal.returns-clause-app
 returns-clause-app c =
-    IfOk-weaker c.arg-2.result _ _
+    IfOk-weaker c.arg.result _ _
     (λ last added.
-    two_added c.args.command c.in_ok-arg.field-0 last c.into_option.result c.drives_option.result _ _ _ refl c.in_ok-arg.ensures added
-    c.into_option.ensures.rule c.into_option.ensures.local c.drives_option.ensures.rule c.drives_option.ensures.local)
-    c.arg-2.ensures
+    added.shape c.drives_option.ensures.local
+    ∙ ap₂ with_rule c.in_ok-with_target_options.ensures.app c.drives_option.ensures.rule)
+    c.arg.ensures

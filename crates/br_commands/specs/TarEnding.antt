@@ -1,0 +1,54 @@
+-- How a tar stream of restored files ends.
+use Rattle.std.specs.Prelude.{◌≡◌, ◌⊎◌, ◌++◌, ◌==◌, ℕ, List, [], ◌∷◌, Option, Some, None, codes, decimal, if◌then◌else◌, ⊤}
+use Rattle.br_model.specs.File.{Item}
+use Rattle.br_model.specs.Text.{refused_line}
+use Rattle.br_sink.specs.Fault.{fault_number}
+use Rattle.br_tar.specs.Stream.{HoldsCut, HoldsTar}
+use Rattle.br_commands.specs.declared.tar.Extent.{Extent}
+use Rattle.br_commands.specs.declared.tar.Extent.TheVariants as extents
+use Rattle.br_commands.specs.declared.tar.TarEnd.{TarEnd}
+use Rattle.br_commands.specs.declared.tar.TarEnd.TheVariants.{Whole, Cut, Refused}
+use Rattle.br_commands.specs.declared.tar.TarFault.{TarFault}
+use Rattle.br_commands.specs.declared.tar.TarFault.TheVariants as faults
+
+-- the number of the refusal
+abbrev pub tar_fault_number : TarFault → ℕ
+tar_fault_number faults.Memory = 1
+tar_fault_number faults.NoFile = 81
+
+-- What the writer holds, if the sink tells its files: their stream; their entries and the first bytes of what comes after them; one of
+-- both if the end could not be written.
+abbrev pub HoldsBy : Option (List Item) → TarEnd → Option (List ℕ) → Type 0
+HoldsBy told (Whole n) stream = HoldsTar told stream
+HoldsBy told Cut stream = HoldsCut told stream
+HoldsBy told (Refused fault) stream = HoldsTar told stream ⊎ HoldsCut told stream
+
+-- the same, if there is a sink
+abbrev pub StreamHolds : Option (Option (List Item)) → TarEnd → Option (Option (List ℕ)) → Type 0
+StreamHolds None end None = ⊤
+StreamHolds None end (Some stream) = ⊥
+StreamHolds (Some told) end None = ⊥
+StreamHolds (Some told) end (Some stream) = HoldsBy told end stream
+
+-- so many files have no entry in a stream that has its end
+abbrev pub IsClosed : ℕ → TarEnd → Type 0
+IsClosed left_out (Whole n) = n ≡ left_out
+IsClosed left_out Cut = ⊥
+IsClosed left_out (Refused fault) = ⊤
+
+-- a stream without all of the files has no end
+abbrev pub EndsBy : Extent → ℕ → TarEnd → Type 0
+EndsBy extents.All left_out end = IsClosed left_out end
+EndsBy extents.Part left_out end = end ≡ Cut
+
+-- the line of a stream: how many files have no entry if there are some, or the refusal of its end
+abbrev pub tar_text : TarEnd → List ℕ
+tar_text (Whole n) = if n == 0 then [] else codes "left out " ++ decimal n ++ 10 ∷ []
+tar_text Cut = []
+tar_text (Refused fault) = refused_line (fault_number fault)
+
+-- the exit status, beside that of the run
+abbrev pub tar_status : ℕ → TarEnd → ℕ
+tar_status status (Whole n) = status
+tar_status status Cut = status
+tar_status status (Refused fault) = 1

@@ -1,0 +1,208 @@
+//! The tar stream that restored files go into, and how it ends.
+ghost use Rattle.std.specs.Prelude.{◌≡◌, ◌++◌, ◌∷◌, [], ℕ, List, Option, codes, decimal, option_map, OnOk, IfSome};
+ghost use Rattle.br_model.specs.File.{Item};
+ghost use Rattle.br_tar.specs.Stream.{told};
+ghost use Rattle.br_commands.specs.TarEnding.{EndsBy, HoldsBy, IsClosed, StreamHolds, tar_fault_number, tar_status, tar_text};
+ghost use Rattle.br_commands.specs.declared.tar.Extent.{Extent};
+ghost use Rattle.br_commands.specs.declared.tar.TarFault.TheVariants.{Memory};
+
+use crate::status::{Ending, REFUSED};
+use br_engine::push_refused_line;
+use br_files::{DiskFault, FileMaker, HostDisk};
+use br_sink::SinkFault;
+use br_tar::TarSink;
+use br_types::push_number;
+use std::alloc::{AllocError, Global};
+use std::fs::File;
+use std::io::{BufWriter, Write};
+use thiserror::Error;
+
+/// Why there is no file to write a tar stream into.
+#[derive(Clone, Copy, Debug, PartialEq, Eq, Error)]
+pub enum TarFault {
+    #[error("out of memory")]
+    Memory,
+    #[error("the file is there, or can't be made")]
+    NoFile,
+}
+
+impl TarFault {
+    /// Returns the number of the refusal: 1 out of memory, 81 a file that is there or can't be made.
+    pub fn number(self) -> u32
+        ensures { result ≡ tar_fault_number self }
+    {
+        match self {
+            TarFault::Memory => 1,
+            TarFault::NoFile => 81,
+        }
+    }
+}
+
+impl From<AllocError> for TarFault {
+    ghost from_gives = { λ _ e. e ≡ Memory };
+
+    fn from(_e: AllocError) -> TarFault {
+        TarFault::Memory
+    }
+}
+
+/// Makes the file at a path, which is not there.
+fn new_file<M: FileMaker>(maker: &mut M, path: &str) -> Result<M::New, TarFault> {
+    match maker.make_file(path) {
+        Ok(file) => Ok(file),
+        Err(DiskFault::Memory) => Err(TarFault::Memory),
+        Err(_) => Err(TarFault::NoFile),
+    }
+}
+
+/// Returns a sink that writes a tar stream to a writer, through a buffer.
+pub(crate) fn tar_onto<W: Write + Drop>(
+    alloc: Global,
+    writer: W,
+) -> Result<TarSink<BufWriter<W>>, TarFault> {
+    match BufWriter::new(alloc, writer) {
+        Ok(writer) => Ok(TarSink::new(alloc, writer)),
+        Err(_) => Err(TarFault::Memory),
+    }
+}
+
+/// Returns a sink that writes a tar stream into the file at a path, which is not there and is made.
+pub(crate) fn tar_into(rt: &HostRuntime, path: &str) -> Result<TarSink<BufWriter<File>>, TarFault> {
+    let mut disk = HostDisk::new(rt.alloc(), rt);
+    let file = new_file(&mut disk, path)?;
+    tar_onto(rt.alloc(), file)
+}
+
+/// How many of the restored files were put into the sink.
+#[derive(Clone, Copy, Debug, PartialEq, Eq)]
+pub(crate) enum Extent {
+    All,
+    /// None, or those before a stop.
+    Part,
+}
+
+/// What became of a tar stream.
+#[derive(Clone, Copy, Debug, PartialEq, Eq)]
+pub(crate) enum TarEnd {
+    /// It has its end. So many of the files have no entry in it.
+    Whole(u64),
+    /// Not all files were put, and it has no end.
+    Cut,
+    /// Its end could not be written.
+    Refused(SinkFault),
+}
+
+/// Writes the end of a stream.
+fn finished<W: Write + Drop>(sink: TarSink<W>) -> (W, TarEnd)
+    ensures held { HoldsBy (told sink) result.1 (W.contents result.0) }
+    ensures ends { IsClosed sink.left_out result.1 }
+{
+    let left_out = sink.left_out();
+    let (writer, ended) = sink.finish();
+    match ended {
+        Ok(()) => (writer, TarEnd::Whole(left_out)),
+        Err(fault) => (writer, TarEnd::Refused(fault)),
+    }
+}
+
+/// Flushes what a stream was written to, and returns what became of the stream.
+fn flushed<W: Write>(writer: &mut W, end: TarEnd) -> TarEnd
+    ensures held { (t : Option (List Item)) → HoldsBy t end (W.contents writer.old) → HoldsBy t result (W.contents writer.new) }
+    ensures ends { (extent : Extent) (n : ℕ) → EndsBy extent n end → EndsBy extent n result }
+{
+    match writer.flush() {
+        Ok(()) => end,
+        Err(_) => not_flushed(end),
+    }
+}
+
+/// Returns what became of a stream that could not be flushed.
+fn not_flushed(end: TarEnd) -> TarEnd
+    ensures held { (t : Option (List Item)) (stream : Option (List ℕ)) → HoldsBy t end stream → HoldsBy t result stream }
+    ensures ends { (extent : Extent) (n : ℕ) → EndsBy extent n end → EndsBy extent n result }
+{
+    match end {
+        TarEnd::Whole(_) => TarEnd::Refused(SinkFault::Fault),
+        TarEnd::Cut => TarEnd::Cut,
+        TarEnd::Refused(fault) => TarEnd::Refused(fault),
+    }
+}
+
+/// Ends the stream of a sink if all files were put, and flushes what it was written to.
+fn end_of<W: Write + Drop>(sink: TarSink<W>, extent: Extent) -> (W, TarEnd)
+    ensures held { HoldsBy (told sink) result.1 (W.contents result.0) }
+    ensures ends { EndsBy extent sink.left_out result.1 }
+{
+    match extent {
+        Extent::All => {
+            let (mut writer, end) = finished(sink);
+            let end = flushed(&mut writer, end);
+            (writer, end)
+        }
+        Extent::Part => {
+            let mut writer = sink.into_writer();
+            let end = flushed(&mut writer, TarEnd::Cut);
+            (writer, end)
+        }
+    }
+}
+
+/// Ends the stream of a sink, if there is one and all files were put, and flushes what it was written to.
+/// Returns this writer, and what became of the stream.
+pub(crate) fn end_stream<W: Write + Drop>(
+    sink: Option<TarSink<W>>,
+    extent: Extent,
+) -> (Option<W>, TarEnd)
+    ensures held { StreamHolds (option_map told sink) result.1 (option_map W.contents result.0) }
+    ensures ends { IfSome sink (λ s. EndsBy extent s.left_out result.1) }
+{
+    match sink {
+        None => (None, TarEnd::Cut),
+        Some(sink) => {
+            let (writer, end) = end_of(sink, extent);
+            (Some(writer), end)
+        }
+    }
+}
+
+/// Appends the line that says how many files have no entry in a stream.
+fn push_left_out(text: &mut Vec<u8>, count: u64) -> Result<(), AllocError>
+    ensures { OnOk result (text.new.items ≡ text.old.items ++ codes "left out " ++ decimal count ++ 10 ∷ []) }
+{
+    text.extend_from_slice(b"left out ")?;
+    push_number(text, count)?;
+    text.push(b'\n')?;
+    Ok(())
+}
+
+/// Appends the line that says what became of a stream, and nothing if it is whole with all files or its cut
+/// is told by another line.
+fn push_end(text: &mut Vec<u8>, end: TarEnd) -> Result<(), AllocError>
+    ensures { OnOk result (text.new.items ≡ text.old.items ++ tar_text end) }
+{
+    match end {
+        TarEnd::Whole(0) | TarEnd::Cut => Ok(()),
+        TarEnd::Whole(count) => push_left_out(text, count),
+        TarEnd::Refused(fault) => push_refused_line(text, fault.number()),
+    }
+}
+
+/// Returns the exit status of a run with this status of its own.
+fn status_with(status: u8, end: TarEnd) -> u8
+    ensures { result ≡ tar_status status end }
+{
+    match end {
+        TarEnd::Whole(_) | TarEnd::Cut => status,
+        TarEnd::Refused(_) => REFUSED,
+    }
+}
+
+/// Adds what became of a stream to the ending of a run.
+pub(crate) fn add_tar_end(ending: &mut Ending, end: TarEnd) -> Result<(), AllocError>
+    ensures status { OnOk result (ending.new.status ≡ tar_status ending.old.status end) }
+    ensures refusal { OnOk result (ending.new.refusal.items ≡ ending.old.refusal.items ++ tar_text end) }
+{
+    push_end(&mut ending.refusal, end)?;
+    ending.status = status_with(ending.status, end);
+    Ok(())
+}
