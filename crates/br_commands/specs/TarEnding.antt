@@ -3,6 +3,7 @@ use Rattle.std.specs.Prelude.{◌≡◌, ◌⊎◌, ◌++◌, ◌==◌, ℕ, Lis
 use Rattle.br_model.specs.File.{Item}
 use Rattle.br_model.specs.Text.{refused_line}
 use Rattle.br_sink.specs.Fault.{fault_number}
+use Rattle.br_sink.specs.declared.fault.SinkFault.TheVariants.{Fault}
 use Rattle.br_tar.specs.Stream.{HoldsCut, HoldsTar}
 use Rattle.br_commands.specs.declared.tar.Extent.{Extent}
 use Rattle.br_commands.specs.declared.tar.Extent.TheVariants as extents
@@ -30,6 +31,16 @@ StreamHolds None end (Some stream) = ⊥
 StreamHolds (Some told) end None = ⊥
 StreamHolds (Some told) end (Some stream) = HoldsBy told end stream
 
+-- what became of a stream that could not be flushed
+abbrev pub not_flushed : TarEnd → TarEnd
+not_flushed (Whole n) = Refused Fault
+not_flushed Cut = Cut
+not_flushed (Refused fault) = Refused fault
+
+-- the same, or that of a stream that could not be flushed
+abbrev pub IsFlushed : TarEnd → TarEnd → Type 0
+IsFlushed end later = (later ≡ end) ⊎ (later ≡ not_flushed end)
+
 -- so many files have no entry in a stream that has its end
 abbrev pub IsClosed : ℕ → TarEnd → Type 0
 IsClosed left_out (Whole n) = n ≡ left_out
@@ -41,9 +52,13 @@ abbrev pub EndsBy : Extent → ℕ → TarEnd → Type 0
 EndsBy extents.All left_out end = IsClosed left_out end
 EndsBy extents.Part left_out end = end ≡ Cut
 
--- the line of a stream: how many files have no entry if there are some, or the refusal of its end
+-- the line that says how many files have no entry, if there are some
+abbrev pub left_out_text : ℕ → List ℕ
+left_out_text n = if n == 0 then [] else codes "left out " ++ decimal n ++ 10 ∷ []
+
+-- the line of a stream: how many files have no entry, or the refusal of its end
 abbrev pub tar_text : TarEnd → List ℕ
-tar_text (Whole n) = if n == 0 then [] else codes "left out " ++ decimal n ++ 10 ∷ []
+tar_text (Whole n) = left_out_text n
 tar_text Cut = []
 tar_text (Refused fault) = refused_line (fault_number fault)
 

@@ -339,7 +339,7 @@ fn extent_by(end: &End) -> Extent
 }
 
 /// What came of a session whose files go into a tar stream.
-#[derive(Debug, Drop)]
+#[derive(Drop)]
 pub(crate) struct ConsoleStream<W> {
     run: Result<ConsoleRun, ConsoleFault>,
     /// What became of the stream.

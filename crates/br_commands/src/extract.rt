@@ -236,7 +236,7 @@ fn extent_of(run: &Result<RestoreEnd, ExtractFault>) -> Extent
 }
 
 /// What came of a run whose files go into a tar stream.
-#[derive(Debug, Drop)]
+#[derive(Drop)]
 pub(crate) struct ExtractStream<W> {
     run: Result<RestoreEnd, ExtractFault>,
     /// What became of the stream.

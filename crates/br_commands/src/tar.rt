@@ -1,9 +1,8 @@
 //! The tar stream that restored files go into, and how it ends.
-ghost use Rattle.std.specs.Prelude.{◌≡◌, ◌++◌, ◌∷◌, [], ℕ, List, Option, codes, decimal, option_map, OnOk, IfSome};
-ghost use Rattle.br_model.specs.File.{Item};
+ghost use Rattle.std.specs.Prelude.{◌≡◌, ◌++◌, option_map, OnOk, IfSome};
+ghost use Rattle.std.specs.Io.KnownBytes.{Keeps};
 ghost use Rattle.br_tar.specs.Stream.{told};
-ghost use Rattle.br_commands.specs.TarEnding.{EndsBy, HoldsBy, IsClosed, StreamHolds, tar_fault_number, tar_status, tar_text};
-ghost use Rattle.br_commands.specs.declared.tar.Extent.{Extent};
+ghost use Rattle.br_commands.specs.TarEnding.{EndsBy, HoldsBy, IsClosed, IsFlushed, StreamHolds, left_out_text, not_flushed, tar_fault_number, tar_status, tar_text};
 ghost use Rattle.br_commands.specs.declared.tar.TarFault.TheVariants.{Memory};
 
 use crate::status::{Ending, REFUSED};
@@ -74,7 +73,7 @@ pub(crate) fn tar_into(rt: &HostRuntime, path: &str) -> Result<TarSink<BufWriter
 }
 
 /// How many of the restored files were put into the sink.
-#[derive(Clone, Copy, Debug, PartialEq, Eq)]
+#[derive(Clone, Copy, Debug)]
 pub(crate) enum Extent {
     All,
     /// None, or those before a stop.
@@ -82,7 +81,7 @@ pub(crate) enum Extent {
 }
 
 /// What became of a tar stream.
-#[derive(Clone, Copy, Debug, PartialEq, Eq)]
+#[derive(Clone, Copy, Debug)]
 pub(crate) enum TarEnd {
     /// It has its end. So many of the files have no entry in it.
     Whole(u64),
@@ -105,26 +104,25 @@ fn finished<W: Write + Drop>(sink: TarSink<W>) -> (W, TarEnd)
     }
 }
 
-/// Flushes what a stream was written to, and returns what became of the stream.
-fn flushed<W: Write>(writer: &mut W, end: TarEnd) -> TarEnd
-    ensures held { (t : Option (List Item)) → HoldsBy t end (W.contents writer.old) → HoldsBy t result (W.contents writer.new) }
-    ensures ends { (extent : Extent) (n : ℕ) → EndsBy extent n end → EndsBy extent n result }
-{
-    match writer.flush() {
-        Ok(()) => end,
-        Err(_) => not_flushed(end),
-    }
-}
-
 /// Returns what became of a stream that could not be flushed.
 fn not_flushed(end: TarEnd) -> TarEnd
-    ensures held { (t : Option (List Item)) (stream : Option (List ℕ)) → HoldsBy t end stream → HoldsBy t result stream }
-    ensures ends { (extent : Extent) (n : ℕ) → EndsBy extent n end → EndsBy extent n result }
+    ensures { result ≡ not_flushed end }
 {
     match end {
         TarEnd::Whole(_) => TarEnd::Refused(SinkFault::Fault),
         TarEnd::Cut => TarEnd::Cut,
         TarEnd::Refused(fault) => TarEnd::Refused(fault),
+    }
+}
+
+/// Flushes what a stream was written to, and returns what became of the stream.
+fn flushed<W: Write>(writer: &mut W, end: TarEnd) -> TarEnd
+    ensures bytes { Keeps (W.contents writer.old) (W.contents writer.new) }
+    ensures end { IsFlushed end result }
+{
+    match writer.flush() {
+        Ok(()) => end,
+        Err(_) => not_flushed(end),
     }
 }
 
@@ -165,24 +163,26 @@ pub(crate) fn end_stream<W: Write + Drop>(
     }
 }
 
-/// Appends the line that says how many files have no entry in a stream.
+/// Appends the line that says how many files have no entry in a stream, if there are some.
 fn push_left_out(text: &mut Vec<u8>, count: u64) -> Result<(), AllocError>
-    ensures { OnOk result (text.new.items ≡ text.old.items ++ codes "left out " ++ decimal count ++ 10 ∷ []) }
+    ensures { OnOk result (text.new.items ≡ text.old.items ++ left_out_text count) }
 {
+    if count == 0 {
+        return Ok(());
+    }
     text.extend_from_slice(b"left out ")?;
     push_number(text, count)?;
     text.push(b'\n')?;
     Ok(())
 }
 
-/// Appends the line that says what became of a stream, and nothing if it is whole with all files or its cut
-/// is told by another line.
+/// Appends the line that says what became of a stream. What cut it is told by another line.
 fn push_end(text: &mut Vec<u8>, end: TarEnd) -> Result<(), AllocError>
     ensures { OnOk result (text.new.items ≡ text.old.items ++ tar_text end) }
 {
     match end {
-        TarEnd::Whole(0) | TarEnd::Cut => Ok(()),
         TarEnd::Whole(count) => push_left_out(text, count),
+        TarEnd::Cut => Ok(()),
         TarEnd::Refused(fault) => push_refused_line(text, fault.number()),
     }
 }

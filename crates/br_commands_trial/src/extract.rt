@@ -213,8 +213,8 @@ impl Catalogue for NoCatalogue {
     }
 }
 
-/// Returns the status of the command `extract` in a place, by this bootstrap.
-fn status_in(
+/// Returns the status of the command `extract` in a place, by this bootstrap, with its files to this target.
+pub(crate) fn status_in(
     rt: &HostRuntime,
     threads: &(impl Threads + Wait + Sync),
     place: &str,

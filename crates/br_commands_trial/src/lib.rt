@@ -13,3 +13,5 @@ mod extract;
 mod places;
 #[cfg(test)]
 mod serving;
+#[cfg(test)]
+mod tar;
