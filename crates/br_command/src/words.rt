@@ -228,9 +228,7 @@ fn tar_target(file: &str) -> Target<'_>
 
 /// Returns where the restored files go by the values of `--into` and `--tar`, of which one may be given.
 fn target_by<'a>(into: Option<&'a str>, tar: Option<&'a str>) -> Option<Target<'a>>
-    ensures {
-        option_map target result ≡ target_by (option_map (λ s. s.now) into.entry) (option_map (λ s. s.now) tar.entry)
-    }
+    ensures { option_map target result ≡ target_by (option_map (λ s. s.now) into.entry) (option_map (λ s. s.now) tar.entry) }
 {
     match (into, tar) {
         (None, None) => Some(Target::Nowhere),

@@ -3,7 +3,7 @@ use Rattle.std.proofs.Common.{◌≡◌, ◌∙◌, ℕ, List, Option, Some, Non
 use Rattle.std.specs.Io.KnownBytes.{Keeps}
 use Rattle.br_model.specs.File.{Item}
 use Rattle.br_tar.specs.Stream.{HoldsCut, HoldsTar}
-use Rattle.br_commands.specs.TarEnding.{EndsBy, HoldsBy, IsClosed, IsFlushed, not_flushed}
+use Rattle.br_commands.specs.TarEnding.{EndsBy, HoldsBy, IsClosed, IsEnded, IsFlushed, not_flushed}
 use Rattle.br_commands.specs.declared.tar.Extent.TheVariants as extents
 use Rattle.br_commands.specs.declared.tar.TarEnd.{TarEnd}
 use Rattle.br_commands.specs.declared.tar.TarEnd.TheVariants.{Whole, Cut, Refused}
@@ -52,6 +52,11 @@ held_after told end later before after keeps (inr is) h =
 pub closed_after : (left_out : ℕ) (end later : TarEnd) → IsFlushed end later → IsClosed left_out end → IsClosed left_out later
 closed_after left_out end later (inl is) h = subst (λ e. IsClosed left_out e) (sym is) h
 closed_after left_out end later (inr is) h = subst (λ e. IsClosed left_out e) (sym is) (closed_anyway left_out end h)
+
+pub ended_after : (left_out : ℕ) (later : TarEnd) → IsClosed left_out later → IsEnded extents.All later
+ended_after left_out (Whole n) h = tt
+ended_after left_out Cut h = h
+ended_after left_out (Refused fault) h = tt
 
 -- a stream without an end has none after a flush
 pub cut_after : (later : TarEnd) → IsFlushed Cut later → later ≡ Cut

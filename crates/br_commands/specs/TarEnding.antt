@@ -24,13 +24,6 @@ HoldsBy told (Whole n) stream = HoldsTar told stream
 HoldsBy told Cut stream = HoldsCut told stream
 HoldsBy told (Refused fault) stream = HoldsTar told stream ⊎ HoldsCut told stream
 
--- the same, if there is a sink
-abbrev pub StreamHolds : Option (Option (List Item)) → TarEnd → Option (Option (List ℕ)) → Type 0
-StreamHolds None end None = ⊤
-StreamHolds None end (Some stream) = ⊥
-StreamHolds (Some told) end None = ⊥
-StreamHolds (Some told) end (Some stream) = HoldsBy told end stream
-
 -- what became of a stream that could not be flushed
 abbrev pub not_flushed : TarEnd → TarEnd
 not_flushed (Whole n) = Refused Fault
@@ -51,6 +44,20 @@ IsClosed left_out (Refused fault) = ⊤
 abbrev pub EndsBy : Extent → ℕ → TarEnd → Type 0
 EndsBy extents.All left_out end = IsClosed left_out end
 EndsBy extents.Part left_out end = end ≡ Cut
+
+-- the stream of a sink has an end if all files were put and it could be written, and not otherwise
+abbrev pub IsEnded : Extent → TarEnd → Type 0
+IsEnded extents.All (Whole n) = ⊤
+IsEnded extents.All Cut = ⊥
+IsEnded extents.All (Refused fault) = ⊤
+IsEnded extents.Part end = end ≡ Cut
+
+-- the same, and what its writer holds, if there is a sink
+abbrev pub StreamHolds : Extent → Option (Option (List Item)) → TarEnd → Option (Option (List ℕ)) → Type 0
+StreamHolds extent None end None = ⊤
+StreamHolds extent None end (Some stream) = ⊥
+StreamHolds extent (Some told) end None = ⊥
+StreamHolds extent (Some told) end (Some stream) = IsEnded extent end × HoldsBy told end stream
 
 -- the line that says how many files have no entry, if there are some
 abbrev pub left_out_text : ℕ → List ℕ

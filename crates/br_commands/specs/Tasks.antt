@@ -11,6 +11,8 @@ use Rattle.br_console.specs.Delivering.{Delivers}
 use Rattle.br_console.specs.declared.ending.ConsoleRun.{ConsoleRun}
 use Rattle.br_console.specs.declared.console_fault.ConsoleFault.{ConsoleFault}
 use Rattle.br_tar.specs.Stream.{InTar, told}
+use Rattle.br_commands.specs.Ending.{extent as extract_extent}
+use Rattle.br_commands.specs.ConsoleEnding.{extent as console_extent}
 use Rattle.br_commands.specs.TarEnding.{StreamHolds}
 use Rattle.br_commands.specs.declared.extract.ExtractStream.{ExtractStream}
 use Rattle.br_commands.specs.declared.extract.ExtractTask.{ExtractTask}
@@ -24,14 +26,14 @@ ExtractsTask shows contents has before after result =
     DeliversText shows contents has before.drives.items after.drives.items before.out after.out (Some before.text.items) result
 
 -- The manifest of the files that the bootstrap gives over the drives, and what the sink was told of them; or why there is no manifest.
--- The stream of the sink is that of what it was told.
+-- The stream of the sink is that of what it was told, and has an end if all files were put and it could be written.
 abbrev pub StreamsTask : {D W T : Type 0} → (D → Option (List Volume)) → (W → Option (List ℕ)) → (T → Option (List ℕ))
     → ExtractTask D W InTar → ExtractTask D W InTar → ExtractStream T → Type 0
 StreamsTask shows contents holds before after s =
     (now : InSink)
     × DeliversFiles (λ given. OverText (Some before.text.items) (map shows before.drives.items) (map shows after.drives.items) given)
-        (contents before.out.writer) (contents after.out.writer) (in_sink told before.out) now s.run
-    × StreamHolds now s.end (option_map holds s.writer)
+    (contents before.out.writer) (contents after.out.writer) (in_sink told before.out) now s.run
+    × StreamHolds (extract_extent s.run) now s.end (option_map holds s.writer)
 
 -- the session of the lines over the history and the request, and what became of the planned files in the sink
 abbrev pub RunsTask : {D W S : Type 0} → Option (List ℕ) → (D → Option (List Volume)) → (W → Option (List ℕ)) → (S → Option (List Item))
@@ -41,11 +43,11 @@ RunsTask lines shows contents has before after result =
     (in_sink has before.out) (in_sink has after.out) before.history before.request result
 
 -- The session of the lines over the history and the request, and what the sink was told of the planned files. The stream of the sink is that
--- of what it was told.
+-- of what it was told, and has an end if all files were put and it could be written.
 abbrev pub StreamsRun : {D W T : Type 0} → Option (List ℕ) → (D → Option (List Volume)) → (W → Option (List ℕ)) → (T → Option (List ℕ))
     → ConsoleTask D W InTar → ConsoleTask D W InTar → ConsoleStream T → Type 0
 StreamsRun lines shows contents holds before after s =
     (now : InSink)
     × Delivers lines (map shows before.drives.items) (map shows after.drives.items) (contents before.out.writer) (contents after.out.writer)
-        (in_sink told before.out) now before.history before.request s.run
-    × StreamHolds now s.end (option_map holds s.writer)
+    (in_sink told before.out) now before.history before.request s.run
+    × StreamHolds (console_extent s.run) now s.end (option_map holds s.writer)

@@ -2,7 +2,7 @@
 ghost use Rattle.std.specs.Prelude.{◌≡◌, ◌++◌, option_map, OnOk, IfSome};
 ghost use Rattle.std.specs.Io.KnownBytes.{Keeps};
 ghost use Rattle.br_tar.specs.Stream.{told};
-ghost use Rattle.br_commands.specs.TarEnding.{EndsBy, HoldsBy, IsClosed, IsFlushed, StreamHolds, left_out_text, not_flushed, tar_fault_number, tar_status, tar_text};
+ghost use Rattle.br_commands.specs.TarEnding.{EndsBy, HoldsBy, IsClosed, IsEnded, IsFlushed, StreamHolds, left_out_text, not_flushed, tar_fault_number, tar_status, tar_text};
 ghost use Rattle.br_commands.specs.declared.tar.TarFault.TheVariants.{Memory};
 
 use crate::status::{Ending, REFUSED};
@@ -130,6 +130,7 @@ fn flushed<W: Write>(writer: &mut W, end: TarEnd) -> TarEnd
 fn end_of<W: Write + Drop>(sink: TarSink<W>, extent: Extent) -> (W, TarEnd)
     ensures held { HoldsBy (told sink) result.1 (W.contents result.0) }
     ensures ends { EndsBy extent sink.left_out result.1 }
+    ensures ended { IsEnded extent result.1 }
 {
     match extent {
         Extent::All => {
@@ -151,7 +152,7 @@ pub(crate) fn end_stream<W: Write + Drop>(
     sink: Option<TarSink<W>>,
     extent: Extent,
 ) -> (Option<W>, TarEnd)
-    ensures held { StreamHolds (option_map told sink) result.1 (option_map W.contents result.0) }
+    ensures held { StreamHolds extent (option_map told sink) result.1 (option_map W.contents result.0) }
     ensures ends { IfSome sink (λ s. EndsBy extent s.left_out result.1) }
 {
     match sink {

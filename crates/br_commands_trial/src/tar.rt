@@ -76,21 +76,22 @@ fn extract_writes_the_stream_of_its_files_into_a_new_file(rt: HostRuntime) -> Re
 #[test]
 fn a_stream_that_stopped_has_no_end(rt: HostRuntime) -> Result<(), Fail> {
     let place = new_place(&rt, "tar_way", &[("V", [FRONT, b"/a/b", BACK])])?;
-    assert_eq!(rt; extract_status(&rt, &rt, place.as_str(), b"Volume=V\n", "x.tar")?, 1);
+    assert_eq!(rt;
+        extract_status(&rt, &rt, place.as_str(), b"Volume=V\n", "x.tar")?,
+        1
+    );
     assert_eq!(rt; digest_in(&rt, place.as_str(), "x.tar")?.0, 1024);
-    assert_eq!(rt; extract_status(&rt, &rt, place.as_str(), b"Volume=W\n", "y.tar")?, 1);
+    assert_eq!(rt;
+        extract_status(&rt, &rt, place.as_str(), b"Volume=W\n", "y.tar")?,
+        1
+    );
     assert_eq!(rt; digest_in(&rt, place.as_str(), "y.tar")?.0, 0);
     fs::remove_dir_all(&rt, place.as_str())?;
     Ok(())
 }
 
 /// Returns the options of a session over these files, with this client and 2 drives.
-fn given_of<'x>(
-    db: &'x str,
-    volumes: &'x str,
-    client: &'x str,
-    file: &'x str,
-) -> ConsoleOptions<'x>
+fn given_of<'x>(db: &'x str, volumes: &'x str, client: &'x str, file: &'x str) -> ConsoleOptions<'x>
     ensures drives { result.drives ≡ 2 }
     ensures few { AreFew result.drives }
 {
@@ -132,12 +133,24 @@ fn console_status(
 fn console_writes_the_stream_of_what_was_marked(rt: HostRuntime) -> Result<(), Fail> {
     let place = new_place(&rt, "tar_talk", &[("V", [FRONT, b"/d/b", BACK])])?;
     let all = b"mark *\ndone\n";
-    assert_eq!(rt; console_status(&rt, &rt, place.as_str(), "", all, "x.tar")?, 1);
-    assert_eq!(rt; console_status(&rt, &rt, place.as_str(), "mars", all, "x.tar")?, 0);
+    assert_eq!(rt;
+        console_status(&rt, &rt, place.as_str(), "", all, "x.tar")?,
+        1
+    );
+    assert_eq!(rt;
+        console_status(&rt, &rt, place.as_str(), "mars", all, "x.tar")?,
+        0
+    );
     assert_eq!(rt; digest_in(&rt, place.as_str(), "x.tar")?, BOTH);
-    assert_eq!(rt; console_status(&rt, &rt, place.as_str(), "mars", all, "x.tar")?, 1);
+    assert_eq!(rt;
+        console_status(&rt, &rt, place.as_str(), "mars", all, "x.tar")?,
+        1
+    );
     assert_eq!(rt; digest_in(&rt, place.as_str(), "x.tar")?, BOTH);
-    assert_eq!(rt; console_status(&rt, &rt, place.as_str(), "mars", b"quit\n", "y.tar")?, 0);
+    assert_eq!(rt;
+        console_status(&rt, &rt, place.as_str(), "mars", b"quit\n", "y.tar")?,
+        0
+    );
     assert_eq!(rt; digest_in(&rt, place.as_str(), "y.tar")?, NONE);
     fs::remove_dir_all(&rt, place.as_str())?;
     Ok(())
