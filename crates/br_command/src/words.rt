@@ -239,6 +239,7 @@ fn target_by<'a>(into: Option<&'a str>, tar: Option<&'a str>) -> Option<Target<'
 }
 
 /// Returns where the restored files go, unless two places were found.
+#[tactic(auto, unfolding(crate::specs::Words::target_asked))]
 fn target_of<'a>(found: &ArgMatches<'a>) -> Option<Target<'a>>
     ensures { option_map target result ≡ target_asked (rows_of (found_of found.now)) }
 {

@@ -243,8 +243,8 @@ fn set_up_over<'r, C: Catalogue, S: Drop>(
     request: Request,
     sink: Option<S>,
 ) -> Result<ConsoleSetup<'r, S>, ConsoleStartFault>
-    ensures request { IfOk result (λ setup. setup.request ≡ request.entry) }
-    ensures sink { IfOk result (λ setup. setup.sink ≡ sink.entry) }
+    ensures request { IfOk result (λ setup. setup.request ≡ request) }
+    ensures sink { IfOk result (λ setup. setup.sink ≡ sink) }
     ensures jobs { IfOk result (λ setup. AreJobs (C.jobs_at catalogue.now given.now.db.now) setup.history) }
     ensures drives { IfOk result (λ setup. length setup.drives.items ≡ given.now.drives) }
     ensures volumes { IfOk result (λ setup. AreOver given.now.volumes.now setup.drives.items) }

@@ -150,7 +150,7 @@ fn set_up_over<'r, 'p, S: Drop>(
     sink: Option<S>,
 ) -> Result<ExtractSetup<'r, 'p, S>, ExtractStartFault>
     ensures bootstrap { IfOk result (λ setup. setup.bootstrap.path.now ≡ given.now.bsr.now) }
-    ensures sink { IfOk result (λ setup. setup.sink ≡ sink.entry) }
+    ensures sink { IfOk result (λ setup. setup.sink ≡ sink) }
     ensures drives { IfOk result (λ setup. length setup.drives.items ≡ given.now.drives) }
     ensures volumes { IfOk result (λ setup. AreOver given.now.volumes.now setup.drives.items) }
 {

@@ -2,8 +2,9 @@
 ghost use Rattle.std.specs.Prelude.{◌≡◌, ◌++◌, option_map, OnOk, IfSome};
 ghost use Rattle.std.specs.Io.KnownBytes.{Keeps};
 ghost use Rattle.br_tar.specs.Stream.{told};
-ghost use Rattle.br_commands.specs.TarEnding.{EndsBy, HoldsBy, IsClosed, IsEnded, IsFlushed, StreamHolds, left_out_text, not_flushed, tar_fault_number, tar_status, tar_text};
-ghost use Rattle.br_commands.specs.declared.tar.TarFault.TheVariants.{Memory};
+ghost use Rattle.br_commands.specs.TarEnding.{EndsBy, HoldsBy, IsClosed, IsEnded, IsFlushed, StreamHolds};
+ghost use Rattle.br_commands.specs.TarEnding.{left_out_text, not_flushed, tar_fault_number, tar_status, tar_text};
+ghost use Rattle.br_commands.specs.declared.tar.TarEnd.TheVariants.{Cut};
 
 use crate::status::{Ending, REFUSED};
 use br_engine::push_refused_line;
@@ -34,14 +35,6 @@ impl TarFault {
             TarFault::Memory => 1,
             TarFault::NoFile => 81,
         }
-    }
-}
-
-impl From<AllocError> for TarFault {
-    ghost from_gives = { λ _ e. e ≡ Memory };
-
-    fn from(_e: AllocError) -> TarFault {
-        TarFault::Memory
     }
 }
 
@@ -126,6 +119,26 @@ fn flushed<W: Write>(writer: &mut W, end: TarEnd) -> TarEnd
     }
 }
 
+/// Writes the end of a stream and flushes what it was written to.
+fn closed<W: Write + Drop>(sink: TarSink<W>) -> (W, TarEnd)
+    ensures held { HoldsBy (told sink) result.1 (W.contents result.0) }
+    ensures ends { IsClosed sink.left_out result.1 }
+{
+    let (mut writer, written) = finished(sink);
+    let end = flushed(&mut writer, written);
+    (writer, end)
+}
+
+/// Flushes what a stream was written to, which gets no end.
+fn cut_off<W: Write + Drop>(sink: TarSink<W>) -> (W, TarEnd)
+    ensures held { HoldsBy (told sink) result.1 (W.contents result.0) }
+    ensures ends { result.1 ≡ Cut }
+{
+    let mut writer = sink.into_writer();
+    let end = flushed(&mut writer, TarEnd::Cut);
+    (writer, end)
+}
+
 /// Ends the stream of a sink if all files were put, and flushes what it was written to.
 fn end_of<W: Write + Drop>(sink: TarSink<W>, extent: Extent) -> (W, TarEnd)
     ensures held { HoldsBy (told sink) result.1 (W.contents result.0) }
@@ -133,16 +146,8 @@ fn end_of<W: Write + Drop>(sink: TarSink<W>, extent: Extent) -> (W, TarEnd)
     ensures ended { IsEnded extent result.1 }
 {
     match extent {
-        Extent::All => {
-            let (mut writer, end) = finished(sink);
-            let end = flushed(&mut writer, end);
-            (writer, end)
-        }
-        Extent::Part => {
-            let mut writer = sink.into_writer();
-            let end = flushed(&mut writer, TarEnd::Cut);
-            (writer, end)
-        }
+        Extent::All => closed(sink),
+        Extent::Part => cut_off(sink),
     }
 }
 
