@@ -6,12 +6,15 @@
 Without an executable it is crates/brestore/out/brestore, which tools/prove_all makes. Each case is run with `--tar FILE` and a new
 file, and with `--tar -`. Both streams have to be the same, and everything else that is printed as README.md says. From the expected
 manifest the script works out what entries the stream must have. Python's `tarfile` has to read just these; GNU tar has to list and
-to unpack them without a word, and so has bsdtar if there is one. What GNU tar unpacked is compared path by path: type, mode, time,
-length and digest, and if root runs the script the owner. A last run, into the same file, has to be refused and to change nothing.
+to unpack them without a word, and so has bsdtar if there is one. What both unpacked is compared path by path: type, mode, time,
+length and digest, link, and if root runs the script owner and device. A last run, into the same file, has to be refused and to
+change nothing. The case `odd` is none of Bacula's: odd.py writes it, and only root can unpack it.
 """
+import codecs
 import hashlib
 import os
 import shutil
+import stat as stat_module
 import subprocess
 import sys
 import tarfile
@@ -24,11 +27,27 @@ sys.path.insert(0, os.path.join(os.path.dirname(os.path.dirname(os.path.abspath(
 from cases import unpack
 from common import CASES, PROGRAM, SETS, unescaped
 from delivered import is_on_the_way
+from odd import write_case
 
+# GNU tar warns of each time before 1970 and after today, and sets it.
+LISTERS = {
+    "GNU tar": ["tar", "--list", "--quoting-style=escape", "--warning=no-timestamp"],
+    "bsdtar": ["bsdtar", "-t"],
+}
 UNPACKERS = {
-    "GNU tar": ["tar", "--extract", "--preserve-permissions", "--numeric-owner", "--delay-directory-restore"],
+    "GNU tar": ["tar", "--extract", "--preserve-permissions", "--numeric-owner", "--delay-directory-restore", "--warning=no-timestamp"],
     "bsdtar": ["bsdtar", "-x", "-p", "--numeric-owner"],
 }
+
+
+FORMATS = {
+    tarfile.REGTYPE: stat_module.S_ISREG,
+    tarfile.DIRTYPE: stat_module.S_ISDIR,
+    tarfile.CHRTYPE: stat_module.S_ISCHR,
+    tarfile.BLKTYPE: stat_module.S_ISBLK,
+    tarfile.FIFOTYPE: stat_module.S_ISFIFO,
+}
+DEVICES = (tarfile.CHRTYPE, tarfile.BLKTYPE)
 
 
 def kind_of(kind, path, mode, link):
@@ -47,6 +66,11 @@ def kind_of(kind, path, mode, link):
         return tarfile.SYMTYPE if link and b"\0" not in link else None
     formats = {0o2: tarfile.CHRTYPE, 0o6: tarfile.BLKTYPE, 0o1: tarfile.FIFOTYPE}
     return formats.get(mode >> 12 & 15) if kind > 5 and kind != 23 else None
+
+
+def device_of(number):
+    """Returns the major and the minor number of a device, as Linux packs them."""
+    return number >> 8 & 0xFFF, number & 0xFF | number >> 12 & 0xFFF00
 
 
 def entries_of(manifest):
@@ -74,6 +98,7 @@ def entries_of(manifest):
             "mtime": stat[11],
             "link": link if kind == tarfile.SYMTYPE else link[1:] if kind == tarfile.LNKTYPE else b"",
             "content": tuple(fields[-2:]) if is_file else None,
+            "device": device_of(stat[6]) if kind in DEVICES else None,
         })
     return entries, left_out, None
 
@@ -95,23 +120,44 @@ def entries_read(file):
                 "mtime": entry.mtime,
                 "link": os.fsencode(entry.linkname),
                 "content": content_of(stream.extractfile(entry).read()) if entry.isreg() else None,
+                "device": (entry.devmajor, entry.devminor) if entry.type in DEVICES else None,
             })
     return read
 
 
-def is_unpacked(folder, entry):
-    """Returns whether an entry was unpacked as it is. Of paths that come again the last one counts."""
-    path = os.path.join(os.fsencode(folder), entry["name"])
+def names_listed(words, file):
+    """Returns the names that a program lists, and all else that it says."""
+    run = subprocess.run([*words, "-f", file], stdin=subprocess.DEVNULL, capture_output=True, check=False)
+    names = [codecs.escape_decode(line)[0] for line in run.stdout.splitlines()]
+    return [name.rstrip(b"/") for name in names], (run.returncode, run.stderr)
+
+
+def is_split(entries, folder):
+    """Returns whether the entry of a folder comes between entries of its files. bsdtar sets the time of such a folder too early."""
+    below = [entry["name"].startswith(folder["name"] + b"/") for entry in entries]
+    place = entries.index(folder)
+    return folder["type"] == tarfile.DIRTYPE and any(below[:place]) and any(below[place:])
+
+
+def is_unpacked(entry, has_time):
+    """Returns whether an entry was unpacked as it is into the working folder, its time too if it has one."""
+    path = entry["name"]
+    if not os.path.lexists(path):
+        return False
     if entry["type"] == tarfile.LNKTYPE:
-        return os.path.samefile(path, os.path.join(os.fsencode(folder), entry["link"]))
+        return os.path.samefile(path, entry["link"])
     stat = os.lstat(path)
     if os.geteuid() == 0 and (stat.st_uid, stat.st_gid) != entry["owner"]:
         return False
+    if has_time and stat.st_mtime_ns // 10**9 != entry["mtime"]:
+        return False
     if entry["type"] == tarfile.SYMTYPE:
         return os.readlink(path) == entry["link"]
-    if (stat.st_mode & 0o7777, int(stat.st_mtime)) != (entry["mode"], entry["mtime"]):
-        return False
-    return entry["content"] is None or content_of(Path(os.fsdecode(path)).read_bytes()) == entry["content"]
+    if FORMATS[entry["type"]](stat.st_mode) and stat.st_mode & 0o7777 == entry["mode"]:
+        if entry["type"] in DEVICES:
+            return (os.major(stat.st_rdev), os.minor(stat.st_rdev)) == entry["device"]
+        return entry["content"] is None or content_of(Path(os.fsdecode(path)).read_bytes()) == entry["content"]
+    return False
 
 
 def differences(words, expected):
@@ -122,8 +168,12 @@ def differences(words, expected):
 
 
 def unpacking_faults(file, entries, folder):
-    """Returns which programs unpack the stream in another way, or with a warning."""
+    """Returns which programs list or unpack the stream in another way, or with a warning."""
     wrong = []
+    for name, words in LISTERS.items():
+        if shutil.which(words[0]) and names_listed(words, file) != ([entry["name"] for entry in entries], (0, b"")):
+            wrong.append(f"the names as {name} lists them")
+    # Of entries of the same name the last one counts.
     last = {entry["name"]: entry for entry in entries}
     for name, words in UNPACKERS.items():
         if not shutil.which(words[0]):
@@ -131,14 +181,28 @@ def unpacking_faults(file, entries, folder):
         target = folder / words[0]
         target.mkdir()
         wrong += [f"{what} of {name}" for what in differences([*words, "-f", file, "-C", target], (0, b"", b""))]
-        wrong += [f"{entry['name']!r} as {name} unpacked it" for entry in last.values() if not is_unpacked(target, entry)]
+        # The longest path is one that the system takes, but not with the folder in front.
+        os.chdir(target)
+        for entry in last.values():
+            if not is_unpacked(entry, name != "bsdtar" or not is_split(entries, entry)):
+                wrong.append(f"{entry['name']!r} as {name} unpacked it")
+        os.chdir("/")
     return wrong
 
 
-def faults(executable, case, folder):
-    """Returns what of the runs of a case differs from what is expected."""
+def case_of(name, folder):
+    """Returns the folder of a case, and one with its volumes."""
+    if name == "odd":
+        return write_case(folder)
+    case = Path(CASES) / name
     volumes = folder / (case / "set").read_text().strip()
     unpack(Path(SETS) / volumes.name, volumes)
+    return case, volumes
+
+
+def faults(executable, name, folder):
+    """Returns what of the runs of a case differs from what is expected."""
+    case, volumes = case_of(name, folder)
     file = folder / "restored.tar"
     words = [executable, "extract", "--bsr", case / "x.bsr", "--volumes", volumes, "--tar"]
     status, manifest, errors = int((case / "status").read_text()), (case / "expected").read_bytes(), (case / "stderr").read_bytes()
@@ -163,12 +227,12 @@ def faults(executable, case, folder):
 
 
 def main(arguments):
-    executable = Path(arguments[0]).resolve() if arguments else PROGRAM
-    names = arguments[1:] or sorted(case.name for case in Path(CASES).iterdir())
+    executable = Path(arguments[0]).resolve() if arguments else Path(PROGRAM)
+    names = arguments[1:] or [*sorted(case.name for case in Path(CASES).iterdir()), "odd"]
     failed = 0
     for name in names:
         with tempfile.TemporaryDirectory() as folder:
-            wrong = faults(executable, Path(CASES) / name, Path(folder))
+            wrong = faults(executable, name, Path(folder))
         failed += bool(wrong)
         print(f"{name}: {'differs in ' + ', '.join(wrong) if wrong else 'as expected'}")
     print(f"{len(names) - failed} as expected, {failed} not")
