@@ -3,7 +3,7 @@ use Rattle.std.proofs.Common.{◌≡◌, ◌∙◌, ℕ, List, Option, Some, Non
 use Rattle.std.specs.Io.KnownBytes.{Keeps}
 use Rattle.br_model.specs.File.{Item}
 use Rattle.br_tar.specs.Stream.{HoldsCut, HoldsTar}
-use Rattle.br_commands.specs.TarEnding.{EndsBy, HoldsBy, IsClosed, IsEnded, IsFlushed, not_flushed}
+use Rattle.br_commands.specs.TarEnding.{EndsBy, HoldsBy, IsClosed, IsEnded, IsFlushed, IsShown, not_flushed}
 use Rattle.br_commands.specs.declared.tar.Extent.TheVariants as extents
 use Rattle.br_commands.specs.declared.tar.TarEnd.{TarEnd}
 use Rattle.br_commands.specs.declared.tar.TarEnd.TheVariants.{Whole, Cut, Refused}
@@ -62,3 +62,9 @@ ended_after left_out (Refused fault) h = tt
 pub cut_after : (later : TarEnd) → IsFlushed Cut later → later ≡ Cut
 cut_after later (inl is) = is
 cut_after later (inr is) = is
+
+-- a stream that could not be flushed has no end that was
+pub shown_anyway : (shown : Type 0) (end : TarEnd) → IsShown shown (not_flushed end)
+shown_anyway shown (Whole n) = tt
+shown_anyway shown Cut = tt
+shown_anyway shown (Refused fault) = tt

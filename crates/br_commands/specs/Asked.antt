@@ -1,5 +1,5 @@
 -- What the options of the commands ask for.
-use Rattle.std.specs.Prelude.{◌≡◌, ℕ, List, Option, Some, None, Result, IfSome}
+use Rattle.std.specs.Prelude.{◌≡◌, ℕ, Bool, true, false, List, Option, Some, None, Result, IfSome}
 use Rattle.std.specs.List.{AllByRecursion}
 use Rattle.br_model.specs.Choice.{Request}
 use Rattle.br_model.specs.Job.{JobRows}
@@ -21,6 +21,13 @@ folder_asked Nowhere = None
 folder_asked (Folder folder) = Some folder.now
 folder_asked (TarFile file) = None
 folder_asked TarOutput = None
+
+-- whether the stream that the restored files go into is standard output, if they go into a stream
+abbrev pub stream_asked : Target → Option Bool
+stream_asked Nowhere = None
+stream_asked (Folder folder) = None
+stream_asked (TarFile file) = Some false
+stream_asked TarOutput = Some true
 
 -- each of the drives reads the volumes of this folder
 abbrev pub AreOver : List ℕ → List InFolder → Type 0

@@ -1,10 +1,10 @@
 -- How a tar stream of restored files ends.
-use Rattle.std.specs.Prelude.{◌≡◌, ◌⊎◌, ◌++◌, ◌==◌, ℕ, List, [], ◌∷◌, Option, Some, None, codes, decimal, if◌then◌else◌, ⊤}
+use Rattle.std.specs.Prelude.{◌≡◌, ◌⊎◌, ◌++◌, ◌==◌, ℕ, false, List, [], ◌∷◌, Option, Some, None, codes, decimal, if◌then◌else◌, ⊤}
 use Rattle.br_model.specs.File.{Item}
 use Rattle.br_model.specs.Text.{refused_line}
 use Rattle.br_sink.specs.Fault.{fault_number}
 use Rattle.br_sink.specs.declared.fault.SinkFault.TheVariants.{Fault}
-use Rattle.br_tar.specs.Stream.{HoldsCut, HoldsTar}
+use Rattle.br_tar.specs.Stream.{HoldsCut, HoldsTar, InTar}
 use Rattle.br_commands.specs.declared.tar.Extent.{Extent}
 use Rattle.br_commands.specs.declared.tar.Extent.TheVariants as extents
 use Rattle.br_commands.specs.declared.tar.TarEnd.{TarEnd}
@@ -17,28 +17,38 @@ abbrev pub tar_fault_number : TarFault → ℕ
 tar_fault_number faults.Memory = 1
 tar_fault_number faults.NoFile = 81
 
+-- a sink that no file was put into, over a writer that held this
+abbrev pub IsNewOver : Option (List ℕ) → InTar → Type 0
+IsNewOver start s = (s.start ≡ start) × (s.items ≡ []) × (s.has_failed ≡ false) × (s.left_out ≡ 0)
+
 -- What the writer holds, if the sink tells its files: their stream; their entries and the first bytes of what comes after them; one of
 -- both if the end could not be written.
 abbrev pub HoldsBy : Option (List Item) → TarEnd → Option (List ℕ) → Type 0
 HoldsBy told (Whole n) stream = HoldsTar told stream
 HoldsBy told Cut stream = HoldsCut told stream
-HoldsBy told (Refused fault) stream = HoldsTar told stream ⊎ HoldsCut told stream
+HoldsBy told (Refused why) stream = HoldsTar told stream ⊎ HoldsCut told stream
 
 -- what became of a stream that could not be flushed
 abbrev pub not_flushed : TarEnd → TarEnd
 not_flushed (Whole n) = Refused Fault
 not_flushed Cut = Cut
-not_flushed (Refused fault) = Refused fault
+not_flushed (Refused why) = Refused why
 
 -- the same, or that of a stream that could not be flushed
 abbrev pub IsFlushed : TarEnd → TarEnd → Type 0
 IsFlushed end later = (later ≡ end) ⊎ (later ≡ not_flushed end)
 
+-- a stream that has its end was flushed, if `shown` says that its writer was
+abbrev pub IsShown : Type 0 → TarEnd → Type 0
+IsShown shown (Whole n) = shown
+IsShown shown Cut = ⊤
+IsShown shown (Refused why) = ⊤
+
 -- so many files have no entry in a stream that has its end
 abbrev pub IsClosed : ℕ → TarEnd → Type 0
 IsClosed left_out (Whole n) = n ≡ left_out
 IsClosed left_out Cut = ⊥
-IsClosed left_out (Refused fault) = ⊤
+IsClosed left_out (Refused why) = ⊤
 
 -- a stream without all of the files has no end
 abbrev pub EndsBy : Extent → ℕ → TarEnd → Type 0
@@ -49,7 +59,7 @@ EndsBy extents.Part left_out end = end ≡ Cut
 abbrev pub IsEnded : Extent → TarEnd → Type 0
 IsEnded extents.All (Whole n) = ⊤
 IsEnded extents.All Cut = ⊥
-IsEnded extents.All (Refused fault) = ⊤
+IsEnded extents.All (Refused why) = ⊤
 IsEnded extents.Part end = end ≡ Cut
 
 -- the same, and what its writer holds, if there is a sink
@@ -67,10 +77,10 @@ left_out_text n = if n == 0 then [] else codes "left out " ++ decimal n ++ 10 �
 abbrev pub tar_text : TarEnd → List ℕ
 tar_text (Whole n) = left_out_text n
 tar_text Cut = []
-tar_text (Refused fault) = refused_line (fault_number fault)
+tar_text (Refused why) = refused_line (fault_number why)
 
 -- the exit status, beside that of the run
 abbrev pub tar_status : ℕ → TarEnd → ℕ
 tar_status status (Whole n) = status
 tar_status status Cut = status
-tar_status status (Refused fault) = 1
+tar_status status (Refused why) = 1

@@ -1,19 +1,20 @@
 //! The command `console`.
-ghost use Rattle.std.specs.Prelude.{◌≡◌, ◌++◌, length, option_map, Ok, IfOk, OnOk};
+ghost use Rattle.std.specs.Prelude.{◌≡◌, ◌++◌, length, not, option_map, None, Some, Ok, IfOk, IfSome, IsSome, OnOk};
 ghost use Rattle.br_model.specs.Answer.{Answers};
 ghost use Rattle.br_options.specs.Options.{AreFew};
 ghost use Rattle.br_pool.specs.Pool.{AreDrives};
 ghost use Rattle.br_request.specs.Asking.{cause};
-ghost use Rattle.br_commands.specs.Asked.{AreJobs, AreOver, folder_asked, request_asked};
+ghost use Rattle.br_commands.specs.Asked.{AreJobs, AreOver, folder_asked, request_asked, stream_asked};
 ghost use Rattle.br_commands.specs.ConsoleEnding.{end_line, extent, extent_by, run_refusal, run_status, status_by};
 ghost use Rattle.br_commands.specs.Starting.{start_number};
+ghost use Rattle.br_commands.specs.TarEnding.{IsShown};
 ghost use Rattle.br_commands.specs.Tasks.{RunsTask, StreamsRun};
 ghost use Rattle.br_commands.specs.declared.console.ConsoleStartFault.TheVariants as start;
 
 use crate::catalogue::{Catalogue, CatalogueFault};
 use crate::folders::{HostDrive, HostSink, drives_over, folder_of, sink_over};
 use crate::status::{BAD_STREAM, CLEAN, Ending, REFUSED};
-use crate::tar::{Extent, TarEnd, TarFault, add_tar_end, end_stream, tar_into, tar_onto};
+use crate::tar::{Channel, Extent, TarEnd, TarFault, add_tar_end, end_stream, tar_into, tar_onto};
 use br_console::{ConsoleFault, ConsoleRun, End, JobSelection, Lines, run_console};
 use br_engine::{Flush, Outputs, RestoreEnd};
 use br_folder_sink::FolderFault;
@@ -26,7 +27,7 @@ use br_tar::TarSink;
 use br_volume::Drive;
 use std::alloc::{AllocError, Global};
 use std::fs::{self, File};
-use std::io::{self, BufRead, BufReader, BufWriter, ErrorKind, Printer, Write};
+use std::io::{self, BufRead, BufReader, BufWriter, ErrorKind, Printer};
 use std::sync::Wait;
 use std::thread::Threads;
 use thiserror::Error;
@@ -349,7 +350,7 @@ pub(crate) struct ConsoleStream<W> {
 }
 
 /// Carries out a task whose sink writes a tar stream, and ends the stream if all files were put.
-fn console_stream<R: BufRead + Drop, D: Drive + Send, W: Flush + Drop, T: Write + Drop>(
+fn console_stream<R: BufRead + Drop, D: Drive + Send, W: Flush + Drop, T: Flush + Drop>(
     threads: &(impl Threads + Wait + Sync),
     alloc: Global,
     task: &mut ConsoleTask<D, W, TarSink<T>>,
@@ -357,8 +358,10 @@ fn console_stream<R: BufRead + Drop, D: Drive + Send, W: Flush + Drop, T: Write 
 ) -> ConsoleStream<T>
     requires drives { AreDrives task.old.drives.items }
     requires shown { W.is_flushed task.old.out.writer }
+    requires sink { IsSome task.old.out.sink }
     ensures streams { StreamsRun (R.remaining reader.old) D.shows W.contents T.contents task.old task.new result }
     ensures flushed { OnOk result.run (W.is_flushed task.new.out.writer) }
+    ensures shown { IfSome result.writer (λ w. IsShown (T.is_flushed w) result.end) }
 {
     let run = console_over(threads, alloc, task, reader);
     let (writer, end) = end_stream(task.out.sink.take(), extent_of(&run));
@@ -388,6 +391,7 @@ fn restore_into<C: Catalogue, R: BufRead + Drop>(
     reader: &mut R,
 ) -> io::Result<u8>
     requires few { AreFew given.now.drives }
+    requires asked { stream_asked given.now.target ≡ None }
 {
     let setup = match set_up_console(rt, catalogue, given) {
         Ok(setup) => setup,
@@ -408,6 +412,7 @@ fn set_up_tar_file<'r, C: Catalogue>(
     path: &str,
 ) -> Result<ConsoleSetup<'r, TarSink<BufWriter<File>>>, ConsoleStartFault>
     ensures asked { IfOk result (λ setup. request_asked given.now ≡ Ok setup.request) }
+    ensures sink { IfOk result (λ setup. IsSome setup.sink) }
     ensures jobs { IfOk result (λ setup. AreJobs (C.jobs_at catalogue.now given.now.db.now) setup.history) }
     ensures drives { IfOk result (λ setup. length setup.drives.items ≡ given.now.drives) }
     ensures volumes { IfOk result (λ setup. AreOver given.now.volumes.now setup.drives.items) }
@@ -424,6 +429,7 @@ fn set_up_tar_output<'r, C: Catalogue>(
     given: &ConsoleOptions<'_>,
 ) -> Result<ConsoleSetup<'r, TarSink<BufWriter<Printer<'r, HostRuntime>>>>, ConsoleStartFault>
     ensures asked { IfOk result (λ setup. request_asked given.now ≡ Ok setup.request) }
+    ensures sink { IfOk result (λ setup. IsSome setup.sink) }
     ensures jobs { IfOk result (λ setup. AreJobs (C.jobs_at catalogue.now given.now.db.now) setup.history) }
     ensures drives { IfOk result (λ setup. length setup.drives.items ≡ given.now.drives) }
     ensures volumes { IfOk result (λ setup. AreOver given.now.volumes.now setup.drives.items) }
@@ -433,15 +439,20 @@ fn set_up_tar_output<'r, C: Catalogue>(
     set_up_over(rt, catalogue, given, request, Some(sink))
 }
 
-/// Restores by lines into the tar stream that was set up, with the answers to this writer.
-fn restore_onto<R: BufRead + Drop, T: Write + Drop, W: Write + Drop>(
+/// Restores by lines into the tar stream that was set up, with the answers to this writer: standard output,
+/// or something else if the stream goes there.
+fn restore_onto<R: BufRead + Drop, T: Channel + Drop, W: Channel + Drop>(
     rt: &HostRuntime,
     threads: &(impl Threads + Wait + Sync),
-    setup: ConsoleSetup<'_, TarSink<T>>,
+    given: &ConsoleOptions<'_>,
+    setup: ConsoleSetup<'_, TarSink<BufWriter<T>>>,
     reader: &mut R,
     answers: W,
 ) -> io::Result<u8>
     requires few { AreFew (length setup.drives.items) }
+    requires sink { IsSome setup.sink }
+    requires asked { stream_asked given.now.target ≡ Some T.is_output }
+    requires apart { W.is_output ≡ not T.is_output }
 {
     let writer = BufWriter::new(rt.alloc(), answers)?;
     let mut task = setup.onto(writer);
@@ -475,13 +486,14 @@ pub fn restore_by_lines<C: Catalogue, R: BufRead + Drop>(
     requires few { AreFew given.now.drives }
 {
     match given.target {
-        Target::Nowhere | Target::Folder(_) => restore_into(rt, threads, catalogue, given, reader),
+        Target::Nowhere => restore_into(rt, threads, catalogue, given, reader),
+        Target::Folder(_) => restore_into(rt, threads, catalogue, given, reader),
         Target::TarFile(path) => match set_up_tar_file(rt, catalogue, given, path) {
-            Ok(setup) => restore_onto(rt, threads, setup, reader, io::writer(rt)),
+            Ok(setup) => restore_onto(rt, threads, given, setup, reader, io::writer(rt)),
             Err(fault) => refuse(rt, &fault),
         },
         Target::TarOutput => match set_up_tar_output(rt, catalogue, given) {
-            Ok(setup) => restore_onto(rt, threads, setup, reader, rt.stderr()),
+            Ok(setup) => restore_onto(rt, threads, given, setup, reader, rt.stderr()),
             Err(fault) => refuse(rt, &fault),
         },
     }

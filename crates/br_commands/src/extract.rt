@@ -1,14 +1,15 @@
 //! The command `extract`.
-ghost use Rattle.std.specs.Prelude.{◌≡◌, length, option_map, IfOk};
+ghost use Rattle.std.specs.Prelude.{◌≡◌, length, not, option_map, None, Some, IfOk, IfSome, IsSome};
 ghost use Rattle.br_options.specs.Options.{AreFew};
 ghost use Rattle.br_pool.specs.Pool.{AreDrives};
-ghost use Rattle.br_commands.specs.Asked.{AreOver, folder_asked};
+ghost use Rattle.br_commands.specs.Asked.{AreOver, folder_asked, stream_asked};
 ghost use Rattle.br_commands.specs.Ending.{extent, run_refusal, run_status};
+ghost use Rattle.br_commands.specs.TarEnding.{IsShown};
 ghost use Rattle.br_commands.specs.Tasks.{ExtractsTask, StreamsTask};
 
 use crate::folders::{HostDrive, HostSink, drives_over, folder_of, sink_over};
 use crate::status::{BAD_STREAM, CLEAN, Ending, REFUSED};
-use crate::tar::{Extent, TarEnd, TarFault, add_tar_end, end_stream, tar_into, tar_onto};
+use crate::tar::{Channel, Extent, TarEnd, TarFault, add_tar_end, end_stream, tar_into, tar_onto};
 use br_engine::{ExtractFault, Flush, Outputs, RestoreEnd, extract_text};
 use br_folder_sink::FolderFault;
 use br_options::{ExtractOptions, Target};
@@ -17,7 +18,7 @@ use br_tar::TarSink;
 use br_volume::Drive;
 use std::alloc::{AllocError, Global};
 use std::fs;
-use std::io::{self, BufWriter, ErrorKind, Write};
+use std::io::{self, BufWriter, ErrorKind};
 use std::rt::Files;
 use std::sync::Wait;
 use std::thread::Threads;
@@ -247,14 +248,16 @@ pub(crate) struct ExtractStream<W> {
 
 /// Carries out a task whose sink writes a tar stream, and ends the stream if all files were put. The
 /// manifest goes to the task's writer before.
-fn extract_stream<D: Drive + Send, W: Flush, T: Write + Drop>(
+fn extract_stream<D: Drive + Send, W: Flush, T: Flush + Drop>(
     threads: &(impl Threads + Wait + Sync),
     alloc: Global,
     task: &mut ExtractTask<D, W, TarSink<T>>,
 ) -> ExtractStream<T>
     requires drives { AreDrives task.old.drives.items }
+    requires sink { IsSome task.old.out.sink }
     ensures streams { StreamsTask D.shows W.contents T.contents task.old task.new result }
     ensures flushed { IfOk result.run (λ _. W.is_flushed task.new.out.writer) }
+    ensures shown { IfSome result.writer (λ w. IsShown (T.is_flushed w) result.end) }
 {
     let run = extract_over(threads, alloc, task);
     let (writer, end) = end_stream(task.out.sink.take(), extent_of(&run));
@@ -282,6 +285,7 @@ fn extract_into(
     given: &ExtractOptions<'_>,
 ) -> io::Result<u8>
     requires few { AreFew given.now.drives }
+    requires asked { stream_asked given.now.target ≡ None }
 {
     let setup = match set_up_extract(rt, given) {
         Ok(setup) => setup,
@@ -293,15 +297,18 @@ fn extract_into(
     report(rt, run)
 }
 
-/// Restores into the tar stream of a sink, with the manifest to this writer.
-fn extract_onto<T: Write + Drop, W: Write + Drop>(
+/// Restores into the tar stream of a sink, with the manifest to this writer: standard output, or something
+/// else if the stream goes there.
+fn extract_onto<T: Channel + Drop, W: Channel + Drop>(
     rt: &HostRuntime,
     threads: &(impl Threads + Wait + Sync),
     given: &ExtractOptions<'_>,
-    sink: TarSink<T>,
+    sink: TarSink<BufWriter<T>>,
     manifest: W,
 ) -> io::Result<u8>
     requires few { AreFew given.now.drives }
+    requires asked { stream_asked given.now.target ≡ Some T.is_output }
+    requires apart { W.is_output ≡ not T.is_output }
 {
     let setup = match set_up_over(rt, given, Some(sink)) {
         Ok(setup) => setup,
@@ -336,7 +343,8 @@ pub(crate) fn extract_files(
     requires few { AreFew given.now.drives }
 {
     match given.target {
-        Target::Nowhere | Target::Folder(_) => extract_into(rt, threads, given),
+        Target::Nowhere => extract_into(rt, threads, given),
+        Target::Folder(_) => extract_into(rt, threads, given),
         Target::TarFile(path) => match tar_into(rt, path) {
             Ok(sink) => extract_onto(rt, threads, given, sink, io::writer(rt)),
             Err(fault) => refuse(rt, given.bsr, ExtractStartFault::Tar(fault)),

@@ -1,20 +1,21 @@
 //! The tar stream that restored files go into, and how it ends.
-ghost use Rattle.std.specs.Prelude.{◌≡◌, ◌++◌, option_map, OnOk, IfSome};
+ghost use Rattle.std.specs.Prelude.{◌≡◌, ◌++◌, Bool, true, false, option_map, IfOk, IfSome, OnErr, OnOk};
 ghost use Rattle.std.specs.Io.KnownBytes.{Keeps};
+ghost use Rattle.br_files.specs.Making.{IsFree, MakesFile};
 ghost use Rattle.br_tar.specs.Stream.{told};
-ghost use Rattle.br_commands.specs.TarEnding.{EndsBy, HoldsBy, IsClosed, IsEnded, IsFlushed, StreamHolds};
+ghost use Rattle.br_commands.specs.TarEnding.{EndsBy, HoldsBy, IsClosed, IsEnded, IsFlushed, IsNewOver, IsShown, StreamHolds};
 ghost use Rattle.br_commands.specs.TarEnding.{left_out_text, not_flushed, tar_fault_number, tar_status, tar_text};
 ghost use Rattle.br_commands.specs.declared.tar.TarEnd.TheVariants.{Cut};
 
 use crate::status::{Ending, REFUSED};
-use br_engine::push_refused_line;
+use br_engine::{Flush, push_refused_line};
 use br_files::{DiskFault, FileMaker, HostDisk};
 use br_sink::SinkFault;
 use br_tar::TarSink;
 use br_types::push_number;
 use std::alloc::{AllocError, Global};
 use std::fs::File;
-use std::io::{BufWriter, Write};
+use std::io::{BufWriter, Printer, Stderr, Write};
 use thiserror::Error;
 
 /// Why there is no file to write a tar stream into.
@@ -38,8 +39,29 @@ impl TarFault {
     }
 }
 
-/// Makes the file at a path, which is not there.
-fn new_file<M: FileMaker>(maker: &mut M, path: &str) -> Result<M::New, TarFault> {
+/// Something that can be written to, and whether it is standard output.
+pub(crate) trait Channel: Write {
+    ghost is_output: { Bool };
+}
+
+impl Channel for File {
+    ghost is_output = { false };
+}
+
+impl Channel for Printer<'_, HostRuntime> {
+    ghost is_output = { true };
+}
+
+impl Channel for Stderr {
+    ghost is_output = { false };
+}
+
+/// Makes the file at a path, at which nothing may be.
+fn new_file<M: FileMaker>(maker: &mut M, path: &str) -> Result<M::New, TarFault>
+    ensures free { OnOk result (IsFree (M.nodes maker.old) path.now) }
+    ensures made { IfOk result (λ file. MakesFile path.now (M.New.contents file) (M.nodes maker.old) (M.nodes maker.new)) }
+    ensures refused { OnErr result (M.nodes maker.new ≡ M.nodes maker.old) }
+{
     match maker.make_file(path) {
         Ok(file) => Ok(file),
         Err(DiskFault::Memory) => Err(TarFault::Memory),
@@ -51,14 +73,16 @@ fn new_file<M: FileMaker>(maker: &mut M, path: &str) -> Result<M::New, TarFault>
 pub(crate) fn tar_onto<W: Write + Drop>(
     alloc: Global,
     writer: W,
-) -> Result<TarSink<BufWriter<W>>, TarFault> {
+) -> Result<TarSink<BufWriter<W>>, TarFault>
+    ensures { IfOk result (IsNewOver (W.contents writer)) }
+{
     match BufWriter::new(alloc, writer) {
         Ok(writer) => Ok(TarSink::new(alloc, writer)),
         Err(_) => Err(TarFault::Memory),
     }
 }
 
-/// Returns a sink that writes a tar stream into the file at a path, which is not there and is made.
+/// Returns a sink that writes a tar stream into a new file at a path, at which nothing may be.
 pub(crate) fn tar_into(rt: &HostRuntime, path: &str) -> Result<TarSink<BufWriter<File>>, TarFault> {
     let mut disk = HostDisk::new(rt.alloc(), rt);
     let file = new_file(&mut disk, path)?;
@@ -109,20 +133,23 @@ fn not_flushed(end: TarEnd) -> TarEnd
 }
 
 /// Flushes what a stream was written to, and returns what became of the stream.
-fn flushed<W: Write>(writer: &mut W, end: TarEnd) -> TarEnd
+#[tactic(auto, using(crate::proofs::TarLaws::shown_anyway))]
+fn flushed<W: Flush>(writer: &mut W, end: TarEnd) -> TarEnd
     ensures bytes { Keeps (W.contents writer.old) (W.contents writer.new) }
     ensures end { IsFlushed end result }
+    ensures shown { IsShown (W.is_flushed writer.new) result }
 {
-    match writer.flush() {
+    match writer.flush_all() {
         Ok(()) => end,
         Err(_) => not_flushed(end),
     }
 }
 
 /// Writes the end of a stream and flushes what it was written to.
-fn closed<W: Write + Drop>(sink: TarSink<W>) -> (W, TarEnd)
+fn closed<W: Flush + Drop>(sink: TarSink<W>) -> (W, TarEnd)
     ensures held { HoldsBy (told sink) result.1 (W.contents result.0) }
     ensures ends { IsClosed sink.left_out result.1 }
+    ensures shown { IsShown (W.is_flushed result.0) result.1 }
 {
     let (mut writer, written) = finished(sink);
     let end = flushed(&mut writer, written);
@@ -130,7 +157,7 @@ fn closed<W: Write + Drop>(sink: TarSink<W>) -> (W, TarEnd)
 }
 
 /// Flushes what a stream was written to, which gets no end.
-fn cut_off<W: Write + Drop>(sink: TarSink<W>) -> (W, TarEnd)
+fn cut_off<W: Flush + Drop>(sink: TarSink<W>) -> (W, TarEnd)
     ensures held { HoldsBy (told sink) result.1 (W.contents result.0) }
     ensures ends { result.1 ≡ Cut }
 {
@@ -140,10 +167,11 @@ fn cut_off<W: Write + Drop>(sink: TarSink<W>) -> (W, TarEnd)
 }
 
 /// Ends the stream of a sink if all files were put, and flushes what it was written to.
-fn end_of<W: Write + Drop>(sink: TarSink<W>, extent: Extent) -> (W, TarEnd)
+fn end_of<W: Flush + Drop>(sink: TarSink<W>, extent: Extent) -> (W, TarEnd)
     ensures held { HoldsBy (told sink) result.1 (W.contents result.0) }
     ensures ends { EndsBy extent sink.left_out result.1 }
     ensures ended { IsEnded extent result.1 }
+    ensures shown { IsShown (W.is_flushed result.0) result.1 }
 {
     match extent {
         Extent::All => closed(sink),
@@ -153,12 +181,13 @@ fn end_of<W: Write + Drop>(sink: TarSink<W>, extent: Extent) -> (W, TarEnd)
 
 /// Ends the stream of a sink, if there is one and all files were put, and flushes what it was written to.
 /// Returns this writer, and what became of the stream.
-pub(crate) fn end_stream<W: Write + Drop>(
+pub(crate) fn end_stream<W: Flush + Drop>(
     sink: Option<TarSink<W>>,
     extent: Extent,
 ) -> (Option<W>, TarEnd)
     ensures held { StreamHolds extent (option_map told sink) result.1 (option_map W.contents result.0) }
     ensures ends { IfSome sink (λ s. EndsBy extent s.left_out result.1) }
+    ensures shown { IfSome result.0 (λ w. IsShown (W.is_flushed w) result.1) }
 {
     match sink {
         None => (None, TarEnd::Cut),
