@@ -1,5 +1,6 @@
 //! Drives whose volumes grow while they are read find what sound drives find.
 ghost use Rattle.std.specs.Prelude.{◌≡◌, length, IfOk};
+ghost use Rattle.br_match.specs.Come.{AreOfBootstrap};
 ghost use Rattle.br_pool.specs.Pool.{AreDrives, AreNumbered, IsDriveCount};
 
 use crate::failing_tests::{MANIFEST, TEXT, volumes};
@@ -41,7 +42,8 @@ fn drive(alloc: Global, names: &[u8]) -> Result<MemDrive, Fail> {
 
 /// Returns the pieces of a bootstrap's text.
 pub(crate) fn pieces_of(alloc: Global, text: &[u8]) -> Result<Vec<Piece>, BsrFault>
-    ensures { IfOk result (λ pieces. AreNumbered pieces.items) }
+    ensures numbered { IfOk result (λ pieces. AreNumbered pieces.items) }
+    ensures split { IfOk result (λ pieces. AreOfBootstrap pieces.items) }
 {
     let bootstrap = read_bootstrap(alloc, text)?;
     let pieces = split(alloc, &bootstrap)?;

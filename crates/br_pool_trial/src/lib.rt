@@ -12,3 +12,5 @@ mod growing_tests;
 mod list_tests;
 #[cfg(test)]
 mod pool_tests;
+#[cfg(test)]
+mod streaming_tests;

@@ -4,4 +4,4 @@ use Rattle.br_pool.specs.Pool.{AreNumbered}
 use Rattle.br_pool_trial.proofs.pool_tests.found_beside.Goals as goal
 
 pub run_pool-requires-clause-numbered : goal.run_pool-requires-clause-numbered
-run_pool-requires-clause-numbered g c = λ κs within. subst (λ (l : List Piece). AreNumbered l) (sym c.deref.ensures.value) c.in_ok-pieces.ensures
+run_pool-requires-clause-numbered g c = λ κs within. subst (λ (l : List Piece). AreNumbered l) (sym c.deref.ensures.value) c.in_ok-pieces.ensures.numbered
