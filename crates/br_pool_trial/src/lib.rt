@@ -13,4 +13,6 @@ mod list_tests;
 #[cfg(test)]
 mod pool_tests;
 #[cfg(test)]
+mod streaming_gate_tests;
+#[cfg(test)]
 mod streaming_tests;

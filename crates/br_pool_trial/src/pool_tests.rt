@@ -18,7 +18,8 @@ use std::time::{Clock, Duration};
 const BLOCK: &[u8; 91] =
     b"\0\0\0\0\0\0\0\x5b\0\0\0\0BB02\0\0\0\x01\0\0\0\x64\0\0\0\x01\0\0\0\x01\0\0\0\x261 3 /a\0A A IGk B A A A F A A A A A A\0\0\0\0\0\x01\0\0\0\x02\0\0\0\x05hello";
 
-const THREE: &[u8] = b"Volume=A\nFileIndex=1\nVolume=B\nFileIndex=1\nVolume=C\nFileIndex=1\n";
+pub(crate) const THREE: &[u8] =
+    b"Volume=A\nFileIndex=1\nVolume=B\nFileIndex=1\nVolume=C\nFileIndex=1\n";
 
 const MISSING: &[u8] = b"Volume=A\nFileIndex=1\nVolume=Q\nFileIndex=1\nVolume=B\nFileIndex=1\n";
 
@@ -41,7 +42,7 @@ fn volumes(alloc: Global) -> Result<Vec<(VolName, Vec<u8>)>, Fail> {
 }
 
 /// Returns `count` drives over these volumes.
-fn drives(alloc: Global, count: usize) -> Result<Vec<MemDrive>, Fail>
+pub(crate) fn drives(alloc: Global, count: usize) -> Result<Vec<MemDrive>, Fail>
     ensures { IfOk result (λ drives. length drives.items ≡ count) }
 {
     let mut drives = Vec::new(alloc);
@@ -231,11 +232,21 @@ fn a_refused_piece_beside_a_failing_drive(rt: HostRuntime) -> Result<(), Fail> {
 
 /// A gate that holds one piece until two others were read, and records whether they were.
 #[derive(Drop)]
-struct HoldsOne<'r, C: Clock> {
+pub(crate) struct HoldsOne<'r, C: Clock> {
     clock: &'r C,
     piece: u32,
     left: AtomicU64,
-    met: AtomicU64,
+    pub(crate) met: AtomicU64,
+}
+
+/// Returns a gate that holds this piece.
+pub(crate) fn holds_one<C: Clock>(clock: &C, piece: u32) -> HoldsOne<'_, C> {
+    HoldsOne {
+        clock,
+        piece,
+        left: AtomicU64::new(0),
+        met: AtomicU64::new(0),
+    }
 }
 
 impl<C: Clock> Gate for HoldsOne<'_, C> {
@@ -259,12 +270,7 @@ impl<C: Clock> Gate for HoldsOne<'_, C> {
 
 /// Returns whether two drives find all if this piece is held, and read the two others meanwhile.
 fn goes_round<R: Clock + Threads + Sync>(rt: &R, alloc: Global, piece: u32) -> Result<bool, Fail> {
-    let gate = HoldsOne {
-        clock: rt,
-        piece,
-        left: AtomicU64::new(0),
-        met: AtomicU64::new(0),
-    };
+    let gate = holds_one(rt, piece);
     let counts = counts_by(rt, alloc, 2, &gate)?;
     Ok(counts == Some(ALL) && gate.met.load(Ordering::SeqCst) == 1)
 }
@@ -277,20 +283,30 @@ fn a_held_piece_holds_no_other(rt: HostRuntime) -> Result<(), Fail> {
     Ok(())
 }
 
-const TWO: &[u8] = b"Volume=A\nVolume=B\n";
+pub(crate) const TWO: &[u8] = b"Volume=A\nVolume=B\n";
 
 /// Sixteen pieces, of which the drives show three.
-const SIXTEEN: &[u8] =
+pub(crate) const SIXTEEN: &[u8] =
     b"Volume=A\nVolume=B\nVolume=C\nVolume=D\nVolume=E\nVolume=F\nVolume=G\nVolume=H\n\
 Volume=I\nVolume=J\nVolume=K\nVolume=L\nVolume=M\nVolume=N\nVolume=O\nVolume=P\n";
 
 /// A gate that holds each piece until `count` have entered, and counts those for which that came.
 #[derive(Drop)]
-struct HoldsAll<'r, C: Clock> {
+pub(crate) struct HoldsAll<'r, C: Clock> {
     clock: &'r C,
     count: u64,
     entered: AtomicU64,
-    met: AtomicU64,
+    pub(crate) met: AtomicU64,
+}
+
+/// Returns a gate that holds each piece until `count` have entered.
+pub(crate) fn holds_all<C: Clock>(clock: &C, count: u64) -> HoldsAll<'_, C> {
+    HoldsAll {
+        clock,
+        count,
+        entered: AtomicU64::new(0),
+        met: AtomicU64::new(0),
+    }
 }
 
 impl<C: Clock> Gate for HoldsAll<'_, C> {
@@ -318,12 +334,7 @@ fn met_by<R: Clock + Threads + Sync>(
 ) -> Result<u64, Fail>
     requires { IsDriveCount count }
 {
-    let gate = HoldsAll {
-        clock: rt,
-        count: count as u64,
-        entered: AtomicU64::new(0),
-        met: AtomicU64::new(0),
-    };
+    let gate = holds_all(rt, count as u64);
     let _answer = found_by(rt, alloc, text, count, &gate)?;
     Ok(gate.met.load(Ordering::SeqCst))
 }

@@ -16,7 +16,7 @@ use std::test::Fail;
 use std::thread::Threads;
 
 /// Returns a joiner of these pieces that takes all files.
-fn joiner_of(alloc: Global, pieces: &[Piece]) -> Result<Joiner, AllocError>
+pub(crate) fn joiner_of(alloc: Global, pieces: &[Piece]) -> Result<Joiner, AllocError>
     ensures { IfOk result (λ joiner. IsMadeFor pieces.now joiner.pieces) }
 {
     let joiner = Joiner::new(alloc, pieces, None)?;
@@ -124,13 +124,13 @@ fn any_room_and_number_of_drives_gives_both_files(rt: HostRuntime) -> Result<(),
         given(&rt, rt.alloc(), TEXT, 1, &[None; 16])?.as_str(),
         both
     );
-    assert_eq!(rt; given(&rt, rt.alloc(), TEXT, 64, &[None])?.as_str(), both);
+    assert_eq!(rt; given(&rt, rt.alloc(), TEXT, 1024, &[None])?.as_str(), both);
     assert_eq!(rt;
-        given(&rt, rt.alloc(), TEXT, 64, &[None; 2])?.as_str(),
+        given(&rt, rt.alloc(), TEXT, 1024, &[None; 2])?.as_str(),
         both
     );
     assert_eq!(rt;
-        given(&rt, rt.alloc(), TEXT, 64, &[None; 16])?.as_str(),
+        given(&rt, rt.alloc(), TEXT, 1024, &[None; 16])?.as_str(),
         both
     );
     Ok(())
@@ -157,7 +157,7 @@ fn first_call_missed(
 #[test]
 fn a_drive_that_fails_at_any_call_loses_no_batch(rt: HostRuntime) -> Result<(), Fail> {
     assert_eq!(rt; first_call_missed(&rt, rt.alloc(), 1)?.as_str(), "");
-    assert_eq!(rt; first_call_missed(&rt, rt.alloc(), 64)?.as_str(), "");
+    assert_eq!(rt; first_call_missed(&rt, rt.alloc(), 1024)?.as_str(), "");
     Ok(())
 }
 
@@ -205,7 +205,7 @@ fn a_joiner_is_used_again_with_other_drives(rt: HostRuntime) -> Result<(), Fail>
         refused
     );
     assert_eq!(rt;
-        given_again(&rt, rt.alloc(), 64, &[Some(11)])?.as_str(),
+        given_again(&rt, rt.alloc(), 1024, &[Some(11)])?.as_str(),
         refused
     );
     assert_eq!(rt; given_again(&rt, rt.alloc(), 1, &[None])?.as_str(), sound);
@@ -225,6 +225,10 @@ fn refusals_are_those_of_the_pieces(rt: HostRuntime) -> Result<(), Fail> {
     assert_eq!(rt;
         given(&rt, rt.alloc(), MISSING, 1, &[Some(1), None])?.as_str(),
         unknown
+    );
+    assert_eq!(rt;
+        given(&rt, rt.alloc(), TEXT, 1, &[Some(1); 2])?.as_str(),
+        "refused 70"
     );
     assert_eq!(rt;
         given(&rt, rt.alloc(), TEXT, 1, &[Some(12)])?.as_str(),
