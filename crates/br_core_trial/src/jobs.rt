@@ -29,7 +29,7 @@ fn session(job: &Job) -> Result<SessionKey, Fail> {
 }
 
 /// Returns the row of a job of the client `c` and the file set `f`.
-fn job_row(alloc: Global, job: &Job) -> Result<JobRow, Fail> {
+pub(crate) fn job_row(alloc: Global, job: &Job) -> Result<JobRow, Fail> {
     Ok(JobRow {
         id: JobId::new(job.0).ok_or("a number")?,
         kind: letter(b'B')?,

@@ -1,9 +1,11 @@
-//! Tests of the machine of restores and backups, on given events and on drawn ones. There are only
-//! tests here.
+//! Tests of the machine of restores and backups, on given events and on drawn ones, and of drawn
+//! commands that mark. There are only tests here.
 #![tactic(auto)]
 
 #[cfg(test)]
 mod commit_tests;
+#[cfg(test)]
+mod count_tests;
 #[cfg(test)]
 mod deeds;
 #[cfg(test)]
