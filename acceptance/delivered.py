@@ -6,6 +6,9 @@ from pathlib import Path
 
 from common import unescaped
 
+# The system takes no longer name of a file or folder.
+LONGEST_NAME = 255
+
 
 def is_on_the_way(path, other):
     """Returns whether the first path is one of a file, and a folder on the way of the other."""
@@ -40,6 +43,8 @@ def delivery(manifest):
         if not is_text(path) or (kind != b"5" and path.endswith(b"/")):
             return tree, 80
         names = [name for name in path.split(b"/") if name]
+        if any(len(name) > LONGEST_NAME for name in names):
+            return tree, 80
         for end in range(1, len(names) + 1):
             is_file = kind != b"5" and end == len(names)
             tree[b"/".join(names[:end])] = content if is_file else None

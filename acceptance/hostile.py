@@ -4,7 +4,7 @@
     acceptance/hostile.py [--program FILE] [NAME..]
 
 Each case is compared with the second reading of the formats (reading.py), or with the refusal that docs/formats.md states. A run
-may take one second and 64 MiB for each MiB of input, if the case does not say otherwise. The status is 1 if a case differs.
+may take one second and 64 MiB, if the case does not say otherwise. The status is 1 if a case differs or costs more.
 """
 
 import argparse
@@ -251,9 +251,12 @@ def main():
     parser.add_argument("--program", default=PROGRAM)
     parser.add_argument("names", nargs="*")
     given, failed = parser.parse_args(), 0
-    for case in CASES:
-        if given.names and case.__name__ not in given.names:
-            continue
+    names = [case.__name__ for case in CASES]
+    if not given.names:
+        # A process for each case: the peak memory of a run counts what the process held that started it.
+        words = [sys.executable, __file__, "--program", given.program]
+        return max(subprocess.run([*words, name], check=False).returncode for name in names)
+    for case in (CASES[names.index(name)] for name in given.names):
         with tempfile.TemporaryDirectory(prefix="hostile-") as folder:
             runs = Runs(given.program, folder)
             seconds, memory = case(runs)
@@ -263,7 +266,6 @@ def main():
         print(f"{case.__name__}: {runs.count} runs, at most {runs.worst[0]:.2f} s and {runs.worst[1] / MIB:.0f} MiB: {verdict}", flush=True)
         for line in runs.wrong[:5]:
             print(f"    {line}")
-    print(f"{failed} cases not as expected")
     return 1 if failed else 0
 
 
