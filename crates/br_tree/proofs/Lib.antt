@@ -10,6 +10,7 @@ pub mod MarkLaws
 pub mod ChangeLaws
 pub mod ListsLaws
 pub mod ChildLaws
+pub mod SignLaws
 pub mod PaintLaws
 pub mod SumLaws
 pub mod CutLaws

@@ -152,7 +152,7 @@ none_changed test v [] fs h = refl
 none_changed test v (p ∷ ps) [] h = refl
 none_changed test v (p ∷ ps) (f ∷ fs) h = omega (arith, ap {B = ℕ} (λ b. cond (b && differs v f) 1 0) h.0, none_changed test v ps fs h.1)
 
-none_any : (test : List ℕ → Bool) (ps : List (List ℕ)) → NonePassing test ps → list_any test ps ≡ false
+pub none_any : (test : List ℕ → Bool) (ps : List (List ℕ)) → NonePassing test ps → list_any test ps ≡ false
 none_any test [] h = refl
 none_any test (p ∷ ps) h = ap (λ b. b || list_any test ps) h.0 ∙ none_any test ps h.1
 

@@ -43,6 +43,10 @@ AreSorted pairs = IsRising (seen_paths pairs)
 abbrev pub marked_in : List Pair → List Bool → List (List ℕ)
 marked_in pairs flags = flagged (seen_paths pairs) flags
 
+-- no marked path begins with the text
+abbrev pub NoneBegins : List (List ℕ) → List ℕ → Type 0
+NoneBegins marked text = list_any (λ path. begins_with path text) marked ≡ false
+
 -- from a first place to a last one the paths pass a test, and no other does
 pub record IsRun (test : List ℕ → Bool) (paths : List (List ℕ)) (first last : ℕ) : Type 0 where
   pub ordered : first ≤ last

@@ -1,13 +1,13 @@
-ghost use Rattle.std.specs.Prelude.{◌≡◌, true, ◌<◌, ◌++◌, length, IfOk, OnOk};
+ghost use Rattle.std.specs.Prelude.{◌≡◌, true, ◌<◌, ◌++◌, length, IfNone, IfOk, OnOk};
 ghost use Rattle.br_model.specs.Console as model;
 ghost use Rattle.br_tree.specs.Lists.{NotesChild, AreChildren};
-ghost use Rattle.br_tree.specs.Walk.{seen_paths, AllPassing, AreSorted, IsFirstChild, marked_in};
+ghost use Rattle.br_tree.specs.Walk.{seen_paths, AllPassing, AreSorted, IsFirstChild, NoneBegins, marked_in};
 
 use crate::child::Child;
 use crate::flags::Flags;
 use crate::list::pair_at;
 use crate::run::{Shown, child_len, child_name, run_of};
-use crate::sign::sign_of;
+use crate::sign::{is_quiet, sign_if_any};
 use crate::spans::span_at;
 use crate::walk::part_of;
 use std::alloc::{AllocError, Global};
@@ -36,24 +36,32 @@ fn next_child<'h>(entries: &[Shown<'h>], directory: &[u8], guess: usize) -> (&'h
     )
 }
 
+/// Returns a guess, unless it is not needed.
+fn guess_unless(is_quiet: bool, guess: (usize, usize)) -> Option<(usize, usize)>
+    ensures { IfNone result (is_quiet ≡ true) }
+{
+    if is_quiet { None } else { Some(guess) }
+}
+
 /// Notes the child that has a path, with its sign; the directory itself is no child. A right guess of the places between which
-/// its paths are saves a search.
+/// its paths are saves a search. There is none only if no path in the directory is marked.
 fn note_child<'h>(
     noted: &mut Vec<Child<'h>>,
     entries: &[Shown<'_>],
     flags: &Flags,
     directory: &[u8],
     path: &'h [u8],
-    guess: (usize, usize),
+    guess: Option<(usize, usize)>,
 ) -> Result<(), AllocError>
     requires sorted { AreSorted entries.now }
     requires as_long { length flags.now ≡ length entries.now }
     requires begins { model.begins_with path.now directory.now ≡ true }
+    requires quiet { IfNone guess (NoneBegins (marked_in entries.now flags.now) directory.now) }
     ensures { OnOk result (NotesChild (marked_in entries.now flags.now) directory.now path.now noted.old.items noted.new.items) }
 {
     let name = child_name(directory, path);
     if !name.is_empty() {
-        let sign = sign_of(entries, flags, front_of(directory, path, name), guess);
+        let sign = sign_if_any(entries, flags, front_of(directory, path, name), guess);
         if noted.push(Child { name, sign }).is_err() {
             return Err(AllocError);
         }
@@ -75,12 +83,14 @@ pub(crate) fn names_in<'h>(
 {
     let (first, last) = run_of(entries, directory);
     let run = part_of(entries, first, last);
+    let quiet = is_quiet(entries, flags, directory, (first, last));
     let mut noted = Vec::new(alloc);
     let mut place = 0;
     while place < run.len() {
         let at = first + place;
         let (path, len) = next_child(run.split_at(place).1, directory, span_at(spans, at));
-        note_child(&mut noted, entries, flags, directory, path, (at, at + len))?;
+        let guess = guess_unless(quiet, (at, at + len));
+        note_child(&mut noted, entries, flags, directory, path, guess)?;
         place += len;
     }
     Ok(noted)

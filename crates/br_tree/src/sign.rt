@@ -1,9 +1,9 @@
-ghost use Rattle.std.specs.Prelude.{◌≡◌, ◌≤◌, ◌-◌, length, take, drop};
+ghost use Rattle.std.specs.Prelude.{◌≡◌, ◌≤◌, ◌-◌, true, length, take, drop, IfNone};
 ghost use Rattle.std.specs.List.{list_any};
 ghost use Rattle.br_model.specs.Console.{begins_with, sign};
 ghost use Rattle.br_model.specs.Order.{is_among};
 ghost use Rattle.br_tree.specs.Seen.{sign_byte};
-ghost use Rattle.br_tree.specs.Walk.{AreSorted, marked_in};
+ghost use Rattle.br_tree.specs.Walk.{AreSorted, NoneBegins, marked_in};
 
 use crate::child::Sign;
 use crate::flags::Flags;
@@ -58,6 +58,20 @@ fn begins_a_mark(entries: &[Shown<'_>], flags: &Flags, text: &[u8], guess: (usiz
     counts_between(flags, first, last)
 }
 
+/// Returns whether no path that begins with a text is marked. A right guess of their run saves a search.
+pub(crate) fn is_quiet(
+    entries: &[Shown<'_>],
+    flags: &Flags,
+    text: &[u8],
+    guess: (usize, usize),
+) -> bool
+    requires sorted { AreSorted entries.now }
+    requires as_long { length flags.now ≡ length entries.now }
+    ensures { result ≡ true → NoneBegins (marked_in entries.now flags.now) text.now }
+{
+    !begins_a_mark(entries, flags, text, guess)
+}
+
 /// Returns whether a path is marked, or one below it. A right guess of the places between which the
 /// paths begin with it saves the search.
 pub(crate) fn sign_of(
@@ -76,5 +90,24 @@ pub(crate) fn sign_of(
         Sign::Within
     } else {
         Sign::Plain
+    }
+}
+
+/// Returns the sign of a path as `sign_of` does, with no search if no path that begins with it is
+/// marked: then there is no guess.
+pub(crate) fn sign_if_any(
+    entries: &[Shown<'_>],
+    flags: &Flags,
+    path: &[u8],
+    guess: Option<(usize, usize)>,
+) -> Sign
+    requires sorted { AreSorted entries.now }
+    requires as_long { length flags.now ≡ length entries.now }
+    requires quiet { IfNone guess (NoneBegins (marked_in entries.now flags.now) path.now) }
+    ensures { sign_byte result ≡ sign (marked_in entries.now flags.now) path.now }
+{
+    match guess {
+        Some(guess) => sign_of(entries, flags, path, guess),
+        None => Sign::Plain,
     }
 }

@@ -4,6 +4,7 @@ use Rattle.br_tree.specs.Seen.{flagged, seen_child, signed}
 use Rattle.br_tree.specs.Walk.{seen_paths, AllPassing, IsRising}
 use Rattle.br_tree.proofs.RunLaws.{seen_drop, seen_length, seen_part, all_dropped, rising_drop, rising_take}
 use Rattle.br_tree.proofs.ChildLaws.{run_names, names_end}
+use Rattle.br_tree.proofs.SignLaws.{if_none_then}
 use Rattle.br_tree.proofs.names.names_in.Goals as goal
 
 pub next_child-len-requires-clause-sorted : goal.next_child-len-requires-clause-sorted
@@ -25,6 +26,9 @@ next_child-len-requires-clause-begins c =
     let part : seen_paths c.part_of-run.result.now ≡ take (b - a) (drop a ps) = ap seen_paths c.part_of-run.ensures ∙ seen_part a b c.args.entries.now in
     let rest : seen_paths c.split_at.result.1.now ≡ drop n (take (b - a) (drop a ps)) = ap seen_paths c.split_at.ensures.back ∙ seen_drop n c.part_of-run.result.now ∙ ap (drop n) part in
     subst (AllPassing (λ p. model.begins_with p c.args.directory.now)) (sym rest) (all_dropped (λ p. model.begins_with p c.args.directory.now ≡ true) n (take (b - a) (drop a ps)) c.run_of-first.ensures.within)
+
+pub note_child-requires-clause-quiet : goal.note_child-requires-clause-quiet
+note_child-requires-clause-quiet c = if_none_then c.guess_unless-guess.result c.is_quiet-quiet.ensures c.guess_unless-guess.ensures
 
 pub returns : goal.returns
 returns c =
