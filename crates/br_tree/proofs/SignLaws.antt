@@ -3,9 +3,7 @@ use Rattle.std.proofs.Common.{◌≡◌, ℕ, Bool, true, false, ◌&&◌, cond,
 use Rattle.std.proofs.lemmas.Bool.{both_ways, false_from_ne_true}
 use Rattle.std.proofs.lemmas.Slice.Eq.{bytes_eq-Decides}
 use Rattle.std.specs.Prelude.{bytes_eq, IfNone}
-use Rattle.std.specs.List.{list_any}
 use Rattle.br_model.specs.Name.{is_directory}
-use Rattle.br_model.specs.Order.{is_among}
 use Rattle.br_model.specs.Console.{begins_with, sign}
 use Rattle.br_tree.specs.Walk.{NoneBegins, NonePassing}
 use Rattle.br_tree.proofs.ChildLaws.{sign_other}
