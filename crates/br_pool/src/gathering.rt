@@ -5,11 +5,10 @@ ghost use Rattle.br_pool.specs.Crew.{HasAll};
 ghost use Rattle.br_pool.specs.Gathering.{IsStill, Takes};
 ghost use Rattle.br_pool.specs.declared.gathering.Look.TheVariants.{Empty, Lost};
 
+use crate::course::Course;
 use crate::line::{CrewPass, Line, next_batch};
 use br_join::Joiner;
 use std::sync::Wait;
-use std::sync::atomic::{AtomicU64, Ordering};
-use std::thread;
 
 /// What became of one look at the queue.
 #[derive(Clone, Copy, Debug, PartialEq, Eq)]
@@ -43,15 +42,16 @@ fn take_one<R: Wait>(rt: &R, line: &Line, pass: &mut CrewPass, joiner: &mut Join
     }
 }
 
-/// Gives the joiner what is in the queue, until it finds the queue empty after `ended` was raised.
-/// Returns whether nothing was lost. If a batch is lost, the later ones are taken all the same, so
-/// that no worker waits for a place in the queue.
+/// Gives the joiner what is in the queue, until it finds the queue empty after the senders have ended.
+/// It leaves before that only if they do not begin, and then they send nothing. Returns whether
+/// nothing was lost. If a batch is lost, the later ones are taken all the same, so that no worker
+/// waits for a place in the queue.
 pub(crate) fn gather<R: Wait>(
     rt: &R,
     line: &Line,
     pass: &mut CrewPass,
     joiner: &mut Joiner,
-    ended: &AtomicU64,
+    course: &Course,
 ) -> bool
     requires pass { IsPassOf line.now pass.old }
     requires gathers { (view pass.old).gathers ≡ true }
@@ -62,8 +62,9 @@ pub(crate) fn gather<R: Wait>(
     ensures no_other { (view pass.new).parts ≡ 65536 → HasAll (view pass.new).popped (view pass.new).pushed }
 {
     let mut fine = true;
+    let mut waits: u64 = 0;
     for _ in rt.forever() {
-        let over = ended.load(Ordering::SeqCst) != 0;
+        let over = course.is_over(waits);
         match take_one(rt, line, pass, joiner) {
             Look::Taken => {}
             Look::Lost => fine = false,
@@ -71,7 +72,8 @@ pub(crate) fn gather<R: Wait>(
                 if over {
                     return fine;
                 }
-                thread::yield_now();
+                waits = waits.saturating_add(1);
+                course.wait(rt);
             }
         }
     }

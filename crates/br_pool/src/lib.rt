@@ -7,6 +7,7 @@
 //! as long as one is left.
 #![tactic(auto)]
 
+mod course;
 mod fault;
 mod gate;
 mod gathering;

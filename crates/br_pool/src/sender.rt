@@ -9,6 +9,7 @@ ghost use Rattle.br_pool.specs.Crew.{hired};
 ghost use Rattle.br_pool.specs.Sending.{HasRunSending, HasSent, IsSetUpToSend, SendsOver};
 ghost use Rattle.br_pool.specs.Workers.{EachAt, EachPairAt, IsReady, is_failure, number_at};
 
+use crate::course::Course;
 use crate::gate::Gate;
 use crate::line::{CrewPass, Line, send};
 use crate::worker::{Answer, Reader, Round, Worker, is_failure, number_at};
@@ -32,6 +33,7 @@ pub(crate) struct Sender<D: Drive> {
 pub(crate) struct SendRound<'r, G: Gate> {
     pub(crate) round: &'r Round<'r, G>,
     pub(crate) line: &'r Line,
+    pub(crate) course: &'r Course,
     pub(crate) alloc: Global,
 }
 
@@ -80,6 +82,32 @@ pub(crate) fn send_piece<D: Drive, R: Wait>(
     })
 }
 
+/// Sends a piece as `send_piece`, unless the gatherer has left and nobody would take the hits.
+///
+/// # Errors
+///
+/// As those of `send_piece`, and `Memory` if the gatherer has left. Then nothing is read or sent.
+fn send_if_taken<D: Drive, G: Gate, R: Wait>(
+    rt: &R,
+    sending: &SendRound<'_, G>,
+    pass: &mut CrewPass,
+    piece: &Piece,
+    drive: &mut D,
+) -> Result<Found, PieceFault>
+    requires pass { IsPassOf sending.now.line.now pass.old }
+    requires part { 0 < (view pass.old).parts }
+    ensures pass { IsPassOf sending.now.line.now pass.new }
+    ensures sent { SendsOver (D.shows drive.old) (D.shows drive.new) piece.now (view pass.old) (view pass.new) result }
+    ensures grows { OnlyGrows (D.shows drive.old) (D.shows drive.new) }
+    ensures counted { D.failures drive.old ≤ D.failures drive.new }
+    ensures failed { FailsWithDrive D.failures drive.old drive.new result }
+{
+    if sending.course.is_left() {
+        return Err(PieceFault::Memory);
+    }
+    send_piece(rt, sending.alloc, sending.line, pass, piece, drive)
+}
+
 /// Reads and sends a piece with a drive that is not out, and reports both ends of the reading to the
 /// gate. A drive that fails is out, so it reads no further piece.
 fn send_one<D: Drive, G: Gate, R: Wait>(
@@ -103,7 +131,7 @@ fn send_one<D: Drive, G: Gate, R: Wait>(
     let gate = sending.round.gate;
     gate.enter(number);
     let drive = &mut reader.drive;
-    let answer = send_piece(rt, sending.alloc, sending.line, pass, piece, drive);
+    let answer = send_if_taken(rt, sending, pass, piece, drive);
     gate.leave(number);
     reader.out = is_failure(&answer);
     answer

@@ -19,7 +19,6 @@ use br_join::Joiner;
 use br_volume::Drive;
 use std::alloc::{AllocError, Global};
 use std::sync::Wait;
-use std::sync::atomic::{AtomicU64, Ordering};
 use std::thread::{Threads, join_mut};
 
 /// What is returned by `lists_for`.
@@ -91,7 +90,8 @@ fn dismiss<D: Drive>(
 }
 
 /// Runs the senders, each in a thread of its own, while this thread gives the joiner what they send.
-/// Returns whether nothing was lost.
+/// Returns whether nothing was lost. If no thread can be made, the senders run after the gatherer has
+/// left. Then they refuse their pieces.
 fn run_both<D: Drive + Send, G: Gate + Sync, R: Threads + Wait + Sync>(
     rt: &R,
     sending: &SendRound<'_, G>,
@@ -111,8 +111,8 @@ fn run_both<D: Drive + Send, G: Gate + Sync, R: Threads + Wait + Sync>(
     ensures still { IsStill (view pass.old) (view pass.new) }
     ensures took { Takes (IsTrue result) (view pass.old) (view pass.new) joiner.old joiner.new }
 {
-    let ended = AtomicU64::new(0);
     let line = sending.line;
+    let course = sending.course;
     let (_, fine) = join_mut(
         rt,
         &mut ||
@@ -125,10 +125,11 @@ fn run_both<D: Drive + Send, G: Gate + Sync, R: Threads + Wait + Sync>(
                 sending.entry.now.round.now.claims.now.claims sending.entry.now.round.now.pieces.now sending.entry.now.round.now.left.now)
                 senders.entry.now senders.exit.now }
         {
+            course.begin();
             run_senders(rt, sending, senders);
-            ended.store(1, Ordering::SeqCst);
+            course.end();
         },
-        &mut || gather(rt, line, pass, joiner, &ended),
+        &mut || gather(rt, line, pass, joiner, course),
     );
     fine
 }
@@ -183,7 +184,7 @@ pub(crate) fn send_all<D: Drive + Send, G: Gate + Sync, R: Threads + Wait + Sync
     hire(line, &mut pass, &mut workers, &mut senders);
     let (senders, fine) = run_all(rt, sending, senders, &mut pass, joiner);
     dismiss(line, &mut pass, senders, &mut workers);
-    let rest = gather(rt, line, &mut pass, joiner, &AtomicU64::new(1));
+    let rest = gather(rt, line, &mut pass, joiner, sending.course);
     if !rest {
         return (workers, false);
     }

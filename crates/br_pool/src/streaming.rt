@@ -10,6 +10,7 @@ ghost use Rattle.br_pool.specs.Slots.{is_empty, rounds_left};
 ghost use Rattle.br_pool.specs.Streaming.{AddsTo, FilledTo, ReadsTo, StreamsOver};
 ghost use Rattle.br_pool.specs.Workers.{HaveServed, IsReady, count_in, outs};
 
+use crate::course::Course;
 use crate::fault::PoolFault;
 use crate::gate::Gate;
 use crate::line::open_line;
@@ -46,7 +47,7 @@ struct RoundTask<'r, G: Gate> {
 }
 
 /// Makes a thread, which does nothing, and waits for its end. If no thread can be made, the drives
-/// and the joiner would take turns, and a drive would wait for ever for a place in the queue.
+/// and the joiner would take turns, so the round is refused before it begins.
 fn try_thread<R: Threads>(rt: &R) -> Result<(), AllocError> {
     thread::spawn(rt, || {})?.join(rt);
     Ok(())
@@ -81,9 +82,11 @@ fn read_to<D: Drive + Send, G: Gate + Sync, R: Threads + Wait + Sync>(
     try_thread(rt)?;
     let (mut workers, senders) = lists_for(alloc, shares.len())?;
     into_workers(readers, shares, &mut workers);
+    let course = Course::new();
     let sending = SendRound {
         round: task.round,
         line: &line,
+        course: &course,
         alloc,
     };
     let (workers, fine) = send_all(rt, &sending, pass, workers, senders, joiner);
@@ -191,7 +194,8 @@ fn close_all(joiner: &mut Joiner, pieces: &[Piece])
 ///
 /// # Errors
 ///
-/// - `Memory` if memory ran out, over whichever piece, or if no thread can be made.
+/// - `Memory` if memory ran out, over whichever piece, or if no thread can be made, or none begins
+///   within ten seconds.
 /// - `NoDriveLeft` if each drive failed before all pieces were read.
 /// - `Piece` with the fault of the first piece that has one.
 ///
