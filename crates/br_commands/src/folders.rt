@@ -50,5 +50,6 @@ pub(crate) fn sink_over<'r>(
     let Some(folder) = into else {
         return Ok(None);
     };
-    Ok(Some(FolderSink::new(rt.alloc(), rt, folder)?))
+    let maker = HostDisk::new(rt.alloc(), rt);
+    Ok(Some(FolderSink::new(rt.alloc(), maker, folder)?))
 }

@@ -1,5 +1,6 @@
 use crate::manifest_tests::item;
 use crate::sink_tests::{Shape, Stop, ZEROS, file, files, refusal, stop_of};
+use br_files::HostDisk;
 use br_folder_sink::FolderSink;
 use br_join::Outcome;
 use br_sink::{Sink, deliver};
@@ -25,7 +26,7 @@ fn stop_in(
     folder: &str,
     outcomes: &[(FileKey, Outcome)],
 ) -> Result<Stop, Fail> {
-    let mut sink = FolderSink::new(rt.alloc(), rt, folder)?;
+    let mut sink = FolderSink::new(rt.alloc(), HostDisk::new(rt.alloc(), rt), folder)?;
     Ok(stop_of(&deliver(threads, rt.alloc(), outcomes, &mut sink)))
 }
 
@@ -187,7 +188,7 @@ fn a_folder_has_the_files_before_a_stop_whole(rt: HostRuntime) -> Result<(), Fai
 
 /// Returns the number of the refusal of a sink over this path, 0 if there is none.
 fn refused(rt: &HostRuntime, path: &str) -> u32 {
-    match FolderSink::new(rt.alloc(), rt, path) {
+    match FolderSink::new(rt.alloc(), HostDisk::new(rt.alloc(), rt), path) {
         Ok(_) => 0,
         Err(fault) => fault.number(),
     }
@@ -282,7 +283,7 @@ fn refused_over_links(
     beside: &str,
     folder: &str,
 ) -> Result<([u32; 3], [Stop; 2]), Fail> {
-    let mut sink = FolderSink::new(rt.alloc(), rt, folder)?;
+    let mut sink = FolderSink::new(rt.alloc(), HostDisk::new(rt.alloc(), rt), folder)?;
     make_links(rt, beside, folder)?;
     let refusals = refusals_at_links(rt, &mut sink)?;
     let stops = stops_at_links(rt, threads, &mut sink)?;
@@ -330,7 +331,7 @@ fn stop_at_taken(
     threads: &(impl Threads + Sync),
     folder: &str,
 ) -> Result<Stop, Fail> {
-    let mut sink = FolderSink::new(rt.alloc(), rt, folder)?;
+    let mut sink = FolderSink::new(rt.alloc(), HostDisk::new(rt.alloc(), rt), folder)?;
     stop_at_once(rt, threads, &mut sink, TAKEN)
 }
 

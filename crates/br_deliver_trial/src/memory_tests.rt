@@ -25,6 +25,13 @@ const LEFT: &[(&str, &[u8], u64)] = &[
     ("/into/d/e/c", b"letters", 3),
 ];
 
+/// Returns a maker over memory that has the folder of the restore, and nothing in it.
+fn maker_of(rt: &HostRuntime) -> Result<MemMaker, Fail> {
+    let mut maker = MemMaker::new(rt.alloc());
+    maker.plant("/into", Kind::Folder)?;
+    Ok(maker)
+}
+
 /// Puts the small restore, and returns the stop and the maker.
 fn put_small<M: ManyWriter + Drop>(
     rt: &HostRuntime,
@@ -32,7 +39,7 @@ fn put_small<M: ManyWriter + Drop>(
     maker: M,
 ) -> Result<(Stop, M), Fail> {
     let outcomes = files(rt, SMALL)?;
-    let mut sink = FolderSink::over(rt.alloc(), maker, "/into")?;
+    let mut sink = FolderSink::new(rt.alloc(), maker, "/into")?;
     let stop = stop_of(&sink.put_all(threads, &outcomes));
     Ok((stop, sink.into_maker()))
 }
@@ -66,7 +73,7 @@ fn fails_soundly(
     threads: &(impl Threads + Sync),
     calls: u64,
 ) -> Result<bool, Fail> {
-    let mut maker = MemMaker::new(rt.alloc());
+    let mut maker = maker_of(rt)?;
     maker.fail_after(calls);
     let (stop, left) = end_of(rt, threads, maker)?;
     Ok(match stop {
@@ -75,9 +82,10 @@ fn fails_soundly(
     })
 }
 
-/// Returns the first number of calls after which a failure is not sound.
+/// Returns the first number of calls after which a failure is not sound. A maker that answers none
+/// gives no sink.
 fn first_unsound(rt: &HostRuntime, threads: &(impl Threads + Sync)) -> Result<Option<u64>, Fail> {
-    for calls in 0..15 {
+    for calls in 1..15 {
         if !fails_soundly(rt, threads, calls)? {
             return Ok(Some(calls));
         }
@@ -106,7 +114,7 @@ fn first_overfull(
     threads: &(impl Threads + Sync),
 ) -> Result<Option<usize>, Fail> {
     for room in 0..9 {
-        let mut maker = MemMaker::new(rt.alloc());
+        let mut maker = maker_of(rt)?;
         maker.shorten(2, 1, room);
         if end_of(rt, threads, maker)? != (stop_of_room(room), true) {
             return Ok(Some(room));
@@ -152,9 +160,15 @@ impl FileMaker for Trap {
 
     ghost nodes = { λ _. None };
 
+    ghost is_steady = { λ _. ⊥ };
+
     fn look(&mut self, path: &str) -> Result<Kind, DiskFault> {
         self.count()?;
         self.maker.look(path)
+    }
+
+    fn is_empty(&self, path: &str) -> Result<bool, DiskFault> {
+        self.maker.is_empty(path)
     }
 
     fn make_folder(&mut self, path: &str) -> Result<(), DiskFault> {
@@ -205,7 +219,7 @@ fn is_refused(
     (path, calls): Planted,
 ) -> Result<bool, Fail> {
     let trap = Trap {
-        maker: MemMaker::new(rt.alloc()),
+        maker: maker_of(rt)?,
         path: Some(path),
         calls,
     };
@@ -262,7 +276,7 @@ fn stops_so(
     (calls, wanted): (u64, Stop),
 ) -> Result<bool, Fail> {
     let trap = Trap {
-        maker: MemMaker::new(rt.alloc()),
+        maker: maker_of(rt)?,
         path: None,
         calls,
     };

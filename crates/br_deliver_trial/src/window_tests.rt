@@ -1,5 +1,6 @@
 use crate::folder_tests::new_folder;
 use crate::sink_tests::{Shape, Stop, file, stop_of};
+use br_files::HostDisk;
 use br_folder_sink::FolderSink;
 use br_join::Outcome;
 use br_sink::Sink;
@@ -160,7 +161,7 @@ fn stop_in(
         inside: inside.as_str(),
         beside,
     };
-    let mut sink = FolderSink::new(rt.alloc(), files, folder)?;
+    let mut sink = FolderSink::new(rt.alloc(), HostDisk::new(rt.alloc(), files), folder)?;
     Ok(stop_of(&sink.put_all(threads, &outcomes)))
 }
 

@@ -5,6 +5,7 @@ ghost use Rattle.br_session.specs.Outcome.{ArePlaces};
 use br_attr::Stat;
 use br_bsr::read_bootstrap;
 use br_engine::{Outputs, RestoreEnd, extract_text};
+use br_files::HostDisk;
 use br_folder_sink::FolderSink;
 use br_join::Joiner;
 use br_match::match_piece;
@@ -245,7 +246,7 @@ fn delivered(
     fs::create_dir(rt, folder)?;
     let mut out = Outputs {
         writer: Vec::new(rt.alloc()),
-        sink: Some(FolderSink::new(rt.alloc(), rt, folder)?),
+        sink: Some(FolderSink::new(rt.alloc(), HostDisk::new(rt.alloc(), rt), folder)?),
     };
     deliver(rt, rt.alloc(), &mut out)?;
     let Outputs { writer, .. } = out;

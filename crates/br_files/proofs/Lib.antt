@@ -3,3 +3,4 @@ pub mod KeptLaws
 pub mod AppendLaws
 pub mod ReadLaws
 pub mod MakingLaws
+pub mod EmptyLaws

@@ -1,5 +1,5 @@
 -- What is at each path while files and folders are made.
-use Rattle.std.specs.Prelude.{◌≡◌, ℕ, false, ◌⊎◌, if◌then◌else◌, List, [], ◌∷◌, bytes_eq, find, Option, Some, None, option_map, ⊤}
+use Rattle.std.specs.Prelude.{◌≡◌, ℕ, Bool, true, false, ◌⊎◌, if◌then◌else◌, List, [], ◌∷◌, ◌++◌, bytes_eq, find, Option, Some, None, option_map, ⊤}
 use Rattle.br_files.specs.declared.kind.Kind.{Kind}
 use Rattle.br_files.specs.declared.kind.Kind.TheVariants.{File, Folder}
 
@@ -99,3 +99,30 @@ IsFileOrFree nodes path = IsKindAt nodes path File ⊎ IsFree nodes path
 -- If the nodes are told, nothing is changed, or a file that is not whole is left at the path.
 abbrev pub LeavesOpened : List ℕ → Option Nodes → Option Nodes → Type 0
 LeavesOpened path earlier later = (later ≡ earlier) ⊎ ((n : ℕ) × Sets path (Some (Opened n)) earlier later)
+
+-- a path that begins with the folder's and a slash
+abbrev pub IsBelow : List ℕ → List ℕ → Type 0
+IsBelow folder path = (rest : List ℕ) × (path ≡ folder ++ 47 ∷ rest)
+
+-- nothing is below the folder
+abbrev pub HasNoneBelow : Nodes → List ℕ → Type 0
+HasNoneBelow nodes folder = (path : List ℕ) → IsBelow folder path → node_at nodes path ≡ None
+
+-- something is below the folder
+abbrev pub HasSomeBelow : Nodes → List ℕ → Type 0
+HasSomeBelow nodes folder = (path : List ℕ) × IsBelow folder path × (node_at nodes path ≡ None → ⊥)
+
+-- whether nothing is below the folder
+abbrev pub IsEmptyIn : Nodes → List ℕ → Bool → Type 0
+IsEmptyIn nodes folder true = HasNoneBelow nodes folder
+IsEmptyIn nodes folder false = HasSomeBelow nodes folder
+
+-- If the nodes are told, a folder is at the path, and this says whether nothing is below it.
+abbrev pub IsEmptyAt : Option Nodes → List ℕ → Bool → Type 0
+IsEmptyAt None path empty = ⊤
+IsEmptyAt (Some nodes) path empty = IsKindAt (Some nodes) path Folder × IsEmptyIn nodes path empty
+
+-- If the nodes are told, no folder is at the path.
+abbrev pub IsNoFolder : Option Nodes → List ℕ → Type 0
+IsNoFolder None path = ⊤
+IsNoFolder (Some nodes) path = IsKindAt (Some nodes) path Folder → ⊥

@@ -179,9 +179,16 @@ impl<F: Files + Drop> FileMaker for HostDisk<F> {
 
     ghost nodes = { λ _. None };
 
+    ghost is_steady = { λ _. ⊥ };
+
     fn look(&mut self, path: &str) -> Result<Kind, DiskFault> {
         let metadata = fs::symlink_metadata(&self.files, path).map_err(fault_of)?;
         Ok(kind_of(metadata.file_type()))
+    }
+
+    fn is_empty(&self, path: &str) -> Result<bool, DiskFault> {
+        let mut entries = fs::read_dir(&(&self.files, self.alloc), path).map_err(fault_of)?;
+        Ok(entries.next().is_none())
     }
 
     fn make_folder(&mut self, path: &str) -> Result<(), DiskFault> {

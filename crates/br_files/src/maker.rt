@@ -1,6 +1,6 @@
 ghost use Rattle.std.specs.Prelude.{◌≡◌, Option, Some, None, IfOk, OnOk, OnErr, Err};
 ghost use Rattle.br_files.specs.Making.{Nodes, Else};
-ghost use Rattle.br_files.specs.Making.{IsFinished, IsFree, IsKindAt, KeepsOthers, MakesFile, Sets};
+ghost use Rattle.br_files.specs.Making.{IsEmptyAt, IsFinished, IsFree, IsKindAt, IsNoFolder, KeepsOthers, MakesFile, Sets};
 ghost use Rattle.br_files.specs.declared.fault.DiskFault.TheVariants.{NotFound};
 ghost use Rattle.br_files.specs.declared.kind.Kind.TheVariants.{Folder};
 
@@ -23,6 +23,9 @@ pub trait FileMaker {
     /// the system does not.
     ghost nodes: { Self → Option Nodes };
 
+    /// The maker does not fail by itself: no call to come is one that is to fail.
+    ghost is_steady: { Self → Type 0 };
+
     /// Returns what is at the path. A link is not followed.
     ///
     /// # Errors
@@ -32,6 +35,15 @@ pub trait FileMaker {
         ensures found { IfOk result (λ kind. IsKindAt (nodes self.new) path.now kind) }
         ensures missing { result ≡ Err NotFound → IsFree (nodes self.new) path.now }
         ensures same { nodes self.new ≡ nodes self.old };
+
+    /// Returns whether nothing is in the folder at the path.
+    ///
+    /// # Errors
+    ///
+    /// If no folder is at the path, or the maker fails by itself.
+    fn is_empty(&self, path: &str) -> Result<bool, DiskFault>
+        ensures empty { IfOk result (λ empty. IsEmptyAt (nodes self.now) path.now empty) }
+        ensures refused { OnErr result (is_steady self.now → IsNoFolder (nodes self.now) path.now) };
 
     /// Makes a folder, which only its owner may list, enter and change.
     ///

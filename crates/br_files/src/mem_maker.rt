@@ -3,7 +3,8 @@ ghost use Rattle.std.specs.Prelude.{◌≡◌, ◌∷◌, [], Some, None, option
 ghost use Rattle.br_files.specs.declared.fault.DiskFault.TheVariants.{NotFound};
 ghost use Rattle.std.specs.Option.{option_copied};
 ghost use Rattle.br_files.specs.Making.{Else, node_at, kind_of, Sets};
-ghost use Rattle.br_files.specs.MemMaker.{bytes_in, node_of, nodes_of};
+ghost use Rattle.br_files.specs.MemMaker.{begins_with_slash, bytes_in, is_below, is_filled, is_filled_at};
+ghost use Rattle.br_files.specs.MemMaker.{node_of, nodes_of, with_calls};
 
 use crate::fault::DiskFault;
 use crate::kind::Kind;
@@ -94,12 +95,11 @@ pub struct MemMaker {
 }
 
 impl Model for MemMaker {
-    ghost use Rattle.br_files.specs.Making.{Nodes};
-    ghost use Rattle.br_files.specs.MemMaker.{nodes_of};
+    ghost use Rattle.br_files.specs.MemMaker.{Made, nodes_of};
 
-    ghost Value = { Nodes };
+    ghost Value = { Made };
 
-    ghost view = { λ m. nodes_of m.changes.items };
+    ghost view = { λ m. record { nodes = nodes_of m.changes.items; calls_left = m.calls_left } };
 }
 
 /// Returns the last change at the path.
@@ -129,6 +129,44 @@ fn bytes_at<'a>(changes: &'a [(FilePath, Left)], path: &[u8]) -> Option<&'a [u8]
     }
 }
 
+/// Returns whether the bytes begin with a slash.
+fn begins_with_slash(bytes: &[u8]) -> bool
+    ensures { result ≡ begins_with_slash bytes.now }
+{
+    match bytes {
+        [] => false,
+        [first, ..] => *first == b'/',
+    }
+}
+
+/// Returns whether the path begins with the folder's and a slash.
+#[tactic(auto, using(crate::proofs::EmptyLaws::short_is_not_below))]
+fn is_below(folder: &[u8], path: &[u8]) -> bool
+    ensures { result ≡ is_below folder.now path.now }
+{
+    if path.len() < folder.len() {
+        return false;
+    }
+    let (front, rest) = path.split_at(folder.len());
+    begins_with_slash(rest) && front == folder
+}
+
+/// Returns whether something is at the path, and the path is below the folder.
+fn is_filled_at(folder: &[u8], changes: &[(FilePath, Left)], path: &[u8]) -> bool
+    ensures { result ≡ is_filled_at folder.now (nodes_of changes.now) path.now }
+{
+    is_below(folder, path) && kind_at(changes, path).is_some()
+}
+
+/// Returns whether something is below the folder.
+fn is_filled(folder: &[u8], changes: &[(FilePath, Left)]) -> bool
+    ensures { result ≡ is_filled folder.now changes.now }
+{
+    changes
+        .iter()
+        .any(|c| is_filled_at(folder, changes, c.0.bytes()))
+}
+
 /// Adds a change. A refusal changes nothing.
 #[tactic(auto, using(crate::proofs::MakingLaws::put_first))]
 fn set_at(changes: &mut Vec<(FilePath, Left)>, path: FilePath, left: Left) -> Result<(), AllocError>
@@ -142,7 +180,7 @@ fn set_at(changes: &mut Vec<(FilePath, Left)>, path: FilePath, left: Left) -> Re
 impl MemMaker {
     /// Returns a maker with nothing at any path.
     pub fn new(alloc: Global) -> MemMaker
-        ensures { result ≡ [] }
+        ensures { result ≡ record { nodes = []; calls_left = None } }
     {
         MemMaker {
             alloc,
@@ -156,7 +194,7 @@ impl MemMaker {
 
     /// Makes the calls fail after this number of them.
     pub fn fail_after(&mut self, calls: u64)
-        ensures { self.new ≡ self.old }
+        ensures { self.new ≡ with_calls calls self.old }
     {
         self.calls_left = Some(calls);
     }
@@ -173,22 +211,23 @@ impl MemMaker {
 
     /// Puts a link, a folder or something else at a path, as somebody else may.
     pub fn plant(&mut self, path: &str, kind: Kind) -> Result<(), DiskFault>
-        ensures ok { OnOk result (Sets path.now (Some (Else kind)) (Some self.old) (Some self.new)) }
-        ensures err { OnErr result (self.new ≡ self.old) }
+        ensures ok { OnOk result (Sets path.now (Some (Else kind)) (Some self.old.nodes) (Some self.new.nodes)) }
+        ensures err { OnErr result (self.new.nodes ≡ self.old.nodes) }
+        ensures calls { self.new.calls_left ≡ self.old.calls_left }
     {
         self.leave(path, Left::Else(kind))
     }
 
     /// Returns the bytes of the file at the path, if a file is there that is not being written.
     pub fn bytes(&self, path: &str) -> Option<&[u8]>
-        ensures { option_map (λ b. b.now) result ≡ bytes_in (node_at self.now path.now) }
+        ensures { option_map (λ b. b.now) result ≡ bytes_in (node_at self.now.nodes path.now) }
     {
         bytes_at(&self.changes, path.as_bytes())
     }
 
     /// Counts a call. Returns whether it is answered.
     fn answers(&mut self) -> bool
-        ensures { self.new ≡ self.old }
+        ensures { self.new.nodes ≡ self.old.nodes }
     {
         match self.calls_left {
             None => true,
@@ -208,7 +247,7 @@ impl MemMaker {
     /// Checks that nothing is at the path.
     #[tactic(auto, using(crate::proofs::MakingLaws::no_kind))]
     fn check_free(&self, path: &str) -> Result<(), DiskFault>
-        ensures { OnOk result (node_at self.now path.now ≡ None) }
+        ensures { OnOk result (node_at self.now.nodes path.now ≡ None) }
     {
         match kind_at(&self.changes, path.as_bytes()) {
             Some(_) => Err(DiskFault::Exists),
@@ -218,8 +257,9 @@ impl MemMaker {
 
     /// Leaves this at the path.
     fn leave(&mut self, path: &str, left: Left) -> Result<(), DiskFault>
-        ensures set { OnOk result (Sets path.now (node_of left) (Some self.old) (Some self.new)) }
-        ensures refused { OnErr result (self.new ≡ self.old) }
+        ensures set { OnOk result (Sets path.now (node_of left) (Some self.old.nodes) (Some self.new.nodes)) }
+        ensures refused { OnErr result (self.new.nodes ≡ self.old.nodes) }
+        ensures calls { self.new.calls_left ≡ self.old.calls_left }
         ensures known { result ≡ Err NotFound → ⊥ }
     {
         let kept = FilePath::new(self.alloc, path.as_bytes())?;
@@ -229,11 +269,13 @@ impl MemMaker {
 }
 
 impl FileMaker for MemMaker {
-    ghost use Rattle.std.specs.Prelude.{Some};
+    ghost use Rattle.std.specs.Prelude.{◌≡◌, Some, None};
 
     type New = MemNew;
 
-    ghost nodes = { λ m. Some m };
+    ghost nodes = { λ m. Some m.nodes };
+
+    ghost is_steady = { λ m. m.calls_left ≡ None };
 
     #[tactic(auto, using(crate::proofs::MakingLaws::no_kind))]
     fn look(&mut self, path: &str) -> Result<Kind, DiskFault> {
@@ -243,6 +285,18 @@ impl FileMaker for MemMaker {
         match kind_at(&self.changes, path.as_bytes()) {
             None => Err(DiskFault::NotFound),
             Some(kind) => Ok(kind),
+        }
+    }
+
+    #[tactic(auto, using(crate::proofs::EmptyLaws::empty_is, crate::proofs::EmptyLaws::not_steady, crate::proofs::EmptyLaws::nothing_there, crate::proofs::EmptyLaws::no_folder_there))]
+    fn is_empty(&self, path: &str) -> Result<bool, DiskFault> {
+        if let Some(0) = self.calls_left {
+            return Err(DiskFault::Failed);
+        }
+        match kind_at(&self.changes, path.as_bytes()) {
+            Some(Kind::Folder) => Ok(!is_filled(path.as_bytes(), &self.changes)),
+            Some(Kind::File | Kind::Link | Kind::Other) => Err(DiskFault::Failed),
+            None => Err(DiskFault::NotFound),
         }
     }
 

@@ -4,10 +4,10 @@ use Rattle.std.specs.Prelude.{bytes_eq}
 use Rattle.std.proofs.lemmas.Slice.Eq.{bytes_eq-Decides}
 use Rattle.std.proofs.lemmas.List.{append_assoc}
 use Rattle.std.specs.Io.KnownBytes.{Appends}
-use Rattle.br_files.specs.Making.{Node, Nodes, Bytes, Else, IsFileOrFree, IsFinished, IsFolderNow, KeepsOthers, MakesFile, Opened, Sets, node_at}
+use Rattle.br_files.specs.Making.{Node, Nodes, Bytes, Else, IsBelow, IsFileOrFree, IsFinished, IsFolderNow, KeepsOthers, MakesFile, Opened, Sets, node_at}
 use Rattle.br_files.specs.declared.kind.Kind.TheVariants.{Folder}
 use Rattle.br_files.proofs.MakingLaws.{opened_still, put_whole, same_keeps, set_keeps, set_over}
-use Rattle.br_folder_sink.specs.Below.{AddsFolders, IsBelow, IsOnWay, IsNewFolder, KeepsOutside, PutsBelow, PutsNew, SetsBytes}
+use Rattle.br_folder_sink.specs.Below.{AddsFolders, IsOnWay, IsNewFolder, KeepsOutside, PutsBelow, PutsNew, SetsBytes}
 
 -- paths that begin with the folder's
 

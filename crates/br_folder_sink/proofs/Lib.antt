@@ -2,3 +2,4 @@ pub mod BelowLaws
 pub mod WindowLaws
 pub mod HeldLaws
 pub mod RemovalLaws
+pub mod EmptyLaws

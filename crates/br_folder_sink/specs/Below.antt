@@ -1,11 +1,7 @@
 -- What a sink over a folder changes below it.
-use Rattle.std.specs.Prelude.{◌≡◌, ℕ, ◌⊎◌, List, ◌∷◌, ◌++◌, Option, Some, None, ⊤}
-use Rattle.br_files.specs.Making.{Nodes, Bytes, Else, node_at, IsFileOrFree, Sets}
+use Rattle.std.specs.Prelude.{◌≡◌, ℕ, ◌⊎◌, List, ◌++◌, Option, Some, None, ⊤}
+use Rattle.br_files.specs.Making.{Nodes, Bytes, Else, node_at, IsBelow, IsFileOrFree, Sets}
 use Rattle.br_files.specs.declared.kind.Kind.TheVariants.{Folder}
-
--- a path that begins with the folder's and a slash
-abbrev pub IsBelow : List ℕ → List ℕ → Type 0
-IsBelow root path = (rest : List ℕ) × (path ≡ root ++ 47 ∷ rest)
 
 -- the folder itself, or one below it
 abbrev pub IsOnWay : List ℕ → List ℕ → Type 0

@@ -3,7 +3,8 @@ ghost use Rattle.std.specs.Prelude.{◌≡◌, ◌++◌, true, false, OnOk, IfOk
 ghost use Rattle.std.specs.Str.{IsUtf8};
 ghost use Rattle.br_model.specs.File.{has_bytes};
 ghost use Rattle.br_model.specs.Name.{is_directory};
-ghost use Rattle.br_folder_sink.specs.Below.{AddsFolders, IsBelow, KeepsOutside, PutsBelow};
+ghost use Rattle.br_files.specs.Making.{IsBelow};
+ghost use Rattle.br_folder_sink.specs.Below.{AddsFolders, KeepsOutside, PutsBelow};
 ghost use Rattle.br_folder_sink.specs.FolderSink.{PutsItem, is_on_disk};
 
 use crate::way::{make_way, path_below, write_new};

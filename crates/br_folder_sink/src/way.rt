@@ -1,7 +1,7 @@
 //! Files below a folder, and the folders on their ways.
 ghost use Rattle.std.specs.Prelude.{◌≡◌, ℕ, List, ◌++◌, ◌∷◌, Some, None, OnOk, OnErr, IfOk, string_bytes};
-ghost use Rattle.br_files.specs.Making.{IsFileOrFree, IsFinished, IsFree, KeepsOthers, MakesFile, Sets};
-ghost use Rattle.br_folder_sink.specs.Below.{AddsFolders, IsBelow, IsOnWay, PutsNew, SetsBytes};
+ghost use Rattle.br_files.specs.Making.{IsBelow, IsFileOrFree, IsFinished, IsFree, KeepsOthers, MakesFile, Sets};
+ghost use Rattle.br_folder_sink.specs.Below.{AddsFolders, IsOnWay, PutsNew, SetsBytes};
 ghost use Rattle.br_folder_sink.specs.Fault.{sink_fault};
 ghost use Rattle.br_folder_sink.specs.Removed.{HasNoFile, MakesNoFile};
 

@@ -43,6 +43,16 @@ fn makes<M: FileMaker>(maker: &mut M, path: &str) -> Result<bool, DiskFault> {
     Ok(again && gone && kind_of(maker, path)? == Some(Kind::File))
 }
 
+/// Returns whether the maker tells whether the folder is empty, while the file is there and after it is
+/// removed. The file is there again at the end.
+fn tells_empty<M: FileMaker>(maker: &mut M, folder: &str, file: &str) -> Result<bool, DiskFault> {
+    let full = !maker.is_empty(folder)?;
+    clear_path(maker, file)?;
+    let empty = maker.is_empty(folder)?;
+    put_file(maker, file, b"second")?;
+    Ok(full && empty && maker.is_empty(file).is_err())
+}
+
 /// Returns whether a maker over memory meets all that is tested of makers.
 fn works_in_memory(maker: &mut MemMaker) -> Result<bool, Fail> {
     maker.plant("link", Kind::Link)?;
@@ -50,7 +60,8 @@ fn works_in_memory(maker: &mut MemMaker) -> Result<bool, Fail> {
     steps(maker, "d", "d/f")?;
     let links = refuses_links(maker, "link")?;
     let made = makes(maker, "d/f")?;
-    Ok(links && made && maker.bytes("d/f") == Some(b"second".as_slice()))
+    let empty = tells_empty(maker, "d", "d/f")?;
+    Ok(links && made && empty && maker.bytes("d/f") == Some(b"second".as_slice()))
 }
 
 #[test]
@@ -129,8 +140,9 @@ fn works_in(rt: &HostRuntime, folder: &str) -> Result<bool, Fail> {
     symlink(rt, inner.as_str(), link.as_str())?;
     steps(&mut maker, inner.as_str(), path.as_str())?;
     let links = refuses_links(&mut maker, link.as_str())?;
+    let empty = tells_empty(&mut maker, inner.as_str(), path.as_str())?;
     let bytes = fs::read(rt, path.as_str())?;
-    Ok(links && bytes.as_slice() == b"second".as_slice())
+    Ok(links && empty && bytes.as_slice() == b"second".as_slice())
 }
 
 /// Returns the permissions of the folder and of the file that were made.
