@@ -4,3 +4,4 @@ pub mod AppendLaws
 pub mod ReadLaws
 pub mod MakingLaws
 pub mod EmptyLaws
+pub mod AbsentLaws

@@ -25,6 +25,23 @@ abbrev pub IsNothing : Option Tree → List ℕ → Type 0
 IsNothing None path = ⊤
 IsNothing (Some tree) path = (file_bytes tree path ≡ None) × (other_at tree path ≡ None)
 
+-- If the tree is told, no folder and no pipe or device is at the path. A link may be there.
+abbrev pub IsAbsent : Option Tree → List ℕ → Type 0
+IsAbsent None path = ⊤
+IsAbsent (Some tree) path = (other_at tree path ≡ Some Folder → ⊥) × (other_at tree path ≡ Some Other → ⊥)
+
+-- If the tree is told, something is at the path.
+abbrev pub IsTaken : Option Tree → List ℕ → Type 0
+IsTaken None path = ⊤
+IsTaken (Some tree) path = IsNothing (Some tree) path → ⊥
+
+-- A disk tells its tree always or never. If it tells it, all that is no file is as it was.
+abbrev pub KeepsFolders : Option Tree → Option Tree → Type 0
+KeepsFolders None None = ⊤
+KeepsFolders (Some earlier) (Some later) = later.others ≡ earlier.others
+KeepsFolders None (Some later) = ⊥
+KeepsFolders (Some earlier) None = ⊥
+
 -- something else than a file is at the path
 abbrev pub IsOther : Tree → List ℕ → Kind → Type 0
 IsOther tree path kind = (file_bytes tree path ≡ None) × (other_at tree path ≡ Some kind)

@@ -1,7 +1,7 @@
 -- A disk over memory.
 use Rattle.std.specs.Prelude.{ℕ, if◌then◌else◌, List, [], ◌∷◌, ◌++◌, bytes_eq, map, find, option_map, Vec, Option, Some, None, ◌≡◌, ⊤}
 use Rattle.br_model.specs.Volume.{Volume}
-use Rattle.br_files.specs.Tree.{Tree, file_bytes}
+use Rattle.br_files.specs.Tree.{Tree, file_bytes, other_at}
 use Rattle.br_files.specs.Calls.{IsAt}
 use Rattle.br_files.specs.declared.kind.Kind.{Kind}
 use Rattle.br_files.specs.declared.kind.Kind.TheVariants.{File, Folder, Link, Other}
@@ -56,19 +56,32 @@ IsNotFile Folder = ⊤
 IsNotFile Link = ⊤
 IsNotFile Other = ⊤
 
+-- something at which nothing is found: a link
+abbrev pub IsUnseen : Kind → Type 0
+IsUnseen File = ⊤
+IsUnseen Folder = ⊥
+IsUnseen Link = ⊤
+IsUnseen Other = ⊥
+
 -- what is found where something of this kind is
 abbrev pub IsSeen : Kind → Option Found → Type 0
-IsSeen kind None = ⊤
+IsSeen kind None = IsUnseen kind
 IsSeen kind (Some found) = (found.kind ≡ kind) × IsNotFile found.kind
+
+-- nothing is at the path, or something at which nothing is found
+abbrev pub IsUnseenAt : Option Kind → Type 0
+IsUnseenAt None = ⊤
+IsUnseenAt (Some kind) = IsUnseen kind
 
 -- what else than a file is found at the path
 abbrev pub IsOtherIn : List (List ℕ × Kind) → List ℕ → Option Found → Type 0
-IsOtherIn others path None = ⊤
+IsOtherIn others path None =
+    IsUnseenAt (option_map (λ (e : List ℕ × Kind). e.1) (find (λ (e : List ℕ × Kind). bytes_eq e.0 path) others))
 IsOtherIn others path (Some found) =
     (option_map (λ (e : List ℕ × Kind). e.1) (find (λ (e : List ℕ × Kind). bytes_eq e.0 path) others) ≡ Some found.kind)
     × IsNotFile found.kind
 
 -- what is found at the path
 abbrev pub IsIn : Tree → List ℕ → Option Found → Type 0
-IsIn tree path None = file_bytes tree path ≡ None
+IsIn tree path None = (file_bytes tree path ≡ None) × IsUnseenAt (other_at tree path)
 IsIn tree path (Some found) = IsAt tree path found.kind found.len

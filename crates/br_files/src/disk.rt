@@ -1,7 +1,8 @@
 ghost use Rattle.std.specs.Prelude.{◌≡◌, ℕ, ◌≤◌, ◌⊎◌, List, [], length, take, Option, None, IfOk, OnErr, OnOk, Err, IsTrue};
 ghost use Rattle.br_files.specs.Tree.{Tree};
-ghost use Rattle.br_files.specs.Calls.{IsFile, IsNoFile, IsNothing, IsFound, IsReadAt, IsSteady, Appends};
-ghost use Rattle.br_files.specs.declared.fault.DiskFault.TheVariants.{NotFound};
+ghost use Rattle.br_files.specs.Calls.{IsAbsent, IsFile, IsNoFile, IsNothing, IsFound, IsReadAt, IsSteady, IsTaken};
+ghost use Rattle.br_files.specs.Calls.{Appends, KeepsFolders};
+ghost use Rattle.br_files.specs.declared.fault.DiskFault.TheVariants.{Exists, NotFound};
 
 use crate::fault::DiskFault;
 use crate::kind::Found;
@@ -26,10 +27,12 @@ pub trait Disk {
     ///
     /// # Errors
     ///
-    /// `NotFound` only if no file is there.
+    /// `NotFound` only if nothing is there, or a link that leads to nothing.
     fn find(&mut self, path: &str) -> Result<Found, DiskFault>
         ensures found { IfOk result (λ found. IsFound (told self.new) path.now found.kind found.len) }
         ensures missing { result ≡ Err NotFound → IsNoFile (told self.new) path.now }
+        ensures never { result ≡ Err NotFound → IsAbsent (told self.new) path.now }
+        ensures reads { result ≡ Err Exists → steady self.old ≡ None }
         ensures same { told self.new ≡ told self.old }
         ensures steady { IsSteady (steady self.old) (steady self.new) result };
 
@@ -52,12 +55,15 @@ pub trait Disk {
     ///
     /// # Errors
     ///
-    /// `Exists` if anything is at the path, even a link. After an error no file is made.
+    /// `Exists` only if something is at the path, even a link. After an error no file is made.
     fn create(&mut self, path: &str) -> Result<Self::File, DiskFault>
         ensures opened { IfOk result (λ file. path_of file ≡ path.now) }
         ensures fresh { OnOk result (IsNothing (told self.old) path.now) }
         ensures made { OnOk result (Appends path.now [] (told self.old) (told self.new)) }
         ensures refused { OnErr result (told self.new ≡ told self.old) }
+        ensures taken { result ≡ Err Exists → IsTaken (told self.old) path.now }
+        ensures folders { KeepsFolders (told self.old) (told self.new) }
+        ensures makes { result ≡ Err NotFound → steady self.old ≡ None }
         ensures steady { IsSteady (steady self.old) (steady self.new) result };
 
     /// Returns whether the file was opened under this path.

@@ -2,7 +2,7 @@ ghost use Rattle.std.specs.Prelude.{◌≡◌, ℕ, ◌-◌, ◌^◌, ◌<◌, �
 ghost use Rattle.std.specs.Prelude.{Option, option_map, IfOk, OnOk, OnErr, None, Some};
 ghost use Rattle.std.specs.Option.{option_copied};
 ghost use Rattle.br_model.specs.Volume.{volume_bytes};
-ghost use Rattle.br_files.specs.Calls.{IsPartAt};
+ghost use Rattle.br_files.specs.Calls.{IsNothing, IsPartAt, IsTaken};
 ghost use Rattle.br_files.specs.Memory.{Held, IsSeen, IsOtherIn, IsIn, files_of, steady_of, with_appended};
 ghost use Rattle.br_files.specs.Memory.{with_interrupts, with_calls, with_room};
 
@@ -149,6 +149,7 @@ fn found_of(kind: Kind) -> Option<Found>
 }
 
 /// Returns what else than a file is found at the path.
+#[tactic(auto, using(crate::proofs::AbsentLaws::other_seen, crate::proofs::AbsentLaws::none_seen))]
 fn other_in(others: &[(FilePath, Kind)], path: &[u8]) -> Option<Found>
     ensures { IsOtherIn others.now path.now result }
 {
@@ -159,6 +160,7 @@ fn other_in(others: &[(FilePath, Kind)], path: &[u8]) -> Option<Found>
 }
 
 /// Returns what is found at the path.
+#[tactic(auto, using(crate::proofs::AbsentLaws::other_is_in))]
 fn found_in(
     files: &[(FilePath, Vec<u8>)],
     others: &[(FilePath, Kind)],
@@ -173,6 +175,17 @@ fn found_in(
         });
     }
     other_in(others, path)
+}
+
+/// Returns whether something is at the path.
+fn is_taken(files: &[(FilePath, Vec<u8>)], others: &[(FilePath, Kind)], path: &[u8]) -> bool
+    ensures free { result ≡ false → IsNothing (Some (record { files = files_of files.now; others = others.now })) path.now }
+    ensures taken { result ≡ true → IsTaken (Some (record { files = files_of files.now; others = others.now })) path.now }
+{
+    match bytes_of(files, path) {
+        Some(_) => true,
+        None => other_of(others, path).is_some(),
+    }
 }
 
 /// Returns the place of the first file at the path.
@@ -228,6 +241,7 @@ impl Disk for MemDisk {
 
     ghost steady = { steady_of };
 
+    #[tactic(auto, using(crate::proofs::AbsentLaws::unseen_is_absent))]
     fn find(&mut self, path: &str) -> Result<Found, DiskFault> {
         if !self.answers() {
             return Err(DiskFault::Failed);
@@ -256,9 +270,7 @@ impl Disk for MemDisk {
         if !self.answers() {
             return Err(DiskFault::Failed);
         }
-        if bytes_of(&self.files, path.as_bytes()).is_some()
-            || other_of(&self.others, path.as_bytes()).is_some()
-        {
+        if is_taken(&self.files, &self.others, path.as_bytes()) {
             return Err(DiskFault::Exists);
         }
         let file = FilePath::new(self.alloc, path.as_bytes())?;

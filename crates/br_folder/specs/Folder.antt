@@ -1,8 +1,8 @@
 -- Volumes in a folder of a disk.
-use Rattle.std.specs.Prelude.{◌≡◌, ℕ, ◌⊎◌, ◌+◌, ◌<◌, if◌then◌else◌, List, [], ◌∷◌, ◌++◌, length, take, drop, flat_map, bytes_eq, Option, option_map}
+use Rattle.std.specs.Prelude.{◌≡◌, ℕ, ◌⊎◌, ◌+◌, ◌<◌, if◌then◌else◌, List, [], ◌∷◌, ◌++◌, length, take, drop, flat_map, bytes_eq, Option, Some, None, option_map, Result, Ok, Err, ⊤}
 use Rattle.br_model.specs.Volume.{Volume}
 use Rattle.br_files.specs.Tree.{Tree}
-use Rattle.br_files.specs.Calls.{Appends, HasFile}
+use Rattle.br_files.specs.Calls.{Appends, HasFile, IsNothing}
 use Rattle.br_volume.specs.Drive.{bytes_from, bytes_got}
 use Rattle.br_volume.specs.Store.{AppendsTo, AppendsInPartTo}
 use Rattle.br_files.specs.declared.fault.DiskFault.{DiskFault}
@@ -58,6 +58,19 @@ IsCut size was now (Block n) = (0 < length was) × (now ≡ take size was) × (n
 -- the file at the path is there to be appended to, or an empty one was made
 abbrev pub IsReady : List ℕ → Option Tree → Option Tree → Type 0
 IsReady path earlier later = (later ≡ earlier) ⊎ Appends path [] earlier later
+
+-- If the disk tells that nothing is at the path, and does not fail by itself and is not interrupted, no
+-- call is refused there but for want of memory.
+abbrev pub IsKnownFree : Option ℕ → Option Tree → List ℕ → Type 0
+IsKnownFree steady None path = ⊥
+IsKnownFree steady (Some tree) path = (steady ≡ Some 0) × IsNothing (Some tree) path
+
+-- the search for a file where nothing is gives none, unless memory runs out, and the disk stays so
+abbrev pub FindsNone : Option ℕ → Result ℕ DriveFault → Type 0
+FindsNone steady (Ok n) = ⊥
+FindsNone steady (Err UnknownVolume) = steady ≡ Some 0
+FindsNone steady (Err Memory) = ⊤
+FindsNone steady (Err Fault) = ⊥
 
 -- a store over the folder appended the bytes to a volume, or at most the first of them
 abbrev pub AppendsBelow : List ℕ → List ℕ → List ℕ → Option Tree → Option Tree → Type 0

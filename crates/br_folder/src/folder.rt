@@ -3,7 +3,7 @@ ghost use Rattle.std.specs.Prelude.{◌≡◌, IfOk, IfErr, Err, string_bytes};
 ghost use Rattle.br_files.specs.Calls.{IsFound, IsNoFile};
 ghost use Rattle.br_files.specs.declared.kind.Kind.TheVariants.{File};
 ghost use Rattle.br_files.specs.declared.fault.DiskFault.TheVariants.{NotFound};
-ghost use Rattle.br_folder.specs.Folder.{drive_fault, file_path};
+ghost use Rattle.br_folder.specs.Folder.{FindsNone, IsKnownFree, drive_fault, file_path};
 ghost use Rattle.br_volume.specs.declared.fault.DriveFault.TheVariants.{Fault, UnknownVolume};
 
 use br_files::{Disk, DiskFault, Found, Kind};
@@ -77,11 +77,12 @@ fn len_of(found: Found) -> Result<u64, DriveFault>
 }
 
 /// Finds the file at the path. Returns its length, and `Fault` if what is there is no file.
-#[tactic(auto, using(crate::proofs::FolderLaws::len_is, crate::proofs::FolderLaws::never_unknown))]
+#[tactic(auto, using(crate::proofs::FolderLaws::len_is, crate::proofs::FolderLaws::never_unknown, crate::proofs::FreeLaws::nothing_found, crate::proofs::FreeLaws::none_found))]
 pub(crate) fn find_file<D: Disk>(disk: &mut D, path: &str) -> Result<u64, DriveFault>
     ensures found { IfOk result (λ n. IsFound (D.told disk.new) path.now File n) }
     ensures missing { result ≡ Err UnknownVolume → IsNoFile (D.told disk.new) path.now }
     ensures same { D.told disk.new ≡ D.told disk.old }
+    ensures free { IsKnownFree (D.steady disk.old) (D.told disk.old) path.now → FindsNone (D.steady disk.new) result }
 {
     match disk.find(path) {
         Ok(found) => len_of(found),

@@ -1,9 +1,10 @@
 //! The store over a folder.
-ghost use Rattle.std.specs.Prelude.{◌≡◌, [], IfOk, OnOk, OnErr, None};
+ghost use Rattle.std.specs.Prelude.{◌≡◌, [], IfErr, IfOk, OnOk, OnErr, None};
 ghost use Rattle.br_files.specs.Append.{AppendsInPart};
 ghost use Rattle.br_files.specs.Calls.{Appends, IsFile};
 ghost use Rattle.br_volume.specs.Store.{IsLengthIn};
-ghost use Rattle.br_folder.specs.Folder.{AppendsBelow, AppendsInPartBelow, IsReady, volumes_told};
+ghost use Rattle.br_folder.specs.Folder.{AppendsBelow, AppendsInPartBelow, IsKnownFree, IsReady, volumes_told};
+ghost use Rattle.br_volume.specs.declared.fault.DriveFault.TheVariants.{Memory};
 
 use crate::folder::{Folder, fault_of, find_file};
 use br_files::{Disk, HostDisk, append};
@@ -27,10 +28,12 @@ fn open_found<D: Disk>(disk: &mut D, path: &str) -> Result<D::File, DriveFault>
 }
 
 /// Makes an empty file at the path.
+#[tactic(auto, using(crate::proofs::FreeLaws::only_memory))]
 fn make<D: Disk>(disk: &mut D, path: &str) -> Result<D::File, DriveFault>
     ensures opened { IfOk result (λ file. D.path_of file ≡ path.now) }
     ensures made { OnOk result (Appends path.now [] (D.told disk.old) (D.told disk.new)) }
     ensures refused { OnErr result (D.told disk.new ≡ D.told disk.old) }
+    ensures always { IsKnownFree (D.steady disk.old) (D.told disk.old) path.now → IfErr result (λ fault. fault ≡ Memory) }
 {
     match disk.create(path) {
         Ok(file) => Ok(file),
@@ -39,11 +42,12 @@ fn make<D: Disk>(disk: &mut D, path: &str) -> Result<D::File, DriveFault>
 }
 
 /// Opens the file at the path to append to it, or makes it if nothing is there.
-#[tactic(auto, using(crate::proofs::FolderLaws::file_of, crate::proofs::StoreLaws::ready_same, crate::proofs::StoreLaws::ready_made))]
-fn open_or_make<D: Disk>(disk: &mut D, path: &str) -> Result<D::File, DriveFault>
+#[tactic(auto, using(crate::proofs::FolderLaws::file_of, crate::proofs::StoreLaws::ready_same, crate::proofs::StoreLaws::ready_made, crate::proofs::FreeLaws::still_free, crate::proofs::FreeLaws::found_never, crate::proofs::FreeLaws::other_fault))]
+pub fn open_or_make<D: Disk>(disk: &mut D, path: &str) -> Result<D::File, DriveFault>
     ensures opened { IfOk result (λ file. D.path_of file ≡ path.now) }
     ensures ready { OnOk result (IsReady path.now (D.told disk.old) (D.told disk.new)) }
     ensures refused { OnErr result (D.told disk.new ≡ D.told disk.old) }
+    ensures always { IsKnownFree (D.steady disk.old) (D.told disk.old) path.now → IfErr result (λ fault. fault ≡ Memory) }
 {
     match find_file(disk, path) {
         Ok(_) => open_found(disk, path),

@@ -9,4 +9,4 @@ mod folder_drive;
 mod folder_store;
 
 pub use folder_drive::FolderDrive;
-pub use folder_store::FolderStore;
+pub use folder_store::{FolderStore, open_or_make};
