@@ -1,5 +1,5 @@
 -- Whether a folder is empty.
-use Rattle.std.proofs.Common.{◌≡◌, ℕ, ◌<◌, ◌||◌, ◌&&◌, Bool, true, false, not, cond, Option, Some, None, option_map, List, [], ◌∷◌, ◌++◌, length, take, drop, refl, ap, sym, ◌∙◌}
+use Rattle.std.proofs.Common.{arith, ◌≡◌, ℕ, ◌<◌, ◌||◌, ◌&&◌, Bool, true, false, not, cond, Option, Some, None, option_map, List, [], ◌∷◌, ◌++◌, length, take, drop, refl, ap, sym, ◌∙◌}
 use Rattle.std.specs.Prelude.{bytes_eq, is_some}
 use Rattle.std.specs.List.{find, list_any}
 use Rattle.std.proofs.lemmas.Bool.{and_from, and_parts, eqb-true, true≢false}
@@ -22,9 +22,11 @@ below_is : (folder path : List ℕ) → is_below folder path ≡ true → IsBelo
 below_is folder path e =
     let parts = and_parts _ _ e in
     let slash = begins (drop (length folder) path) parts.0 in
-    let front = (bytes_eq-Decides (take (length folder) path) folder).0 parts.1 in
-    (slash.0, sym (take-append-drop (length folder) path) ∙ ap (λ (l : List ℕ). l ++ drop (length folder) path) front
-    ∙ ap (λ (l : List ℕ). folder ++ l) slash.1)
+    let front = (bytes_eq-Decides (take (length folder) path) folder).0 parts.1 in (
+      slash.0,
+      sym (take-append-drop (length folder) path) ∙ ap (λ (l : List ℕ). l ++ drop (length folder) path) front
+          ∙ ap (λ (l : List ℕ). folder ++ l) slash.1,
+    )
 
 below_true : (folder path : List ℕ) → IsBelow folder path → is_below folder path ≡ true
 below_true folder path (rest, is) =
