@@ -34,53 +34,53 @@ steady_of : (one : Option ℕ) (told : Option Tree) (path : List ℕ) → IsKnow
 steady_of one None path free = absurd free
 steady_of one (Some tree) path free = free.0
 
-stays : {A : Type 0} (one two : Option ℕ) → one ≡ Some 0 → IsSteady {A = A} one two (Err disk.NotFound) → two ≡ Some 0
-stays one None is steady = let never : ⊥ = rw is at steady in absurd never
-stays {A} one (Some m) is steady =
+stays : (A : Type 0) (one two : Option ℕ) → one ≡ Some 0 → IsSteady {A = A} one two (Err disk.NotFound) → two ≡ Some 0
+stays A one None is steady = let never : ⊥ = rw is at steady in absurd never
+stays A one (Some m) is steady =
     let low : IsSteady {A = A} (Some 0) (Some m) (Err disk.NotFound) = rw is at steady in
     let none : m ≡ 0 = omega (arith, low) in rw none refl
 
-not_interrupted : {A : Type 0} (one two : Option ℕ) → one ≡ Some 0 → IsSteady {A = A} one two (Err disk.Interrupted) → ⊥
-not_interrupted one None is steady = rw is at steady
-not_interrupted {A} one (Some m) is steady =
+not_interrupted : (A : Type 0) (one two : Option ℕ) → one ≡ Some 0 → IsSteady {A = A} one two (Err disk.Interrupted) → ⊥
+not_interrupted A one None is steady = rw is at steady
+not_interrupted A one (Some m) is steady =
     let low : IsSteady {A = A} (Some 0) (Some m) (Err disk.Interrupted) = rw is at steady in omega (arith, low)
 
-not_failed : {A : Type 0} (one two : Option ℕ) → one ≡ Some 0 → IsSteady {A = A} one two (Err disk.Failed) → ⊥
-not_failed one None is steady = rw is at steady
-not_failed one (Some m) is steady = rw is at steady
+not_failed : (A : Type 0) (one two : Option ℕ) → one ≡ Some 0 → IsSteady {A = A} one two (Err disk.Failed) → ⊥
+not_failed A one None is steady = rw is at steady
+not_failed A one (Some m) is steady = rw is at steady
 
-none_by : {A : Type 0} (fault : DiskFault) (one two : Option ℕ) → one ≡ Some 0 → IsSteady {A = A} one two (Err fault)
+none_by : (A : Type 0) (fault : DiskFault) (one two : Option ℕ) → one ≡ Some 0 → IsSteady {A = A} one two (Err fault)
     → (fault ≡ disk.Exists → one ≡ None) → FindsNone two (Err (drive_fault fault))
-none_by disk.NotFound one two is steady reads = stays one two is steady
-none_by disk.Exists one two is steady reads = let none = reads refl in absurd cc
-none_by disk.Interrupted one two is steady reads = absurd (not_interrupted one two is steady)
-none_by disk.Memory one two is steady reads = tt
-none_by disk.Failed one two is steady reads = absurd (not_failed one two is steady)
+none_by A disk.NotFound one two is steady reads = stays A one two is steady
+none_by A disk.Exists one two is steady reads = let none = reads refl in absurd cc
+none_by A disk.Interrupted one two is steady reads = absurd (not_interrupted A one two is steady)
+none_by A disk.Memory one two is steady reads = tt
+none_by A disk.Failed one two is steady reads = absurd (not_failed A one two is steady)
 
 pub none_found : (fault : DiskFault) (given : DriveFault) (one two : Option ℕ) (told : Option Tree) (path : List ℕ) → given ≡ drive_fault fault
-    → IsSteady {A = Found} one two (Err fault) → (Err {A = Found} fault ≡ Err disk.Exists → one ≡ None) → IsKnownFree one told path
+    → IsSteady {A = Found} one two (Err fault) → (◌≡◌ {A = Result Found DiskFault} (Err fault) (Err disk.Exists) → one ≡ None) → IsKnownFree one told path
     → FindsNone two (Err given)
 none_found fault given one two told path is steady reads free =
-    rw is (none_by fault one two (steady_of one told path free) steady (λ e. reads (ap Err e)))
+    rw is (none_by Found fault one two (steady_of one told path free) steady (λ e. reads (ap Err e)))
 
 -- a file that can't be made where nothing is
 taken_nowhere : (steady : Option ℕ) (told : Option Tree) (path : List ℕ) → IsKnownFree steady told path → IsTaken told path → ⊥
 taken_nowhere steady None path free taken = free
 taken_nowhere steady (Some tree) path free taken = taken free.1
 
-memory_by : {A : Type 0} (fault : DiskFault) (one two : Option ℕ) → one ≡ Some 0 → IsSteady {A = A} one two (Err fault)
+memory_by : (A : Type 0) (fault : DiskFault) (one two : Option ℕ) → one ≡ Some 0 → IsSteady {A = A} one two (Err fault)
     → (fault ≡ disk.Exists → ⊥) → (fault ≡ disk.NotFound → one ≡ None) → drive_fault fault ≡ Memory
-memory_by disk.NotFound one two is steady taken makes = let none = makes refl in absurd cc
-memory_by disk.Exists one two is steady taken makes = absurd (taken refl)
-memory_by disk.Interrupted one two is steady taken makes = absurd (not_interrupted one two is steady)
-memory_by disk.Memory one two is steady taken makes = refl
-memory_by disk.Failed one two is steady taken makes = absurd (not_failed one two is steady)
+memory_by A disk.NotFound one two is steady taken makes = let none = makes refl in absurd cc
+memory_by A disk.Exists one two is steady taken makes = absurd (taken refl)
+memory_by A disk.Interrupted one two is steady taken makes = absurd (not_interrupted A one two is steady)
+memory_by A disk.Memory one two is steady taken makes = refl
+memory_by A disk.Failed one two is steady taken makes = absurd (not_failed A one two is steady)
 
 pub only_memory : {A : Type 0} (fault : DiskFault) (given : DriveFault) (one two : Option ℕ) (told : Option Tree) (path : List ℕ)
-    → given ≡ drive_fault fault → IsSteady {A = A} one two (Err fault) → (Err {A = A} fault ≡ Err disk.Exists → IsTaken told path)
-    → (Err {A = A} fault ≡ Err disk.NotFound → one ≡ None) → IsKnownFree one told path → given ≡ Memory
-only_memory fault given one two told path is steady taken makes free =
-    is ∙ memory_by fault one two (steady_of one told path free) steady
+    → given ≡ drive_fault fault → IsSteady {A = A} one two (Err fault) → (◌≡◌ {A = Result A DiskFault} (Err fault) (Err disk.Exists) → IsTaken told path)
+    → (◌≡◌ {A = Result A DiskFault} (Err fault) (Err disk.NotFound) → one ≡ None) → IsKnownFree one told path → given ≡ Memory
+only_memory {A} fault given one two told path is steady taken makes free =
+    is ∙ memory_by A fault one two (steady_of one told path free) steady
     (λ e. taken_nowhere one told path free (taken (ap Err e))) (λ e. makes (ap Err e))
 
 -- what is known free is so after the search
