@@ -1,4 +1,4 @@
-use Rattle.std.proofs.Common.{rules, ◌≡◌, ◌∙◌}
+use Rattle.std.proofs.Common.{rules, ◌≡◌}
 use Rattle.br_files.specs.MemMaker.{node_of}
 use Rattle.br_files.proofs.MakingLaws.{sets_own}
 use Rattle.br_files.proofs.mem_maker.MemMaker.leave.Goals as goal
