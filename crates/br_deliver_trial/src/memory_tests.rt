@@ -82,8 +82,18 @@ fn fails_soundly(
     })
 }
 
-/// Returns the first number of calls after which a failure is not sound. A maker that answers none
-/// gives no sink.
+/// Returns the number of the refusal of a sink over a maker that fails at its first call, 0 if there
+/// is a sink.
+fn refused_at_once(rt: &HostRuntime) -> Result<u32, Fail> {
+    let mut maker = maker_of(rt)?;
+    maker.fail_after(0);
+    Ok(match FolderSink::new(rt.alloc(), maker, "/into") {
+        Ok(_) => 0,
+        Err(fault) => fault.number(),
+    })
+}
+
+/// Returns the first number of calls, from 1 on, after which a failure is not sound.
 fn first_unsound(rt: &HostRuntime, threads: &(impl Threads + Sync)) -> Result<Option<u64>, Fail> {
     for calls in 1..15 {
         if !fails_soundly(rt, threads, calls)? {
@@ -95,6 +105,7 @@ fn first_unsound(rt: &HostRuntime, threads: &(impl Threads + Sync)) -> Result<Op
 
 #[test]
 fn a_failure_at_every_call(rt: HostRuntime) -> Result<(), Fail> {
+    assert_eq!(rt; refused_at_once(&rt)?, 81);
     assert_eq!(rt; first_unsound(&rt, &rt)?, None);
     Ok(())
 }
@@ -124,18 +135,28 @@ fn first_overfull(
 }
 
 #[test]
-fn a_full_disk_at_every_byte(rt: HostRuntime) -> Result<(), Fail> {
+fn files_that_are_full_at_every_byte(rt: HostRuntime) -> Result<(), Fail> {
     assert_eq!(rt; first_overfull(&rt, &rt)?, None);
     Ok(())
 }
 
 /// A maker over memory in which something happens once, before the call after a number of calls:
-/// somebody puts a link at the path, or if there is no path the call fails.
+/// somebody puts a link at the path, or if there is no path the call fails. Its disk has room for
+/// `room` bytes, if that is a number.
 #[derive(Drop)]
 struct Trap {
     maker: MemMaker,
     path: Option<&'static str>,
     calls: u64,
+    room: Option<usize>,
+}
+
+/// Returns the number of bytes of the file that is to be at the path.
+fn size_at(path: &str) -> usize {
+    match LEFT.iter().find(|(of, _, _)| *of == path) {
+        None => 0,
+        Some((_, bytes, _)) => bytes.len(),
+    }
 }
 
 impl Trap {
@@ -144,6 +165,14 @@ impl Trap {
         match self.path {
             None => Err(DiskFault::Failed),
             Some(path) => self.maker.plant(path, Kind::Link),
+        }
+    }
+
+    /// Gives the room that is left to the next file, which is at this path, and takes its bytes away.
+    fn fill(&mut self, path: &str) {
+        if let Some(room) = self.room {
+            self.maker.shorten(2, 1, room);
+            self.room = Some(room.saturating_sub(size_at(path)));
         }
     }
 
@@ -178,6 +207,7 @@ impl FileMaker for Trap {
 
     fn make_file(&mut self, path: &str) -> Result<MemNew, DiskFault> {
         self.count()?;
+        self.fill(path);
         self.maker.make_file(path)
     }
 
@@ -222,6 +252,7 @@ fn is_refused(
         maker: maker_of(rt)?,
         path: Some(path),
         calls,
+        room: None,
     };
     let (stop, mut trap) = put_small(rt, threads, trap)?;
     let stays = trap.maker.look(path) == Ok(Kind::Link);
@@ -279,6 +310,7 @@ fn stops_so(
         maker: maker_of(rt)?,
         path: None,
         calls,
+        room: None,
     };
     let (stop, trap) = put_small(rt, threads, trap)?;
     let done = match wanted {
@@ -305,5 +337,56 @@ fn first_unsound_once(
 #[test]
 fn a_single_failure_at_every_call(rt: HostRuntime) -> Result<(), Fail> {
     assert_eq!(rt; first_unsound_once(&rt, &rt, STOPS)?, None);
+    Ok(())
+}
+
+/// The stop of the small restore, which has 5, 4 and 7 bytes, on a disk with room for this number of
+/// bytes.
+fn stop_of_disk(room: usize) -> Stop {
+    match room {
+        0..=4 => Some((80, 0)),
+        5..=8 => Some((80, 1)),
+        9..=15 => Some((80, 3)),
+        _ => None,
+    }
+}
+
+/// Returns whether a disk with this room stops the restore where it is full, and just the files
+/// before the stop are left.
+fn is_filled_soundly(
+    rt: &HostRuntime,
+    threads: &(impl Threads + Sync),
+    room: usize,
+) -> Result<bool, Fail> {
+    let trap = Trap {
+        maker: maker_of(rt)?,
+        path: None,
+        calls: u64::MAX,
+        room: Some(room),
+    };
+    let (stop, trap) = put_small(rt, threads, trap)?;
+    let done = match stop {
+        None => 4,
+        Some((_, done)) => done,
+    };
+    Ok(stop == stop_of_disk(room) && are_left(&trap.maker, done))
+}
+
+/// Returns the first room with which a full disk is not sound.
+fn first_unsound_room(
+    rt: &HostRuntime,
+    threads: &(impl Threads + Sync),
+) -> Result<Option<usize>, Fail> {
+    for room in 0..18 {
+        if !is_filled_soundly(rt, threads, room)? {
+            return Ok(Some(room));
+        }
+    }
+    Ok(None)
+}
+
+#[test]
+fn a_full_disk_at_every_byte(rt: HostRuntime) -> Result<(), Fail> {
+    assert_eq!(rt; first_unsound_room(&rt, &rt)?, None);
     Ok(())
 }
