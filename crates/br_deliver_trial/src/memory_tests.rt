@@ -140,6 +140,25 @@ fn files_that_are_full_at_every_byte(rt: HostRuntime) -> Result<(), Fail> {
     Ok(())
 }
 
+/// Returns the stop of a restore of which the first writes of each file are interrupted, and whether
+/// just the files before the stop are there.
+fn end_of_interrupted(
+    rt: &HostRuntime,
+    threads: &(impl Threads + Sync),
+    interrupts: u64,
+) -> Result<(Stop, bool), Fail> {
+    let mut maker = maker_of(rt)?;
+    maker.shorten(2, interrupts, 100);
+    end_of(rt, threads, maker)
+}
+
+#[test]
+fn a_write_is_tried_1000_times(rt: HostRuntime) -> Result<(), Fail> {
+    assert_eq!(rt; end_of_interrupted(&rt, &rt, 999)?, (None, true));
+    assert_eq!(rt; end_of_interrupted(&rt, &rt, 1_000)?, (Some((80, 0)), true));
+    Ok(())
+}
+
 /// A maker over memory in which something happens once, before the call after a number of calls:
 /// somebody puts a link at the path, or if there is no path the call fails. Its disk has room for
 /// `room` bytes, if that is a number.

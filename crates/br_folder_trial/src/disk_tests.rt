@@ -126,6 +126,32 @@ fn a_full_disk_at_every_byte(rt: HostRuntime) -> Result<(), Fail> {
     Ok(())
 }
 
+/// Returns whether a read of the whole file ends well whose first calls are interrupted.
+fn is_read_whole(alloc: Global, interrupts: u64) -> Result<bool, Fail> {
+    let mut disk = disk(alloc)?;
+    disk.shorten(20, interrupts);
+    let file = FilePath::new(alloc, PATH.as_bytes())?;
+    let mut buf = Vec::new(alloc);
+    Ok(read_from(&mut disk, &file, 0, 20, &mut buf).is_ok())
+}
+
+/// Returns whether an append ends well whose first calls are interrupted.
+fn is_appended(alloc: Global, interrupts: u64) -> Result<bool, Fail> {
+    let mut disk = disk(alloc)?;
+    disk.shorten(20, interrupts);
+    let mut file = FilePath::new(alloc, PATH.as_bytes())?;
+    Ok(append(&mut disk, &mut file, b"wxyz").is_ok())
+}
+
+#[test]
+fn a_call_is_tried_1000_times(rt: HostRuntime) -> Result<(), Fail> {
+    assert!(rt; is_read_whole(rt.alloc(), 999)?);
+    assert!(rt; !is_read_whole(rt.alloc(), 1_000)?);
+    assert!(rt; is_appended(rt.alloc(), 999)?);
+    assert!(rt; !is_appended(rt.alloc(), 1_000)?);
+    Ok(())
+}
+
 /// Returns whether the disk finds just what is there, and makes a file only where nothing is.
 fn finds_and_makes(disk: &mut MemDisk) -> Result<bool, Fail> {
     let file = disk.find(PATH)?;
