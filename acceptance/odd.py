@@ -1,9 +1,10 @@
-"""A volume of files with odd names, owners, times and types, and what its restore prints. No Bacula wrote it."""
+"""A volume of files with odd names, owners, times and types, and what its restore prints. No Bacula wrote it, but its tools read it."""
 
 import hashlib
 import struct
 from pathlib import Path
 
+from bacula import block_of, volume_label
 from common import escaped
 
 DIGITS = b"ABCDEFGHIJKLMNOPQRSTUVWXYZabcdefghijklmnopqrstuvwxyz0123456789+/"
@@ -66,8 +67,9 @@ def write_case(folder):
     case.mkdir()
     volumes.mkdir()
     data = b"".join(records(index, file) for index, file in enumerate(FILES, 1))
-    (volumes / "V").write_bytes(struct.pack(">III4sII", 0, 24 + len(data), 0, b"BB02", 1, 100) + data)
-    (case / "x.bsr").write_bytes(b"Volume=V\n")
+    label = record(-2, 0, volume_label("V"))
+    (volumes / "V").write_bytes(block_of(label, 0, 0, 0) + block_of(data, 1, 1, 100))
+    (case / "x.bsr").write_bytes(b"Volume=V\nMediaType=File\n")
     lines = b"".join(line(index, file) for index, file in enumerate(FILES, 1))
     (case / "expected").write_bytes(lines + b"total %d 0 0\n" % len(FILES))
     (case / "stderr").write_bytes(b"")

@@ -7,7 +7,8 @@ Without an executable it is crates/brestore/out/brestore, which tools/prove_all 
 file, and with `--tar -`. Both streams have to be the same, and everything else that is printed as README.md says. From the expected
 manifest the script works out what entries the stream must have. Python's `tarfile` has to read just these; GNU tar has to list and
 to unpack them without a word, and so has bsdtar if there is one. What both unpacked is compared path by path: type, mode, time,
-length and digest, link, and if root runs the script owner and device. A last run, into the same file, has to be refused and to
+length and digest, link, and if root runs the script owner and device. If there is Bacula's `bextract`, and root runs the script,
+what it restores is compared with what GNU tar unpacked (bextracted.py). A last run, into the same file, has to be refused and to
 change nothing. The case `odd` is none of Bacula's: odd.py writes it, and only root can unpack it.
 """
 import codecs
@@ -24,8 +25,10 @@ from pathlib import Path
 # Nothing is left beside the script.
 sys.dont_write_bytecode = True
 sys.path.insert(0, os.path.join(os.path.dirname(os.path.dirname(os.path.abspath(__file__))), "tools"))
+from bacula import find_bextract
+from bextracted import compare_with_bextract
 from cases import unpack
-from common import CASES, PROGRAM, SETS, unescaped
+from common import CASES, PROGRAM, SETS, escaped, unescaped
 from delivered import is_on_the_way
 from odd import write_case
 
@@ -200,9 +203,8 @@ def case_of(name, folder):
     return case, volumes
 
 
-def faults(executable, name, folder):
+def faults(executable, case, volumes, folder):
     """Returns what of the runs of a case differs from what is expected."""
-    case, volumes = case_of(name, folder)
     file = folder / "restored.tar"
     words = [executable, "extract", "--bsr", case / "x.bsr", "--volumes", volumes, "--tar"]
     status, manifest, errors = int((case / "status").read_text()), (case / "expected").read_bytes(), (case / "stderr").read_bytes()
@@ -226,15 +228,40 @@ def faults(executable, name, folder):
     return wrong + unpacking_faults(file, entries, folder)
 
 
+def beside_bextract(program, case, volumes, unpacked):
+    """Returns what differs from bextract, and what to say of the comparison."""
+    if not unpacked.exists():
+        return [], "nothing was restored to compare with bextract"
+    wrong, known = compare_with_bextract(program, case, volumes, unpacked)
+    if wrong:
+        return [f"{what} beside bextract" for what in wrong], "bextract restored something else"
+    shown = [f"{what} ({', '.join(escaped(path[-40:]) for path in paths)})" for what, paths in known.items()]
+    return [], "the same as bextract restored" + ", but for " * bool(known) + ", and ".join(shown)
+
+
+def run_case(executable, name, bextract):
+    """Runs a case, and returns what differs, and what to say of the comparison with bextract."""
+    with tempfile.TemporaryDirectory() as place:
+        folder = Path(place)
+        case, volumes = case_of(name, folder)
+        wrong = faults(executable, case, volumes, folder)
+        if bextract is None:
+            return wrong, None
+        differing, said = beside_bextract(bextract, case, volumes, folder / "tar")
+        return wrong + differing, said
+
+
 def main(arguments):
     executable = Path(arguments[0]).resolve() if arguments else Path(PROGRAM)
     names = arguments[1:] or [*sorted(case.name for case in Path(CASES).iterdir()), "odd"]
+    bextract = find_bextract() if os.geteuid() == 0 else None
+    if bextract is None:
+        print("not compared with bextract: it is not there (Debian's package bacula-sd), or the script is not run by root")
     failed = 0
     for name in names:
-        with tempfile.TemporaryDirectory() as folder:
-            wrong = faults(executable, name, Path(folder))
+        wrong, said = run_case(executable, name, bextract)
         failed += bool(wrong)
-        print(f"{name}: {'differs in ' + ', '.join(wrong) if wrong else 'as expected'}")
+        print(f"{name}: {'differs in ' + ', '.join(wrong) if wrong else 'as expected'}" + (f"; {said}" if said else ""))
     print(f"{len(names) - failed} as expected, {failed} not")
     return 1 if failed else 0
 

@@ -42,6 +42,7 @@ import tempfile
 # Nothing is left beside the script.
 sys.dont_write_bytecode = True
 sys.path.insert(0, os.path.join(os.path.dirname(os.path.dirname(os.path.abspath(__file__))), "tools"))
+from bacula import find_bextract, words_of_bextract
 from common import MIB, PROGRAM, escaped, run_measured
 from extract import Best, make, same_bytes
 
@@ -50,40 +51,12 @@ KINDS = {"small": "one-session", "large": "large"}
 MOST_TIME = {"small": 1.5, "large": 1.0}
 # As many as the larger set has volumes.
 DRIVES = 6
-CONFIGURATION = """
-Director {{
-  Name = bench-dir
-  Password = "none"
-}}
-Storage {{
-  Name = bench-sd
-  Working Directory = "{own}"
-  Pid Directory = "{own}"
-}}
-Device {{
-  Name = Folder
-  Media Type = File
-  Device Type = File
-  Archive Device = "{volumes}"
-  Random Access = yes
-  Automatic Mount = yes
-  Removable Media = no
-  Always Open = no
-  Label Media = no
-  Block Checksum = {checksum}
-}}
-Messages {{
-  Name = Standard
-  Director = bench-dir = all
-}}
-"""
 
 
 def read_options():
     parser = argparse.ArgumentParser(description="Measures `brestore extract --into` beside Bacula's `bextract`.")
-    found = shutil.which("bextract", path=os.environ["PATH"] + ":/usr/sbin")
     parser.add_argument("--program", default=PROGRAM, help="the program (default: %(default)s)")
-    parser.add_argument("--bextract", default=found, help="Bacula's program (default: %(default)s)")
+    parser.add_argument("--bextract", default=find_bextract(), help="Bacula's program (default: %(default)s)")
     parser.add_argument("--size", type=int, default=1024, metavar="MIB", help="bytes of files in a set (default: %(default)s MiB)")
     parser.add_argument("--quick", action="store_true", help="sets of 16 MiB")
     parser.add_argument("--repeats", type=int, default=3, metavar="N", help="runs of each, of which the best counts (default: %(default)s)")
@@ -146,14 +119,10 @@ class Delivery:
         self.folder, self.kind, self.facts = folder, kind, facts
         volumes, bootstrap = self.path("volumes"), self.path("bootstrap")
         self.delivered = []
-        own = self.path("bacula")
-        os.makedirs(own, exist_ok=True)
-        with open(os.path.join(own, "conf"), "w") as file:
-            file.write(CONFIGURATION.format(own=own, volumes=volumes, checksum="no" if options.unchecked else "yes"))
         extract = [options.program, "extract", "--bsr", bootstrap, "--volumes", volumes, "--drives", str(options.drives)]
         self.commands = {
             "brestore": [*extract, "--into"],
-            "bextract": [options.bextract, "-c", os.path.join(own, "conf"), "-b", bootstrap, "Folder"],
+            "bextract": words_of_bextract(options.bextract, self.path("bacula"), volumes, bootstrap, not options.unchecked),
             "manifest": extract,
             "md5sum": ["find"],
         }

@@ -19,6 +19,7 @@ import random
 import struct
 import zlib
 
+from bacula import LABEL_FRONT, volume_label
 from common import MIB, escaped
 
 BLOCK_LIMIT = 64_512
@@ -31,7 +32,6 @@ VOLUME_LABEL, START_OF_SESSION, END_OF_SESSION = -2, -4, -5
 LEAST_LARGE_FILE = 256 * MIB
 GREATEST_FILE = 1 << 30
 FILES_IN_FOLDER = 128
-LABEL_FRONT = b"Bacula 1.0 immortal\n\0" + struct.pack(">I", 11)
 DIGITS = "ABCDEFGHIJKLMNOPQRSTUVWXYZabcdefghijklmnopqrstuvwxyz0123456789+/"
 
 
@@ -42,13 +42,6 @@ def base64_number(number):
         number //= 64
         text = DIGITS[number % 64] + text
     return text
-
-
-def volume_label(name):
-    """What a volume's label holds: when it was made and written, and the names of volume, pool, kind, host and program."""
-    times = struct.pack(">qqdd", 0, 0, 0.0, 0.0)
-    names = (name, "", "Bench", "Backup", "File", "bench", "bench", "Ver. 1", "Build 1")
-    return LABEL_FRONT + times + "".join(it + "\0" for it in names).encode()
 
 
 def session_label(number, time):
