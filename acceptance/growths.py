@@ -1,0 +1,437 @@
+#!/usr/bin/env python3
+"""Runs `brestore` with each of its requests for memory refused in turn, and compares what it prints and leaves.
+
+    acceptance/growths.py [--program FILE] [--each N] [--drawn N] [--seed N] [NAME..]
+
+`failing_memory.c`, which is compiled by `cc` and preloaded, lets one request fail, and in a second turn that one and all later ones.
+The program must end by itself. It prints and leaves what it does with all its memory, or it is refused:
+
+- A script answers for each line. If the line that asked is refused by 1 (44 for the bytes of a volume), the later lines answer by
+  what then holds. The second reading of scripts (here, over reading.py) says so for each line.
+- `extract` and `console` end with the status 1 and `refused 1`, or `refused 45` if the catalogue was read, after whole lines of what
+  they print with all their memory. If files are delivered, the number may be 80 once all is printed.
+
+What was in the folder of volumes and in the catalogue is unchanged. Of the files of a delivery the first ones are there, and maybe a front
+of the next one; of a stream, its front. A case of more than `--each` requests has as many at its front and at its end refused in turn, and `--drawn` of those
+between, which are drawn by the seed. The status is 1 if a run differs.
+"""
+
+import argparse
+import contextlib
+import hashlib
+import os
+import random
+import re
+import shutil
+import sqlite3
+import subprocess
+import sys
+import tempfile
+from pathlib import Path
+
+# Nothing is left beside the script.
+sys.dont_write_bytecode = True
+sys.path.insert(0, os.path.join(os.path.dirname(os.path.dirname(os.path.abspath(__file__))), "tools"))
+from cases import unpack
+from choosing import consoled
+from common import CASES, ORDER_SQL, PROGRAM, ROOT, SETS, unescaped
+from drawing import cut_into_blocks, store_job
+from hostile import attributes, block, sparse
+from preloaded import compiled
+from reading import Fault, Refused, file_of, groups_of, manifest_of, match
+
+SECONDS = 10
+FIRST_SCRIPT = os.path.join(ROOT, "crates", "brestore", "stdin")
+STAT = [0, 0, 33188, 1, 0, 0, 0, 14, 0, 0, 0, 0, 0, 0]
+MESSAGE = b"message digest"
+
+
+# ---- scripts: what they answer if one line is refused
+
+
+class Script:
+    """A script that runs: its volumes, the kept bootstrap, and what it answered."""
+
+    def __init__(self, lines, refused, number):
+        self.lines, self.refused, self.number = lines, refused, number
+        self.volumes, self.kept, self.printed, self.place = {}, None, b"", 0
+
+    def is_refused(self):
+        return self.place == self.refused
+
+    def refuse(self, number):
+        self.printed += b"refused %s\n" % str(number).encode()
+
+    def carry_out(self):
+        line = self.lines[self.place]
+        word, _, rest = line.partition(b" ")
+        if self.is_refused():
+            self.refuse(self.number)
+        elif word == b"volume":
+            name, _, data = rest.partition(b" ")
+            self.volumes[name] = self.volumes.get(name, b"") + bytes.fromhex(data.decode())
+        elif line == b"bsr":
+            self.keep()
+        elif line == b"extract":
+            self.extract()
+        elif word != b"drives":
+            self.refuse("90 line %d" % (self.place + 1))
+        self.place += 1
+
+    def keep(self):
+        """Reads the lines up to `.`, of which one may be refused."""
+        end = self.lines.index(b".", self.place)
+        text = b"".join(line + b"\n" for line in self.lines[self.place + 1 : end])
+        is_refused = self.refused is not None and self.place < self.refused <= end
+        self.kept, self.place = None if is_refused else groups_of(text), end
+        if is_refused:
+            self.refuse(self.number)
+
+    def extract(self):
+        if self.kept is None:
+            return self.refuse("90 line %d" % (self.place + 1))
+        try:
+            self.printed += manifest_of(match(self.kept, self.volumes))[0]
+        except Refused as refused:
+            self.refuse(refused)
+
+    def run(self):
+        while self.place < len(self.lines):
+            self.carry_out()
+        has_fault = re.search(rb"(?m)^(refused|X) ", self.printed) is not None
+        return 1 if has_fault else 0, self.printed, b""
+
+
+def answers_of(lines):
+    """Returns what a script answers with all its memory, and all that it may answer if one line is refused."""
+    own = Script(lines, None, 1).run()
+    refused = {Script(lines, place, number).run() for place in range(len(lines)) for number in (1, 44)}
+    by_volumes = {Script(lines, place, 44).run() for place, line in enumerate(lines) if not line.startswith(b"volume ")}
+    refused -= by_volumes - {Script(lines, place, 1).run() for place in range(len(lines))}
+    return own, refused | {(1, b"", b"refused 1\n"), (1, b"refused 1\n", b"")}
+
+
+# ---- what is there
+
+
+def contents_of(folder):
+    """Returns the bytes of each file in a folder."""
+    return {name: Path(folder, name).read_bytes() for name in sorted(os.listdir(folder))} if folder else {}
+
+
+def rows_of(catalogue):
+    """Returns the rows of a catalogue, as text."""
+    with contextlib.closing(sqlite3.connect(catalogue)) as connection:
+        return list(connection.iterdump())
+
+
+def delivered(folder):
+    """Returns the files below a folder with their bytes, and its folders with None."""
+    top = Path(folder)
+    return {str(it.relative_to(top)): None if it.is_dir() else it.read_bytes() for it in sorted(top.rglob("*"))}
+
+
+def contents_by_digest(volumes):
+    """Returns the bytes of each file that is on the volumes, by their digest."""
+    text = b"".join(b'Volume="%s"\n' % os.fsencode(name) for name in volumes)
+    found = match(groups_of(text), {os.fsencode(name): data for name, data in volumes.items()})
+    known = {}
+    for key, places in found.items():
+        with contextlib.suppress(Fault):
+            contents = bytes(file_of([places[place] for place in sorted(places)], key[2])[4])
+            known[hashlib.md5(contents).hexdigest().encode()] = contents
+    return known
+
+
+def steps_of(manifest, known):
+    """Returns what a delivery makes, in order: names below the folder, each with its bytes, or None for a folder."""
+    fields = [line.split(b" ") for line in manifest.splitlines() if line.startswith(b"F ")]
+    made = [it for it in fields if it[4] in (b"2", b"3", b"5")]
+    return [(os.fsdecode(unescaped(it[5])).strip("/"), None if it[4] == b"5" else known[it[-1]]) for it in made]
+
+
+def folders_above(name):
+    return {name[:place]: None for place, letter in enumerate(name) if letter == "/"}
+
+
+def is_begun(tree, before, name, data):
+    """Returns whether a delivery left this that had left `before`, and then was refused at this name."""
+    changed = {it for it in {*tree, *before} if tree.get(it, b"missing") != before.get(it, b"missing")}
+    others = changed - {name} - {*folders_above(name)}
+    is_cut = name not in tree or (tree[name] is None if data is None else tree[name] is not None and data.startswith(tree[name]))
+    return not others and (name not in changed or is_cut)
+
+
+def may_be_left(tree, steps):
+    """Returns whether a delivery that was refused at one of its steps, or after all, may leave this."""
+    before = {}
+    for name, data in steps:
+        if is_begun(tree, before, name, data):
+            return True
+        before |= folders_above(name) | {name: data}
+    return tree == before
+
+
+# ---- runs
+
+
+class Case:
+    """One command, with what it prints and leaves if it has all its memory."""
+
+    def __init__(self, given, folder, words, lines=b"", volumes=None, catalogue=None, delivers=None):
+        self.given, self.folder, self.words, self.lines = given, folder, words, lines
+        self.volumes, self.catalogue, self.delivers = volumes, catalogue, delivers
+        self.before = contents_of(volumes), catalogue and rows_of(catalogue)
+        self.runs, self.wrong, self.is_script = 0, [], words in ([], ["serve"])
+
+    def path(self, name):
+        return os.path.join(self.folder, name)
+
+    def run(self, request, later=False):
+        """Runs the command with this request refused. Returns what it printed, what it left, and whether a request was refused."""
+        into, log = self.path("into"), self.path("log")
+        shutil.rmtree(into, ignore_errors=True)
+        for file in (log, self.path("tar")):
+            if os.path.exists(file):
+                os.remove(file)
+        if self.delivers == "--into":
+            os.mkdir(into)
+        faults = {"LD_PRELOAD": self.given.library, "REFUSED_REQUEST": str(request), "REFUSED_LOG": log, "REFUSED_COUNT": self.path("count")}
+        faults |= {"REFUSED_LATER": "1"} if later else {}
+        words = [self.given.program, *self.words]
+        words += [self.delivers, into if self.delivers == "--into" else self.path("tar")] if self.delivers else []
+        try:
+            ran = subprocess.run(words, input=self.lines, capture_output=True, env=os.environ | faults, timeout=SECONDS)
+            found = ran.returncode, ran.stdout, ran.stderr
+        except subprocess.TimeoutExpired:
+            found = "no end", b"", b""
+        tar = Path(self.path("tar"))
+        left = delivered(into) if self.delivers == "--into" else tar.read_bytes() if tar.exists() else b""
+        return found, left, os.path.exists(log) and os.path.getsize(log) > 0
+
+    def is_expected(self, found, left, own, whole, later):
+        """Returns whether a run with a refused request may print and leave this."""
+        if found == own:
+            return left == whole
+        if self.is_script:
+            return found in self.refused or (later and self.is_script_of_refusals(found, own))
+        status, printed, told = found
+        numbers = [1] + [45] * (self.catalogue is not None and not printed) + [80] * (self.delivers is not None and printed == own[1])
+        is_told = status == 1 and told in [b"refused %d\n" % number for number in numbers]
+        is_fronted = own[1].startswith(printed) and printed[-1:] in (b"", b"\n")
+        return is_told and is_fronted and (whole.startswith(left) if isinstance(left, bytes) else may_be_left(left, self.steps))
+
+    def is_script_of_refusals(self, found, own):
+        """Returns whether each line of a script's answer is one that it may give, with a refusal among them."""
+        known = {line for printed in [own[1], *(it[1] for it in self.refused)] for line in printed.splitlines()}
+        lines = found[1].splitlines()
+        return found[0] == 1 and found[2] == b"" and known.issuperset(lines) and any(it.startswith(b"refused ") for it in lines)
+
+    def try_one(self, request, later, own, whole):
+        """Refuses a request. Returns whether there was one."""
+        found, left, was_refused = self.run(request, later)
+        self.runs += 1
+        what = f"request {request}{' and all later' if later else ''}"
+        if not self.is_expected(found, left, own, whole, later):
+            self.wrong.append(f"{what}: {found[0]} {found[1][-200:]} {found[2][-200:]}")
+        if contents_of(self.volumes) != self.before[0] or (self.catalogue and rows_of(self.catalogue) != self.before[1]):
+            self.wrong.append(f"{what}: volumes or catalogue changed")
+        return was_refused
+
+    def try_all(self, dice):
+        """Refuses requests in turn, until a run has none that is refused."""
+        own, whole, _ = self.run(0)
+        count = int(Path(self.path("count")).read_text())
+        if self.is_script:
+            stated, self.refused = answers_of(self.lines.splitlines())
+            self.wrong += [] if own == stated else [f"with all its memory: {own}"]
+        self.wrong += [] if self.stated in (None, own) else [f"with all its memory: {own}"]
+        if self.delivers == "--into":
+            self.steps = steps_of(own[1], contents_by_digest(self.before[0]))
+        each, places = self.given.each, range(1, count + 1)
+        if count > 3 * each:
+            middle = dice.sample(places[each:-each], min(self.given.drawn, count - 2 * each))
+            places = [*places[:each], *sorted(middle), *places[-each:]]
+        for later in (False, True):
+            for request in places:
+                self.try_one(request, later, own, whole)
+            request = count + 1
+            while self.try_one(request, later, own, whole):
+                request += 1
+        return count
+
+    stated = None
+    refused = frozenset()
+
+
+# ---- cases
+
+
+def first_script(given, folder):
+    """The script of the README: a volume, a bootstrap, and a restore by two drives."""
+    return Case(given, folder, ["serve"], Path(FIRST_SCRIPT).read_bytes())
+
+
+def two_volumes(given, folder):
+    """A script with two volumes, of which the second gets its bytes in two lines, and two bootstraps."""
+    first, second = block([attributes(1), (1, 2, None, b"hello")]), block([attributes(2, b"/b"), (2, 2, None, b"hello")], (2, 200))
+    lines = [b"volume V1 " + first.hex().encode(), b"volume V2 " + second[:50].hex().encode(), b"volume V2 " + second[50:].hex().encode()]
+    lines += [b"bsr", b'Volume="V1"', b".", b"extract", b"drives 3", b"bsr", b"Volume=V2", b"FileIndex=2", b'Volume="V1"', b".", b"extract"]
+    return Case(given, folder, ["serve"], b"".join(line + b"\n" for line in lines))
+
+
+def empty_bootstrap(given, folder):
+    """A script whose bootstrap has no line, so that no earlier line of it had room for its end."""
+    return Case(given, folder, [], b"bsr\n.\nextract\n")
+
+
+def restore_of(given, folder, name, *more, delivers=None):
+    """A restore by a bootstrap that Bacula wrote."""
+    case = Path(CASES, name)
+    volumes = Path(folder, "volumes")
+    unpack(Path(SETS, (case / "set").read_text().strip()), volumes)
+    made = Case(given, folder, ["extract", "--bsr", str(case / "x.bsr"), "--volumes", str(volumes), *more], volumes=str(volumes), delivers=delivers)
+    if delivers is None:
+        made.stated = int((case / "status").read_text()), (case / "expected").read_bytes(), (case / "stderr").read_bytes()
+    return made
+
+
+def restored(given, folder):
+    return restore_of(given, folder, "order-written")
+
+
+def restored_by_drives(given, folder):
+    return restore_of(given, folder, "swap-inc", "--drives", "4")
+
+
+def with_sparse_files(given, folder):
+    return restore_of(given, folder, "feat-full")
+
+
+def into_a_folder(given, folder):
+    return restore_of(given, folder, "order-written", delivers="--into")
+
+
+def into_a_stream(given, folder):
+    return restore_of(given, folder, "order-written", delivers="--tar")
+
+
+def own_restore(given, folder, volume, delivers):
+    """A restore of all that is on one volume."""
+    volumes = Path(folder, "volumes")
+    volumes.mkdir()
+    (volumes / "V").write_bytes(volume)
+    Path(folder, "x.bsr").write_bytes(b'Volume="V"\n')
+    words = ["extract", "--bsr", os.path.join(folder, "x.bsr"), "--volumes", str(volumes)]
+    return Case(given, folder, words, volumes=str(volumes), delivers=delivers)
+
+
+def sparse_file(given, folder):
+    """A sparse file of 100,000 bytes, delivered."""
+    records = [attributes(1), sparse(10, b"ab"), sparse(99_999, b"c"), attributes(2, b"/b"), (2, 2, None, b"hello")]
+    return own_restore(given, folder, block(records), "--into")
+
+
+def conflict(given, folder):
+    """A file in the place of a folder: the delivery stops with 81."""
+    records = [attributes(1), (1, 2, None, b"hello"), attributes(2, b"/a/b"), (2, 2, None, b"hello")]
+    return own_restore(given, folder, block(records), "--into")
+
+
+def filled_catalogue(folder, jobs=None):
+    """Returns the file of a catalogue of these jobs, or of those in catalogues/order.sql."""
+    catalogue, text = os.path.join(folder, "catalogue"), Path(ORDER_SQL).read_text()
+    with contextlib.closing(sqlite3.connect(catalogue)) as connection:
+        connection.executescript(text if jobs is None else text.split("INSERT")[0] + "INSERT INTO Version VALUES (1);")
+        for job in jobs or []:
+            store_job(connection, job)
+        connection.commit()
+    return catalogue
+
+
+def console_words(catalogue, volumes, client, fileset, before):
+    words = ["console", "--db", catalogue, "--volumes", str(volumes), "--client", client, "--fileset", fileset, "--before", before]
+    return [*words, "--drives", "2"]
+
+
+def talk(given, folder, lines, delivers=None):
+    """A session with the console over the catalogue of three jobs that Bacula wrote."""
+    volumes = Path(folder, "volumes")
+    unpack(Path(SETS, "order"), volumes)
+    catalogue = filled_catalogue(folder)
+    words = console_words(catalogue, volumes, "peer-fd", "Peer", "2026-11-22 00:00:00")
+    return Case(given, folder, words, lines, str(volumes), catalogue, delivers)
+
+
+def marks(given, folder):
+    """Marks, unmarks, lists and refused lines, and a restore of what is left."""
+    lines = b"cd tmp/peerlab/src\nls\nmark *\nunmark f1\nfrob\nmark nil\nlsmark\ncd ..\nfind f*\nestimate\ncount\npwd\ndone\n"
+    return talk(given, folder, lines)
+
+
+def marks_delivered(given, folder):
+    return talk(given, folder, b"mark *\ndone\n", "--into")
+
+
+def no_restore(given, folder):
+    return talk(given, folder, b"mark *\nmarkdir\nquit\n")
+
+
+def saved_job(number, path, places, volumes):
+    """Returns a job as choosing.py takes it, and appends its blocks to volumes: the first to one, the others to another."""
+    record = b"1 3 %s\0A A IGk B A A A O A A A A A A\0\0" % path
+    session = number, 100 * number
+    blocks = cut_into_blocks(random.Random(0), [(1, 1, record), (1, 2, MESSAGE)], session, 64)
+    job = {"id": number, "session": session, "start": 100 * number, "type": "B", "level": "FI"[number - 1], "status": "T"}
+    job |= {"client": b"c", "fileset": b"f", "files": [(path, 1, STAT)], "spans": []}
+    for name, data in zip(places, (blocks[0], b"".join(blocks[1:]))):
+        start = len(volumes.setdefault(name, b""))
+        volumes[name] += data
+        job["spans"].append((name, 1, 1, start, len(volumes[name]) - 1))
+    return job
+
+
+def whole_restore(given, folder):
+    """Two jobs on two volumes, a catalogue of both, and a restore of all."""
+    data, volumes = {}, Path(folder, "volumes")
+    jobs = [saved_job(1, b"/a", (b"A", b"B"), data), saved_job(2, b"/b", (b"B", b"A"), data)]
+    volumes.mkdir()
+    for name, content in data.items():
+        (volumes / name.decode()).write_bytes(content)
+    catalogue, lines = filled_catalogue(folder, jobs), b"mark *\ndone\n"
+    case = Case(given, folder, console_words(catalogue, volumes, "c", "f", "1970-01-01 00:04:10"), lines, str(volumes), catalogue)
+    case.stated = consoled(jobs, data, (b"c", b"f", 250), lines)
+    return case
+
+
+EACH = (first_script, two_volumes, empty_bootstrap, restored, restored_by_drives, with_sparse_files, into_a_folder, into_a_stream)
+EACH += (sparse_file, conflict, whole_restore, marks, marks_delivered, no_restore)
+
+
+def main():
+    names = [case.__name__ for case in EACH]
+    parser = argparse.ArgumentParser(description="Runs brestore with each of its requests for memory refused in turn.")
+    parser.add_argument("--program", type=os.path.abspath, default=PROGRAM, help="the program (default: %(default)s)")
+    parser.add_argument("--each", type=int, default=300, metavar="N", help="requests at the front and at the end of a long run (default: %(default)s)")
+    parser.add_argument("--drawn", type=int, default=300, metavar="N", help="requests that are drawn between them (default: %(default)s)")
+    parser.add_argument("--seed", type=int, default=1, help="of what is drawn (default: %(default)s)")
+    parser.add_argument("names", nargs="*", metavar="NAME", help=f"the cases (default: all): {', '.join(names)}")
+    given = parser.parse_args()
+    wrong = 0
+    with tempfile.TemporaryDirectory() as top:
+        given.library = compiled(top, "failing_memory")
+        for make in EACH:
+            if given.names and make.__name__ not in given.names:
+                continue
+            folder = os.path.join(top, make.__name__)
+            os.mkdir(folder)
+            case = make(given, folder)
+            count = case.try_all(random.Random(given.seed))
+            verdict = f"{len(case.wrong)} differ" if case.wrong else "as expected"
+            print(f"{make.__name__}: {count} requests, {case.runs} runs: {verdict}", *case.wrong[:5], sep="\n  ", flush=True)
+            wrong += len(case.wrong)
+    return 1 if wrong else 0
+
+
+if __name__ == "__main__":
+    sys.exit(main())
