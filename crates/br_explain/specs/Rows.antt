@@ -150,7 +150,7 @@ all_rows =
     (codes "Try another copy or choose an earlier moment.") ∷
     row_with 65 (codes "Unsupported")
     (codes "The file has data of a stream that is not supported, such as compressed data; the stream's number follows.")
-    (codes "Restore the file with Bacula's `bextract`, which takes the same bootstrap.") ∷
+    (codes "Restore the file with Bacula's `bextract`; if its data are encrypted or of Windows, with the Director and the client.") ∷
     row_with 66 (codes "DigestDiffers")
     (codes "The file has two MD5 digests, or one that is not that of its bytes.")
     (codes "Do not use the file: try another copy or choose an earlier moment.") ∷

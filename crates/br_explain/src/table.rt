@@ -264,7 +264,7 @@ pub const REFUSALS: [Refusal; 53] = [
         number: 65,
         name: "Unsupported",
         meaning: "The file has data of a stream that is not supported, such as compressed data; the stream's number follows.",
-        next: "Restore the file with Bacula's `bextract`, which takes the same bootstrap.",
+        next: "Restore the file with Bacula's `bextract`; if its data are encrypted or of Windows, with the Director and the client.",
     },
     Refusal {
         number: 66,

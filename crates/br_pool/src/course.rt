@@ -2,7 +2,6 @@
 
 use std::sync::Wait;
 use std::sync::atomic::{AtomicU64, Ordering};
-use std::thread;
 use std::time::Duration;
 
 /// The senders have not begun.
@@ -22,6 +21,10 @@ const MOST_WAITS: u64 = 1_000;
 
 /// The longest wait for senders that have not begun, in milliseconds.
 const LONGEST_WAIT: u64 = 10;
+
+/// The longest sleep while the senders send, in microseconds. A queue of 64 blocks takes longer to
+/// fill.
+const LONGEST_SLEEP: u64 = 200;
 
 /// How far the senders of a round are. They begin only if the gatherer has not left, and it leaves
 /// before their end only if they have not begun. So no sender waits for a gatherer that has left.
@@ -48,6 +51,7 @@ impl Course {
     /// Notes that the senders have ended.
     pub(crate) fn end(&self) {
         self.state.store(ENDED, Ordering::SeqCst);
+        self.state.wake_all();
     }
 
     /// Returns whether the gatherer has left.
@@ -64,13 +68,15 @@ impl Course {
         self.state.load(Ordering::SeqCst) == ENDED
     }
 
-    /// Waits until the senders begin, but not long. If they have begun, lets other threads run.
+    /// Sleeps until the senders begin or end, but not long. A gatherer that looked again at once would
+    /// take a processor from the drives.
     pub(crate) fn wait<R: Wait>(&self, rt: &R) {
         if self.state.load(Ordering::SeqCst) == AWAITED {
             let longest = Duration::from_millis(LONGEST_WAIT);
             self.state.park_timeout(rt, AWAITED as u32, longest);
         } else {
-            thread::yield_now();
+            let longest = Duration::from_micros(LONGEST_SLEEP);
+            self.state.park_timeout(rt, BEGUN as u32, longest);
         }
     }
 
