@@ -50,10 +50,13 @@ MESSAGE = b"message digest"
 
 
 class Script:
-    """A script that runs: its volumes, the kept bootstrap, and what it answered."""
+    """A script that runs: its volumes, the kept bootstrap, and what it answered. One line is refused by a number.
 
-    def __init__(self, lines, refused, number):
-        self.lines, self.refused, self.number = lines, refused, number
+    If that is `bsr` itself, the bootstrap before it may be kept or dropped, as `keeps` says.
+    """
+
+    def __init__(self, lines, refused, number, keeps=True):
+        self.lines, self.refused, self.number, self.keeps = lines, refused, number, keeps
         self.volumes, self.kept, self.printed, self.place = {}, None, b"", 0
 
     def is_refused(self):
@@ -67,6 +70,7 @@ class Script:
         word, _, rest = line.partition(b" ")
         if self.is_refused():
             self.refuse(self.number)
+            self.kept = self.kept if self.keeps or line != b"bsr" else None
         elif word == b"volume":
             name, _, data = rest.partition(b" ")
             self.volumes[name] = self.volumes.get(name, b"") + bytes.fromhex(data.decode())
@@ -105,9 +109,8 @@ class Script:
 def answers_of(lines):
     """Returns what a script answers with all its memory, and all that it may answer if one line is refused."""
     own = Script(lines, None, 1).run()
-    refused = {Script(lines, place, number).run() for place in range(len(lines)) for number in (1, 44)}
-    by_volumes = {Script(lines, place, 44).run() for place, line in enumerate(lines) if not line.startswith(b"volume ")}
-    refused -= by_volumes - {Script(lines, place, 1).run() for place in range(len(lines))}
+    refused = {Script(lines, place, 1, keeps).run() for place in range(len(lines)) for keeps in (True, False)}
+    refused |= {Script(lines, place, 44).run() for place, line in enumerate(lines) if line.startswith(b"volume ")}
     return own, refused | {(1, b"", b"refused 1\n"), (1, b"refused 1\n", b"")}
 
 
