@@ -57,14 +57,19 @@ fn push_line(text: &mut Vec<u8>, line: &[u8], reading: Reading, had_memory: bool
         && text.push(b'\n').is_ok()
 }
 
-/// Reads the lines up to a line `.` or the end of input.
+/// Reads the lines up to a line `.` or the end of input. There is room for `.` from the start: a line
+/// that finds no memory is not kept, so the end of the bootstrap would pass unseen. Without that room
+/// no line is read.
 fn read_bootstrap_lines<R: BufRead>(
     alloc: Global,
     lines: &mut Lines<R>,
 ) -> Result<BootstrapLines, ScriptFault>
     ensures { OnOk result (lines.old.turns ≤ lines.new.turns) }
 {
-    let (mut text, mut line) = (Vec::new(alloc), Vec::new(alloc));
+    let Ok(mut line) = Vec::with_capacity(alloc, 1) else {
+        return Ok(BootstrapLines::NoMemory);
+    };
+    let mut text = Vec::new(alloc);
     let mut has_memory = true;
     loop {
         let reading = lines.read(&mut line, usize::MAX)?;
