@@ -42,10 +42,9 @@ fn take_one<R: Wait>(rt: &R, line: &Line, pass: &mut CrewPass, joiner: &mut Join
     }
 }
 
-/// Gives the joiner what is in the queue, until it finds the queue empty after the senders have ended.
-/// It leaves before that only if they do not begin, and then they send nothing. Returns whether
-/// nothing was lost. If a batch is lost, the later ones are taken all the same, so that no worker
-/// waits for a place in the queue.
+/// Gives the joiner what is in the queue, until it finds the queue empty after the senders have ended,
+/// or send nothing. Returns whether nothing was lost. If a batch is lost, the later ones are taken all
+/// the same, so that no worker waits for a place in the queue.
 pub(crate) fn gather<R: Wait>(
     rt: &R,
     line: &Line,
@@ -62,9 +61,8 @@ pub(crate) fn gather<R: Wait>(
     ensures no_other { (view pass.new).parts ≡ 65536 → HasAll (view pass.new).popped (view pass.new).pushed }
 {
     let mut fine = true;
-    let mut waits: u64 = 0;
     for _ in rt.forever() {
-        let over = course.is_over(waits);
+        let over = course.is_over();
         match take_one(rt, line, pass, joiner) {
             Look::Taken => {}
             Look::Lost => fine = false,
@@ -72,10 +70,29 @@ pub(crate) fn gather<R: Wait>(
                 if over {
                     return fine;
                 }
-                waits = waits.saturating_add(1);
-                course.wait(rt);
+                course.sleep(rt);
             }
         }
     }
     unreachable!()
+}
+
+/// Begins, and gives the joiner what is in the queue, as `gather` does.
+pub(crate) fn gather_sent<R: Wait>(
+    rt: &R,
+    line: &Line,
+    pass: &mut CrewPass,
+    joiner: &mut Joiner,
+    course: &Course,
+) -> bool
+    requires pass { IsPassOf line.now pass.old }
+    requires gathers { (view pass.old).gathers ≡ true }
+    ensures pass { IsPassOf line.now pass.new }
+    ensures still { IsStill (view pass.old) (view pass.new) }
+    ensures took { Takes (IsTrue result) (view pass.old) (view pass.new) joiner.old joiner.new }
+    ensures all { HasAll (view pass.new).pushed (view pass.new).popped }
+    ensures no_other { (view pass.new).parts ≡ 65536 → HasAll (view pass.new).popped (view pass.new).pushed }
+{
+    course.begin();
+    gather(rt, line, pass, joiner, course)
 }

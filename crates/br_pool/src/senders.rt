@@ -11,7 +11,7 @@ ghost use Rattle.br_pool.specs.Sending.{HasRunSending, IsPassAt, IsSetUpToSend};
 ghost use Rattle.br_pool.specs.Workers.{EachAt, EachPairAt, IsSetUp};
 
 use crate::gate::Gate;
-use crate::gathering::gather;
+use crate::gathering::{gather, gather_sent};
 use crate::line::{CrewPass, Line, pass_for_worker, take_in};
 use crate::sender::{SendRound, Sender, run_senders};
 use crate::worker::Worker;
@@ -89,9 +89,9 @@ fn dismiss<D: Drive>(
     senders.destroy_empty();
 }
 
-/// Runs the senders, each in a thread of its own, while this thread gives the joiner what they send.
-/// Returns whether nothing was lost. If no thread can be made, the senders run after the gatherer has
-/// left. Then they refuse their pieces.
+/// Runs the senders, one in this thread and each other one in a thread of its own, while another thread
+/// gives the joiner what they send. Returns whether nothing was lost. If no thread can be made for the
+/// joiner, the senders refuse their pieces.
 fn run_both<D: Drive + Send, G: Gate + Sync, R: Threads + Wait + Sync>(
     rt: &R,
     sending: &SendRound<'_, G>,
@@ -113,8 +113,9 @@ fn run_both<D: Drive + Send, G: Gate + Sync, R: Threads + Wait + Sync>(
 {
     let line = sending.line;
     let course = sending.course;
-    let (_, fine) = join_mut(
+    let (fine, _) = join_mut(
         rt,
+        &mut || gather_sent(rt, line, pass, joiner, course),
         &mut ||
             requires { IsSync R.row × IsSend D.row × IsSync G.row
                 × (sending.now.round.now.claims.now.limit ≡ length sending.now.round.now.left.now)
@@ -125,11 +126,10 @@ fn run_both<D: Drive + Send, G: Gate + Sync, R: Threads + Wait + Sync>(
                 sending.entry.now.round.now.claims.now.claims sending.entry.now.round.now.pieces.now sending.entry.now.round.now.left.now)
                 senders.entry.now senders.exit.now }
         {
-            course.begin();
+            course.await_gatherer(rt);
             run_senders(rt, sending, senders);
             course.end();
         },
-        &mut || gather(rt, line, pass, joiner, course),
     );
     fine
 }
