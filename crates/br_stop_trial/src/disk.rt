@@ -1,0 +1,66 @@
+//! Databases on a disk of which one file stops.
+ghost use Rattle.std.specs.Prelude.{◌≡◌, false, IfSome};
+
+use br_history::History;
+use br_store::Store;
+use sqlite::{Alter, Connection, Error, FileStore, Files, Options};
+use sqlite_disk::{Fuse, Memory};
+use sqlite_trees::store::Reopen;
+use std::alloc::Global;
+use std::test::Fail;
+
+pub(crate) type Disk = FileStore<Fuse<Memory>>;
+
+/// Which file of a database stops.
+#[derive(Clone, Copy)]
+pub(crate) enum Stopping {
+    Log,
+    Database,
+}
+
+/// Opens an empty database of which this file fails after so many calls. Returns none if it does not
+/// open.
+pub(crate) fn open_stopping(alloc: Global, file: Stopping, calls: u64) -> Option<Connection<Disk>>
+    ensures idle { IfSome result (λ conn. conn.in_transaction ≡ false) }
+{
+    let (log, db) = match file {
+        Stopping::Log => (calls, u64::MAX),
+        Stopping::Database => (u64::MAX, calls),
+    };
+    let files = Files {
+        log: Fuse::new(Memory::new(alloc), log),
+        db: Fuse::new(Memory::new(alloc), db),
+    };
+    match Connection::open_files(alloc, files, Options::new(1)) {
+        Ok(conn) => Some(conn),
+        Err(_) => None,
+    }
+}
+
+/// Opens a store again as a database.
+fn opened<S: Alter + Drop>(
+    found: Result<Connection<S>, (Error, S)>,
+) -> Result<Connection<S>, Fail> {
+    match found {
+        Ok(conn) => Ok(conn),
+        Err(_) => Err(Fail::from("the database was not opened again")),
+    }
+}
+
+/// Opens what a stop leaves of a database, without what was not flushed. No file stops any more.
+pub(crate) fn reopened<S: Alter + Reopen + Drop>(
+    alloc: Global,
+    conn: Connection<S>,
+) -> Result<Connection<S>, Fail> {
+    let mut files = conn.into_store();
+    match files.crash_and_reopen() {
+        Ok(()) => opened(Connection::over(alloc, files)),
+        Err(_) => Err(Fail::from("the files were not opened again")),
+    }
+}
+
+/// Loads the jobs that a stop leaves in a catalogue.
+pub(crate) fn history_after(alloc: Global, conn: Connection<Disk>) -> Result<History, Fail> {
+    let mut store = Store::open(alloc, reopened(alloc, conn)?)?;
+    Ok(store.load_history()?)
+}
