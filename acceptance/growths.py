@@ -40,7 +40,8 @@ from hostile import attributes, block, sparse
 from preloaded import compiled
 from reading import Fault, Refused, file_of, groups_of, manifest_of, match
 
-SECONDS = 10
+# A restore to which the system refuses a thread gives up after ten.
+SECONDS = 30
 FIRST_SCRIPT = os.path.join(ROOT, "crates", "brestore", "stdin")
 STAT = [0, 0, 33188, 1, 0, 0, 0, 14, 0, 0, 0, 0, 0, 0]
 MESSAGE = b"message digest"
