@@ -122,26 +122,25 @@ pub end_of : (told : Option Tree) (path : List ℕ) (a : ℕ) (front buffer : Li
 end_of None path a front buffer n none room read = tt
 end_of (Some vs) path a front buffer n none room read = (read.0, read.1, (read.2.some none room, read.2.below))
 
--- a buffer of which the tail was written after the old bytes, and which was then cut
-pub tail_kept : (items old given middle zeros tail more rest : List ℕ) (len count n room : ℕ)
-    → items ≡ take (len + n) (take room (take len given ++ (tail ++ more) ++ rest))
-    → given ≡ middle → middle ≡ take (len + count) old ++ zeros → len ≡ length old → n ≤ length tail → len + n ≤ room
-    → items ≡ old ++ take n tail
-tail_kept items old given middle zeros tail more rest len count n room is same mid all fits below =
-    let whole : take (len + count) old ≡ old = take_all (len + count) old (omega arith) in
-    let kept : take len given ≡ old = rw same (rw mid (rw whole (take_at old zeros len (sym all)))) in
-    let regrouped : (tail ++ more) ++ rest ≡ take n tail ++ (drop n tail ++ (more ++ rest)) =
+-- a buffer of which a part was written after some of the old bytes
+pub part_put : (old given tail more rest : List ℕ) (done n room : ℕ) → given ≡ old → done ≤ length old → n ≤ length tail → done + n ≤ room
+    → take (done + n) (take room (take done given ++ (tail ++ more) ++ rest)) ≡ take done old ++ take n tail
+part_put old given tail more rest done n room same within fits below =
+    let front : List ℕ = take done old ++ take n tail in
+    let after : List ℕ = drop n tail ++ (more ++ rest) in
+    let regrouped : (tail ++ more) ++ rest ≡ take n tail ++ after =
     append_assoc tail more rest ∙ ap (λ (l : List ℕ). l ++ (more ++ rest)) (sym (take-append-drop n tail)) ∙ append_assoc (take n tail) (drop n tail) (more ++ rest) in
-    let split : take len given ++ (tail ++ more) ++ rest ≡ (old ++ take n tail) ++ (drop n tail ++ (more ++ rest)) =
-    append_assoc (take len given) (tail ++ more) rest ∙ ap (λ (l : List ℕ). l ++ ((tail ++ more) ++ rest)) kept ∙ ap (λ (l : List ℕ). old ++ l) regrouped
-    ∙ sym (append_assoc old (take n tail) (drop n tail ++ (more ++ rest))) in
-    let long : length (old ++ take n tail) ≡ len + n =
-    length-append old (take n tail) ∙ ap (λ (k : ℕ). length old + k) (length-take-le n tail fits) ∙ ap (λ (k : ℕ). k + n) (sym all) in
-    let room_is : room ≡ length (old ++ take n tail) + (room - (len + n)) = omega arith in
-    is ∙ ap (λ (l : List ℕ). take (len + n) (take room l)) split
-    ∙ ap (λ (k : ℕ). take (len + n) (take k ((old ++ take n tail) ++ (drop n tail ++ (more ++ rest))))) room_is
-    ∙ ap (take (len + n)) (take-append-add (old ++ take n tail) (drop n tail ++ (more ++ rest)) (room - (len + n)))
-    ∙ take_at (old ++ take n tail) _ (len + n) long
+    let split : take done given ++ (tail ++ more) ++ rest ≡ front ++ after =
+    append_assoc (take done given) (tail ++ more) rest ∙ ap (λ (l : List ℕ). take done l ++ ((tail ++ more) ++ rest)) same ∙ ap (λ (l : List ℕ). take done old ++ l) regrouped
+    ∙ sym (append_assoc (take done old) (take n tail) after) in
+    let long : length front ≡ done + n =
+    length-append (take done old) (take n tail) ∙ ap (λ (k : ℕ). k + length (take n tail)) (length-take-le done old within)
+    ∙ ap (λ (k : ℕ). done + k) (length-take-le n tail fits) in
+    let room_is : room ≡ length front + (room - (done + n)) = omega arith in
+    ap (λ (l : List ℕ). take (done + n) (take room l)) split
+    ∙ ap (λ (k : ℕ). take (done + n) (take k (front ++ after))) room_is
+    ∙ ap (take (done + n)) (take-append-add front after (room - (done + n)))
+    ∙ take_at front _ (done + n) long
 
 -- a tree that stays the same
 pub front_kept : (first second : Option Tree) (path : List ℕ) (a : ℕ) (front : List ℕ) → second ≡ first → IsFront first path a front → IsFront second path a front

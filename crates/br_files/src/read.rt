@@ -1,7 +1,7 @@
-ghost use Rattle.std.specs.Prelude.{◌≡◌, ℕ, ◌+◌, ◌^◌, ◌<◌, ◌≤◌, List, length, vec_len, IfOk, Err};
+ghost use Rattle.std.specs.Prelude.{◌≡◌, ℕ, ◌+◌, ◌^◌, ◌<◌, ◌≤◌, List, length, take, vec_len, IfOk, IfErr, OnOk, Err};
 ghost use Rattle.br_files.specs.Calls.{IsNoFile, IsReadAt, StaysSteady};
 ghost use Rattle.br_files.specs.Read.{FailsOnly, IsFront, IsEnd, IsWhole};
-ghost use Rattle.br_files.specs.declared.fault.DiskFault.TheVariants.{NotFound};
+ghost use Rattle.br_files.specs.declared.fault.DiskFault.TheVariants.{Memory, NotFound};
 
 use crate::disk::Disk;
 use crate::fault::DiskFault;
@@ -35,31 +35,44 @@ fn read_some<D: Disk>(
     Err(DiskFault::Failed)
 }
 
-/// Appends at most `count` bytes of the file to the buffer. Returns their number, 0 only at the
-/// file's end.
+/// Makes the buffer at least `len` bytes long, by zeros at its end.
+fn make_long(buf: &mut Vec<u8>, len: usize) -> Result<(), DiskFault>
+    ensures kept { (n : ℕ) → n ≤ vec_len buf.old → take n buf.new.items ≡ take n buf.old.items }
+    ensures long { OnOk result (len ≤ vec_len buf.new) }
+    ensures memory { IfErr result (λ fault. fault ≡ Memory) }
+{
+    if buf.len() < len {
+        buf.resize(len, 0)?;
+    }
+    Ok(())
+}
+
+/// Reads at most `count` bytes of the file into the buffer, after the first `done` of its bytes.
+/// Returns their number, 0 only at the file's end. After them the buffer may hold anything.
 fn read_more<D: Disk>(
     disk: &mut D,
     file: &D::File,
     addr: u64,
     count: usize,
+    done: usize,
     buf: &mut Vec<u8>,
 ) -> Result<usize, DiskFault>
     requires some { 0 < count }
-    requires in_file { addr + vec_len buf.old < 2 ^ 64 }
-    requires in_word { vec_len buf.old + count < 2 ^ 63 }
-    requires front { IsFront (D.told disk.old) (D.path_of file.now) addr buf.old.items }
-    ensures front { IfOk result (λ _. IsFront (D.told disk.new) (D.path_of file.now) addr buf.new.items) }
-    ensures longer { IfOk result (λ n. (vec_len buf.new ≡ vec_len buf.old + n) × (n ≤ count)) }
-    ensures ended { IfOk result (λ n. n ≡ 0 → IsEnd (D.told disk.new) (D.path_of file.now) addr buf.new.items) }
+    requires in_buffer { done ≤ vec_len buf.old }
+    requires in_file { addr + done < 2 ^ 64 }
+    requires in_word { done + count < 2 ^ 63 }
+    requires front { IsFront (D.told disk.old) (D.path_of file.now) addr (take done buf.old.items) }
+    ensures front { IfOk result (λ n. IsFront (D.told disk.new) (D.path_of file.now) addr (take (done + n) buf.new.items)) }
+    ensures in_buffer { IfOk result (λ n. done + n ≤ vec_len buf.new) }
+    ensures few { IfOk result (λ n. n ≤ count) }
+    ensures ended { IfOk result (λ n. n ≡ 0 → IsEnd (D.told disk.new) (D.path_of file.now) addr (take done buf.new.items)) }
     ensures missing { result ≡ Err NotFound → IsNoFile (D.told disk.new) (D.path_of file.now) }
     ensures same { D.told disk.new ≡ D.told disk.old }
     ensures steady { StaysSteady (D.steady disk.old) (D.steady disk.new) }
     ensures failed { FailsOnly (D.steady disk.old) result }
 {
-    let len = buf.len();
-    buf.resize(len + count, 0)?;
-    let n = read_some(disk, file, &mut buf[len..], addr + len as u64)?;
-    buf.truncate(len + n);
+    make_long(buf, done + count)?;
+    let n = read_some(disk, file, &mut buf[done..done + count], addr + done as u64)?;
     Ok(n)
 }
 
@@ -87,12 +100,17 @@ pub fn read_from<D: Disk>(
     ensures steady { StaysSteady (D.steady disk.old) (D.steady disk.new) }
     ensures failed { FailsOnly (D.steady disk.old) result }
 {
-    buf.clear();
-    while buf.len() < wanted {
-        let count = (wanted - buf.len()).min(STEP);
-        if read_more(disk, file, addr, count, buf)? == 0 {
+    // A buffer that is long enough gets no zeros before the bytes.
+    let mut done = 0;
+    while done < wanted {
+        let count = (wanted - done).min(STEP);
+        let n = read_more(disk, file, addr, count, done, buf)?;
+        if n == 0 {
+            buf.truncate(done);
             return Ok(());
         }
+        done += n;
     }
+    buf.truncate(done);
     Ok(())
 }

@@ -138,6 +138,8 @@ pub struct Walk<'p> {
     /// The walk ends above this address; none if it goes to the volume's end.
     bound: Option<u64>,
     addr: u64,
+    /// The bytes of the header that was read last.
+    head: Vec<u8>,
     ghost alike: { AllZip AreAlike matchers piece.now.groups } by { all_alike_once matchers piece.now.groups },
     ghost bounded: { bound ≡ bound_of (just_groups piece.now.groups) },
 }
@@ -172,6 +174,7 @@ impl<'p> Walk<'p> {
             matchers: Matchers::new(alloc, &piece.groups)?,
             bound: bound_for(&piece.groups),
             addr,
+            head: Vec::new(alloc),
         })
     }
 
@@ -267,7 +270,7 @@ impl<'p> Walk<'p> {
         if self.is_above() {
             return Ok(Step::End);
         }
-        let Some(head) = head_at(alloc, drive, self.piece, self.addr, buf)? else {
+        let Some(head) = head_at(alloc, drive, self.piece, self.addr, &mut self.head)? else {
             return Ok(Step::End);
         };
         self.push_block(alloc, drive, head, buf, hits)?;

@@ -1,15 +1,16 @@
-use Rattle.std.proofs.Common.{◌≡◌, ◌-◌, ◌≤◌, vec_len}
+use Rattle.std.proofs.Common.{◌≡◌, ◌-◌, ◌≤◌, take, vec_len}
 use Rattle.br_files.specs.Calls.{StaysSteady}
 use Rattle.br_files.specs.Read.{IsFront}
 use Rattle.br_files.proofs.read.read_from.Given as goal
 
-abbrev pub invariant-loop-buf : goal.invariant-loop-buf
-invariant-loop-buf g l = record {
-  below : vec_len l.buf ≤ l.wanted;
-  front : IsFront (g.D.Disk.told l.disk) (g.D.Disk.path_of l.file) l.addr l.buf.items;
+abbrev pub invariant-loop-done : goal.invariant-loop-done
+invariant-loop-done g l = record {
+  below : l.done ≤ l.wanted;
+  inside : l.done ≤ vec_len l.buf;
+  front : IsFront (g.D.Disk.told l.disk) (g.D.Disk.path_of l.file) l.addr (take l.done l.buf.items);
   same : g.D.Disk.told l.disk ≡ g.D.Disk.told l.initial.disk;
   steady : StaysSteady (g.D.Disk.steady l.initial.disk) (g.D.Disk.steady l.disk);
 }
 
-abbrev pub decreases-loop-buf : goal.decreases-loop-buf
-decreases-loop-buf g l = l.wanted - vec_len l.buf
+abbrev pub decreases-loop-done : goal.decreases-loop-done
+decreases-loop-done g l = l.wanted - l.done
