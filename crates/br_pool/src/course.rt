@@ -22,15 +22,19 @@ const MOST_WAITS: u64 = 1_000;
 /// The longest wait for a gatherer that has not begun, in milliseconds.
 const LONGEST_WAIT: u64 = 10;
 
-/// The longest sleep while the senders send, in microseconds. A queue of 64 blocks takes longer to
-/// fill.
-const LONGEST_SLEEP: u64 = 200;
+/// The longest sleep while the senders send, in milliseconds.
+const LONGEST_SLEEP: u64 = 5;
+
+/// The number of batches after which a sender wakes the gatherer: half of a queue for 64.
+const BATCHES_FOR_A_WAKE: u64 = 32;
 
 /// How far the gatherer and the senders of a round are. The senders send only if the gatherer has
 /// begun, and it gathers until they have ended. So no sender waits for a gatherer that is not there.
 #[derive(Drop)]
 pub(crate) struct Course {
     state: AtomicU64,
+    /// The number of batches that were sent.
+    sent: AtomicU64,
 }
 
 impl Course {
@@ -38,6 +42,7 @@ impl Course {
     pub(crate) fn new() -> Course {
         Course {
             state: AtomicU64::new(AWAITED),
+            sent: AtomicU64::new(0),
         }
     }
 
@@ -78,10 +83,23 @@ impl Course {
         state == ENDED || state == LEFT
     }
 
-    /// Sleeps until the senders end, but not long. A gatherer that looked again at once would take a
-    /// processor from the drives.
+    /// Notes that a batch was sent. Wakes the gatherer if the queue may be half full.
+    pub(crate) fn note_sent(&self) {
+        let before = self.sent.fetch_add(1, Ordering::SeqCst);
+        if before % BATCHES_FOR_A_WAKE == BATCHES_FOR_A_WAKE - 1 {
+            self.wake();
+        }
+    }
+
+    /// Wakes the gatherer, if it sleeps.
+    pub(crate) fn wake(&self) {
+        self.state.wake_all();
+    }
+
+    /// Sleeps until the senders wake it or end, but not long. A gatherer that looked again at once would
+    /// take a processor from the drives, and one that wakes often takes its share too.
     pub(crate) fn sleep<R: Wait>(&self, rt: &R) {
-        let longest = Duration::from_micros(LONGEST_SLEEP);
+        let longest = Duration::from_millis(LONGEST_SLEEP);
         self.state.park_timeout(rt, BEGUN as u32, longest);
     }
 

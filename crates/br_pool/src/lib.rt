@@ -19,6 +19,7 @@ mod sender;
 mod senders;
 mod slots;
 mod streaming;
+mod supply;
 mod worker;
 mod workers;
 

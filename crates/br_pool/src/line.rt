@@ -3,6 +3,7 @@ ghost use Rattle.std.specs.Prelude.{◌≡◌, ◌<◌, [], true, IfOk, IfSome, 
 ghost use Rattle.crossbeam_queue.specs.Passes.{view, IsPassOf};
 ghost use Rattle.br_pool.specs.Crew.{HasAll, crew, hired, joined, one_part_fewer, sent_by, taken_by};
 
+use crate::course::Course;
 use br_match::Batch;
 use crossbeam_queue::protocol::{Join, Lesson, Outcome, Protocol, Split};
 use crossbeam_queue::{Pass, RuledArrayQueue};
@@ -118,7 +119,7 @@ pub(crate) fn take_in(line: &Line, pass: &mut CrewPass, other: CrewPass)
 }
 
 /// Pushes a batch, and waits while the queue is full.
-pub(crate) fn send<R: Wait>(rt: &R, line: &Line, pass: &mut CrewPass, batch: Batch)
+pub(crate) fn send<R: Wait>(rt: &R, line: &Line, course: &Course, pass: &mut CrewPass, batch: Batch)
     requires pass { IsPassOf line.now pass.old }
     requires part { 0 < (view pass.old).parts }
     ensures pass { IsPassOf line.now pass.new }
@@ -127,9 +128,13 @@ pub(crate) fn send<R: Wait>(rt: &R, line: &Line, pass: &mut CrewPass, batch: Bat
     let mut waiting = batch;
     for _ in rt.forever() {
         match line.push_as::<Sends, R>(rt, pass, waiting) {
-            Ok(()) => return,
+            Ok(()) => {
+                course.note_sent();
+                return;
+            }
             Err(back) => {
                 waiting = back;
+                course.wake();
                 thread::yield_now();
             }
         }

@@ -12,6 +12,7 @@ ghost use Rattle.br_pool.specs.Workers.{EachAt, EachPairAt, IsReady, is_failure,
 use crate::course::Course;
 use crate::gate::Gate;
 use crate::line::{CrewPass, Line, send};
+use crate::supply::Supply;
 use crate::worker::{Answer, Reader, Round, Worker, is_failure, number_at};
 use br_claim::ClaimSeat;
 use br_match::{Batch, Found, PieceFault, Walk};
@@ -38,14 +39,19 @@ pub(crate) struct SendRound<'r, G: Gate> {
 }
 
 /// Pushes a batch if it has hits.
-fn send_hits<R: Wait>(rt: &R, line: &Line, pass: &mut CrewPass, batch: Batch)
-    requires pass { IsPassOf line.now pass.old }
+fn send_hits<G: Gate, R: Wait>(
+    rt: &R,
+    sending: &SendRound<'_, G>,
+    pass: &mut CrewPass,
+    batch: Batch,
+)
+    requires pass { IsPassOf sending.now.line.now pass.old }
     requires part { 0 < (view pass.old).parts }
-    ensures pass { IsPassOf line.now pass.new }
+    ensures pass { IsPassOf sending.now.line.now pass.new }
     ensures sent { Pushes (view pass.old) (view pass.new) batch.hits.items }
 {
     if !batch.hits.is_empty() {
-        send(rt, line, pass, batch);
+        send(rt, sending.line, sending.course, pass, batch);
     }
 }
 
@@ -55,26 +61,28 @@ fn send_hits<R: Wait>(rt: &R, line: &Line, pass: &mut CrewPass, batch: Batch)
 /// # Errors
 ///
 /// As those of `match_piece`. The hits of the blocks before the refusal were sent.
-pub(crate) fn send_piece<D: Drive, R: Wait>(
+fn send_piece<D: Drive, G: Gate, R: Wait>(
     rt: &R,
-    alloc: Global,
-    line: &Line,
+    sending: &SendRound<'_, G>,
     pass: &mut CrewPass,
     piece: &Piece,
     drive: &mut D,
 ) -> Result<Found, PieceFault>
-    requires pass { IsPassOf line.now pass.old }
+    requires pass { IsPassOf sending.now.line.now pass.old }
     requires part { 0 < (view pass.old).parts }
-    ensures pass { IsPassOf line.now pass.new }
+    ensures pass { IsPassOf sending.now.line.now pass.new }
     ensures sent { SendsOver (D.shows drive.old) (D.shows drive.new) piece.now (view pass.old) (view pass.new) result }
     ensures grows { OnlyGrows (D.shows drive.old) (D.shows drive.new) }
     ensures counted { D.failures drive.old ≤ D.failures drive.new }
     ensures failed { FailsWithDrive D.failures drive.old drive.new result }
 {
+    let alloc = sending.alloc;
+    let mut supply = Supply::new(alloc);
     let mut buf = Vec::new(alloc);
     let mut walk = Walk::new(alloc, piece)?;
     while let Some(batch) = walk.next(alloc, drive, &mut buf)? {
-        send_hits(rt, line, pass, batch);
+        send_hits(rt, sending, pass, batch);
+        supply.note_batch();
     }
     Ok(Found {
         piece: piece.number,
@@ -105,7 +113,7 @@ fn send_if_taken<D: Drive, G: Gate, R: Wait>(
     if sending.course.is_left() {
         return Err(PieceFault::Memory);
     }
-    send_piece(rt, sending.alloc, sending.line, pass, piece, drive)
+    send_piece(rt, sending, pass, piece, drive)
 }
 
 /// Reads and sends a piece with a drive that is not out, and reports both ends of the reading to the
