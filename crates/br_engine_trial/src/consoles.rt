@@ -5,7 +5,7 @@ use crate::jobs::{job_with, name_of, row_of};
 use crate::restores::{are_drives, drives_of, push_restore_end, push_sink};
 use crate::sessions::{push_fault, push_lines};
 use crate::streams::Clogging;
-use crate::texts::{named, push_text, text_of};
+use crate::texts::{named, text_of};
 use br_console::{ConsoleFault, ConsoleRun, End, JobSelection, run_console};
 use br_engine::Outputs;
 use br_history::{History, JobRows};
@@ -138,7 +138,7 @@ fn console(
         sink: Some(MemSink::failing_at(case.alloc(), fails_at)),
     };
     run_into(case, threads, fields, &mut out);
-    push_text(case, &out.writer);
+    case.lines(&out.writer);
     push_sink(case, out.sink.as_ref());
 }
 

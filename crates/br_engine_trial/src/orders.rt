@@ -5,7 +5,7 @@ ghost use Rattle.br_session.specs.Outcome.{ArePlaces};
 
 use crate::jobs::path_of;
 use crate::restores::{are_drives, push_restore_end};
-use crate::texts::{push_text, text_of};
+use crate::texts::text_of;
 use br_attr::Stat;
 use br_bsr::read_bootstrap;
 use br_engine::{Outputs, extract_text};
@@ -148,7 +148,7 @@ fn take_all(case: &mut Case, joiner: &mut Joiner, pieces: &[Piece], order: &[&st
 /// Prints the manifest of outcomes.
 fn push_manifest(case: &mut Case, outcomes: &[(FileKey, Outcome)]) {
     match manifest(case.alloc(), outcomes) {
-        Ok(text) => push_text(case, &text),
+        Ok(text) => case.lines(&text),
         Err(_fault) => case.fail("out of memory"),
     }
 }
@@ -218,7 +218,7 @@ fn push_delivered<S: Sink + Drop>(
             Err(_fault) => case.fail("the restore is refused"),
         }
     }
-    push_text(case, &out.writer);
+    case.lines(&out.writer);
 }
 
 /// Delivers the files of both sessions into a new folder.
@@ -241,7 +241,7 @@ fn deliver(
 fn push_file(case: &mut Case, rt: &HostRuntime, folder: &str, name: &str) -> io::Result<()> {
     let path = format!(in rt.alloc(); "{folder}/{name}")?;
     let bytes = fs::read(rt, path.as_str())?;
-    push_text(case, &bytes);
+    case.lines(&bytes);
     Ok(())
 }
 

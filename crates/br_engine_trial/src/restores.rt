@@ -3,7 +3,7 @@ ghost use Rattle.std.specs.Prelude.{◌≡◌, true};
 ghost use Rattle.br_pool.specs.Pool.{AreDrives};
 
 use crate::streams::{Broken, Clogging, Drip, push_kind};
-use crate::texts::{named, push_text, text_of};
+use crate::texts::{named, text_of};
 use br_bsr::{Bootstrap, BsrFault, read_bootstrap};
 use br_engine::{ExtractFault, Outputs, RestoreEnd, extract, extract_text, restore, run_extract};
 use br_join::Outcome;
@@ -57,7 +57,7 @@ fn push_fault(case: &mut Case, fault: &ExtractFault) {
     case.text(" ");
     let mut line = Vec::new(case.alloc());
     case.done(fault.push_line(&mut line));
-    push_text(case, &line);
+    case.lines(&line);
     if let ExtractFault::Io(fault) = fault {
         push_kind(case, fault.kind());
         case.text(" ");
@@ -77,7 +77,7 @@ pub(crate) fn push_restore_end(case: &mut Case, end: &RestoreEnd) {
     }
     let mut line = Vec::new(case.alloc());
     case.done(end.push_line(&mut line));
-    push_text(case, &line);
+    case.lines(&line);
 }
 
 /// Prints how a restore ended, or its fault.
@@ -174,7 +174,7 @@ fn outputs_of(case: &mut Case, before: &str, sink: &str) -> Outputs<Vec<u8>, Mem
 
 /// Prints what was written, and the files in the sink.
 fn push_outputs(case: &mut Case, out: &Outputs<Vec<u8>, MemSink>) {
-    push_text(case, &out.writer);
+    case.lines(&out.writer);
     push_sink(case, out.sink.as_ref());
 }
 

@@ -1,7 +1,7 @@
 //! What scripts write, and how they end.
 
 use crate::streams::{Broken, push_kind};
-use crate::texts::{push_text, text_of};
+use crate::texts::text_of;
 use br_script::{ScriptEnd, ScriptFault, run_script};
 use br_trial_rows::Case;
 use std::io::{BufRead, BufReader, ErrorKind, Read};
@@ -26,7 +26,7 @@ fn run_over<R: BufRead + Drop>(
 ) {
     let mut written = Vec::new(case.alloc());
     let end = run_script(threads, case.alloc(), reader, &mut written);
-    push_text(case, &written);
+    case.lines(&written);
     push_end(case, end);
 }
 

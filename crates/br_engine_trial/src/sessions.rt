@@ -4,7 +4,7 @@ ghost use Rattle.br_model.specs.Job.{no_pair};
 
 use crate::jobs::job_of;
 use crate::streams::{Broken, kind_of, push_kind};
-use crate::texts::{push_text, text_of};
+use crate::texts::text_of;
 use br_console::{ConsoleFault, Lines, Session, SessionEnd, converse};
 use br_history::JobRows;
 use br_mark::Console;
@@ -74,9 +74,9 @@ fn held(case: &mut Case, console: &mut Console<'_>, before: &str, lines: &str) {
     let (mut text, lines) = (text_of(case, before), text_of(case, lines));
     let mut left = lines.as_slice();
     let session = converse(case.alloc(), console, &mut left, &mut text);
-    push_text(case, &text);
+    case.lines(&text);
     push_session(case, session);
-    push_text(case, left);
+    case.lines(left);
     push_marked(case, console);
 }
 
@@ -193,7 +193,7 @@ fn unread_over<R: BufRead + Drop>(case: &mut Case, job: &JobRows, reader: &mut R
         Ok(writer) => {
             let mut writer = writer;
             run_over(case, job, reader, &mut writer);
-            push_text(case, writer.get_ref());
+            case.lines(writer.get_ref());
         }
         Err(_fault) => case.fail("out of memory"),
     }

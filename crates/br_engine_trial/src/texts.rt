@@ -4,7 +4,6 @@
 //! names are printed. A part `$NAME` of a field stands for the bytes of that name.
 
 use br_trial_rows::Case;
-use std::alloc::AllocError;
 
 /// A block of 91 bytes, with `hello` as file 1 of session 1, 100.
 static BLOCK: &[u8] = b"\0\0\0\0\0\0\0\x5b\0\0\0\0BB02\0\0\0\x01\0\0\0\x64\
@@ -49,33 +48,13 @@ pub(crate) fn named(case: &mut Case, name: &str) -> &'static [u8] {
     }
 }
 
-/// Returns the byte that a byte of a field stands for.
-fn byte_of(byte: u8) -> u8 {
-    match byte {
-        b'_' => b' ',
-        b'|' => b'\n',
-        _ => byte,
-    }
-}
-
-/// Returns the byte that is printed for a byte.
-fn printed(byte: u8) -> u8 {
-    match byte {
-        b' ' => b'_',
-        b'\n' => b'|',
-        _ => byte,
-    }
-}
-
 /// Appends a part of a text.
 fn push_part(case: &mut Case, text: &mut Vec<u8>, part: &str) {
-    if let Some(name) = part.strip_prefix('$') {
-        let done = text.extend_from_slice(named(case, name));
-        return case.done(done);
-    }
-    for byte in &case.bytes_of(part) {
-        case.done(text.push(byte_of(*byte)).map_err(AllocError::from));
-    }
+    let done = match part.strip_prefix('$') {
+        Some(name) => text.extend_from_slice(named(case, name)),
+        None => text.extend_from_slice(&case.text_of(part)),
+    };
+    case.done(done);
 }
 
 /// Reads a text.
@@ -85,14 +64,4 @@ pub(crate) fn text_of(case: &mut Case, field: &str) -> Vec<u8> {
         push_part(case, &mut text, part);
     }
     text
-}
-
-/// Prints a text, and a blank.
-pub(crate) fn push_text(case: &mut Case, text: &[u8]) {
-    let mut shown = Vec::new(case.alloc());
-    for byte in text {
-        case.done(shown.push(printed(*byte)).map_err(AllocError::from));
-    }
-    case.bytes(&shown);
-    case.text(" ");
 }

@@ -6,12 +6,14 @@
 //!
 //! A field of bytes is `-` for no bytes, or parts with `+` between them. A part is a text as names
 //! are printed, `3*ab` for that text three times, or `#6162` for bytes in hexadecimal.
+//! A text of lines is such a field, too, in which `_` stands for a blank and `|` for a line feed.
 //!
 //! No call here returns an error: a [`Case`] remembers what went wrong, and its row does not hold.
 #![tactic(auto)]
 
 mod case;
 mod rows;
+mod texts;
 
 pub use case::Case;
 pub use rows::{Row, Rows, fields_of};
