@@ -1,0 +1,3 @@
+mod NewestExamples
+pub mod NewestLaws
+pub mod PlannedLaws
