@@ -31,16 +31,11 @@ from common import CASES, MIB, ORDER_SQL, PROGRAM, SETS, escaped, run_measured
 from choosing import consoled
 from delivered import delivery, tree_of
 from drawing import draw_backups, draw_bootstrap, draw_lines, draw_volumes, spoil, spoil_headers, spoil_volumes, store_job
+from printed import CONSOLE_LINES, REFUSAL_LINES
 from reading import Refused, extracted, groups_of, manifest_of, match
 
 LARGE, LONGEST = 16 * MIB, 60
 # A script answers on standard output alone; the other commands refuse on standard error.
-CONSOLE_LINES = re.compile(
-    rb"cwd is: \S+|[*+ ]\S+|\d+ (un)?marked|\d+ paths, \d+ marked|\d+ marked, \d+ bytes|refused 5[5-7]|/\S*"
-    rb'|Volume="[A-Za-z0-9_.: -]+"|(VolSessionId|VolSessionTime|VolAddr|FileIndex)=\d+(-\d+)?'
-    rb"|F \d+ \d+ \d+ \d+ \S+ (-?\d+,){13}-?\d+ =\S* \d+ [0-9a-f]{32}|X \d+ \d+ \d+ \d+( \d+)?|total \d+ \d+ \d+"
-)
-REFUSAL_LINES = re.compile(rb"refused \d+( line \d+| \S+ \d+)?")
 ODD_VALUES = "NULL -1 0 1 7 4294967295 4294967296 9223372036854775807 -9223372036854775808 1.5 '' 'x' X'00' X'FF'".split()
 
 

@@ -11,6 +11,7 @@ import argparse
 import contextlib
 import os
 import shlex
+import socket
 import sqlite3
 import struct
 import subprocess
@@ -21,7 +22,10 @@ from pathlib import Path
 # Nothing is left beside the script.
 sys.dont_write_bytecode = True
 sys.path.insert(0, os.path.join(os.path.dirname(os.path.dirname(os.path.abspath(__file__))), "tools"))
+from choosing import consoled
 from common import MIB, ORDER_SQL, PROGRAM, SETS, run_measured
+from drawing import store_job
+from printed import CONSOLE_LINES, REFUSAL_LINES
 from reading import extracted
 
 HELLO = bytes.fromhex(
@@ -52,9 +56,10 @@ class Runs:
     def __init__(self, program, folder):
         self.program, self.folder, self.count, self.worst, self.wrong = os.path.abspath(program), folder, 0, (0.0, 0), []
 
-    def run(self, words, lines=os.devnull):
+    def run(self, words, lines=os.devnull, before=()):
+        """Runs the program, after other words if some are given. A run that has not ended after two minutes is ended."""
         out, errors = os.path.join(self.folder, "out"), os.path.join(self.folder, "errors")
-        command = f"ulimit -t 120; {shlex.join([self.program, *words])} < {shlex.quote(lines)}"
+        command = f"timeout 120 {shlex.join([*before, self.program, *words])} < {shlex.quote(lines)}"
         _, memory, seconds, status = run_measured(["sh", "-c", command], out, errors)
         self.count, self.worst = self.count + 1, (max(self.worst[0], seconds), max(self.worst[1], memory))
         return status, Path(out).read_bytes(), Path(errors).read_bytes()
@@ -179,45 +184,182 @@ def names(runs):
     return 1, 64
 
 
+def make_socket(path):
+    with socket.socket(socket.AF_UNIX) as made:
+        made.bind(str(path))
+
+
+def make_without_rights(path, data=HELLO):
+    path.write_bytes(data)
+    path.chmod(0)
+
+
+def clear(path):
+    """Removes what is at a path, if something is."""
+    if path.is_dir() and not path.is_symlink():
+        path.chmod(0o700)
+        path.rmdir()
+    elif path.is_symlink() or path.exists():
+        path.unlink()
+
+
+def as_nobody(runs):
+    """Returns the words that run a program without the rights of root, if this is root."""
+    if os.getuid() != 0:
+        return ()
+    for path in (runs.folder, os.path.join(runs.folder, "volumes")):
+        os.chmod(path, 0o755)
+    return "setpriv", "--reuid=65534", "--regid=65534", "--clear-groups"
+
+
+NO_DRIVE, MISSING = (1, b"", b"refused 70\n"), (1, b"", b"refused 14 V 0\n")
+
+
 def odd_files(runs):
-    """Links, pipes, sockets, folders and files without permission under the name of a volume: 13 or 14, and nothing hangs."""
+    """Links, pipes, sockets, folders and files without rights under the name of a volume, or of the folder of volumes: nothing hangs."""
     volumes = Path(runs.folder) / "volumes"
     volumes.mkdir(exist_ok=True)
-
-    def clear():
-        path = volumes / "V"
-        if path.is_dir() and not path.is_symlink():
-            path.rmdir()
-        elif path.is_symlink() or path.exists():
-            path.unlink()
-
     text = runs.write("x.bsr", ONE)
-    words = ["extract", "--bsr", text, "--volumes", str(volumes)]
     hello = extracted(ONE, {b"V": HELLO})
-    refused = {number: (1, b"", b"refused %d\n" % number) for number in (70,)}
-    missing = (1, b"", b"refused 14 V 0\n")
     makers = {
-        "a pipe": (lambda path: os.mkfifo(path), refused[70]),
-        "a folder": (lambda path: path.mkdir(), refused[70]),
-        "a link to nothing": (lambda path: path.symlink_to("nothing"), missing),
-        "a link to itself": (lambda path: path.symlink_to("V"), refused[70]),
-        "a link to a device": (lambda path: path.symlink_to("/dev/zero"), refused[70]),
+        "a pipe": (os.mkfifo, NO_DRIVE),
+        "a socket": (make_socket, NO_DRIVE),
+        "a folder": (Path.mkdir, NO_DRIVE),
+        "a file without rights": (make_without_rights, NO_DRIVE),
+        "a folder without rights": (lambda path: path.mkdir(0), NO_DRIVE),
+        "a link to nothing": (lambda path: path.symlink_to("nothing"), MISSING),
+        "a link to itself": (lambda path: path.symlink_to(path.name), NO_DRIVE),
+        "a link to a pipe": (lambda path: path.symlink_to(runs.folder + "/pipe"), NO_DRIVE),
+        "a link to a device": (lambda path: path.symlink_to("/dev/zero"), NO_DRIVE),
         "a link to a volume": (lambda path: path.symlink_to(runs.write("other", HELLO)), hello),
-        "nothing": (lambda path: None, missing),
+        "an empty file": (lambda path: path.write_bytes(b""), (0, b"total 0 0 0\n", b"")),
+        "nothing": (lambda path: None, MISSING),
     }
+    os.mkfifo(runs.folder + "/pipe")
     for label, (make, expected) in makers.items():
-        clear()
-        make(volumes / "V")
-        runs.compare(label, runs.run(words), expected)
-    clear()
+        for drives in ("1", "3"):
+            make(volumes / "V")
+            words = ["extract", "--bsr", text, "--volumes", str(volumes), "--drives", drives]
+            runs.compare(f"{label}, {drives} drives", runs.run(words, before=as_nobody(runs)), expected)
+            clear(volumes / "V")
+    for label, (make, expected) in makers.items():
+        # A volume is not in a folder which is empty or not there, and none is below anything else.
+        if label not in ("a link to a volume", "an empty file"):
+            make(Path(runs.folder) / "odd")
+            words = ["extract", "--bsr", text, "--volumes", runs.folder + "/odd"]
+            found = runs.run(words, before=as_nobody(runs))
+            runs.compare(f"volumes in {label}", found, MISSING if label == "a folder" else expected)
+            clear(Path(runs.folder) / "odd")
+    return 1, 64
+
+
+def odd_places(runs):
+    """The same in the place of a catalogue, of a bootstrap, and of what is delivered to: 45, the status 3, 81."""
+    volumes, odd = Path(runs.folder) / "volumes", Path(runs.folder) / "odd"
+    volumes.mkdir(exist_ok=True)
+    extract = ["extract", "--volumes", str(volumes), "--bsr"]
+    console = ["console", "--volumes", str(volumes), "--client", "c", "--fileset", "f", "--before", "1970-01-01 00:00:10", "--db", str(odd)]
+    makers = {
+        "a pipe": os.mkfifo,
+        "a socket": make_socket,
+        "a folder": Path.mkdir,
+        "a file without rights": lambda path: make_without_rights(path, b""),
+        "a link to nothing": lambda path: path.symlink_to("nothing"),
+        "a link to itself": lambda path: path.symlink_to("odd"),
+        "a link to a device": lambda path: path.symlink_to("/dev/zero"),
+        "nothing": lambda path: None,
+    }
+    for label, make in makers.items():
+        make(odd)
+        runs.compare(f"a catalogue: {label}", runs.run(console, before=as_nobody(runs)), (1, b"", b"refused 45\n"))
+        if label not in ("a pipe", "a link to a device"):
+            # A bootstrap may come from a pipe, and a device is read as it is.
+            status, printed, told = runs.run([*extract, str(odd)], before=as_nobody(runs))
+            runs.compare(f"a bootstrap: {label}", (status, printed, told.startswith(b"brestore: ")), (3, b"", True))
+        for option in ("--into", "--tar"):
+            if label != "nothing" and (option, label) != ("--into", "a folder"):
+                words = [*extract, runs.write("x.bsr", b""), option, str(odd)]
+                runs.compare(f"{option}: {label}", runs.run(words, before=as_nobody(runs)), (1, b"", b"refused 81\n"))
+        clear(odd)
+    return 1, 64
+
+
+def new_catalogue(runs, name, text):
+    """Makes a catalogue by a script of SQL, and returns its file."""
+    catalogue = os.path.join(runs.folder, name)
+    with contextlib.closing(sqlite3.connect(catalogue)) as connection:
+        connection.executescript(text)
+    return catalogue
+
+
+ODD_VALUES = "-1 0 1 3 2147483648 4294967296 9223372036854775807 -9223372036854775808 1.5 1e300 '' 'x' '1' X'' X'00' X'FF'".split()
+ODD_VALUES += ["printf('%.*c', 100000, 'A')", "zeroblob(100000)", "'A A IGk B A A A A A A A A A P//////////'"]
+
+
+def odd_rows(runs):
+    """Each column of a catalogue with values of other types, negative, huge and repeated ones: lines in the formats, by 0 or 1."""
+    lines = runs.write("lines", b"ls\nmark *\nfind *\nestimate\ndone\n")
+    words = ["console", "--volumes", os.path.join(SETS, "order"), "--client", "peer-fd", "--fileset", "Peer", "--before", "2026-11-21 23:15:46"]
+    whole = new_catalogue(runs, "whole.db", Path(ORDER_SQL).read_text())
+    with contextlib.closing(sqlite3.connect(whole)) as connection:
+        tables = [row[0] for row in connection.execute("SELECT name FROM sqlite_schema WHERE type = 'table'")]
+        columns = [(table, row[1]) for table in tables for row in connection.execute(f"PRAGMA table_info({table})")]
+    data = Path(whole).read_bytes()
+    for table, column in columns:
+        for value in ODD_VALUES:
+            for place in ("1", "rowid"):
+                catalogue = runs.write("x.db", data)
+                if is_changed(catalogue, f"UPDATE OR IGNORE {table} SET {column} = {value} WHERE rowid = {place}"):
+                    compare_lines(runs, f"{table}.{column} = {value} in {place}", runs.run([*words, "--db", catalogue], lines))
+    return 1, 64
+
+
+def is_changed(catalogue, change):
+    """Changes a catalogue. Returns whether the tables take the values, and some row is changed."""
+    with contextlib.closing(sqlite3.connect(catalogue)) as connection:
+        with contextlib.suppress(sqlite3.Error):
+            changed = connection.execute(change).rowcount
+            connection.commit()
+            return changed > 0
+    return False
+
+
+def compare_lines(runs, label, found):
+    """Compares the status with 0 and 1, and each line with the formats."""
+    status, printed, told = found
+    is_known = all(CONSOLE_LINES.fullmatch(it) for it in printed.splitlines()) and all(REFUSAL_LINES.fullmatch(it) for it in told.splitlines())
+    if status not in (0, 1) or not is_known or (status == 0 and told):
+        runs.wrong.append(f"{label}: {shortened(found)}")
+
+
+def circles(runs):
+    """Hard links that link to each other, to themselves, to a folder and to nothing, and spans of other jobs' bytes."""
+    paths = [(b"/a", 2), (b"/b", 1), (b"/c", 3), (b"/d", 1), (b"/e", 9), (b"/f/", 1), (b"/g", 6), (b"/h", -1), (b"/i", 2**31)]
+    numbers = [[0, 0, 33188, 1, 0, 0, 0, 5, 0, 0, 0, 0, 0, link] for _, link in paths]
+    records = [record for index, (path, _) in enumerate(paths, 1) for record in (attributes(index, path, 5 if path.endswith(b"/") else 3),)]
+    volume = block(records)
+    job = {"id": 1, "session": (1, 100), "start": 100, "type": "B", "level": "F", "status": "T", "client": b"c", "fileset": b"f"}
+    job["files"] = [(path, index, numbers[index - 1]) for index, (path, _) in enumerate(paths, 1)]
+    job["spans"] = [(b"V", 1, 9, 0, len(volume) - 1)]
+    other = job | {"id": 2, "session": (2, 100), "level": "I", "start": 200}
+    catalogue = new_catalogue(runs, "x.db", Path(ORDER_SQL).read_text().split("INSERT")[0] + "INSERT INTO Version VALUES (1);")
+    with contextlib.closing(sqlite3.connect(catalogue)) as connection:
+        store_job(connection, job)
+        store_job(connection, other)
+        connection.commit()
+    runs.write("volumes/V", volume)
+    words = ["console", "--db", catalogue, "--volumes", os.path.join(runs.folder, "volumes"), "--client", "c", "--fileset", "f"]
+    for before, moment in (("1970-01-01 00:02:30", 150), ("1970-01-01 00:05:00", 300)):
+        for mark in (b"*", *(path.rstrip(b"/")[1:] for path, _ in paths)):
+            text = b"mark %s\ndone\n" % mark
+            expected = consoled([job, other], {b"V": volume}, (b"c", b"f", moment), text)
+            runs.compare(f"mark {mark} before {moment}", runs.run([*words, "--before", before], runs.write("lines", text)), expected)
     return 1, 64
 
 
 def cut_catalogues(runs):
     """A catalogue cut after each page, and each page of it overwritten: refused with 45 or 47, or read as before."""
-    whole = os.path.join(runs.folder, "whole.db")
-    with contextlib.closing(sqlite3.connect(whole)) as connection:
-        connection.executescript(Path(ORDER_SQL).read_text())
+    whole = new_catalogue(runs, "whole.db", Path(ORDER_SQL).read_text())
     data, size = Path(whole).read_bytes(), 4096
     words = ["--volumes", os.path.join(SETS, "order"), "--client", "peer-fd", "--fileset", "Peer", "--before", "2026-11-21 23:15:46"]
     lines = runs.write("lines", b"mark *\nfind *\nquit\n")
@@ -243,7 +385,8 @@ def cut_catalogues(runs):
     return 1, 64
 
 
-CASES = (prefixes, sizes, letters, lines_of_4096, many_groups, many_ranges, small_blocks, jumps, gibibyte, names, odd_files, cut_catalogues)
+CASES = (prefixes, sizes, letters, lines_of_4096, many_groups, many_ranges, small_blocks, jumps, gibibyte, names)
+CASES += (odd_files, odd_places, odd_rows, circles, cut_catalogues)
 
 
 def main():
