@@ -8,7 +8,7 @@ use crate::restores::{are_drives, push_restore_end};
 use crate::texts::text_of;
 use br_attr::Stat;
 use br_bsr::read_bootstrap;
-use br_engine::{Outputs, extract_text};
+use br_engine::{Outputs, RestoreEnd, extract_text};
 use br_files::HostDisk;
 use br_folder_sink::FolderSink;
 use br_join::{Joiner, Outcome};
@@ -19,7 +19,7 @@ use br_sink::{Sink, manifest};
 use br_trial_rows::Case;
 use br_types::{FileKey, SessionKey, VolName};
 use br_volume::{MemDrive, MemStore, VolumeStore};
-use std::alloc::AllocError;
+use std::alloc::{AllocError, Global};
 use std::fs::File;
 use std::rt::Files;
 use std::sync::Wait;
@@ -198,30 +198,21 @@ fn restored(case: &mut Case, threads: &(impl Threads + Wait + Sync), text: &str,
     }
 }
 
-/// Delivers the files of both sessions into a sink, and prints how that ends, and the manifest.
-fn push_delivered<S: Sink + Drop>(
-    case: &mut Case,
+/// Delivers the files of both sessions into a sink. Returns how that ends, if it is not refused.
+fn delivered<S: Sink>(
     threads: &(impl Threads + Wait + Sync),
+    alloc: Global,
     text: &[u8],
-    sink: S,
-) {
-    let mut out = Outputs {
-        writer: Vec::new(case.alloc()),
-        sink: Some(sink),
-    };
-    let mut drives = Vec::new(case.alloc());
-    let drive = drive(case);
-    case.done(drives.push(drive).map_err(AllocError::from));
-    if are_drives(&drives) {
-        match extract_text(threads, case.alloc(), text, &mut drives, &mut out) {
-            Ok(end) => push_restore_end(case, &end),
-            Err(_fault) => case.fail("the restore is refused"),
-        }
+    drives: &mut Vec<MemDrive>,
+    out: &mut Outputs<Vec<u8>, S>,
+) -> Option<RestoreEnd> {
+    if !are_drives(drives) {
+        return None;
     }
-    case.lines(&out.writer);
+    extract_text(threads, alloc, text, drives, out).ok()
 }
 
-/// Delivers the files of both sessions into a new folder.
+/// Delivers the files of both sessions into a new folder, and prints how that ends, and the manifest.
 fn deliver(
     case: &mut Case,
     files: &(impl Files<File = File> + AllocGlobal + Threads + Wait + Sync),
@@ -229,9 +220,21 @@ fn deliver(
     text: &[u8],
 ) -> io::Result<()> {
     fs::create_dir(files, folder)?;
-    let disk = HostDisk::new(case.alloc(), files);
-    match FolderSink::new(case.alloc(), disk, folder) {
-        Ok(sink) => push_delivered(case, files, text, sink),
+    let mut drives = Vec::new(case.alloc());
+    let drive = drive(case);
+    case.done(drives.push(drive).map_err(AllocError::from));
+    match FolderSink::new(case.alloc(), HostDisk::new(case.alloc(), files), folder) {
+        Ok(sink) => {
+            let mut out = Outputs {
+                writer: Vec::new(case.alloc()),
+                sink: Some(sink),
+            };
+            match delivered(files, case.alloc(), text, &mut drives, &mut out) {
+                Some(end) => push_restore_end(case, &end),
+                None => case.fail("the restore is refused"),
+            }
+            case.lines(&out.writer);
+        }
         Err(_fault) => case.fail("there is no sink"),
     }
     Ok(())

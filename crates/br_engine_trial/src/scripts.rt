@@ -9,12 +9,12 @@ use std::sync::Wait;
 use std::thread::Threads;
 
 /// Prints how a script ended.
-fn push_end(case: &mut Case, end: Result<ScriptEnd, ScriptFault>) {
+fn push_end(case: &mut Case, end: &Result<ScriptEnd, ScriptFault>) {
     match end {
         Ok(ScriptEnd::Clean) => case.text("Clean"),
         Ok(ScriptEnd::Refused) => case.text("Refused"),
         Err(ScriptFault::Io(fault)) => push_kind(case, fault.kind()),
-        Err(ScriptFault::NoEnd(_fault)) => case.text("NoEnd"),
+        Err(ScriptFault::NoEnd(_)) => case.text("NoEnd"),
     }
 }
 
@@ -27,7 +27,7 @@ fn run_over<R: BufRead + Drop>(
     let mut written = Vec::new(case.alloc());
     let end = run_script(threads, case.alloc(), reader, &mut written);
     case.lines(&written);
-    push_end(case, end);
+    push_end(case, &end);
 }
 
 /// Runs a script.
@@ -66,7 +66,7 @@ fn unwritten(case: &mut Case, threads: &(impl Threads + Wait + Sync), text: &str
     let text = text_of(case, text);
     let mut writer = Broken(ErrorKind::BrokenPipe);
     let end = run_script(threads, case.alloc(), &mut text.as_slice(), &mut writer);
-    push_end(case, end);
+    push_end(case, &end);
 }
 
 /// Makes a script that appends the first bytes of a volume V1, and restores file 1 of it.
