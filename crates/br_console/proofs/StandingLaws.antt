@@ -22,7 +22,7 @@ use Rattle.br_model.proofs.PlanVolumeLaws.{IsGroupOf, IsJobLaid, plan_spans, pla
 use Rattle.br_model.proofs.SpanLaws.{end_not_above}
 use Rattle.br_volume.specs.Drive.{OnlyGrows}
 use Rattle.br_match.specs.Matching.{IsEnclosed}
-use Rattle.br_match.proofs.GrowthLaws.{extends_itself}
+use Rattle.br_volume.proofs.ExtendLaws.{extends_itself}
 use Rattle.br_mark.specs.Seen.{Situation}
 use Rattle.br_pool.specs.Pool.{StandsTold}
 use Rattle.br_engine.specs.Restoring.{Told, AllStand}

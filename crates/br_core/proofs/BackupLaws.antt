@@ -12,7 +12,7 @@ use Rattle.br_model.specs.Session.{Place, ToSave, Written, checked_spans, rows_o
 use Rattle.br_model.specs.SessionHolds.{IsToSave, IsReady, AreAppended}
 use Rattle.br_model.specs.PlanMeaning.{rows_of_jobs}
 use Rattle.br_model.proofs.AnswerLaws.{chosen, err_is_not_ok, ok_is}
-use Rattle.br_match.proofs.GrowthLaws.{extends_itself}
+use Rattle.br_volume.proofs.ExtendLaws.{extends_itself}
 use Rattle.br_volume.specs.Store.{AreAppendedInTurn, IsAppended}
 use Rattle.br_session.specs.Outcome.{IsOutcome, SessionHolds}
 use Rattle.br_session.specs.declared.fault.SessionFault.{SessionFault}

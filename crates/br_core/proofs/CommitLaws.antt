@@ -14,7 +14,7 @@ use Rattle.br_model.proofs.AnswerLaws.{ok_is, refuse_ok}
 use Rattle.br_model.proofs.ListLaws.{all_append, all_pass, first_or_later, holds_of_all, none_in, none_pass, of_each, to_each}
 use Rattle.br_model.proofs.PairLaws.{no_pair_clashes, no_pair_from, pairs_append}
 use Rattle.br_model.proofs.SpanLaws.{job_stays}
-use Rattle.br_match.proofs.GrowthLaws.{extends_itself, extends_more}
+use Rattle.br_volume.proofs.ExtendLaws.{extends_itself, extends_more}
 use Rattle.br_core.specs.Machine.{World, ToCommit, Event, Reply, IsCommitted, Goes, IsStart, IsStep, IsRun, job_of}
 use Rattle.br_core.specs.Machine.Event.{Commit, Plan, Claim, Read, Fail, Finish, Take, Deliver, CommitFinds, ReadFinds, FinishFinds}
 use Rattle.br_core.specs.Machine.Reply.{Done, Planned, Refused, Delivered}

@@ -15,7 +15,7 @@ use Rattle.br_match.proofs.FoundLaws.{walk_begins, walk_ends, walk_follows, walk
 use Rattle.br_core.specs.Machine.{World, Restore, Status, Event, AreAfter, stages_of, IsRead, IsAtEnd, IsTaken, IsWhole, Moves, goes, planned}
 use Rattle.br_core.specs.Machine.Status.{Waiting, Claimed, Finished}
 use Rattle.br_core.specs.Machine.Event.{Commit, Plan, Claim, Read, Fail, Finish, Take, Deliver, CommitFinds, ReadFinds, FinishFinds}
-use Rattle.br_match.proofs.GrowthLaws.{extends_itself}
+use Rattle.br_volume.proofs.ExtendLaws.{extends_itself}
 use Rattle.br_core.proofs.AlikeLaws.{step_alike}
 use Rattle.br_core.proofs.PlanPieceLaws.{IsPieceOf, IsReadable}
 use Rattle.br_core.proofs.PlaceLaws.{was_there, without}

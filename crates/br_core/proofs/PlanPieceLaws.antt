@@ -19,7 +19,7 @@ use Rattle.br_model.proofs.PlanVolumeLaws.{IsJobLaid, IsPlanWalked, plan_spans, 
 use Rattle.br_model.proofs.ReachLaws.{IsWalked}
 use Rattle.br_model.proofs.FoundLaws.{block_has_hit, found_is}
 use Rattle.br_model.proofs.FoundSetLaws.{set_has_found}
-use Rattle.br_match.proofs.GrowthLaws.{extends_itself}
+use Rattle.br_volume.proofs.ExtendLaws.{extends_itself}
 use Rattle.br_core.proofs.AlikeLaws.{IsBounded}
 
 -- ---- the pieces of a bootstrap

@@ -24,7 +24,7 @@ use Rattle.br_model.proofs.EntryLaws.{chosen_are_jobs}
 use Rattle.br_model.proofs.PlanLaws.{plan_is}
 use Rattle.br_model.proofs.PlanVolumeLaws.{IsJobLaid, chosen_are_laid}
 use Rattle.br_model.proofs.ChosenPlanLaws.{plan_means_selection_lem}
-use Rattle.br_match.proofs.GrowthLaws.{extends_itself, extends_more}
+use Rattle.br_volume.proofs.ExtendLaws.{extends_itself, extends_more}
 use Rattle.br_core.specs.Machine.{World, Restore, Event, Reply, Goes, IsStart, IsStep, becomes, marks_of, plan_for, planned, restore_at, stages_of}
 use Rattle.br_core.specs.Machine.Event.{Commit, Plan, Claim, Read, Fail, Finish, Take, Deliver, CommitFinds, ReadFinds, FinishFinds}
 use Rattle.br_core.specs.Machine.Reply.{Done, Planned, Refused, Delivered}

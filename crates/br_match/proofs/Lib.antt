@@ -1,4 +1,3 @@
-pub mod GrowthLaws
 pub mod StepLaws
 pub mod SeenLaws
 pub mod GroupLaws

@@ -13,7 +13,7 @@ use Rattle.br_match.specs.declared.fault.PieceFault as code
 use Rattle.br_match.specs.Fault.{cause}
 use Rattle.br_match.specs.Matching.{IsEnclosed}
 use Rattle.br_match.specs.Walk.{unknown, step_on, Over, AfterWalk, AfterHead, Follows, HasHead, IsRefusedFor, ReadsAt, ReadsOver, IsStep}
-use Rattle.br_match.proofs.GrowthLaws.{extends_more}
+use Rattle.br_volume.proofs.ExtendLaws.{extends_more}
 use Rattle.br_match.proofs.SeenLaws.{head_alike, block_alike, head_read, head_refused, head_ends, step_unknown, block_never_ends, block_read, block_refused}
 
 -- what holds over all such volumes, if a weaker fact is asked

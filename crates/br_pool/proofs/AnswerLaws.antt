@@ -6,7 +6,7 @@ use Rattle.br_model.specs.Volume.{Volume}
 use Rattle.br_model.specs.Meaning.{Piece}
 use Rattle.br_volume.specs.Drive.{OnlyGrows}
 use Rattle.br_match.specs.Matching.{IsEnclosed, AnswersPiece, FoundOver}
-use Rattle.br_match.proofs.GrowthLaws.{extends_more}
+use Rattle.br_volume.proofs.ExtendLaws.{extends_more}
 use Rattle.br_pool.specs.Pool.{StandsTold}
 use Rattle.br_pool.specs.Workers.{Answer, is_failure, IsAnswer, HoldsAt, EachHolds, AnswersAt, AllAnswer}
 use Rattle.br_pool.proofs.ListLaws.{all_at, all_more}

@@ -3,7 +3,7 @@ use Rattle.std.proofs.Common.{◌≡◌, ℕ, ◌<◌, Bool, true, false, List, 
 use Rattle.std.specs.List.{AllByRecursion, AllZip}
 use Rattle.br_model.specs.Volume.{Volume}
 use Rattle.br_model.specs.Meaning.{Piece}
-use Rattle.br_match.proofs.GrowthLaws.{grows_itself, grows_more}
+use Rattle.br_volume.proofs.ExtendLaws.{grows_itself, grows_more}
 use Rattle.br_pool.specs.Pool.{StandsTold}
 use Rattle.br_pool.specs.Workers.{HasServed}
 use Rattle.br_pool.proofs.ListLaws.{map_map, map_reverse, reverse_reverse, zip_itself, zip_map, zip_reverse, zip_trans}

@@ -14,7 +14,7 @@ use Rattle.br_match.specs.Walk.{BlockGiven, ComesTo, Follows, IsWalked, Over, st
 use Rattle.br_match.specs.declared.hit.Batch.{Batch}
 use Rattle.br_match.specs.declared.fault.PieceFault.{PieceFault}
 use Rattle.br_match.proofs.FoundLaws.{comes_at_first, comes_further, walk_begins, walk_ends, walk_follows, walk_goes_on, walk_refused}
-use Rattle.br_match.proofs.GrowthLaws.{extends_more, grows_more}
+use Rattle.br_volume.proofs.ExtendLaws.{extends_more, grows_more}
 use Rattle.br_match.specs.Come.{IsCome, AllComeTo}
 use Rattle.br_pool.specs.Pool.{StandsTold}
 use Rattle.br_pool.specs.Gathering.{hits_of_batches}

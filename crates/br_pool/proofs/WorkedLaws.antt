@@ -7,7 +7,7 @@ use Rattle.br_model.specs.Volume.{Volume}
 use Rattle.br_model.specs.Meaning.{Piece}
 use Rattle.br_volume.specs.Drive.{OnlyGrows}
 use Rattle.br_claim.specs.Claims.{Seated}
-use Rattle.br_match.proofs.GrowthLaws.{grows_itself}
+use Rattle.br_volume.proofs.ExtendLaws.{grows_itself}
 use Rattle.br_pool.specs.Pool.{StandsTold}
 use Rattle.br_pool.specs.Slots.{AllBelow}
 use Rattle.br_pool.specs.Workers.{Answer, HasServed, HaveWorked, HaveWorkedBy, IsAnswer}

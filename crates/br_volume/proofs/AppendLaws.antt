@@ -9,6 +9,7 @@ use Rattle.br_model.specs.SessionHolds.{bytes_of_volume, bytes_for, AreAppended}
 use Rattle.br_volume.specs.Drive.{OnlyGrows}
 use Rattle.br_volume.specs.Store.{IsAppended, IsAppendedInPart, AppendsTo, AppendsInPartTo, AreAppendedInTurn, AppendsAddUp}
 use Rattle.br_volume.specs.MemStore.{Stored, FailsInPart, longer, with_appended}
+use Rattle.br_volume.proofs.ExtendLaws.{extends_itself, extends_more}
 
 turned : (xs ys : List ℕ) → bytes_eq xs ys ≡ bytes_eq ys xs
 turned xs ys =
@@ -94,15 +95,6 @@ appended_extends volume bytes earlier later is name own e =
       | false ↦ λ other now. ([], now ∙ e ∙ ap (λ (bs : List ℕ). Some bs) (sym (append-nil own)))
     ] refl (is name)
 
-pub extends_itself : (vs : List Volume) → Extends vs vs
-extends_itself vs name own e = ([], e ∙ ap (λ (bs : List ℕ). Some bs) (sym (append-nil own)))
-
-extends_further : (first second third : List Volume) → Extends second first → Extends third second → Extends third first
-extends_further first second third one two name own e =
-    let p = one name own e in
-    let q = two name (own ++ p.0) p.1 in
-    (p.0 ++ q.0, q.1 ∙ ap (λ (bs : List ℕ). Some bs) (append_assoc own p.0 q.0))
-
 -- if they are told, the volumes only grow
 pub append_grows : (volume bytes : List ℕ) (earlier later : Option (List Volume)) → AppendsTo volume bytes earlier later → OnlyGrows earlier later
 append_grows volume bytes None None h = tt
@@ -171,7 +163,7 @@ turn_appends (b ∷ bs) earlier later h =
 turn_extends : (blocks : List (List ℕ × List ℕ)) (earlier later : List Volume) → AreAppendedInTurn blocks earlier later → Extends later earlier
 turn_extends [] earlier later same = rw same (extends_itself earlier)
 turn_extends (b ∷ bs) earlier later h =
-    extends_further earlier h.0 later (appended_extends b.0 b.1 earlier h.0 h.1) (turn_extends bs h.0 later h.2)
+    extends_more earlier h.0 later (turn_extends bs h.0 later h.2) (appended_extends b.0 b.1 earlier h.0 h.1)
 
 pub appends_add_up_lem : AppendsAddUp
 appends_add_up_lem blocks earlier later h = (turn_appends blocks earlier later h, turn_extends blocks earlier later h)

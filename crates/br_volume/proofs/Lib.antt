@@ -1,3 +1,4 @@
+pub mod ExtendLaws
 pub mod DriveLaws
 pub mod KeptLaws
 pub mod AppendLaws

@@ -6,7 +6,7 @@ use Rattle.br_match.specs.Fault.{cause, IsAt}
 use Rattle.br_match.specs.Matching.{AnswersPiece}
 use Rattle.br_match.specs.Walk.{AfterWalk, BlockGiven, ComesTo, Follows, IsWalked}
 use Rattle.br_match.proofs.FoundLaws.{walk_begins, comes_at_first, comes_further, walk_follows, walk_goes_on, walk_ends, walk_refused, found_over}
-use Rattle.br_match.proofs.GrowthLaws.{grows_itself, grows_more}
+use Rattle.br_volume.proofs.ExtendLaws.{grows_itself, grows_more}
 use Rattle.br_match.proofs.OverLaws.{over_any, over_both, over_join}
 use Rattle.br_match.proofs.matching.match_piece.Goals as goal
 

@@ -2,7 +2,7 @@ use Rattle.std.proofs.Common.{◌≡◌, ℕ, List, [], ◌∷◌, map, length, 
 use Rattle.crossbeam_queue.specs.Passes.{view}
 use Rattle.br_claim.specs.Claims.{Seated}
 use Rattle.br_model.specs.Meaning.{Piece}
-use Rattle.br_match.proofs.GrowthLaws.{grows_itself, grows_more}
+use Rattle.br_volume.proofs.ExtendLaws.{grows_itself, grows_more}
 use Rattle.br_match.specs.Come.{AllComeTo}
 use Rattle.br_pool.specs.Gathering.{hits_of_batches}
 use Rattle.br_pool.specs.Pool.{StandsTold}

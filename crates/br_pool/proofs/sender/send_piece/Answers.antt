@@ -5,7 +5,7 @@ use Rattle.std.specs.Prelude.{⊤}
 use Rattle.br_model.specs.Meaning.{Piece, Hit, hits_on}
 use Rattle.br_match.specs.Come.{AllComeTo}
 use Rattle.br_match.specs.Walk.{AfterWalk, BlockGiven, Follows}
-use Rattle.br_match.proofs.GrowthLaws.{grows_itself, grows_more}
+use Rattle.br_volume.proofs.ExtendLaws.{grows_itself, grows_more}
 use Rattle.br_match.proofs.OverLaws.{over_any, over_join}
 use Rattle.br_pool.specs.Sending.{AreIn, SaysSent}
 use Rattle.br_pool.proofs.GatheringLaws.{pushes_none, pushes_on}

@@ -3,7 +3,7 @@ use Rattle.std.specs.Prelude.{IfOk}
 use Rattle.br_claim.specs.Claims.{Seated}
 use Rattle.br_model.specs.Meaning.{Piece}
 use Rattle.br_match.specs.Matching.{FoundOver}
-use Rattle.br_match.proofs.GrowthLaws.{grows_itself, grows_more}
+use Rattle.br_volume.proofs.ExtendLaws.{grows_itself, grows_more}
 use Rattle.br_pool.specs.Pool.{StandsTold}
 use Rattle.br_pool.specs.Workers.{Answer, AllAnswer, number_at, numbers_of}
 use Rattle.br_pool.proofs.AnswerLaws.{answered_longer, answered_more}

@@ -4,7 +4,7 @@ use Rattle.br_model.specs.Block.{Header}
 use Rattle.br_match.specs.Walk.{AfterWalk, BlockAnswers, Follows, HasHead, HeadAnswers, IsStep, StepAnswers}
 use Rattle.br_match.specs.declared.walk.Step.TheVariants.{Passed, End}
 use Rattle.br_match.proofs.FoundLaws.{ends_above}
-use Rattle.br_match.proofs.GrowthLaws.{grows_more}
+use Rattle.br_volume.proofs.ExtendLaws.{grows_more}
 use Rattle.br_match.proofs.OverLaws.{over_any, over_join}
 use Rattle.br_match.proofs.walk.Walk.step.Goals as goal
 
