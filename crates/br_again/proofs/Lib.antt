@@ -1,0 +1,3 @@
+mod StandLaws
+mod ReadLaws
+mod KnownLaws

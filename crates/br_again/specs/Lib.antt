@@ -1,0 +1,4 @@
+pub mod Kept
+pub mod Stands
+pub mod Reading
+pub mod Known
