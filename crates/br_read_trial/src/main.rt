@@ -1,7 +1,8 @@
 //! Runs rows over the formats that a restore reads, the sessions that write them, drives and stores
-//! over memory, and the table of refusals. It prints the rows that gave something else than wanted.
+//! over memory, bytes that are read again, and the table of refusals. It prints the rows that gave something else than wanted.
 #![tactic(auto)]
 
+mod again;
 mod attributes;
 mod blocks;
 mod bootstraps;
@@ -20,6 +21,7 @@ fn run(case: &mut Case, fields: &[&str]) {
         ["block", call @ ..] => blocks::run(case, call),
         ["bootstrap", call @ ..] => bootstraps::run(case, call),
         ["volume", call @ ..] => volumes::run(case, call),
+        ["again", call @ ..] => again::run(case, call),
         ["session", call @ ..] => sessions::run(case, call),
         _ => case.fail("there is no such call"),
     }
