@@ -77,6 +77,13 @@ DeliversOver shows contents has earlier later before after groups names result =
     Delivers (λ holds. OverVolumes (map shows earlier) (map shows later) groups (option_map planned_in names) holds)
     (contents before.writer) (contents after.writer) (in_sink has before) (in_sink has after) result
 
+-- the same without a sink
+abbrev pub WritesOver : {D W : Type 0} → (D → Option (List Volume)) → (W → Option (List ℕ)) → List D → List D → W → W
+    → List Group → Option Names → Result RestoreEnd ExtractFault → Type 0
+WritesOver shows contents earlier later before after groups names result =
+    Delivers (λ holds. OverVolumes (map shows earlier) (map shows later) groups (option_map planned_in names) holds)
+    (contents before) (contents after) None None result
+
 -- a restore of what the bootstrap of a text gives, if the text is known
 abbrev pub DeliversText : {D W S : Type 0} → (D → Option (List Volume)) → (W → Option (List ℕ)) → (S → Option (List Item))
     → List D → List D → Outputs W S → Outputs W S → Option (List ℕ) → Result RestoreEnd ExtractFault → Type 0

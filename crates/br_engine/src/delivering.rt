@@ -3,7 +3,7 @@ ghost use Rattle.br_pool.specs.Pool.{AreDrives, OnlyIfAllFail, StayInPlace};
 ghost use Rattle.br_join.specs.Outcome.{restored};
 ghost use Rattle.br_engine.specs.Fault.{EndlessAfterAll, IsNoDriveLeft, IsNoLine};
 ghost use Rattle.br_engine.specs.Outputs.{SinkCounts, StopsByFailure, end_of_files};
-ghost use Rattle.br_engine.specs.Delivering.{DeliversOver, DeliversText, EndsWith, ExtractsOver, RunsOver};
+ghost use Rattle.br_engine.specs.Delivering.{DeliversOver, DeliversText, EndsWith, ExtractsOver, RunsOver, WritesOver};
 ghost use Rattle.br_engine.specs.Delivering.{CountsFailures, RefusalWritesNothing, StopIsCounted};
 
 use crate::extracting::{all_files, read_text, write_manifest};
@@ -99,6 +99,31 @@ pub fn restore_into<D: Drive + Send, W: Flush, S: Sink>(
     let outcomes = restore(rt, alloc, bootstrap, names, drives)?;
     write_manifest(alloc, &outcomes, &mut out.writer)?;
     Ok(finish(rt, alloc, &outcomes, &mut out.sink))
+}
+
+/// Restores as `restore_into`, without a sink.
+///
+/// # Errors
+///
+/// As `restore_into`.
+pub fn restore_to<D: Drive + Send, W: Flush>(
+    rt: &(impl Threads + Wait + Sync),
+    alloc: Global,
+    bootstrap: &Bootstrap,
+    names: Option<Names>,
+    drives: &mut Vec<D>,
+    writer: &mut W,
+) -> Result<RestoreEnd, ExtractFault>
+    requires drives { AreDrives drives.old.items }
+    ensures delivers { WritesOver D.shows W.contents drives.old.items drives.new.items writer.old writer.new bootstrap.now names result }
+    ensures flushed { IfOk result (λ _. W.is_flushed writer.new) }
+    ensures driven { IfErr result IsNoLine }
+    ensures places { StayInPlace D.shows D.failures drives.old.items drives.new.items }
+    ensures failed { OnlyIfAllFail D.failures drives.old.items drives.new.items IsNoDriveLeft result }
+{
+    let outcomes = restore(rt, alloc, bootstrap, names, drives)?;
+    write_manifest(alloc, &outcomes, writer)?;
+    Ok(end_of(&outcomes))
 }
 
 /// Restores all that a bootstrap selects, as `restore_into`.

@@ -10,7 +10,7 @@ mod outputs;
 mod restoring;
 mod turns;
 
-pub use delivering::{extract, extract_text, restore_into, run_extract};
+pub use delivering::{extract, extract_text, restore_into, restore_to, run_extract};
 pub use fault::{ExtractFault, push_pool_line, push_refused_line};
 pub use flushing::{Flush, show};
 pub use outputs::{Outputs, RestoreEnd};
