@@ -1,0 +1,81 @@
+//! Volumes over which restores run while jobs are appended to them.
+ghost use Rattle.std.specs.Prelude.{map, option_map, Some, None};
+ghost use Rattle.std.specs.List.{AllZip};
+ghost use Rattle.std.specs.Thread.{IsSync};
+ghost use Rattle.br_model.specs.Volume.{Volume};
+ghost use Rattle.br_model.specs.Restored.{planned_in};
+ghost use Rattle.br_volume.specs.Drive.{OnlyGrows};
+ghost use Rattle.br_pool.specs.Pool.{AreDrives};
+ghost use Rattle.br_engine.specs.Delivering.{Delivers};
+ghost use Rattle.br_engine.specs.Extracting.{OverVolumes};
+ghost use Rattle.br_driven.specs.Restoring.{IsRestored, some_shown};
+
+use crate::drives::{DriveCount, drives_over};
+use br_bsr::Bootstrap;
+use br_engine::{ExtractFault, RestoreEnd, restore_to};
+use br_types::Names;
+use br_volume::{BorrowedDrive, MemStore, VolumeStore};
+use std::alloc::Global;
+use std::io::Write;
+use std::sync::Wait;
+use std::thread::Threads;
+
+/// What is to be restored: a bootstrap, and the names of its files if it is that of a plan.
+#[derive(Drop)]
+pub struct Wanted<'b> {
+    pub bootstrap: &'b Bootstrap,
+    pub names: Option<Names>,
+}
+
+/// A store of volumes that has drives.
+pub trait DrivenStore: VolumeStore {
+    /// Restores by this number of drives over the volumes, writes the manifest and flushes it.
+    ///
+    /// # Errors
+    ///
+    /// As `restore_to` of br_engine, and `Memory` if memory runs out for the drives.
+    fn restore<T: Threads + Wait + Sync, W: Write>(
+        &self,
+        rt: &T,
+        alloc: Global,
+        drives: DriveCount,
+        wanted: Wanted<'_>,
+        writer: &mut W,
+    ) -> Result<RestoreEnd, ExtractFault>
+        requires threads { IsSync T.row }
+        ensures restored { IsRestored (Self.holds self.now) drives wanted.entry.bootstrap.now (option_map planned_in wanted.entry.names)
+            (W.contents writer.old) (W.contents writer.new) result };
+}
+
+/// Restores by drives over memory.
+#[tactic(auto, using(crate::proofs::DrivenLaws::grown))]
+fn restore_by<'v, T: Threads + Wait + Sync, W: Write>(
+    rt: &T,
+    alloc: Global,
+    drives: &mut Vec<BorrowedDrive<'v>>,
+    wanted: Wanted<'_>,
+    writer: &mut W,
+) -> Result<RestoreEnd, ExtractFault>
+    requires few { AreDrives drives.old.items }
+    ensures delivers { Delivers (λ holds. OverVolumes (some_shown drives.old.items) (some_shown drives.new.items) wanted.entry.bootstrap.now
+        (option_map planned_in wanted.entry.names) holds) (W.contents writer.old) (W.contents writer.new) None None result }
+    ensures grow { AllZip OnlyGrows (some_shown drives.old.items) (some_shown drives.new.items) }
+{
+    let Wanted { bootstrap, names } = wanted;
+    restore_to(rt, alloc, bootstrap, names, drives, writer)
+}
+
+impl DrivenStore for MemStore {
+    #[tactic(auto, using(crate::proofs::DrivenLaws::restored_by, crate::proofs::DrivenLaws::no_drives))]
+    fn restore<T: Threads + Wait + Sync, W: Write>(
+        &self,
+        rt: &T,
+        alloc: Global,
+        drives: DriveCount,
+        wanted: Wanted<'_>,
+        writer: &mut W,
+    ) -> Result<RestoreEnd, ExtractFault> {
+        let mut drives = drives_over(alloc, self.volumes(), drives)?;
+        restore_by(rt, alloc, &mut drives, wanted, writer)
+    }
+}
