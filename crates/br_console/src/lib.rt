@@ -11,6 +11,6 @@ mod talking;
 
 pub use console_fault::ConsoleFault;
 pub use ending::{ConsoleRun, End, Lines, Session, SessionEnd};
-pub use running::{JobSelection, run_console};
+pub use running::{JobSelection, prepare, run_console};
 pub use selecting::{drives_stand_for_plans, runs_mean_selection, runs_restore_selection};
 pub use talking::converse;

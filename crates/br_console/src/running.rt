@@ -58,7 +58,7 @@ fn console_for<'h>(
 }
 
 /// Makes the plan for the marked paths of the chosen jobs' tree and writes its bootstrap.
-fn write_plan<W: Flush + Drop>(
+fn write_plan<W: Flush>(
     alloc: Global,
     asked: &JobSelection<'_>,
     tree: &Tree<'_>,
@@ -74,8 +74,14 @@ fn write_plan<W: Flush + Drop>(
     Ok(plan)
 }
 
-/// Does all that comes before a drive is asked: the dialogue, and the bootstrap if it ended by `done`.
-fn prepare<R: BufRead + Drop, W: Flush + Drop>(
+/// Does all of a run of the console that comes before a drive is asked: runs a session as `run_console`,
+/// and, if it ended by `done`, writes and flushes the bootstrap of the plan. Returns the plan then, and
+/// whether each line was accepted.
+///
+/// # Errors
+///
+/// As `run_console`, without `Piece`.
+pub fn prepare<R: BufRead + Drop, W: Flush>(
     alloc: Global,
     asked: &JobSelection<'_>,
     reader: &mut R,
@@ -130,7 +136,7 @@ fn console_fault(fault: ExtractFault) -> ConsoleFault
 ///   have been written.
 ///
 /// After an error nothing is put into the sink.
-pub fn run_console<R: BufRead + Drop, D: Drive + Send, W: Flush + Drop, S: Sink>(
+pub fn run_console<R: BufRead + Drop, D: Drive + Send, W: Flush, S: Sink>(
     rt: &(impl Threads + Wait + Sync),
     alloc: Global,
     asked: &JobSelection<'_>,

@@ -75,7 +75,7 @@ fn read_line<R: BufRead, W: Flush>(
 /// - `NoEnd` if the reader has not ended after 2^40 lines.
 ///
 /// After an error a part of an answer may have been written.
-pub fn converse<R: BufRead + Drop, W: Flush + Drop>(
+pub fn converse<R: BufRead + Drop, W: Flush>(
     alloc: Global,
     console: &mut Console<'_>,
     reader: &mut R,
