@@ -1,11 +1,13 @@
-//! Runs rows over the formats that a restore reads, the sessions that write them, drives and stores
-//! over memory, bytes that are read again, and the table of refusals. It prints the rows that gave something else than wanted.
+//! Runs rows over the formats that a restore reads, what a bootstrap asks for and is missing, the
+//! sessions that write them, drives and stores over memory, bytes that are read again, and the table
+//! of refusals. It prints the rows that gave something else than wanted.
 #![tactic(auto)]
 
 mod again;
 mod attributes;
 mod blocks;
 mod bootstraps;
+mod lacking;
 mod names;
 mod sessions;
 mod volumes;
@@ -20,6 +22,7 @@ fn run(case: &mut Case, fields: &[&str]) {
         ["attributes", call @ ..] => attributes::run(case, call),
         ["block", call @ ..] => blocks::run(case, call),
         ["bootstrap", call @ ..] => bootstraps::run(case, call),
+        ["missing", call @ ..] => lacking::run(case, call),
         ["volume", call @ ..] => volumes::run(case, call),
         ["again", call @ ..] => again::run(case, call),
         ["session", call @ ..] => sessions::run(case, call),

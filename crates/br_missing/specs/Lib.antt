@@ -1,0 +1,3 @@
+pub mod Missing
+pub mod Gaps
+pub mod Near
