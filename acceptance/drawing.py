@@ -346,3 +346,73 @@ def draw_lines(dice):
     lines = [dice.choice(LINES if dice.random() < 0.4 else MARKING) for _ in range(dice.randrange(1, 12))]
     lines += dice.choice(([b"mark *", b"done"], [b"done"], [b"done"], [b"done", b"frob"], [b"quit"], [], [b"x" * 4097, b"done"]))
     return b"".join(line + b"\n" for line in lines)[: dice.choice((None, None, None, -1))]
+
+
+# ---- scripts
+
+
+BAD_LINES = (
+    b"", b" ", b"frob", b"end", b"put", b"put 3 /a", b"place A", b"place A 1 2", b"place . 0", b"del /a/", b"del a", b"del /a//b", b"del \\x", b"drives 17",
+    b"job 0 B F T 1 1 1 64 c f", b"job 1 B F T 1 1 1 63 c f", b"job 1 BB F T 1 1 1 64 c f", b"job 1 B F T 1 1 1 64 c", b"restore c f", b"restore c",
+    b"put 3 a 00 - A", b"put 3 /a 0 - A A A A A A A A A A A A A", b"put 3 /a 00 - A A", b"put 3 /a 00 - A= A A A A A A A A A A A A",
+    b"put 5 /a - - A A A A A A A A A A A A A", b"put 6 /a - - A A A A A A A A A A A A A", b"put 2 /a 00 - A A A A A A A A A A A A A",
+    b"put 3 /a 00 2f A A A A A A A A A A A A A", b"put 1 /l - 2f78 A A A A A A A A A A A A A B", b"putd 3 /q\\x0a - - A A A A A A A A A A A A A",
+    b"restore c f 1970-01-01 00:16:60", b"restore c f 1970-1-1 00:00:00", b"restore nobody f 1970-01-01 00:16:40", b"extract", b"volume A 00", b"bsr", b".",
+)  # fmt: skip
+
+
+def spelled(data):
+    """Returns a name as a script has it."""
+    return b"".join(bytes([byte]) if 0x21 <= byte <= 0x7E and byte != 0x5C else b"\\x%02x" % byte for byte in data)
+
+
+def draw_put(dice, index, earlier):
+    """Returns a line that saves a file, and its type."""
+    path = dice.choice((b"/a", b"/b", b"/a/c", b"/a/d\xff", b"/e t/f", b"/z\nz", b"/", b"/a/", b"/e t/", b"/a/c/e"))
+    kind = 5 if path.endswith(b"/") else dice.choice((2, 3, 3, 3, 3, 4))
+    numbers = [dice.randrange(1000) for _ in range(13)] + [0] * dice.randrange(2)
+    if earlier and kind == 3 and dice.random() < 0.3:
+        kind, numbers = 1, [*numbers[:13], dice.choice(earlier)]
+    contents = dice.randbytes(dice.choice((0, 1, 5, 14, 100, 900))) if kind == 3 else b""
+    link = dice.choice((b"/x", b"to")) if kind in (1, 4) else b""
+    stat = b" ".join(base64_of(number) for number in numbers)
+    word = dice.choice((b"put", b"putd"))
+    return b"%s %d %s %s %s %s" % (word, kind, spelled(path), contents.hex().encode() or b"-", link.hex().encode() or b"-", stat), kind
+
+
+def draw_job_lines(dice, number):
+    """Returns the lines of a job, most of them good."""
+    volumes = (b"A", b"B", b"with\\x20space")
+    level, kind, status = dice.choice((b"F", b"D", b"I", b"I")) if number else b"F", dice.choice(b"BBBBBR"), dice.choice(b"TTTTWE")
+    start = dice.choice((100, 200, 300, 300, 400, 253_402_300_799, 253_402_300_800)) if dice.random() < 0.2 else 100 + 50 * number
+    limit = dice.choice((64, 65, 100, 300, 64512))
+    id_, session = (number + 1, number + 1) if dice.random() < 0.9 else (dice.randrange(1, 4), dice.randrange(1, 4))
+    lines = [b"job %d %c %s %c %d %d %d %d %s %s" % (id_, kind, level, status, start, session, dice.choice((7, 7, 9)), limit, b"c", b"f")]
+    kinds = []
+    for index in range(1, dice.randrange(1, 5)):
+        line, kind = draw_put(dice, index, [at for at, it in enumerate(kinds, 1) if it in (2, 3)])
+        lines.append(line)
+        kinds.append(kind)
+    lines += [b"del " + spelled(dice.choice((b"/a", b"/b", b"/a/", b"/nil"))) for _ in range(dice.choice((0, 0, 1, 2)))]
+    places = [b"place %s %d" % (dice.choice(volumes), dice.randrange(1, 3)) for _ in range(dice.choice((0, 0, 1, 2)))]
+    lines += places + [b"place %s 0" % dice.choice(volumes)] * (dice.random() < 0.97)
+    return [*lines, b"end"]
+
+
+def draw_script(dice):
+    """Returns a script that commits jobs and restores."""
+    lines = []
+    for number in range(dice.randrange(1, 6)):
+        lines += draw_job_lines(dice, number)
+        if dice.random() < 0.4:
+            seconds = dice.choice((100, 101, 251, 1000, 1000, 1000))
+            lines.append(b"restore c f 1970-01-01 00:%02d:%02d" % (seconds // 60, seconds % 60))
+            lines += [dice.choice(LINES if dice.random() < 0.3 else MARKING) for _ in range(dice.randrange(6))]
+            lines += dice.choice(([b"mark *", b"done"], [b"done"], [b"quit"]))
+        if dice.random() < 0.1:
+            lines.append(dice.choice((b"volume A 00", b"volume B -", b"drives 3", b"drives 16")))
+    for _ in range(dice.choice((0, 0, 0, 1, 3))):
+        lines.insert(dice.randrange(len(lines) + 1), dice.choice(BAD_LINES))
+    if dice.random() < 0.1:
+        del lines[dice.randrange(len(lines)) :]
+    return b"".join(line + b"\n" for line in lines)[: dice.choice((None, None, None, -1))]

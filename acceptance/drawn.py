@@ -4,10 +4,11 @@
     acceptance/drawn.py [--program FILE] [--count N] [--seed N] [--keep DIR]
 
 Each input is drawn by the seed and its number alone. Kinds of input: `extract` over a folder of volumes, the same with `--into`,
-a script of `serve`, `console` over a catalogue of drawn jobs, and `console` over one of which rows or bytes were changed. Of all but
-the last, exit status, standard output and standard error must be those that reading.py and choosing.py work out, and a delivery
-those files. Of the last the status must be 0 or 1, and each line in one of the formats. A run takes at most a second of the processor and 64 MiB of memory, unless a
-file has more than 16 MiB. An input that fails is kept in DIR, with its command. The status is 1 if one fails.
+scripts of `serve`, also with jobs that are committed, `console` over a catalogue of drawn jobs, and `console` over one of which
+rows or bytes were changed. Of all but the last, exit status, standard output and standard error must be those that reading.py,
+choosing.py and scripting.py work out, and a delivery those files. Of the last the status must be 0 or 1, and each line in one of
+the formats. A run takes at most a second of the processor and 64 MiB of memory, unless a file has more than 16 MiB. An input
+that fails is kept in DIR, with its command. The status is 1 if one fails.
 """
 
 import argparse
@@ -30,9 +31,10 @@ from cases import unpack
 from common import CASES, MIB, ORDER_SQL, PROGRAM, SETS, escaped, run_measured
 from choosing import consoled
 from delivered import delivery, tree_of
-from drawing import draw_backups, draw_bootstrap, draw_lines, draw_volumes, spoil, spoil_headers, spoil_volumes, store_job
+from drawing import draw_backups, draw_bootstrap, draw_lines, draw_script, draw_volumes, spoil, spoil_headers, spoil_volumes, store_job
 from printed import CONSOLE_LINES, REFUSAL_LINES
 from reading import Refused, extracted, groups_of, manifest_of, match
+from scripting import served
 
 LARGE, LONGEST = 16 * MIB, 60
 # A script answers on standard output alone; the other commands refuse on standard error.
@@ -147,6 +149,11 @@ class Trial:
         script = self.write("script", b"".join(line + b"\n" for line in lines))
         self.compare(self.run(["serve"], script), (1 if has_fault else 0, printed, b""))
 
+    def served(self, dice):
+        text = draw_script(dice)
+        text = spoil(dice, text) if dice.random() < 0.1 else text
+        self.compare(self.run(["serve"], self.write("script", text)), served(text))
+
     def console(self, dice):
         jobs, volumes = draw_backups(dice)
         catalogue = os.path.join(self.folder, "catalogue")
@@ -219,8 +226,10 @@ def run_one(given, number):
             trial.extract(dice, delivers=False)
         elif chance < 0.6:
             trial.extract(dice, delivers=True)
-        elif chance < 0.8:
+        elif chance < 0.7:
             trial.script(dice)
+        elif chance < 0.8:
+            trial.served(dice)
         elif chance < 0.95:
             trial.console(dice)
         else:

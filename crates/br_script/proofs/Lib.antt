@@ -1,4 +1,3 @@
-pub mod DriveLaws
-pub mod SpaceLaws
-pub mod SpellingLaws
-pub mod StoreLaws
+pub mod ChoiceLaws
+pub mod DeskLaws
+pub mod DialogueLaws

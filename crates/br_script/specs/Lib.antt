@@ -1,5 +1,10 @@
-pub mod Spelling
-pub mod Drives
 pub mod Line
-pub mod Store
 pub mod Fault
+pub mod Answering
+pub mod Ending
+pub mod Desk
+pub mod Deeds
+pub mod Jobs
+pub mod Request
+pub mod Restoring
+pub mod Obeying

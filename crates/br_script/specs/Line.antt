@@ -1,25 +1,22 @@
--- What a line of a script says.
+-- What a line of a script says that is not in a job.
 use Rattle.std.specs.Prelude.{◌≡◌, ℕ, nat_le, if◌then◌else◌, List, bytes_eq, length, codes, Option, Some, None, Result, Ok, Err}
 use Rattle.br_model.specs.Answer.{◌>>=◌, some_or, refused_as}
 use Rattle.br_model.specs.Name.{checked_volume_name}
 use Rattle.br_types.specs.Escape.{unescaped}
-use Rattle.br_types.specs.declared.fault.EscapeFault.{EscapeFault}
-use Rattle.br_types.specs.declared.fault.EscapeFault.TheVariants as escapes
-use Rattle.br_types.specs.declared.fault.NameFault.{NameFault}
-use Rattle.br_types.specs.declared.fault.NameFault.TheVariants as names
-use Rattle.br_script.specs.Drives.{drives_spelled}
-use Rattle.br_script.specs.Spelling.{bytes_spelled, fields_of}
-use Rattle.br_script.specs.declared.line.LineFault.{LineFault}
-use Rattle.br_script.specs.declared.line.LineFault.TheVariants.{Memory, BadScript}
+use Rattle.br_fields.specs.Spelling.{bytes_spelled, fields_of}
+use Rattle.br_driven.specs.Drives.{drives_spelled}
 use Rattle.br_script.specs.declared.line.ScriptLine.{ScriptLine}
 use Rattle.br_script.specs.declared.line.ScriptLine.TheVariants as lines
 
--- what a line asks for: a number of drives, bytes for the volume of a name, a bootstrap, or a run
+-- What a line asks for: a number of drives, bytes for the volume of a name, a bootstrap, a run, or with
+-- the fields that follow a job or a restore.
 pub data Said : Type 0 where
   Drives : ℕ → Said
   Volume : List ℕ → List ℕ → Said
   Bsr : Said
   Extract : Said
+  Job : List ℕ → Said
+  Restore : List ℕ → Said
 
 -- what the program holds of a line
 abbrev pub said : ScriptLine → Said
@@ -27,6 +24,8 @@ said (lines.Drives count) = Drives count
 said (lines.Volume name bytes) = Volume name bytes.items
 said lines.Bsr = Bsr
 said lines.Extract = Extract
+said (lines.Job fields) = Job fields.now
+said (lines.Restore fields) = Restore fields.now
 
 -- what the field after `drives` asks for
 abbrev pub drives_said : List ℕ → Result Said (Unit {0})
@@ -49,6 +48,8 @@ abbrev pub fields_said : List ℕ → List ℕ → Result Said (Unit {0})
 fields_said word fields =
     if bytes_eq word (codes "volume") then volume_said fields
     else if bytes_eq word (codes "drives") then drives_said fields
+    else if bytes_eq word (codes "job") then Ok (Job fields)
+    else if bytes_eq word (codes "restore") then Ok (Restore fields)
     else Err tt
 
 -- what a line of one word asks for
@@ -73,6 +74,8 @@ drives_after (Drives n) before = n
 drives_after (Volume name bytes) before = before
 drives_after Bsr before = before
 drives_after Extract before = before
+drives_after (Job fields) before = before
+drives_after (Restore fields) before = before
 
 -- the number of drives after a line; one that fits no form leaves it
 abbrev pub drives_by : Result Said (Unit {0}) → ℕ → ℕ
@@ -82,19 +85,3 @@ drives_by (Err e) before = before
 -- a line that asks for this leaves the number of drives
 abbrev pub LeavesDrives : Result Said (Unit {0}) → Type 0
 LeavesDrives asked = (n : ℕ) → drives_by asked n ≡ n
-
--- the refusal that the line decides, none if memory ran out
-abbrev pub line_cause : LineFault → Option (Unit {0})
-line_cause Memory = None
-line_cause BadScript = Some tt
-
--- what a refused name is for its line
-abbrev pub of_name_fault : NameFault → LineFault
-of_name_fault names.Memory = Memory
-of_name_fault names.BadName = BadScript
-of_name_fault names.BadPath = BadScript
-
--- what a refused escape is for its line
-abbrev pub of_escape_fault : EscapeFault → LineFault
-of_escape_fault escapes.Memory = Memory
-of_escape_fault escapes.BadEscape = BadScript

@@ -61,7 +61,9 @@ impl<R: BufRead> Lines<R> {
     }
 
     /// Returns the number of the line that was read last, from 1.
-    pub(crate) fn number(&self) -> u64 {
+    pub(crate) fn number(&self) -> u64
+        ensures { result ≡ self.now.number }
+    {
         self.number
     }
 

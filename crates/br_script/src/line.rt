@@ -1,58 +1,20 @@
 ghost use Rattle.std.specs.Prelude.{◌≡◌, IfErr};
 ghost use Rattle.br_model.specs.Answer.{Answers, AnswersAlways};
-ghost use Rattle.br_script.specs.Line.{LeavesDrives, drives_said, fields_said, line_cause, line_said, of_escape_fault, of_name_fault, said};
+ghost use Rattle.br_fields.specs.Fault.{line_cause};
+ghost use Rattle.br_script.specs.Line.{LeavesDrives, drives_said, fields_said, line_said, said};
 ghost use Rattle.br_script.specs.Line.{volume_said, word_said};
-ghost use Rattle.br_script.specs.declared.line.LineFault.TheVariants.{Memory};
 
-use crate::drives::DriveCount;
-use crate::fields::{cut, read_bytes};
-use br_types::{EscapeFault, NameFault, VolName, unescape};
-use std::alloc::{AllocError, Global};
+use br_driven::DriveCount;
+use br_fields::{LineFault, cut, read_bytes};
+use br_types::{VolName, unescape};
+use std::alloc::Global;
 
 /// The greatest number of bytes of a line of a script, without its LF.
 pub(crate) const MAX_LINE: usize = 4096;
 
-/// Why a line of a script was refused.
-#[derive(Clone, Copy, Debug, PartialEq, Eq)]
-pub(crate) enum LineFault {
-    Memory,
-    /// It fits none of the forms.
-    BadScript,
-}
-
-impl From<AllocError> for LineFault {
-    ghost from_gives = { λ _ e. e ≡ Memory };
-
-    fn from(_e: AllocError) -> LineFault {
-        LineFault::Memory
-    }
-}
-
-impl From<EscapeFault> for LineFault {
-    ghost from_gives = { λ f e. e ≡ of_escape_fault f };
-
-    fn from(fault: EscapeFault) -> LineFault {
-        match fault {
-            EscapeFault::Memory => LineFault::Memory,
-            EscapeFault::BadEscape => LineFault::BadScript,
-        }
-    }
-}
-
-impl From<NameFault> for LineFault {
-    ghost from_gives = { λ f e. e ≡ of_name_fault f };
-
-    fn from(fault: NameFault) -> LineFault {
-        match fault {
-            NameFault::Memory => LineFault::Memory,
-            _ => LineFault::BadScript,
-        }
-    }
-}
-
-/// A line of a script.
+/// A line of a script that is not in a job.
 #[derive(Debug, Drop)]
-pub(crate) enum ScriptLine {
+pub(crate) enum ScriptLine<'l> {
     /// Sets the number of drives.
     Drives(DriveCount),
     /// Appends bytes to a volume, which is made if it is not there.
@@ -61,10 +23,14 @@ pub(crate) enum ScriptLine {
     Bsr,
     /// Runs the kept bootstrap.
     Extract,
+    /// Begins a job with these fields.
+    Job(&'l [u8]),
+    /// Begins a restore with these fields.
+    Restore(&'l [u8]),
 }
 
 /// Reads the field `N` of a number of drives. It takes no memory.
-fn read_drives(field: &[u8]) -> Result<ScriptLine, LineFault>
+fn read_drives<'l>(field: &'l [u8]) -> Result<ScriptLine<'l>, LineFault>
     ensures says { AnswersAlways said (λ _. tt) result (drives_said field.now) }
     ensures drives { IfErr result (λ _. LeavesDrives (drives_said field.now)) }
 {
@@ -76,7 +42,7 @@ fn read_drives(field: &[u8]) -> Result<ScriptLine, LineFault>
 
 /// Reads the fields `NAME HEX`.
 #[tactic(auto, unfolding(crate::specs::Line::volume_said))]
-fn read_volume(alloc: Global, fields: &[u8]) -> Result<ScriptLine, LineFault>
+fn read_volume<'l>(alloc: Global, fields: &'l [u8]) -> Result<ScriptLine<'l>, LineFault>
     ensures says { Answers said line_cause result (volume_said fields.now) }
     ensures drives { IfErr result (λ _. LeavesDrives (volume_said fields.now)) }
 {
@@ -91,8 +57,12 @@ fn read_volume(alloc: Global, fields: &[u8]) -> Result<ScriptLine, LineFault>
     })
 }
 
-/// Reads a line of a word and the fields after it.
-fn read_fields(alloc: Global, word: &[u8], fields: &[u8]) -> Result<ScriptLine, LineFault>
+/// Reads a line of a word and the fields after it. The fields of `job` and `restore` are not looked at.
+fn read_fields<'l>(
+    alloc: Global,
+    word: &[u8],
+    fields: &'l [u8],
+) -> Result<ScriptLine<'l>, LineFault>
     ensures says { Answers said line_cause result (fields_said word.now fields.now) }
     ensures drives { IfErr result (λ _. LeavesDrives (fields_said word.now fields.now)) }
 {
@@ -100,13 +70,17 @@ fn read_fields(alloc: Global, word: &[u8], fields: &[u8]) -> Result<ScriptLine, 
         read_volume(alloc, fields)
     } else if word == b"drives".as_slice() {
         read_drives(fields)
+    } else if word == b"job".as_slice() {
+        Ok(ScriptLine::Job(fields))
+    } else if word == b"restore".as_slice() {
+        Ok(ScriptLine::Restore(fields))
     } else {
         Err(LineFault::BadScript)
     }
 }
 
 /// Reads a line of one word. It takes no memory.
-fn read_word(word: &[u8]) -> Result<ScriptLine, LineFault>
+fn read_word<'l>(word: &'l [u8]) -> Result<ScriptLine<'l>, LineFault>
     ensures says { AnswersAlways said (λ _. tt) result (word_said word.now) }
     ensures drives { IfErr result (λ _. LeavesDrives (word_said word.now)) }
 {
@@ -119,15 +93,16 @@ fn read_word(word: &[u8]) -> Result<ScriptLine, LineFault>
     }
 }
 
-/// Reads a line, given without its LF: `drives N`, `volume NAME HEX`, `bsr` or `extract`. Fields are
-/// separated by one space, numbers are decimal, names are escaped, and bytes are pairs of hexadecimal
-/// digits in lower case, or `-` for none. Memory does not run out for `drives N`.
+/// Reads a line outside of a job, given without its LF: `drives N`, `volume NAME HEX`, `bsr`, `extract`,
+/// or the first word of `job` or `restore` and the fields after it. Fields are separated by one space,
+/// numbers are decimal, names are escaped, and bytes are pairs of hexadecimal digits in lower case, or
+/// `-` for none. Memory does not run out for `drives N`.
 ///
 /// # Errors
 ///
 /// `BadScript` for a line of more than 4,096 bytes, and for any other line.
 #[tactic(auto, unfolding(crate::specs::Line::line_said))]
-pub(crate) fn read_line(alloc: Global, line: &[u8]) -> Result<ScriptLine, LineFault>
+pub(crate) fn read_line<'l>(alloc: Global, line: &'l [u8]) -> Result<ScriptLine<'l>, LineFault>
     ensures says { Answers said line_cause result (line_said line.now) }
     ensures drives { IfErr result (λ _. LeavesDrives (line_said line.now)) }
 {
@@ -139,4 +114,10 @@ pub(crate) fn read_line(alloc: Global, line: &[u8]) -> Result<ScriptLine, LineFa
         Some(fields) => read_fields(alloc, word, fields),
         None => read_word(word),
     }
+}
+
+/// Tests whether the first word of a line is `restore`.
+pub(crate) fn is_restore(line: &[u8]) -> bool {
+    let (word, _) = cut(line);
+    word == b"restore".as_slice()
 }

@@ -1,0 +1,43 @@
+-- What the lines of a job do.
+use Rattle.std.specs.Prelude.{◌≡◌, ℕ, ◌⊎◌, Bool, true, false, List, Option, Some, None, MatchOption, Result, Ok, Err, OnOk}
+use Rattle.std.specs.Io.KnownBytes.{Appends, Keeps}
+use Rattle.br_model.specs.Answer.{IsRefusal}
+use Rattle.br_model.specs.Job.{JobRows}
+use Rattle.br_publish.specs.Sessions.{Known}
+use Rattle.br_keeper.specs.Keeping.{Keeping}
+use Rattle.br_keeper.specs.Writing.{Shelf}
+use Rattle.br_draft.specs.Drafting.{Drafting, TakesLine, begins, ended, given_up}
+use Rattle.br_draft.specs.Fault.{cause, fault_number}
+use Rattle.br_draft.specs.Head.{Begun, head_said}
+use Rattle.br_draft.specs.declared.fault.JobLineFault.{JobLineFault}
+use Rattle.br_script.specs.Answering.{refusal_at}
+use Rattle.br_script.specs.Desk.{EndsJob}
+
+-- The fields begin a job, and nothing is written. Or they are refused, the refusal is written, and the job is as before.
+abbrev pub BeginsJob : {E : Type 0} → ℕ → Option (List ℕ) → Option (List ℕ) → Result (Unit {0}) E → List ℕ → Option Drafting → Option Drafting → Type 0
+BeginsJob place before after result fields was now =
+    ((head : Begun) × (head_said fields ≡ Ok head) × (now ≡ Some (begins head)) × Keeps before after)
+    ⊎ ((why : JobLineFault) × IsRefusal (cause why) (head_said fields) × (now ≡ was) × OnOk result (Appends before after (refusal_at (fault_number why) place)))
+
+-- the job is given up, if there is one
+abbrev pub GivesUp : Option Drafting → Option Drafting → Type 0
+GivesUp before after = MatchOption before (after ≡ None) (λ d. after ≡ Some (given_up d))
+
+-- What becomes of a job after a line that it has taken. If the line ends it, it ends. If the line is
+-- refused, its refusal is written. No line but the end does anything else than to change the job.
+abbrev pub GoesOn : {C W E : Type 0} → (JobRows → C → C → Type 0) → (JobRows → C → C → Type 0) → (Keeping C W → Shelf) → ℕ
+    → Keeping C W → Keeping C W → Option Known → Option (List ℕ) → Option (List ℕ) → Result (Unit {0}) E
+    → Drafting → Option Drafting → Result Bool JobLineFault → Type 0
+GoesOn inserts refuses shelf place old new session before after result taken left (Ok true) =
+    (left ≡ None) × EndsJob inserts refuses shelf place old new session before after result (ended taken)
+GoesOn inserts refuses shelf place old new session before after result taken left (Ok false) = (left ≡ Some taken) × (new ≡ old) × Keeps before after
+GoesOn inserts refuses shelf place old new session before after result taken left (Err why) =
+    (left ≡ Some taken) × (new ≡ old) × OnOk result (Appends before after (refusal_at (fault_number why) place))
+
+-- a job takes a line, and goes on or ends
+abbrev pub TakesIn : {C W E : Type 0} → (JobRows → C → C → Type 0) → (JobRows → C → C → Type 0) → (Keeping C W → Shelf) → ℕ
+    → Keeping C W → Keeping C W → Option Known → Option (List ℕ) → Option (List ℕ) → Result (Unit {0}) E
+    → List ℕ → Drafting → Option Drafting → Type 0
+TakesIn inserts refuses shelf place old new session before after result line draft left =
+    (taken : Drafting) × (r : Result Bool JobLineFault) × TakesLine line draft taken r
+    × GoesOn inserts refuses shelf place old new session before after result taken left r

@@ -1,0 +1,72 @@
+-- What the lines outside of a job do.
+use Rattle.std.specs.Prelude.{◌≡◌, ℕ, ◌⊎◌, List, Option, Some, None, MatchOption, Result, Ok, Err}
+use Rattle.std.specs.Io.KnownBytes.{Keeps}
+use Rattle.br_model.specs.Answer.{Answers, IsRefusal}
+use Rattle.br_model.specs.Text.{refused_line}
+use Rattle.br_model.specs.Job.{JobRows}
+use Rattle.br_model.specs.Volume.{Volume}
+use Rattle.br_model.specs.Bootstrap.{Group}
+use Rattle.br_model.specs.BootstrapText.{read_bootstrap}
+use Rattle.br_bsr.specs.Fault as bootstrap
+use Rattle.br_bsr.specs.declared.fault.BsrFault.{BsrFault}
+use Rattle.br_engine.specs.declared.fault.ExtractFault.TheVariants as of_extract
+use Rattle.br_fields.specs.Fault.{line_cause}
+use Rattle.br_fields.specs.declared.fault.LineFault.{LineFault}
+use Rattle.br_fields.specs.declared.fault.LineFault.TheVariants.{Memory, BadScript}
+use Rattle.br_keeper.specs.Keeping.{shelf_of}
+use Rattle.br_script.specs.Answering.{refusal_at}
+use Rattle.br_script.specs.Deeds.{AnswersBytes}
+use Rattle.br_script.specs.Ending.{RefusesBy, RefusesExtract, RunsKept}
+use Rattle.br_script.specs.Jobs.{BeginsJob, TakesIn}
+use Rattle.br_script.specs.Line.{Said, line_said}
+use Rattle.br_script.specs.Line.Said.{Drives, Volume as Bytes, Bsr, Extract, Job, Restore}
+use Rattle.br_script.specs.Restoring.{RestoresBy}
+use Rattle.br_script.specs.declared.fault.ScriptFault.{ScriptFault}
+use Rattle.br_script.specs.declared.script.Script.{Script}
+use Rattle.br_script.specs.declared.script.ScriptEnd.{ScriptEnd}
+
+-- a bootstrap that was read is kept, and one that is refused is written and none kept
+abbrev pub KeepsRead : Option (List ℕ) → Option (List ℕ) → ScriptEnd → ScriptEnd → Result (Unit {0}) ScriptFault → Option (List Group)
+    → Result (List Group) BsrFault → Type 0
+KeepsRead before after was now result keeps (Ok groups) = (keeps ≡ Some groups) × (now ≡ was) × Keeps before after
+KeepsRead before after was now result keeps (Err why) = (keeps ≡ None) × RefusesExtract before after now (of_extract.Bootstrap why) result
+
+-- Some text is read as a bootstrap. Or memory ran out for it, or the input ended or failed before it did.
+abbrev pub KeepsBootstrap : Option (List ℕ) → Option (List ℕ) → ScriptEnd → ScriptEnd → Result (Unit {0}) ScriptFault → Option (List Group)
+    → Option (List Group) → Type 0
+KeepsBootstrap before after was now result kept keeps =
+    ((keeps ≡ kept) × (now ≡ was) × Keeps before after)
+    ⊎ (((keeps ≡ None) × RefusesBy before after now result (refused_line 1))
+    ⊎ ((text : List ℕ) × (read : Result (List Group) BsrFault) × Answers (λ (groups : List Group). groups) bootstrap.cause read (read_bootstrap text)
+    × KeepsRead before after was now result keeps read))
+
+-- what a line outside of a job does that asks for this
+abbrev pub Obeys : {C V : Type 0} → (V → Option (List Volume)) → (V → ℕ) → Script C V → Script C V → Option (List ℕ) → Option (List ℕ) → ℕ
+    → Result (Unit {0}) ScriptFault → Said → Type 0
+Obeys holds failures old new before after place result (Drives n) = (new ≡ record old { drives = n }) × Keeps before after
+Obeys holds failures old new before after place result (Bytes name bytes) =
+    AnswersBytes holds failures name bytes old.desk.keeper new.desk.keeper before after result
+Obeys holds failures old new before after place result Bsr = KeepsBootstrap before after old.end new.end result old.kept new.kept
+Obeys holds failures old new before after place result Extract =
+    RunsKept (holds old.desk.keeper.volumes) old.drives place before after old.end new.end result old.kept
+Obeys holds failures old new before after place result (Job fields) = BeginsJob place before after result fields old.draft new.draft
+Obeys holds failures old new before after place result (Restore fields) = RestoresBy holds old new before after place result fields
+
+-- the number of the refusal of a line outside of a job
+abbrev pub number_of : LineFault → ℕ
+number_of Memory = 1
+number_of BadScript = 90
+
+-- a line outside of a job does what it asks for, or it is refused
+abbrev pub TakesOutside : {C V : Type 0} → (V → Option (List Volume)) → (V → ℕ) → Script C V → Script C V → Option (List ℕ) → Option (List ℕ) → ℕ
+    → Result (Unit {0}) ScriptFault → List ℕ → Type 0
+TakesOutside holds failures old new before after place result line =
+    ((why : LineFault) × IsRefusal (line_cause why) (line_said line) × RefusesBy before after new.end result (refusal_at (number_of why) place))
+    ⊎ ((asked : Said) × (line_said line ≡ Ok asked) × Obeys holds failures old new before after place result asked)
+
+-- a line is taken by the job that it is in, or by the script
+abbrev pub CarriesOut : {C V : Type 0} → (JobRows → C → C → Type 0) → (JobRows → C → C → Type 0) → (V → Option (List Volume)) → (V → ℕ)
+    → Script C V → Script C V → Option (List ℕ) → Option (List ℕ) → ℕ → Result (Unit {0}) ScriptFault → List ℕ → Type 0
+CarriesOut inserts refuses holds failures old new before after place result line =
+    MatchOption old.draft (TakesOutside holds failures old new before after place result line)
+    (λ d. TakesIn inserts refuses (shelf_of holds failures) place old.desk.keeper new.desk.keeper new.desk.session before after result line d new.draft)

@@ -1,0 +1,71 @@
+//! Runs scripts over memory, each from an empty catalogue and without volumes.
+//!
+//! Standard input has the scripts one after another. Each comes after a line that begins with `@` and says
+//! what it tries; what comes before the first is for the reader. Standard output has for each script this
+//! line, what the script wrote, and its end.
+#![tactic(auto)]
+
+use br_script::{ScriptEnd, run_script};
+use std::alloc::Global;
+use std::io::{self, BufReader, BufWriter, Read, Write};
+use std::sync::Wait;
+use std::thread::Threads;
+
+/// Returns the word for the end of a script.
+fn word_of(end: ScriptEnd) -> &'static str {
+    match end {
+        ScriptEnd::Clean => "clean",
+        ScriptEnd::Refused => "refused",
+    }
+}
+
+/// Returns the first line of a text without its LF, and the text after it.
+fn first_line(text: &[u8]) -> (&[u8], &[u8]) {
+    match text.iter().position(|byte| *byte == b'\n') {
+        Some(at) => (&text[..at], &text[at + 1..]),
+        None => (text, &[]),
+    }
+}
+
+/// Runs a script that follows its name, and writes the name, what the script wrote, and its end.
+fn run_one<W: Write>(
+    rt: &(impl Threads + Wait + Sync),
+    alloc: Global,
+    part: &[u8],
+    writer: &mut W,
+) -> io::Result<()> {
+    let (name, script) = first_line(part);
+    writer.write_all(b"@")?;
+    writer.write_all(name)?;
+    writer.write_all(b"\n")?;
+    let mut reader = script;
+    let end = run_script(rt, alloc, &mut reader, writer)?;
+    let word = word_of(end);
+    writeln!(writer, "end: {word}")
+}
+
+/// Runs all scripts of a text.
+fn run_all<W: Write>(
+    rt: &(impl Threads + Wait + Sync),
+    alloc: Global,
+    text: &[u8],
+    writer: &mut W,
+) -> io::Result<()> {
+    for part in text.split(|byte| *byte == b'@').skip(1) {
+        run_one(rt, alloc, part, writer)?;
+    }
+    Ok(())
+}
+
+/// Runs the scripts of standard input in as many threads as `threads` starts.
+fn run(rt: &HostRuntime, threads: &(impl Threads + Wait + Sync)) -> io::Result<()> {
+    let mut text = Vec::new(rt.alloc());
+    BufReader::new(rt.alloc(), rt.reader())?.read_to_end(&mut text)?;
+    let mut writer = BufWriter::new(rt.alloc(), io::writer(rt))?;
+    run_all(threads, rt.alloc(), &text, &mut writer)?;
+    writer.flush()
+}
+
+fn main(rt: HostRuntime) -> io::Result<()> {
+    run(&rt, &rt)
+}
