@@ -12,7 +12,7 @@ use thiserror::Error;
 pub(crate) enum BenchFault {
     #[error("out of memory")]
     Memory,
-    #[error("usage: br_bench STAGE PATHS JOBS ROWS")]
+    #[error("usage: br_bench STAGE PATHS JOBS ROWS, or br_bench commit PATHS JOBS ROWS")]
     Words,
     #[error("there is no such history")]
     History,
@@ -20,6 +20,8 @@ pub(crate) enum BenchFault {
     Plan,
     #[error("the console refused a command")]
     Command,
+    #[error("the keeper refused a job")]
+    Commit,
     #[error("{0}")]
     Io(io::Error),
 }

@@ -5,18 +5,24 @@
 //! error the microseconds of the processor that each step took. The steps are those of the restore
 //! console: the view of the chosen jobs, its tree, lines of a dialogue, and the plan for the marks
 //! of the tree.
+//!
+//! `br_bench commit PATHS JOBS ROWS` commits JOBS jobs of ROWS files each, by a keeper over memory, to a
+//! history of PATHS file rows, while two sessions take snapshots. It prints on standard error the
+//! microseconds of the commits and of all, and the number of snapshots.
 #![tactic(auto)]
 
 ghost use Rattle.std.specs.Prelude.{◌≡◌, IfOk};
 ghost use Rattle.br_plan.specs.Means.{IsViewOfChosen};
 
+mod committing;
 mod fault;
 mod making;
 mod words;
 
+use crate::committing::measure_commits;
 use crate::fault::BenchFault;
 use crate::making::{CLIENT, FILESET, Size, history_of};
-use crate::words::{Stage, read_words};
+use crate::words::{Stage, Work, read_words};
 use br_choose::choose;
 use br_history::History;
 use br_mark::{Answer, Command, Console};
@@ -27,6 +33,8 @@ use br_view::View;
 use std::alloc::Global;
 use std::io;
 use std::process::ExitCode;
+use std::sync::Wait;
+use std::thread::Threads;
 use std::time::{CpuClock, Duration};
 
 /// Reports the time of a step that began at `since`.
@@ -206,14 +214,19 @@ fn measure(rt: &HostRuntime, stage: Stage, size: Size) -> Result<(), BenchFault>
 }
 
 /// Does what the words of the command line ask for.
-fn run(rt: &HostRuntime) -> Result<(), BenchFault> {
+fn run<R: Threads + Wait + Copy + Send + 'static>(
+    rt: &HostRuntime,
+    threads: R,
+) -> Result<(), BenchFault> {
     let words: Vec<String> = std::env::args(rt)?.collect(rt.alloc())?;
-    let (stage, size) = read_words(&words).ok_or(BenchFault::Words)?;
-    measure(rt, stage, size)
+    match read_words(&words).ok_or(BenchFault::Words)? {
+        (Work::Select(stage), size) => measure(rt, stage, size),
+        (Work::Commit, size) => measure_commits(rt, threads, size),
+    }
 }
 
 fn main(rt: HostRuntime) -> ExitCode {
-    match run(&rt) {
+    match run(&rt, rt) {
         Ok(()) => ExitCode::SUCCESS,
         Err(fault) => {
             let _ = eprintln!(rt; "br_bench: {fault}");

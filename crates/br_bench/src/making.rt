@@ -14,7 +14,7 @@ pub(crate) const CLIENT: &[u8] = b"mars";
 pub(crate) const FILESET: &[u8] = b"home";
 
 /// Numbers of a file of 184 bytes that is no hard link, as long as Bacula writes them.
-const NUMBERS: &str = "P0A Cat6a IGk B Po Po A C4 BAA I BfV5Ch BfV5Ch BfV5Ch A A C";
+pub(crate) const NUMBERS: &str = "P0A Cat6a IGk B Po Po A C4 BAA I BfV5Ch BfV5Ch BfV5Ch A A C";
 
 /// The size of a history. The shares of rows are exact if `rows` is a multiple of 10, `paths` of
 /// 1,000, and `jobs` less than `paths / rows` and than 97.
@@ -45,7 +45,7 @@ fn path_text(alloc: Global, number: u32) -> Result<String, AllocError> {
 
 /// Returns the path of a file that an Incremental adds, in the directory of the path with this
 /// number.
-fn added_text(alloc: Global, number: u32, job: u32) -> Result<String, AllocError> {
+pub(crate) fn added_text(alloc: Global, number: u32, job: u32) -> Result<String, AllocError> {
     let (user, project) = (number / 1000, number / 100 % 10);
     format!(in alloc; "/home/user{user}/project{project}/added{job:02}-{number:06}")
 }
@@ -107,7 +107,7 @@ fn letter(byte: u8) -> Result<Letter, BenchFault> {
 }
 
 /// Returns the row of a job, which starts `number` seconds after the beginning of 1970.
-fn job_row(alloc: Global, number: u32, level: u8) -> Result<JobRow, BenchFault> {
+pub(crate) fn job_row(alloc: Global, number: u32, level: u8) -> Result<JobRow, BenchFault> {
     Ok(JobRow {
         id: JobId::new(number).ok_or(BenchFault::History)?,
         kind: letter(b'B')?,

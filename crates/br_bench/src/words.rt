@@ -25,9 +25,25 @@ fn stage_of(word: &str) -> Option<Stage> {
     }
 }
 
+/// What is measured.
+#[derive(Clone, Copy, Debug, PartialEq, Eq)]
+pub(crate) enum Work {
+    /// The steps of a selection, up to this one.
+    Select(Stage),
+    /// Commits, and the snapshots that sessions take meanwhile.
+    Commit,
+}
+
+fn work_of(word: &str) -> Option<Work> {
+    match word {
+        "commit" => Some(Work::Commit),
+        _ => Some(Work::Select(stage_of(word)?)),
+    }
+}
+
 /// Reads the words of the command line, the first of which is the program's name. Returns `None` if
-/// they are not `STAGE PATHS JOBS ROWS`.
-pub(crate) fn read_words(words: &[String]) -> Option<(Stage, Size)> {
+/// they are not `STAGE PATHS JOBS ROWS`, or `commit PATHS JOBS ROWS`.
+pub(crate) fn read_words(words: &[String]) -> Option<(Work, Size)> {
     let [_, stage, paths, jobs, rows] = words else {
         return None;
     };
@@ -36,5 +52,5 @@ pub(crate) fn read_words(words: &[String]) -> Option<(Stage, Size)> {
         jobs: jobs.as_str().parse().ok()?,
         rows: rows.as_str().parse().ok()?,
     };
-    Some((stage_of(stage.as_str())?, size))
+    Some((work_of(stage.as_str())?, size))
 }

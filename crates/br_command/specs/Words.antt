@@ -24,10 +24,12 @@ pub data Goal : Type 0 where
   TarFile : Text → Goal
   TarOutput : Goal
 
--- a command of the program: a script; a bootstrap's file, the folder of the volumes, where the files go, and the number of drives;
--- a catalogue's file, the folder of the volumes, client, file set and moment, and the same two; a number; all numbers
+-- a command of the program: a script; a script, a catalogue's file and the folder of the volumes; a bootstrap's file, the folder of the
+-- volumes, where the files go, and the number of drives; a catalogue's file, the folder of the volumes, client, file set and moment, and
+-- the same two; a number; all numbers
 pub data Asked : Type 0 where
   Serve : Asked
+  ServeFiles : Text → Text → Asked
   Extract : Text → Text → Goal → ℕ → Asked
   Console : Text → Text → Text → Text → Text → Goal → ℕ → Asked
   Explain : ℕ → Asked
@@ -43,6 +45,7 @@ target targets.TarOutput = TarOutput
 -- what the program holds of a command line
 abbrev pub asked : Invocation → Asked
 asked commands.Serve = Serve
+asked (commands.ServeFiles o) = ServeFiles o.db.now o.volumes.now
 asked (commands.Extract o) = Extract o.bsr.now o.volumes.now (target o.target) o.drives
 asked (commands.Console o) =
     Console o.db.now o.volumes.now o.client.now o.fileset.now o.before.now (target o.target) o.drives
@@ -98,6 +101,10 @@ number_rule = record (new_rule (codes "number")) { action = Some Set; value_name
 unfoldable pub explain_app : App
 explain_app = with_rule (new_app (codes "explain")) number_rule
 
+-- `serve` with `--db FILE` and `--volumes DIR`, which may be left out
+unfoldable pub serve_app : App
+serve_app = with_rule (with_rule (new_app (codes "serve")) (value_rule (codes "db") false)) (value_rule (codes "volumes") false)
+
 -- the program with its version and the command `extract`
 unfoldable pub extracting_app : App
 extracting_app = with_subcommand (on_top (λ s. record s { has_version = true }) (new_app (codes "brestore"))) extract_app.top
@@ -108,7 +115,7 @@ restoring_app = with_subcommand extracting_app console_app.top
 
 -- the program also has the commands `explain` and `serve`
 unfoldable pub program_app : App
-program_app = with_subcommand (with_subcommand restoring_app explain_app.top) (new_app (codes "serve")).top
+program_app = with_subcommand (with_subcommand restoring_app explain_app.top) serve_app.top
 
 -- the number that a text is, if it is one from `low` to `high`
 abbrev pub number_in : ℕ → ℕ → Text → Option ℕ
@@ -169,6 +176,17 @@ console_asked rows =
     (first_of (codes "volumes") rows))
     (first_of (codes "db") rows)
 
+-- the command `serve` by the values of `--db` and `--volumes`, which go together
+abbrev pub serve_by : Option Text → Option Text → Option Asked
+serve_by None None = Some Serve
+serve_by (Some db) (Some volumes) = Some (ServeFiles db volumes)
+serve_by (Some db) None = None
+serve_by None (Some volumes) = None
+
+-- the same by the values that were found for the options
+unfoldable pub serve_asked : List Row → Option Asked
+serve_asked rows = serve_by (first_of (codes "db") rows) (first_of (codes "volumes") rows)
+
 -- the command by the name of the subcommand and what was found for its options; with no subcommand it is a script
 unfoldable pub asked_by : Option (Text × List Row) → Option Asked
 asked_by None = Some Serve
@@ -176,7 +194,7 @@ asked_by (Some (name, rows)) =
     if bytes_eq name (codes "extract") then extract_asked rows
     else if bytes_eq name (codes "console") then console_asked rows
     else if bytes_eq name (codes "explain") then explain_asked rows
-    else if bytes_eq name (codes "serve") then Some Serve
+    else if bytes_eq name (codes "serve") then serve_asked rows
     else None
 
 -- the command that words ask for, the first of which is the program's name

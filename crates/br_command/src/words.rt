@@ -5,12 +5,12 @@ ghost use Rattle.clap.specs.Words.{FailsBy, app_of, fault_of, found_of, rows_of,
 ghost use Rattle.clap.specs.declared.builder.command.Command.TheViews.{out-Command as fields_of};
 ghost use Rattle.br_options.specs.Options.{AreFew, HasDrives};
 ghost use Rattle.br_command.specs.Words.{AsksFor, MissesBy, asked, asked_by, words_asked, words_fault, words_kind, with_run_rules};
-ghost use Rattle.br_command.specs.Words.{console_asked, drives_asked, explain_asked, extract_asked, number_asked, target_asked};
+ghost use Rattle.br_command.specs.Words.{console_asked, drives_asked, explain_asked, extract_asked, number_asked, serve_asked, serve_by, target_asked};
 ghost use Rattle.br_command.specs.Words.{kind_by, kind_in, tar_target, target, target_by, with_target_rules};
 ghost use Rattle.br_command.specs.Words.{console_app, console_jobs_app, console_start_app, explain_app, extract_app};
-ghost use Rattle.br_command.specs.Words.{drives_rule, extracting_app, number_rule, program_app, restoring_app, value_rule};
+ghost use Rattle.br_command.specs.Words.{drives_rule, extracting_app, number_rule, program_app, restoring_app, serve_app, value_rule};
 
-use br_options::{ConsoleOptions, ExtractOptions, Invocation, Target};
+use br_options::{ConsoleOptions, ExtractOptions, Invocation, ServeOptions, Target};
 use clap::builder::ValueParser;
 use clap::error::ErrorKind;
 use clap::{Arg, ArgAction, ArgMatches, Command, Error};
@@ -178,6 +178,19 @@ fn explain_command<'a>(alloc: Global) -> Result<Command<'a>, AllocError>
         .arg(number)
 }
 
+/// Returns `serve` with its options.
+fn serve_command<'a>(alloc: Global) -> Result<Command<'a>, AllocError>
+    ensures app { IfOk result (λ command. app_of command ≡ serve_app) }
+    ensures local { IfOk result (λ command. (fields_of command).has_globals ≡ false) }
+{
+    let db = "The file of the catalogue, which is made if it is not there";
+    let volumes = "The folder of the volumes; given with --db, or neither is";
+    Command::new(alloc, "serve")
+        .about("Runs a script from standard input, as with no command")
+        .arg(value_option(alloc, "db", "FILE", false, db))?
+        .arg(value_option(alloc, "volumes", "DIR", false, volumes))
+}
+
 /// Returns the program with its command `extract`.
 fn extracting<'a>(alloc: Global) -> Result<Command<'a>, AllocError>
     ensures app { IfOk result (λ command. app_of command ≡ extracting_app) }
@@ -204,9 +217,8 @@ fn program<'a>(alloc: Global) -> Result<Command<'a>, AllocError>
     ensures { IfOk result (λ command. app_of command ≡ program_app) }
 {
     let explain = explain_command(alloc)?;
-    restoring(alloc)?.subcommand(explain)?.subcommand(Command::new(alloc, "serve").about(
-        "Runs a script from standard input, as with no command",
-    ))
+    let serve = serve_command(alloc)?;
+    restoring(alloc)?.subcommand(explain)?.subcommand(serve)
 }
 
 /// Returns what was found for an option.
@@ -313,6 +325,27 @@ fn explain_found<'a>(found: &ArgMatches<'a>) -> Option<Invocation<'a>>
     }
 }
 
+/// Returns `serve` by the values of `--db` and `--volumes`, unless one was given without the other.
+fn serve_by<'a>(db: Option<&'a str>, volumes: Option<&'a str>) -> Option<Invocation<'a>>
+    ensures asked { option_map asked result ≡ serve_by (option_map (λ s. s.now) db.entry) (option_map (λ s. s.now) volumes.entry) }
+    ensures drives { IfSome result HasDrives }
+{
+    match (db, volumes) {
+        (None, None) => Some(Invocation::Serve),
+        (Some(db), Some(volumes)) => Some(Invocation::ServeFiles(ServeOptions { db, volumes })),
+        (Some(_), None) | (None, Some(_)) => None,
+    }
+}
+
+/// Returns `serve` with the options that were found, unless one was given without the other.
+#[tactic(auto, unfolding(crate::specs::Words::serve_asked))]
+fn serve_found<'a>(found: &ArgMatches<'a>) -> Option<Invocation<'a>>
+    ensures asked { option_map asked result ≡ serve_asked (rows_of (found_of found.now)) }
+    ensures drives { IfSome result HasDrives }
+{
+    serve_by(value_of(found, "db"), value_of(found, "volumes"))
+}
+
 /// Returns the name of the subcommand that was found, and what was found for its options.
 fn found_command<'m, 'a>(matches: &'m ArgMatches<'a>) -> Option<(&'a str, &'m ArgMatches<'a>)>
     ensures { subcommand_rows_of matches.now ≡ option_map (λ p. (p.0.now, rows_of (found_of p.1.now))) result }
@@ -331,7 +364,7 @@ fn invocation_of<'a>(matches: &ArgMatches<'a>) -> Option<Invocation<'a>>
         Some((name, found)) if name == "extract" => extract_found(found),
         Some((name, found)) if name == "console" => console_found(found),
         Some((name, found)) if name == "explain" => explain_found(found),
-        Some((name, _)) if name == "serve" => Some(Invocation::Serve),
+        Some((name, found)) if name == "serve" => serve_found(found),
         Some(_) => None,
     }
 }
@@ -363,7 +396,7 @@ fn text_of_fault(kind: ErrorKind) -> &'static str {
         ErrorKind::ArgumentConflict => {
             "the argument '--into <DIR>' cannot be used with '--tar <FILE>'"
         }
-        _ => "a value is missing",
+        _ => "the arguments '--db <FILE>' and '--volumes <DIR>' must be given together",
     }
 }
 
@@ -403,8 +436,8 @@ fn read_by<'a>(command: &mut Command<'a>, words: &'a [String]) -> Result<Invocat
 /// Reads the words of a command line, of which the first is the program's name.
 ///
 /// The commands are `extract --bsr FILE --volumes DIR`, `console --db FILE --volumes DIR --client NAME --fileset NAME
-/// --before MOMENT`, `explain [N]` and `serve`. The first two also take `--into DIR` or `--tar FILE`, and `--drives N`. No command is
-/// the same as `serve`.
+/// --before MOMENT`, `explain [N]` and `serve`. The first two also take `--into DIR` or `--tar FILE`, and `--drives N`; the last takes
+/// `--db FILE` and `--volumes DIR`, both or neither. No command is the same as `serve`.
 ///
 /// # Errors
 ///

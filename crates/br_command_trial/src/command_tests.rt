@@ -1,5 +1,5 @@
 use br_command::read_words;
-use br_options::{ConsoleOptions, ExtractOptions, Invocation, Target};
+use br_options::{ConsoleOptions, ExtractOptions, Invocation, ServeOptions, Target};
 use clap::error::ErrorKind;
 use std::alloc::Global;
 use std::test::Fail;
@@ -179,6 +179,51 @@ fn scripts_and_explanations_are_asked_for(rt: HostRuntime) -> Result<(), Fail> {
 }
 
 #[test]
+fn scripts_over_files_are_asked_for(rt: HostRuntime) -> Result<(), Fail> {
+    let files = ServeOptions {
+        db: "j.db",
+        volumes: "sets/V",
+    };
+    let lines = [
+        "brestore serve --db j.db --volumes sets/V",
+        "brestore serve --volumes=sets/V --db=j.db",
+    ];
+    let other = first_other(rt.alloc(), &lines, &Invocation::ServeFiles(files))?;
+    assert_eq!(rt; other, None);
+    Ok(())
+}
+
+#[test]
+fn catalogue_and_volumes_are_given_together(rt: HostRuntime) -> Result<(), Fail> {
+    let alone = [
+        "brestore serve --db j.db",
+        "brestore serve --volumes sets/V",
+    ];
+    let twice = [
+        "brestore serve --db j.db --db k.db --volumes sets/V",
+        "brestore serve --volumes sets/V --db j.db --volumes sets/W",
+    ];
+    let no_command = [
+        "brestore --db j.db --volumes sets/V",
+        "brestore serve --db j.db --volumes sets/V --bsr x",
+    ];
+    let empty = ["brestore serve --db= --volumes sets/V"];
+    let not_missing = first_with_another_fault(
+        rt.alloc(),
+        &alone,
+        ErrorKind::MissingRequiredArgument,
+    )?;
+    let not_twice = first_with_another_fault(rt.alloc(), &twice, ErrorKind::ArgumentConflict)?;
+    let known = first_with_another_fault(rt.alloc(), &no_command, ErrorKind::UnknownArgument)?;
+    let not_empty = first_with_another_fault(rt.alloc(), &empty, ErrorKind::InvalidValue)?;
+    assert_eq!(rt; not_missing, None);
+    assert_eq!(rt; not_twice, None);
+    assert_eq!(rt; known, None);
+    assert_eq!(rt; not_empty, None);
+    Ok(())
+}
+
+#[test]
 fn restores_are_asked_for(rt: HostRuntime) -> Result<(), Fail> {
     let extract = first_other(rt.alloc(), &EXTRACT_LINES, &Invocation::Extract(EXTRACT))?;
     let extract_into = first_other(
@@ -345,6 +390,7 @@ fn help_is_given(rt: HostRuntime) -> Result<(), Fail> {
         ("brestore extract --help", ErrorKind::DisplayHelp),
         ("brestore console --help", ErrorKind::DisplayHelp),
         ("brestore explain --help", ErrorKind::DisplayHelp),
+        ("brestore serve --help", ErrorKind::DisplayHelp),
         ("brestore --version", ErrorKind::DisplayVersion),
     ] {
         let answer = fault_of(rt.alloc(), line)?;

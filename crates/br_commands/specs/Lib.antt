@@ -3,5 +3,4 @@ pub mod Tasks
 pub mod Starting
 pub mod Ending
 pub mod ConsoleEnding
-pub mod ScriptEnding
 pub mod TarEnding

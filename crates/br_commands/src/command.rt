@@ -1,12 +1,12 @@
 //! The commands by their options.
 ghost use Rattle.br_options.specs.Options.{HasDrives};
 
-use crate::catalogue::Catalogue;
 use crate::console::restore_marked;
 use crate::explaining::{explain_all, explain_number};
 use crate::extract::extract_files;
-use crate::script::serve;
 use br_options::Invocation;
+use br_serving::{serve_files, serve_memory};
+use br_setup::Catalogue;
 use std::io;
 use std::sync::Wait;
 use std::thread::Threads;
@@ -27,7 +27,8 @@ pub fn run_command<C: Catalogue>(
     requires few { HasDrives command.now }
 {
     match command {
-        Invocation::Serve => serve(rt, threads),
+        Invocation::Serve => serve_memory(rt, threads),
+        Invocation::ServeFiles(options) => serve_files(rt, threads, catalogue, options),
         Invocation::Extract(options) => extract_files(rt, threads, options),
         Invocation::Console(options) => restore_marked(rt, threads, catalogue, options),
         Invocation::Explain(number) => explain_number(rt, *number),

@@ -4,16 +4,16 @@ ghost use Rattle.br_model.specs.Answer.{Answers};
 ghost use Rattle.br_options.specs.Options.{AreFew};
 ghost use Rattle.br_pool.specs.Pool.{AreDrives};
 ghost use Rattle.br_request.specs.Asking.{cause};
-ghost use Rattle.br_commands.specs.Asked.{AreJobs, AreOver, folder_asked, request_asked, stream_asked};
+ghost use Rattle.br_setup.specs.Setup.{AreJobs, AreOver};
+ghost use Rattle.br_commands.specs.Asked.{folder_asked, request_asked, stream_asked};
 ghost use Rattle.br_commands.specs.ConsoleEnding.{end_line, extent, extent_by, run_refusal, run_status, status_by};
 ghost use Rattle.br_commands.specs.Starting.{start_number};
 ghost use Rattle.br_commands.specs.TarEnding.{IsShown};
 ghost use Rattle.br_commands.specs.Tasks.{RunsTask, StreamsRun};
 ghost use Rattle.br_commands.specs.declared.console.ConsoleStartFault.TheVariants as start;
 
-use crate::catalogue::{Catalogue, CatalogueFault};
-use crate::folders::{HostDrive, HostSink, drives_over, folder_of, sink_over};
-use crate::status::{BAD_STREAM, CLEAN, Ending, REFUSED};
+use crate::folders::{HostSink, folder_of, sink_over};
+use crate::status::{BAD_STREAM, Ending};
 use crate::tar::{Channel, Extent, TarEnd, TarFault, add_tar_end, end_stream, tar_into, tar_onto};
 use br_console::{ConsoleFault, ConsoleRun, End, JobSelection, Lines, run_console};
 use br_engine::{Flush, Outputs, RestoreEnd};
@@ -22,12 +22,13 @@ use br_history::History;
 use br_options::{ConsoleOptions, Target};
 use br_plan::Request;
 use br_request::{RequestFault, read_request};
+use br_setup::{CLEAN, Catalogue, CatalogueFault, HostDrive, REFUSED, drives_over, refuse_start};
 use br_sink::Sink;
 use br_tar::TarSink;
 use br_volume::Drive;
 use std::alloc::{AllocError, Global};
 use std::fs::{self, File};
-use std::io::{self, BufRead, BufReader, BufWriter, ErrorKind, Printer};
+use std::io::{self, BufRead, BufReader, BufWriter, Printer};
 use std::sync::Wait;
 use std::thread::Threads;
 use thiserror::Error;
@@ -175,16 +176,6 @@ impl ConsoleStartFault {
             ConsoleStartFault::Catalogue(fault) => fault.number(),
         }
     }
-}
-
-/// Prints a refusal before a line was read to standard error. Returns the exit status.
-fn refuse<R: Eprint>(rt: &R, fault: &ConsoleStartFault) -> io::Result<u8> {
-    let number = fault.number();
-    if number == 1 {
-        return Err(ErrorKind::OutOfMemory.into());
-    }
-    eprintln!(rt; "refused {number}")?;
-    Ok(REFUSED)
 }
 
 /// Loads the jobs in the file of a catalogue, if the file is there.
@@ -395,7 +386,7 @@ fn restore_into<C: Catalogue, R: BufRead + Drop>(
 {
     let setup = match set_up_console(rt, catalogue, given) {
         Ok(setup) => setup,
-        Err(fault) => return refuse(rt, &fault),
+        Err(fault) => return refuse_start(rt, fault.number()),
     };
     let writer = BufWriter::new(rt.alloc(), io::writer(rt))?;
     let mut task = setup.onto(writer);
@@ -490,11 +481,11 @@ pub fn restore_by_lines<C: Catalogue, R: BufRead + Drop>(
         Target::Folder(_) => restore_into(rt, threads, catalogue, given, reader),
         Target::TarFile(path) => match set_up_tar_file(rt, catalogue, given, path) {
             Ok(setup) => restore_onto(rt, threads, given, setup, reader, io::writer(rt)),
-            Err(fault) => refuse(rt, &fault),
+            Err(fault) => refuse_start(rt, fault.number()),
         },
         Target::TarOutput => match set_up_tar_output(rt, catalogue, given) {
             Ok(setup) => restore_onto(rt, threads, given, setup, reader, rt.stderr()),
-            Err(fault) => refuse(rt, &fault),
+            Err(fault) => refuse_start(rt, fault.number()),
         },
     }
 }

@@ -1,8 +1,8 @@
 //! The command `explain`.
 
-use crate::status::{CLEAN, REFUSED};
 use br_engine::show;
 use br_explain::{REFUSALS, Refusal, explain, push_refusals};
+use br_setup::{CLEAN, REFUSED};
 use std::io;
 
 /// Prints rows of the table to standard output. Returns the exit status.

@@ -2,17 +2,19 @@
 ghost use Rattle.std.specs.Prelude.{◌≡◌, length, not, option_map, None, Some, IfOk, IfSome, IsSome};
 ghost use Rattle.br_options.specs.Options.{AreFew};
 ghost use Rattle.br_pool.specs.Pool.{AreDrives};
-ghost use Rattle.br_commands.specs.Asked.{AreOver, folder_asked, stream_asked};
+ghost use Rattle.br_setup.specs.Setup.{AreOver};
+ghost use Rattle.br_commands.specs.Asked.{folder_asked, stream_asked};
 ghost use Rattle.br_commands.specs.Ending.{extent, run_refusal, run_status};
 ghost use Rattle.br_commands.specs.TarEnding.{IsShown};
 ghost use Rattle.br_commands.specs.Tasks.{ExtractsTask, StreamsTask};
 
-use crate::folders::{HostDrive, HostSink, drives_over, folder_of, sink_over};
-use crate::status::{BAD_STREAM, CLEAN, Ending, REFUSED};
+use crate::folders::{HostSink, folder_of, sink_over};
+use crate::status::{BAD_STREAM, Ending};
 use crate::tar::{Channel, Extent, TarEnd, TarFault, add_tar_end, end_stream, tar_into, tar_onto};
 use br_engine::{ExtractFault, Flush, Outputs, RestoreEnd, extract_text};
 use br_folder_sink::FolderFault;
 use br_options::{ExtractOptions, Target};
+use br_setup::{CLEAN, HostDrive, REFUSED, drives_over};
 use br_sink::Sink;
 use br_tar::TarSink;
 use br_volume::Drive;

@@ -1,20 +1,17 @@
 //! The commands of the program: what each reads, does and prints, and its exit status.
 //!
 //! `run_command` carries out a command by its options. Where the jobs of a catalogue come from is the
-//! caller's, as a `Catalogue`.
+//! caller's, as a `Catalogue` of br_setup; `serve` is in br_serving.
 #![tactic(auto)]
 
-mod catalogue;
 mod command;
 mod console;
 mod explaining;
 mod extract;
 mod folders;
-mod script;
 mod status;
 mod tar;
 
-pub use catalogue::{Catalogue, CatalogueFault};
 pub use command::run_command;
 pub use console::{
     ConsoleSetup, ConsoleStartFault, ConsoleTask, console_ending, console_over, restore_by_lines,
@@ -23,6 +20,5 @@ pub use console::{
 pub use extract::{
     ExtractSetup, ExtractStartFault, ExtractTask, extract_ending, extract_over, set_up_extract,
 };
-pub use script::answer;
-pub use status::{BAD_STREAM, CLEAN, Ending, REFUSED};
+pub use status::{BAD_STREAM, Ending};
 pub use tar::TarFault;

@@ -1,11 +1,5 @@
 use std::io;
 
-/// The exit status if all was carried out.
-pub const CLEAN: u8 = 0;
-
-/// The exit status if something was refused, or some outcome is not a file.
-pub const REFUSED: u8 = 1;
-
 /// The exit status for a fault of the program's own files and streams.
 pub const BAD_STREAM: u8 = 3;
 

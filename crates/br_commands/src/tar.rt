@@ -7,9 +7,10 @@ ghost use Rattle.br_commands.specs.TarEnding.{EndsBy, HoldsBy, IsClosed, IsEnded
 ghost use Rattle.br_commands.specs.TarEnding.{left_out_text, not_flushed, tar_fault_number, tar_status, tar_text};
 ghost use Rattle.br_commands.specs.declared.tar.TarEnd.TheVariants.{Cut};
 
-use crate::status::{Ending, REFUSED};
+use crate::status::Ending;
 use br_engine::{Flush, push_refused_line};
 use br_files::{DiskFault, FileMaker, HostDisk};
+use br_setup::REFUSED;
 use br_sink::SinkFault;
 use br_tar::TarSink;
 use br_types::push_number;

@@ -1,7 +1,8 @@
 //! A catalogue in memory, of the job that wrote the volume.
-use br_commands::{Catalogue, CatalogueFault};
 use br_history::{FileRow, History, JobRow, JobRows};
+use br_keeper::{JobStore, JobStoreFault};
 use br_session::Span;
+use br_setup::{Catalogue, CatalogueFault};
 use br_types::{JobId, Letter, Name, Path, SessionKey, VolName};
 use std::alloc::Global;
 
@@ -78,10 +79,52 @@ pub(crate) struct OneCatalogue<'c> {
     pub(crate) second: &'c [u8],
 }
 
-impl Catalogue for OneCatalogue<'_> {
-    ghost use Rattle.std.specs.Prelude.{None};
+/// The catalogue with the job, open. It counts the jobs that are added to it, and keeps none.
+#[derive(Drop)]
+pub(crate) struct OneJob<'c> {
+    alloc: Global,
+    second: &'c [u8],
+    pub(crate) added: usize,
+}
+
+impl JobStore for OneJob<'_> {
+    ghost use Rattle.std.specs.Prelude.{⊤};
+
+    ghost inserts = { λ _ _ _. ⊤ };
+
+    ghost refuses = { λ _ _ _. ⊤ };
+
+    ghost loads = { λ _ _ _. ⊤ };
+
+    fn insert_job(&mut self, _rows: &JobRows) -> Result<(), JobStoreFault> {
+        self.added = self.added.saturating_add(1);
+        Ok(())
+    }
+
+    fn load_history(&mut self) -> Result<History, JobStoreFault> {
+        history_of(self.alloc, self.second).ok_or(JobStoreFault::BadCatalogue)
+    }
+}
+
+impl<'c> Catalogue for OneCatalogue<'c> {
+    ghost use Rattle.std.specs.Prelude.{None, ⊤};
+
+    type Jobs = OneJob<'c>;
 
     ghost jobs_at = { λ _ _. None };
+
+    ghost opens = { λ _ _ _. ⊤ };
+
+    fn open(&self, db: &str) -> Result<OneJob<'c>, CatalogueFault> {
+        if db != self.db {
+            return Err(CatalogueFault::Unreadable);
+        }
+        Ok(OneJob {
+            alloc: self.alloc,
+            second: self.second,
+            added: 0,
+        })
+    }
 
     fn load(&self, db: &str) -> Result<History, CatalogueFault> {
         if db != self.db {

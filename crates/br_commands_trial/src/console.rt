@@ -6,11 +6,12 @@ use crate::catalogue::OneCatalogue;
 use crate::places::{BACK, FRONT, are_there, entries_in, new_place, path_in};
 use crate::serving::Clogged;
 use br_commands::{
-    Catalogue, CatalogueFault, Ending, console_ending, console_over, restore_by_lines, run_command,
-    set_up_console,
+    Ending, console_ending, console_over, restore_by_lines, run_command, set_up_console,
 };
 use br_history::History;
 use br_options::{ConsoleOptions, Invocation, Target};
+use br_script::Forgetful;
+use br_setup::{Catalogue, CatalogueFault};
 use std::fs;
 use std::io::Write;
 use std::sync::Wait;
@@ -284,9 +285,17 @@ struct NewCatalogues<'r> {
 }
 
 impl Catalogue for NewCatalogues<'_> {
-    ghost use Rattle.std.specs.Prelude.{None};
+    ghost use Rattle.std.specs.Prelude.{None, ⊤};
+
+    type Jobs = Forgetful;
 
     ghost jobs_at = { λ _ _. None };
+
+    ghost opens = { λ _ _ _. ⊤ };
+
+    fn open(&self, _db: &str) -> Result<Forgetful, CatalogueFault> {
+        Err(CatalogueFault::Unreadable)
+    }
 
     fn load(&self, db: &str) -> Result<History, CatalogueFault> {
         match fs::write(self.rt, db, b"new") {

@@ -2,11 +2,12 @@
 use crate::places::{BACK, FRONT, Volume, are_there, entries_in, new_place, path_in};
 use crate::serving::Clogged;
 use br_commands::{
-    Catalogue, CatalogueFault, Ending, ExtractStartFault, extract_ending, extract_over,
-    run_command, set_up_extract,
+    Ending, ExtractStartFault, extract_ending, extract_over, run_command, set_up_extract,
 };
 use br_history::History;
 use br_options::{ExtractOptions, Invocation, Target};
+use br_script::Forgetful;
+use br_setup::{Catalogue, CatalogueFault};
 use std::alloc::Global;
 use std::fs;
 use std::io::Write;
@@ -204,9 +205,17 @@ fn a_bootstrap_may_have_thousands_of_groups(rt: HostRuntime) -> Result<(), Fail>
 struct NoCatalogue;
 
 impl Catalogue for NoCatalogue {
-    ghost use Rattle.std.specs.Prelude.{None};
+    ghost use Rattle.std.specs.Prelude.{None, ⊤};
+
+    type Jobs = Forgetful;
 
     ghost jobs_at = { λ _ _. None };
+
+    ghost opens = { λ _ _ _. ⊤ };
+
+    fn open(&self, _db: &str) -> Result<Forgetful, CatalogueFault> {
+        Err(CatalogueFault::Unreadable)
+    }
 
     fn load(&self, _db: &str) -> Result<History, CatalogueFault> {
         Err(CatalogueFault::Unreadable)

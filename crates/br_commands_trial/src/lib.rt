@@ -14,4 +14,6 @@ mod places;
 #[cfg(test)]
 mod serving;
 #[cfg(test)]
+mod serving_files;
+#[cfg(test)]
 mod tar;

@@ -1,5 +1,5 @@
 //! The exit status of a script, and what can't be flushed.
-use br_commands::answer;
+use br_serving::answer;
 use std::io::{self, Error, ErrorKind, Write};
 use std::test::Fail;
 

@@ -27,7 +27,7 @@ all_rows =
     (codes "Take the name from the catalogue: 1 to 127 letters, digits, spaces, `-`, `_`, `.` and `:`.") ∷
     row_with 3 (codes "BadPath")
     (codes "A path does not begin with `/`, is longer than 4,096 bytes, or has an empty part or a part `.` or `..`.")
-    (codes "Only library calls return it: give a path that follows these rules.") ∷
+    (codes "In a script, give a path that follows these rules.") ∷
     row_with 10 (codes "BadId")
     (codes "At the printed address of the volume there is no block of level `BB02`.")
     (codes "Check that the file is a volume and not packed, and try another copy; without one, choose an earlier moment.") ∷
@@ -48,16 +48,16 @@ all_rows =
     (codes "Only library calls return it: save the file in smaller parts.") ∷
     row_with 16 (codes "BadFileOrder")
     (codes "A hard link to be saved names no earlier file, or the session has too many files.")
-    (codes "Only library calls return it: save a file before its hard links.") ∷
+    (codes "In a script, save a file before its hard links.") ∷
     row_with 17 (codes "BadSavedFile")
     (codes "Type, path, bytes and link text of a file to be saved do not fit together.")
-    (codes "Only library calls return it: end the paths of folders alone in `/`, and give bytes to regular files and texts to links alone.") ∷
+    (codes "In a script, end the paths of folders alone in `/`, and give bytes to regular files and texts to links alone.") ∷
     row_with 20 (codes "BadNumber")
     (codes "A number in a file's attributes cannot be read.")
-    (codes "Only library calls return it: a restore prints 64 for the file.") ∷
+    (codes "In a script, write each number of `put` in Bacula's base 64; for such a file on a volume a restore prints 64.") ∷
     row_with 21 (codes "MissingField")
     (codes "A field or a number is missing in a file's attributes.")
-    (codes "Only library calls return it: a restore prints 64 for the file.") ∷
+    (codes "In a script, give `put` at least thirteen numbers; for such a file on a volume a restore prints 64.") ∷
     row_with 22 (codes "BadName (attributes)")
     (codes "The path in a file's attributes is not allowed.")
     (codes "Only library calls return it: a restore prints 64 for the file.") ∷
@@ -81,16 +81,16 @@ all_rows =
     (codes "Split its list into several lines with the same keyword.") ∷
     row_with 40 (codes "DuplicateJob")
     (codes "The history has a job with this JobId already.")
-    (codes "Only library calls return it: give the job a JobId of its own.") ∷
+    (codes "In a script, give the job a JobId of its own.") ∷
     row_with 41 (codes "DuplicateSession")
     (codes "The history has a job with this VolSessionId and VolSessionTime already.")
-    (codes "Only library calls return it: give the job a session of its own.") ∷
+    (codes "In a script, give the job a session of its own.") ∷
     row_with 42 (codes "BadRow")
     (codes "The rows of a job contradict each other, or its spans pass their limits.")
-    (codes "Only library calls return it: correct the rows by the rules in docs/formats.md.") ∷
+    (codes "In a script, correct the job by the rules in docs/formats.md.") ∷
     row_with 43 (codes "RetiredVolume")
     (codes "An append to the volume failed earlier, or its length is not the one in the catalogue.")
-    (codes "No command prints it: append to another volume.") ∷
+    (codes "In a script, name another volume in `place`.") ∷
     row_with 44 (codes "VolumeFault")
     (codes "Bytes could not be appended to a volume, or its length could not be read.")
     (codes "In a script, free memory and run it again; in a folder, check space and permissions.") ∷
@@ -99,7 +99,7 @@ all_rows =
     (codes "Check `--db` and that its folder can be written, and try another copy, or restore by a bootstrap with `extract`.") ∷
     row_with 46 (codes "StoredNotPublished")
     (codes "The job is in the catalogue, but restores do not see it yet.")
-    (codes "No command prints it: commit again, which publishes the job first.") ∷
+    (codes "In a script, free memory and commit again, which publishes the job first.") ∷
     row_with 47 (codes "BadCatalogue")
     (codes "The catalogue is not of version 1, or its rows contradict each other.")
     (codes "Try another copy, or restore by a bootstrap with `extract`; a catalogue that Bacula made cannot be used.") ∷

@@ -3,4 +3,4 @@
 
 mod options;
 
-pub use options::{ConsoleOptions, ExtractOptions, Invocation, Target};
+pub use options::{ConsoleOptions, ExtractOptions, Invocation, ServeOptions, Target};

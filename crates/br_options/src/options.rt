@@ -39,11 +39,22 @@ pub struct ConsoleOptions<'a> {
     pub drives: usize,
 }
 
+/// The options of `serve` over files.
+#[derive(Clone, Copy, Debug, PartialEq, Eq)]
+pub struct ServeOptions<'a> {
+    /// The file of the catalogue.
+    pub db: &'a str,
+    /// The folder of the volumes.
+    pub volumes: &'a str,
+}
+
 /// A command of the program with its options.
 #[derive(Clone, Copy, Debug, PartialEq, Eq)]
 pub enum Invocation<'a> {
-    /// Runs a script from standard input.
+    /// Runs a script from standard input, with its jobs and volumes in memory.
     Serve,
+    /// Runs a script from standard input, with its jobs in a catalogue and its volumes in a folder.
+    ServeFiles(ServeOptions<'a>),
     /// Runs a bootstrap over the volumes of a folder.
     Extract(ExtractOptions<'a>),
     /// Runs a console session over the jobs of a catalogue, and restores what was marked.

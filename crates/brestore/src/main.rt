@@ -2,20 +2,23 @@
 //!
 //! `extract` runs a bootstrap over the volumes of a folder. `console` lets the operator mark files as they were at a moment, and
 //! restores them. Both write the restored files into another folder, if one is given. `explain` says what a refusal number means.
-//! Without a command the program runs a script from standard input over volumes in memory.
+//! `serve` runs a script from standard input, over a catalogue and a folder of volumes, or in memory; without a command the
+//! program does the same in memory.
 //!
 //! The words of the command line are read by clap, and catalogues by SQLite; what the commands do is in br_commands.
 #![tactic(auto)]
 
 ghost use Rattle.std.specs.Prelude.{◌≡◌};
-ghost use Rattle.br_commands.specs.Asked.{catalogue_number};
 ghost use Rattle.br_rows.specs.Fault.{fault_number};
+ghost use Rattle.br_setup.specs.Setup.{catalogue_number};
 
 use br_command::read_words;
-use br_commands::{BAD_STREAM, CLEAN, Catalogue, CatalogueFault, REFUSED, run_command};
+use br_commands::{BAD_STREAM, run_command};
 use br_history::History;
+use br_kept::StoredJobs;
+use br_setup::{CLEAN, Catalogue, CatalogueFault, REFUSED};
 use br_store::{Store, StoreFault};
-use sqlite::Connection;
+use sqlite::{Connection, File, FileStore};
 use std::io::{self, ErrorKind};
 use std::process::ExitCode;
 use std::rt::Env;
@@ -25,11 +28,15 @@ use std::thread::Threads;
 /// The exit status for a fault of the command line.
 const BAD_COMMAND: u8 = 2;
 
+/// Opens the catalogue in a file, or makes one without jobs in a file that is empty or not there.
+fn open(rt: &HostRuntime, db: &str) -> Result<Store<FileStore<File>>, StoreFault> {
+    let conn = Connection::open(rt, db)?;
+    Store::open(rt.alloc(), conn)
+}
+
 /// Loads the jobs in the file of a catalogue.
 fn load(rt: &HostRuntime, db: &str) -> Result<History, StoreFault> {
-    let conn = Connection::open(rt, db)?;
-    let mut store = Store::open(rt.alloc(), conn)?;
-    store.load_history()
+    open(rt, db)?.load_history()
 }
 
 /// Returns the fault of a catalogue's file as one of a catalogue.
@@ -50,9 +57,20 @@ struct CatalogueFiles<'r> {
 }
 
 impl Catalogue for CatalogueFiles<'_> {
-    ghost use Rattle.std.specs.Prelude.{None};
+    ghost use Rattle.std.specs.Prelude.{None, ⊤};
+
+    type Jobs = StoredJobs<FileStore<File>>;
 
     ghost jobs_at = { λ _ _. None };
+
+    ghost opens = { λ _ _ _. ⊤ };
+
+    fn open(&self, db: &str) -> Result<StoredJobs<FileStore<File>>, CatalogueFault> {
+        match open(self.rt, db) {
+            Ok(store) => Ok(StoredJobs::new(store)),
+            Err(fault) => Err(catalogue_fault(fault)),
+        }
+    }
 
     fn load(&self, db: &str) -> Result<History, CatalogueFault> {
         load(self.rt, db).map_err(catalogue_fault)

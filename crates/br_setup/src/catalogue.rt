@@ -1,11 +1,12 @@
-//! The catalogue of jobs, as `console` needs it.
+//! The catalogue of jobs, as `console` and `serve` need it.
 ghost use Rattle.std.specs.Prelude.{◌≡◌, IfOk};
-ghost use Rattle.br_commands.specs.Asked.{AreJobs, catalogue_number};
+ghost use Rattle.br_setup.specs.Setup.{AreJobs, catalogue_number};
 
 use br_history::History;
+use br_keeper::JobStore;
 use thiserror::Error;
 
-/// Why the jobs of a catalogue were not loaded.
+/// Why a catalogue was not opened, or its jobs were not loaded.
 #[derive(Clone, Copy, Debug, PartialEq, Eq, Error)]
 pub enum CatalogueFault {
     #[error("out of memory")]
@@ -35,8 +36,18 @@ pub trait Catalogue {
     ghost use Rattle.std.specs.Prelude.{ℕ, List, Option};
     ghost use Rattle.br_model.specs.Job.{JobRows};
 
+    /// A catalogue that is open, to which jobs can be added.
+    type Jobs: JobStore + Drop;
+
     /// The jobs of the catalogue at a path, if they are told. Those in a file are not.
     ghost jobs_at: { Self → List ℕ → Option (List JobRows) };
+
+    /// What may be opened at a path.
+    ghost opens: { Self → List ℕ → Self.Jobs → Type 0 };
+
+    /// Opens the catalogue at the path, or makes one without jobs if there is none.
+    fn open(&self, db: &str) -> Result<Self::Jobs, CatalogueFault>
+        ensures opened { IfOk result (opens self.now db.now) };
 
     /// Loads all jobs of the catalogue at the path.
     fn load(&self, db: &str) -> Result<History, CatalogueFault>

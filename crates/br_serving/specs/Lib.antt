@@ -1,0 +1,2 @@
+pub mod ScriptEnding
+pub mod Serving
