@@ -39,6 +39,8 @@ from drawing import cut_into_blocks, store_job
 from hostile import attributes, block, sparse
 from preloaded import compiled
 from reading import Fault, Refused, file_of, groups_of, manifest_of, match
+from refusing import answers_of as answers_with_jobs
+from scripting import put_line
 
 # A restore to which the system refuses a thread gives up after ten.
 SECONDS = 30
@@ -247,7 +249,7 @@ class Case:
         own, whole, _ = self.run(0)
         count = int(Path(self.path("count")).read_text())
         if self.is_script:
-            stated, self.refused = answers_of(self.lines.splitlines())
+            stated, self.refused = self.answers(self.lines)
             self.wrong += [] if own == stated else [f"with all its memory: {own}"]
         self.wrong += [] if self.stated in (None, own) else [f"with all its memory: {own}"]
         if self.delivers == "--into":
@@ -263,6 +265,13 @@ class Case:
             while self.try_one(request, later, own, whole):
                 request += 1
         return count
+
+    def answers(self, text):
+        """Returns what a script answers with all its memory, and all that it may answer if one line is refused."""
+        if b"job " not in text:
+            return answers_of(text.splitlines())
+        (own, _), found = answers_with_jobs(text)
+        return own, {result for result, _ in found} | {(1, b"", b"refused 1\n"), (1, b"refused 1\n", b"")}
 
     stated = None
     refused = frozenset()
@@ -287,6 +296,29 @@ def two_volumes(given, folder):
 def empty_bootstrap(given, folder):
     """A script whose bootstrap has no line, so that no earlier line of it had room for its end."""
     return Case(given, folder, [], b"bsr\n.\nextract\n")
+
+
+def job_lines(number, path, first, others, level=b"I"):
+    """Returns the lines of a job that saves one file in blocks of 64, 64 and 44 bytes."""
+    head = b"job %d B %s T %d %d %d 64 c f" % (number, level, 100 * number, number, 100 * number)
+    return [head, put_line(path, MESSAGE), b"place %s 1" % first, b"place %s 0" % others, b"end"]
+
+
+def job_script(given, folder, lines):
+    return Case(given, folder, ["serve"], b"".join(line + b"\n" for line in lines))
+
+
+def two_jobs(given, folder):
+    """Two jobs on two volumes that are committed, and a restore of all."""
+    lines = [*job_lines(1, b"/a", b"A", b"B", b"F"), *job_lines(2, b"/b", b"B", b"A")]
+    return job_script(given, folder, [*lines, b"restore c f 1970-01-01 00:04:10", b"mark *", b"done"])
+
+
+def refused_jobs(given, folder):
+    """Jobs of which some are refused, deletions, bytes beside them, and sessions with the console."""
+    lines = [*job_lines(1, b"/a", b"A", b"B", b"F"), *job_lines(1, b"/b", b"B", b"A"), b"volume A 00", *job_lines(3, b"/c", b"A", b"B")]
+    lines += [*job_lines(4, b"/d", b"B", b"C")[:-1], b"del /a", b"end", b"restore c f 1970-01-01 00:10:00", b"ls", b"mark *", b"frob", b"done"]
+    return job_script(given, folder, [*lines, b"restore c f 1970-01-01 00:02:30", b"find *", b"unmark a", b"quit"])
 
 
 def restore_of(given, folder, name, *more, delivers=None):
@@ -408,7 +440,7 @@ def whole_restore(given, folder):
     return case
 
 
-EACH = (first_script, two_volumes, empty_bootstrap, restored, restored_by_drives, with_sparse_files, into_a_folder, into_a_stream)
+EACH = (first_script, two_volumes, empty_bootstrap, two_jobs, refused_jobs, restored, restored_by_drives, with_sparse_files, into_a_folder, into_a_stream)
 EACH += (sparse_file, conflict, whole_restore, marks, marks_delivered, no_restore)
 
 

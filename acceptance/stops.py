@@ -7,7 +7,11 @@
 later one fail. The program makes a catalogue of an empty file, or opens the catalogue of three jobs that `sqlite3` made, or one that
 it made itself. After each stop the file is opened again, without a stop: the program finds a catalogue without a job, or the one that was
 there, and SQLite's own library finds the file sound. If the calls fail, the program is refused with 45, or the same as without a stop if
-its answer did not need them. The status is 1 if something differs.
+its answer did not need them.
+
+A script that commits two jobs to a catalogue and to a folder of volumes is stopped in the same ways. Afterwards the catalogue has the
+first 0, 1 or 2 of the jobs, each that was acknowledged among them, and a restore gives all that these jobs saved. The status is 1 if
+something differs.
 """
 
 import argparse
@@ -25,6 +29,7 @@ sys.dont_write_bytecode = True
 sys.path.insert(0, os.path.join(os.path.dirname(os.path.dirname(os.path.abspath(__file__))), "tools"))
 from common import ORDER_SQL, PROGRAM, SETS
 from preloaded import compiled
+from scripting import Script, put_line, served
 
 WAYS = ("before", "within", "failing")
 REFUSED = (1, b"", b"refused 45\n")
@@ -79,6 +84,80 @@ def stop_in_turn(given, folder, kept):
     return stops, wrong
 
 
+def job_lines(number, path, first, others):
+    head = b"job %d B %s T %d %d %d 64 c f" % (number, b"F" if number == 1 else b"I", 100 * number, number, 100 * number)
+    return [head, put_line(path, b"message digest"), b"place %s 1" % first, b"place %s 0" % others, b"end"]
+
+
+COMMITS = [*job_lines(1, b"/a", b"A", b"B"), *job_lines(2, b"/b", b"B", b"A")]
+RESTORE = [b"restore c f 1970-01-01 00:04:10", b"mark *", b"done"]
+FRONTS = (b"", b"stored 1\n", b"stored 1\nstored 2\n")
+
+
+def text_of(lines):
+    return b"".join(line + b"\n" for line in lines)
+
+
+def restored(count):
+    """Returns what a restore of all prints if the first jobs are stored."""
+    stored, whole = COMMITS[: 5 * count], served(text_of(COMMITS[: 5 * count] + RESTORE))
+    return whole[0], whole[1].removeprefix(Script(text_of(stored)).run()[1]), b""
+
+
+def serve(given, places, lines, call=None, way="before", log=os.devnull):
+    """Runs a script over a catalogue and a folder of volumes, with a stop if a call is named."""
+    catalogue, volumes = places
+    words = [given.program, "serve", "--db", catalogue, "--volumes", volumes]
+    faults = {"LD_PRELOAD": given.library, "STOPPED_CALL": str(call), "STOPPED_WAY": way, "STOPPED_LOG": log} if call else {}
+    ran = subprocess.run(words, input=text_of(lines), capture_output=True, env=os.environ | faults, timeout=60)
+    return ran.returncode, ran.stdout, ran.stderr
+
+
+def new_places(folder):
+    """Makes an empty catalogue and an empty folder of volumes."""
+    shutil.rmtree(folder)
+    catalogue, volumes = os.path.join(folder, "catalogue"), os.path.join(folder, "volumes")
+    os.makedirs(volumes)
+    Path(catalogue).touch()
+    return catalogue, volumes
+
+
+def is_stop(found, way):
+    """Returns how many jobs a stopped script acknowledged, or None if it may not give that."""
+    status, printed, told = found
+    stored = [line for line in printed.splitlines() if line.startswith(b"stored ")]
+    others = [line for line in printed.splitlines() if not line.startswith(b"stored ")]
+    if way == "failing":
+        # A volume to which an append failed is retired: a job that names it is refused 43.
+        lines = {b"refused 44", b"refused 45"} | ({b"refused 43"} if others[:1] == [b"refused 44"] else set())
+        is_refused = status == 1 and (told == b"refused 45\n" or (told == b"" and lines.issuperset(others)))
+        is_own = status == 0 and not others and told == b""
+        return len(stored) if (is_refused or is_own) and text_of(stored) in FRONTS else None
+    return len(stored) if status == 137 and told == b"" and printed in FRONTS else None
+
+
+def stop_commits(given, folder):
+    """Stops the commits at each call in each way. Returns how many stops there were, and what differed."""
+    stops, wrong, log = 0, [], os.path.join(folder, "..", "log")
+    for way in WAYS:
+        call, was_stopped = 0, True
+        while was_stopped:
+            call, places = call + 1, new_places(folder)
+            Path(log).write_bytes(b"")
+            found = serve(given, places, COMMITS, call, way, log)
+            was_stopped = os.path.getsize(log) > 0
+            stops += was_stopped
+            told = is_stop(found, way) if was_stopped else 2 if found == (0, FRONTS[2], b"") else None
+            left = serve(given, places, RESTORE)
+            count = next((count for count in range(3) if left == restored(count)), None)
+            if told is None or count is None or count < told:
+                wrong.append(f"{way} call {call}: {found}, and then {left}")
+            with contextlib.closing(sqlite3.connect(places[0])) as connection:
+                if connection.execute("PRAGMA integrity_check").fetchall() != [("ok",)]:
+                    wrong.append(f"{way} call {call}: the catalogue is not sound")
+    return stops, wrong
+
+
 def catalogues(given, folder):
     """Makes catalogues to open, each in a folder of its own: an empty file, one of sqlite3's, and one that the program made."""
     empty, filled, made = (os.path.join(folder, name) for name in ("an empty file", "a catalogue of three jobs", "a catalogue that was made"))
@@ -102,6 +181,10 @@ def main():
             stops, wrong = stop_in_turn(given, os.path.join(folder, "run"), kept)
             print(f"{os.path.basename(kept)}: {stops} stops: {'as expected' if not wrong else f'{len(wrong)} differ'}", *wrong[:5], sep="\n  ")
             failed += bool(wrong)
+        os.mkdir(os.path.join(folder, "commits"))
+        stops, wrong = stop_commits(given, os.path.join(folder, "commits"))
+        print(f"two commits: {stops} stops: {'as expected' if not wrong else f'{len(wrong)} differ'}", *wrong[:5], sep="\n  ")
+        failed += bool(wrong)
     return 1 if failed else 0
 
 
