@@ -17,7 +17,7 @@ import tempfile
 # Nothing is left beside the script.
 sys.dont_write_bytecode = True
 sys.path.insert(0, os.path.join(os.path.dirname(os.path.dirname(os.path.abspath(__file__))), "tools"))
-from common import CASES, ORDER_SQL, PROGRAM, SETS
+from common import CASES, ORDER_SQL, PROGRAM, SETS, Checks
 from delivered import delivery, tree_of
 
 VOLUMES = os.path.join(SETS, "order")
@@ -52,15 +52,7 @@ def answers():
     }
 
 
-class Checks:
-    def __init__(self, program):
-        self.program, self.failed = program, 0
-
-    def check(self, name, found, expected):
-        well = found == expected
-        self.failed += not well
-        print(f"{name}: {'as expected' if well else f'{found!r}, and not {expected!r}'}")
-
+class ConsoleChecks(Checks):
     def console(self, db, client="peer-fd", fileset="Peer", before="2026-11-22 00:00:00", lines="mark *\ndone\n", into=None):
         words = ["console", "--db", db, "--volumes", VOLUMES, "--client", client, "--fileset", fileset, "--before", before]
         words += ["--into", into] if into else []
@@ -166,7 +158,7 @@ def makes(checks, folder):
 def main():
     parser = argparse.ArgumentParser(description="Restores from catalogues that sqlite3 made.")
     parser.add_argument("--program", default=PROGRAM, help="the program (default: %(default)s)")
-    checks = Checks(parser.parse_args().program)
+    checks = ConsoleChecks(parser.parse_args().program)
     with tempfile.TemporaryDirectory() as folder:
         restores(checks, folder)
         delivers(checks, folder)

@@ -25,7 +25,7 @@ from pathlib import Path
 sys.dont_write_bytecode = True
 sys.path.insert(0, os.path.join(os.path.dirname(os.path.dirname(os.path.abspath(__file__))), "tools"))
 from choosing import consoled
-from common import ORDER_SQL, PROGRAM
+from common import ORDER_SQL, PROGRAM, Checks
 from delivered import delivery, tree_of
 from scripting import Script, base64_of
 from stored import differences, has_tables, rows_by, rows_of, served, volumes_of, vouched_by
@@ -58,16 +58,6 @@ put 4 /etc/way - 2f746d70 A A KH/ B A A A E A A A A A A
 place with\\x20space 0
 end
 """
-
-
-class Checks:
-    def __init__(self, program):
-        self.program, self.failed = program, 0
-
-    def check(self, name, found, expected):
-        well = found == expected
-        self.failed += not well
-        print(f"{name}: {'as expected' if well else f'{found!r}, and not {expected!r}'}", flush=True)
 
 
 class Place:

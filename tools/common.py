@@ -41,3 +41,15 @@ def run_measured(words, output, errors=None):
     _, status, usage = os.wait4(child, 0)
     seconds = time.monotonic() - start
     return seconds, usage.ru_maxrss * 1024, usage.ru_utime + usage.ru_stime, os.waitstatus_to_exitcode(status)
+
+
+class Checks:
+    """Compares what a program gave with what is expected, prints each comparison, and counts those that differ."""
+
+    def __init__(self, program):
+        self.program, self.failed = program, 0
+
+    def check(self, name, found, expected):
+        well = found == expected
+        self.failed += not well
+        print(f"{name}: {'as expected' if well else f'{found!r}, and not {expected!r}'}", flush=True)
