@@ -1,9 +1,10 @@
 -- Files that are delivered after their manifest.
-use Rattle.std.proofs.Common.{◌≡◌, ℕ, Bool, true, false, cond, List, [], map, filter_map, Option, Some, None, Result, Ok, Err, refl, sym, subst}
+use Rattle.std.proofs.Common.{◌≡◌, ℕ, Bool, true, false, cond, List, [], map, filter_map, Option, Some, None, Result, Ok, Err, refl, sym, ◌∙◌, subst}
 use Rattle.std.specs.Prelude.{IfSome}
 use Rattle.std.specs.Io.KnownBytes.{Appends}
 use Rattle.std.proofs.KnownBytes.{Keeps-refl}
 use Rattle.br_model.specs.Answer.{◌>>=◌, IsRefusal}
+use Rattle.br_model.specs.Volume.{Volume}
 use Rattle.br_model.specs.Bootstrap.{Group}
 use Rattle.br_model.specs.BootstrapText.{read_bootstrap}
 use Rattle.br_model.specs.Restored.{Planned, Restored}
@@ -13,9 +14,10 @@ use Rattle.br_bsr.specs.Fault as bootstrap
 use Rattle.br_bsr.specs.declared.fault.BsrFault.{BsrFault}
 use Rattle.br_join.specs.Outcome.{restored}
 use Rattle.br_engine.specs.Fault.{EndlessAfterAll, IsNoDriveLeft, IsFree, IsNoLine, IsUnread}
+use Rattle.br_engine.specs.Reading.{ReadsAs}
 use Rattle.br_engine.specs.Restoring.{Told, Outcomes}
 use Rattle.br_engine.specs.Outputs.{InSink, are_files, end_of_files}
-use Rattle.br_engine.specs.Extracting.{GivesOver, OverText, OverVolumes, Extracts, Said, WritesNothing}
+use Rattle.br_engine.specs.Extracting.{GivesOver, OverText, OverVolumes, Extracts, Said, WritesNothing, extracted}
 use Rattle.br_engine.specs.Delivering.{Delivers, EndsWith, IsDelivered}
 use Rattle.br_engine.specs.declared.outputs.RestoreEnd.{RestoreEnd}
 use Rattle.br_engine.specs.declared.outputs.RestoreEnd.TheVariants.{AllFiles, SomeFaults}
@@ -116,14 +118,20 @@ text_refused known earlier later before had text fault is refused = (over_no_tex
 
 -- ---- over what a reader had left
 
--- the reader had this text left, if it tells it
-over_reader : (known : Option (List ℕ)) (earlier later : Told) (text : List ℕ) (P : Said) → IfSome known (λ bytes. text ≡ bytes)
+-- texts that read alike give the same files
+extracted_alike : (text bytes : List ℕ) (volumes : List Volume) → read_bootstrap text ≡ read_bootstrap bytes → extracted text volumes ≡ extracted bytes volumes
+unfolding extracted
+extracted_alike text bytes volumes is = rw is refl
+
+-- what the reader had left reads as this text, if it is known
+over_reader : (known : Option (List ℕ)) (earlier later : Told) (text : List ℕ) (P : Said) → ReadsAs text known
     → OverText (Some text) earlier later P → OverText known earlier later P
 over_reader None earlier later text P is given = tt
-over_reader (Some bytes) earlier later text P is given = subst (λ (t : List ℕ). OverText (Some t) earlier later P) is given
+over_reader (Some bytes) earlier later text P is given = λ volumes stands.
+    subst P (extracted_alike text bytes volumes is) (given volumes (λ groups reads. stands groups (sym is ∙ reads)))
 
 pub reader_delivers : (known : Option (List ℕ)) (earlier later : Told) (before after : Option (List ℕ)) (had has : InSink) (text : List ℕ) (result : Result RestoreEnd ExtractFault)
-    → IfSome known (λ bytes. text ≡ bytes) → Delivers (λ holds. OverText (Some text) earlier later holds) before after had has result
+    → ReadsAs text known → Delivers (λ holds. OverText (Some text) earlier later holds) before after had has result
     → Delivers (λ holds. OverText known earlier later holds) before after had has result
 reader_delivers known earlier later before after had has text result is h =
     implied (λ holds. OverText (Some text) earlier later holds) (λ holds. OverText known earlier later holds) before after had has result

@@ -1,3 +1,4 @@
 pub mod JoinLaws
+pub mod ReadLaws
 pub mod ExtractLaws
 pub mod DeliverLaws

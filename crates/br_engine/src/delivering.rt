@@ -6,10 +6,11 @@ ghost use Rattle.br_engine.specs.Outputs.{SinkCounts, StopsByFailure, end_of_fil
 ghost use Rattle.br_engine.specs.Delivering.{DeliversOver, DeliversText, EndsWith, ExtractsOver, RunsOver, WritesOver};
 ghost use Rattle.br_engine.specs.Delivering.{CountsFailures, RefusalWritesNothing, StopIsCounted};
 
-use crate::extracting::{all_files, read_text, write_manifest};
+use crate::extracting::{all_files, write_manifest};
 use crate::fault::ExtractFault;
 use crate::flushing::Flush;
 use crate::outputs::{Outputs, RestoreEnd};
+use crate::reading::read_text;
 use crate::restoring::restore;
 use br_bsr::{Bootstrap, read_bootstrap};
 use br_join::Outcome;
@@ -174,7 +175,10 @@ pub fn extract_text<D: Drive + Send, W: Flush, S: Sink>(
     restore_into(rt, alloc, &bootstrap, None, drives, out)
 }
 
-/// Reads the text of a bootstrap to the end of a reader and restores by it, as `extract_text`.
+/// Reads the text of a bootstrap from a reader and restores by it, as `extract_text`.
+///
+/// The text is read to the end of the reader. Of a line that is too long before its LF has come, nothing
+/// more is read: the text is refused whatever follows.
 ///
 /// # Errors
 ///

@@ -7,6 +7,7 @@ mod extracting;
 mod fault;
 mod flushing;
 mod outputs;
+mod reading;
 mod restoring;
 mod turns;
 
@@ -14,5 +15,6 @@ pub use delivering::{extract, extract_text, restore_into, restore_to, run_extrac
 pub use fault::{ExtractFault, push_pool_line, push_refused_line};
 pub use flushing::{Flush, show};
 pub use outputs::{Outputs, RestoreEnd};
+pub use reading::read_text;
 pub use restoring::restore;
 pub use turns::{NoEnd, Turns};
