@@ -128,6 +128,56 @@ def lines_of_4096(runs):
     return 1, 64
 
 
+TOO_LONG = b"refused 34 line %d\n"
+
+
+def endless(runs):
+    """Bootstraps whose last line has no end, from a device and from pipes: refused as soon as that line is too long, or by a line before it."""
+    Path(runs.folder, "volumes").mkdir(exist_ok=True)
+    device, pipe = Path(runs.folder) / "device", os.path.join(runs.folder, "pipe")
+    device.symlink_to("/dev/zero")
+    os.mkfifo(pipe)
+    for path in ("/dev/zero", str(device)):
+        runs.compare(path, runs.run(extract_words(runs, path)), (1, b"", TOO_LONG % 1))
+    for label, front, letter, told in (
+        ("letters", b"", "a", TOO_LONG % 1),
+        ("CRs", b"", "\\r", TOO_LONG % 1),
+        ("a comment after good lines", ONE + b"#", "a", TOO_LONG % 3),
+        ("letters after a bad line", ONE + b"FileIndex=0\n", "a", b"refused 33 line 3\n"),
+        ("letters after a line that is too long", b"#" * 4097 + b"\r\n", "a", TOO_LONG % 1),
+        ("letters after 10,000 groups", ONE * 10_000, "a", TOO_LONG % 20_001),
+    ):
+        feed = f"cat {shlex.quote(runs.write('front', front))} - | tr '\\0' '{letter}' > {shlex.quote(pipe)}"
+        runs.compare(label, run_fed(runs, pipe, feed, Path("/dev/zero")), (1, b"", told))
+    return 1, 64
+
+
+def in_two_parts(runs):
+    """Lines at the greatest length that come in two parts, so that the first part is all that is read before a pause."""
+    pipe = os.path.join(runs.folder, "pipe")
+    os.mkfifo(pipe)
+    runs.write("volumes/V", HELLO)
+    for length in (4095, 4096, 4097):
+        for end in (b"\n", b"\r\n", b"\r"):
+            text = b"#" * length + end + ONE
+            for cut in range(length, length + len(end) + 1):
+                front, back = runs.write("front", text[:cut]), runs.write("back", text[cut:])
+                feed = f"(cat {shlex.quote(front)}; sleep 0.1; cat {shlex.quote(back)}) > {shlex.quote(pipe)}"
+                found = run_fed(runs, pipe, feed, Path(os.devnull))
+                runs.compare(f"line of {length}, {end}, cut at {cut}", found, extracted(text, {b"V": HELLO}))
+    return 1, 64
+
+
+def extract_words(runs, bootstrap):
+    return ["extract", "--bsr", bootstrap, "--volumes", os.path.join(runs.folder, "volumes")]
+
+
+def run_fed(runs, pipe, feed, lines):
+    """Runs `extract` by a pipe that a command of the shell writes to, which ends with the program."""
+    with lines.open("rb") as given, subprocess.Popen(["timeout", "120", "sh", "-c", feed], stdin=given, stderr=subprocess.DEVNULL):
+        return runs.run(extract_words(runs, pipe))
+
+
 def many_groups(runs):
     """Bootstraps of 10,000 and 100,000 groups, of one volume and of volumes that are not there."""
     for count in (10_000, 100_000):
@@ -273,7 +323,7 @@ def odd_places(runs):
         make(odd)
         runs.compare(f"a catalogue: {label}", runs.run(console, before=as_nobody(runs)), (1, b"", b"refused 45\n"))
         if label not in ("a pipe", "a link to a device"):
-            # A bootstrap may come from a pipe, and a device is read as it is.
+            # A bootstrap may come from a pipe or a device (`endless`).
             status, printed, told = runs.run([*extract, str(odd)], before=as_nobody(runs))
             runs.compare(f"a bootstrap: {label}", (status, printed, told.startswith(b"brestore: ")), (3, b"", True))
         for option in ("--into", "--tar"):
@@ -385,7 +435,7 @@ def cut_catalogues(runs):
     return 1, 64
 
 
-CASES = (prefixes, sizes, letters, lines_of_4096, many_groups, many_ranges, small_blocks, jumps, gibibyte, names)
+CASES = (prefixes, sizes, letters, lines_of_4096, endless, in_two_parts, many_groups, many_ranges, small_blocks, jumps, gibibyte, names)
 CASES += (odd_files, odd_places, odd_rows, circles, cut_catalogues)
 
 

@@ -11,7 +11,7 @@ ghost use Rattle.br_commands.specs.Tasks.{ExtractsTask, StreamsTask};
 use crate::folders::{HostSink, folder_of, sink_over};
 use crate::status::{BAD_STREAM, Ending};
 use crate::tar::{Channel, Extent, TarEnd, TarFault, add_tar_end, end_stream, tar_into, tar_onto};
-use br_engine::{ExtractFault, Flush, Outputs, RestoreEnd, extract_text};
+use br_engine::{ExtractFault, Flush, Outputs, RestoreEnd, extract_text, read_text};
 use br_folder_sink::FolderFault;
 use br_options::{ExtractOptions, Target};
 use br_setup::{CLEAN, HostDrive, REFUSED, drives_over};
@@ -19,7 +19,7 @@ use br_sink::Sink;
 use br_tar::TarSink;
 use br_volume::Drive;
 use std::alloc::{AllocError, Global};
-use std::fs;
+use std::fs::File;
 use std::io::{self, BufWriter, ErrorKind};
 use std::rt::Files;
 use std::sync::Wait;
@@ -82,11 +82,15 @@ pub(crate) struct BootstrapFile<'p> {
 }
 
 impl<'p> BootstrapFile<'p> {
-    /// Reads the file with this path.
-    fn read<R: Files + AllocGlobal>(rt: &R, path: &'p str) -> io::Result<BootstrapFile<'p>>
+    /// Reads the file with this path, as far as it can be a bootstrap.
+    fn read<R: Files + AllocGlobal>(
+        rt: &R,
+        path: &'p str,
+    ) -> Result<BootstrapFile<'p>, ExtractStartFault>
         ensures { IfOk result (λ file. file.path.now ≡ path.entry.now) }
     {
-        let text = fs::read(rt, path)?;
+        let mut file = File::open(rt, path)?;
+        let text = read_text(rt.alloc(), &mut file)?;
         Ok(BootstrapFile { path, text })
     }
 }
@@ -103,6 +107,9 @@ pub enum ExtractStartFault {
     /// The file of the bootstrap can't be read, or memory ran out.
     #[error("{0}")]
     Io(io::Error),
+    /// The file of the bootstrap has no end.
+    #[error("{0}")]
+    Text(ExtractFault),
 }
 
 impl From<FolderFault> for ExtractStartFault {
@@ -114,6 +121,16 @@ impl From<FolderFault> for ExtractStartFault {
 impl From<io::Error> for ExtractStartFault {
     fn from(fault: io::Error) -> ExtractStartFault {
         ExtractStartFault::Io(fault)
+    }
+}
+
+impl From<ExtractFault> for ExtractStartFault {
+    fn from(fault: ExtractFault) -> ExtractStartFault {
+        match fault {
+            ExtractFault::Memory => ExtractStartFault::from(AllocError),
+            ExtractFault::Io(e) => ExtractStartFault::Io(e),
+            fault => ExtractStartFault::Text(fault),
+        }
     }
 }
 
@@ -181,6 +198,10 @@ fn refuse<R: Eprint>(rt: &R, bsr: &str, fault: ExtractStartFault) -> io::Result<
         ExtractStartFault::Io(e) if e.kind() == ErrorKind::OutOfMemory => Err(e),
         ExtractStartFault::Io(e) => {
             eprintln!(rt; "brestore: {bsr}: {e}")?;
+            Ok(BAD_STREAM)
+        }
+        ExtractStartFault::Text(fault) => {
+            eprintln!(rt; "brestore: {bsr}: {fault}")?;
             Ok(BAD_STREAM)
         }
     }

@@ -8,6 +8,11 @@ use br_mark::Command;
 use std::alloc::Global;
 use std::io::BufRead;
 
+/// The bytes that are kept of each line of a text: as many as make the line too long in a bootstrap, where
+/// the last may be a CR of the line's end, and in a dialogue. So a line without an end takes no more memory,
+/// and the text is refused as the whole one.
+const MAX_KEPT: usize = MAX_LINE + 2;
+
 /// A text of several lines, as far as a script has it.
 pub(crate) enum Text {
     /// The whole text.
@@ -59,9 +64,9 @@ fn text_of(text: Vec<u8>, has_memory: bool) -> Text {
     }
 }
 
-/// Reads lines up to the last one of a text of this kind, or the end of input. There is room for the last
-/// line from the start: a line that finds no memory is not kept, so the end of the text would pass unseen.
-/// Without that room no line is read.
+/// Reads lines up to the last one of a text of this kind, or the end of input. Of a line that is too long
+/// only the front is kept. There is room for the last line from the start: a line that finds no memory is
+/// not kept, so the end of the text would pass unseen. Without that room no line is read.
 pub(crate) fn read_text<R: BufRead>(
     alloc: Global,
     lines: &mut Lines<R>,
@@ -75,7 +80,7 @@ pub(crate) fn read_text<R: BufRead>(
     let mut text = Vec::new(alloc);
     let mut has_memory = true;
     loop {
-        let reading = lines.read(&mut line, usize::MAX)?;
+        let reading = lines.read(&mut line, MAX_KEPT)?;
         if reading == Reading::End {
             return Ok(Text::Unended);
         }
@@ -101,7 +106,7 @@ pub(crate) fn skip_dialogue<R: BufRead>(
         return Ok(());
     };
     loop {
-        match lines.read(&mut line, usize::MAX)? {
+        match lines.read(&mut line, MAX_KEPT)? {
             Reading::End => return Ok(()),
             Reading::Line if ends_dialogue(alloc, &line) => return Ok(()),
             _ => {}
