@@ -40,13 +40,23 @@ __attribute__((constructor)) static void begin(void)
     atomic_store(&made, 0);
 }
 
-/* The program ends by this call. */
-void _exit(int status)
+static void tell_count(void)
 {
     char text[32];
     int size = snprintf(text, sizeof text, "%ld", atomic_load(&made));
     if (count_file >= 0)
-        (void)!write(count_file, text, (size_t)size);
+        (void)!pwrite(count_file, text, (size_t)size, 0);
+}
+
+/* A program ends by returning from its main function, or by this call. */
+__attribute__((destructor)) static void end(void)
+{
+    tell_count();
+}
+
+void _exit(int status)
+{
+    tell_count();
     for (;;)
         syscall(SYS_exit_group, status);
 }

@@ -10,6 +10,7 @@ import time
 ROOT = os.path.dirname(os.path.dirname(os.path.abspath(__file__)))
 PROGRAM = os.path.join(ROOT, "crates", "brestore", "out", "brestore")
 BENCH_PROGRAM = os.path.join(ROOT, "crates", "br_bench", "out", "br_bench")
+KEEPER_PROGRAM = os.path.join(ROOT, "crates", "br_commit_trial", "out", "br_commit_trial")
 CASES = os.path.join(ROOT, "acceptance", "cases")
 SETS = os.path.join(ROOT, "acceptance", "sets")
 ORDER_SQL = os.path.join(ROOT, "acceptance", "catalogues", "order.sql")
