@@ -8,12 +8,14 @@ The program must end by itself. It prints and leaves what it does with all its m
 
 - A script answers for each line. If the line that asked is refused by 1 (44 for the bytes of a volume), the later lines answer by
   what then holds. The second reading of scripts (here, over reading.py) says so for each line.
+- A script that commits jobs to files leaves in the catalogue and on the volumes what its answers say, and a later run goes on from that.
 - `extract` and `console` end with the status 1 and `refused 1`, or `refused 45` if the catalogue was read, after whole lines of what
   they print with all their memory. If files are delivered, the number may be 80 once all is printed.
 
-What was in the folder of volumes and in the catalogue is unchanged. Of the files of a delivery the first ones are there, and maybe a front
-of the next one; of a stream, its front. A case of more than `--each` requests has as many at its front and at its end refused in turn, and `--drawn` of those
-between, which are drawn by the seed. The status is 1 if a run differs.
+What was in the folder of volumes and in the catalogue is unchanged, but for jobs that are committed. Of the files of a delivery the
+first ones are there, and maybe a front of the next one; of a stream, its front. A case of more than three times `--each` requests has
+as many at its front and at its end refused in turn, and `--drawn` of those between, which are drawn by the seed. If jobs are committed to
+files, `--drawn` of the requests by which the catalogue is made are refused, and each later one. The status is 1 if a run differs.
 """
 
 import argparse
@@ -40,7 +42,10 @@ from hostile import attributes, block, sparse
 from preloaded import compiled
 from reading import Fault, Refused, file_of, groups_of, manifest_of, match
 from refusing import answers_of as answers_with_jobs
+from refusing import fronts_of, printed_after
 from scripting import put_line
+from stored import differences, has_tables, rows_by, served, volumes_of
+from stored import rows_of as named_rows_of
 
 # A restore to which the system refuses a thread gives up after ten.
 SECONDS = 30
@@ -188,13 +193,17 @@ class Case:
         self.given, self.folder, self.words, self.lines = given, folder, words, lines
         self.volumes, self.catalogue, self.delivers = volumes, catalogue, delivers
         self.before = contents_of(volumes), catalogue and rows_of(catalogue)
-        self.runs, self.wrong, self.is_script = 0, [], words in ([], ["serve"])
+        self.runs, self.wrong, self.is_script = 0, [], words[:1] in ([], ["serve"])
 
     def path(self, name):
         return os.path.join(self.folder, name)
 
+    def renew(self):
+        """Makes anew what a run changes."""
+
     def run(self, request, later=False):
         """Runs the command with this request refused. Returns what it printed, what it left, and whether a request was refused."""
+        self.renew()
         into, log = self.path("into"), self.path("log")
         shutil.rmtree(into, ignore_errors=True)
         for file in (log, self.path("tar")):
@@ -240,9 +249,13 @@ class Case:
         what = f"request {request}{' and all later' if later else ''}"
         if not self.is_expected(found, left, own, whole, later):
             self.wrong.append(f"{what}: {found[0]} {found[1][-200:]} {found[2][-200:]}")
-        if contents_of(self.volumes) != self.before[0] or (self.catalogue and rows_of(self.catalogue) != self.before[1]):
-            self.wrong.append(f"{what}: volumes or catalogue changed")
+        self.wrong += [f"{what}: {fault}" for fault in self.faults_left(found, later)]
         return was_refused
+
+    def faults_left(self, _found, _later):
+        """Returns what is wrong of the volumes and the catalogue after a run: nothing of them may change."""
+        is_changed = contents_of(self.volumes) != self.before[0] or (self.catalogue and rows_of(self.catalogue) != self.before[1])
+        return ["volumes or catalogue changed"] if is_changed else []
 
     def try_all(self, dice):
         """Refuses requests in turn, until a run has none that is refused."""
@@ -254,10 +267,7 @@ class Case:
         self.wrong += [] if self.stated in (None, own) else [f"with all its memory: {own}"]
         if self.delivers == "--into":
             self.steps = steps_of(own[1], contents_by_digest(self.before[0]))
-        each, places = self.given.each, range(1, count + 1)
-        if count > 3 * each:
-            middle = dice.sample(places[each:-each], min(self.given.drawn, count - 2 * each))
-            places = [*places[:each], *sorted(middle), *places[-each:]]
+        places = self.places(count, dice)
         for later in (False, True):
             for request in places:
                 self.try_one(request, later, own, whole)
@@ -265,6 +275,14 @@ class Case:
             while self.try_one(request, later, own, whole):
                 request += 1
         return count
+
+    def places(self, count, dice):
+        """Returns the requests that are refused, of as many: those at the front and at the end, and some of those between."""
+        each, places = self.given.each, range(1, count + 1)
+        if count <= 3 * each:
+            return places
+        middle = dice.sample(places[each:-each], min(self.given.drawn, count - 2 * each))
+        return [*places[:each], *sorted(middle), *places[-each:]]
 
     def answers(self, text):
         """Returns what a script answers with all its memory, and all that it may answer if one line is refused."""
@@ -275,6 +293,50 @@ class Case:
 
     stated = None
     refused = frozenset()
+
+
+class Kept(Case):
+    """A script that commits jobs to a new catalogue and a new folder of volumes, and one that goes on from what it left."""
+
+    def __init__(self, given, folder, lines, later_lines):
+        super().__init__(given, folder, ["serve", "--db", os.path.join(folder, "jobs"), "--volumes", os.path.join(folder, "kept")], text_of(lines))
+        self.later_lines = text_of(later_lines)
+
+    def renew(self):
+        for old in Path(self.folder).glob("jobs*"):
+            old.unlink()
+        Path(self.path("jobs")).touch()
+        shutil.rmtree(self.path("kept"), ignore_errors=True)
+        os.mkdir(self.path("kept"))
+
+    def places(self, count, dice):
+        """Returns some of the requests up to the first line, by which the catalogue is made and opened, and each later one."""
+        lines, self.lines = self.lines, b""
+        self.run(0)
+        self.lines, opened = lines, int(Path(self.path("count")).read_text())
+        return [*sorted(dice.sample(range(1, opened), min(self.given.drawn, opened - 1))), *range(opened, count + 1)]
+
+    def answers(self, text):
+        (own, left), found = answers_with_jobs(text)
+        nothing = ({}, [], [])
+        unread = [((1, b"", b"refused 1\n"), nothing), ((1, b"", b"refused 45\n"), nothing), ((1, b"refused 1\n", b""), nothing)]
+        self.left, self.fronts = {own: [left]}, fronts_of(text)
+        for result, left in found + unread:
+            self.left.setdefault(result, []).append(left)
+        return own, {result for result, _ in found + unread}
+
+    def faults_left(self, found, later):
+        """Returns what is wrong of the volumes and the catalogue after a run, and of what a script prints that goes on from them."""
+        volumes = {name: data for name, data in volumes_of(self.path("kept")).items() if data}
+        rows = named_rows_of(self.path("jobs")) if has_tables(self.path("jobs")) else rows_by([])
+        stored = {row[0] for row in rows["Job"]}
+        fronts = [left for printed, left in self.fronts if later and found[1].startswith(printed)]
+        for kept, must, may in self.left.get(found, []) + fronts:
+            jobs = must + [job for job in may if job["id"] in stored]
+            if kept == volumes and not differences(rows, rows_by(jobs)):
+                again = served(self.given.program, self.path("jobs"), self.path("kept"), self.later_lines)
+                return [] if again == printed_after(self.later_lines, volumes, jobs) else [f"then {again}"]
+        return [f"left the jobs {sorted(stored)} and volumes of {[(name, len(data)) for name, data in sorted(volumes.items())]} bytes"]
 
 
 # ---- cases
@@ -290,7 +352,7 @@ def two_volumes(given, folder):
     first, second = block([attributes(1), (1, 2, None, b"hello")]), block([attributes(2, b"/b"), (2, 2, None, b"hello")], (2, 200))
     lines = [b"volume V1 " + first.hex().encode(), b"volume V2 " + second[:50].hex().encode(), b"volume V2 " + second[50:].hex().encode()]
     lines += [b"bsr", b'Volume="V1"', b".", b"extract", b"drives 3", b"bsr", b"Volume=V2", b"FileIndex=2", b'Volume="V1"', b".", b"extract"]
-    return Case(given, folder, ["serve"], b"".join(line + b"\n" for line in lines))
+    return Case(given, folder, ["serve"], text_of(lines))
 
 
 def empty_bootstrap(given, folder):
@@ -304,8 +366,12 @@ def job_lines(number, path, first, others, level=b"I"):
     return [head, put_line(path, MESSAGE), b"place %s 1" % first, b"place %s 0" % others, b"end"]
 
 
+def text_of(lines):
+    return b"".join(line + b"\n" for line in lines)
+
+
 def job_script(given, folder, lines):
-    return Case(given, folder, ["serve"], b"".join(line + b"\n" for line in lines))
+    return Case(given, folder, ["serve"], text_of(lines))
 
 
 def two_jobs(given, folder):
@@ -319,6 +385,13 @@ def refused_jobs(given, folder):
     lines = [*job_lines(1, b"/a", b"A", b"B", b"F"), *job_lines(1, b"/b", b"B", b"A"), b"volume A 00", *job_lines(3, b"/c", b"A", b"B")]
     lines += [*job_lines(4, b"/d", b"B", b"C")[:-1], b"del /a", b"end", b"restore c f 1970-01-01 00:10:00", b"ls", b"mark *", b"frob", b"done"]
     return job_script(given, folder, [*lines, b"restore c f 1970-01-01 00:02:30", b"find *", b"unmark a", b"quit"])
+
+
+def kept_jobs(given, folder):
+    """Three jobs and a restore of all over files. Then one more job and a restore, with all the memory."""
+    lines = [*job_lines(1, b"/a", b"A", b"B", b"F"), *job_lines(2, b"/b", b"B", b"A"), *job_lines(3, b"/c", b"A", b"C")]
+    restore = [b"restore c f 1970-01-01 00:10:00", b"mark *", b"done"]
+    return Kept(given, folder, [*lines, *restore], [*restore, *job_lines(4, b"/d", b"C", b"B"), *restore])
 
 
 def restore_of(given, folder, name, *more, delivers=None):
@@ -440,8 +513,8 @@ def whole_restore(given, folder):
     return case
 
 
-EACH = (first_script, two_volumes, empty_bootstrap, two_jobs, refused_jobs, restored, restored_by_drives, with_sparse_files, into_a_folder, into_a_stream)
-EACH += (sparse_file, conflict, whole_restore, marks, marks_delivered, no_restore)
+EACH = (first_script, two_volumes, empty_bootstrap, two_jobs, refused_jobs, kept_jobs, restored, restored_by_drives, with_sparse_files)
+EACH += (into_a_folder, into_a_stream, sparse_file, conflict, whole_restore, marks, marks_delivered, no_restore)
 
 
 def main():

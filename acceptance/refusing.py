@@ -1,6 +1,7 @@
 """What a script may print and leave if memory is refused at one of its lines: the second reading of scripts, with refusals."""
 
 from scripting import Bad, Script
+from stored import vouched_by
 
 # A length that no volume has: what it is said of is retired.
 RETIRED = -1
@@ -82,9 +83,11 @@ class Refusing(Script):
             raise Bad(41)
 
     def cut_volumes(self, job, count, volumes, vouched):
-        """Leaves of a job's blocks the first ones on the volumes, and retires the volume of the next."""
+        """Leaves the first of a job's blocks on the volumes, and retires the volume of the next; nothing if no length was told."""
         after, left = self.volumes, count
         self.volumes, self.vouched = volumes, vouched
+        if count is None:
+            return
         for volume, block in blocks_in_order(job, after):
             if left == 0:
                 self.vouched[volume] = RETIRED
@@ -94,9 +97,8 @@ class Refusing(Script):
             left -= 1
 
     def left(self):
-        """Returns the volumes, and the numbers of the jobs that must be stored and of those that may be."""
-        stored = {job["id"] for job in self.jobs + self.waiting}
-        return {name: data for name, data in self.volumes.items() if data}, stored, stored | {job["id"] for job in self.open}
+        """Returns the volumes, the jobs that must be stored, and those that may be."""
+        return {name: data for name, data in self.volumes.items() if data}, self.jobs + self.waiting, self.open
 
 
 def blocks_in_order(job, after):
@@ -130,7 +132,7 @@ def ways_of(text, place, line):
         ways += [("within", 1, count) for count in range(40)]
     elif word == b"end":
         ways += [("commit", 1, 0), ("commit", 1, 1), ("commit", 45, 0), ("commit", 46, 0)]
-        ways += [("commit", 44, count) for count in range(count_of_blocks(text, place))]
+        ways += [("commit", 44, count) for count in (None, *range(count_of_blocks(text, place)))]
     return ways
 
 
@@ -145,3 +147,23 @@ def answers_of(text):
             status, printed = script.run()
             found.append(((status, printed, b""), script.left()))
     return ((*result, b""), own.left()), found
+
+
+def fronts_of(text):
+    """Returns what a script prints up to a line that is refused memory, with that line, each with what is left if all later ones are refused."""
+    own, found = Refusing(text), []
+    own.run()
+    for place, end in zip(own.places, [*own.places[1:], len(own.lines)]):
+        front = b"".join(line + b"\n" for line in own.lines[:end])
+        for way in ways_of(text, place, own.lines[place]):
+            script = Refusing(front, place, way)
+            _, printed = script.run()
+            found.append((printed, script.left()))
+    return found
+
+
+def printed_after(text, volumes, jobs):
+    """Returns what a script prints with all its memory that goes on from these volumes and jobs, after a new start of the program."""
+    script = Script(text)
+    script.volumes, script.jobs, script.vouched = dict(volumes), list(jobs), vouched_by(jobs)
+    return *script.run(), b""
