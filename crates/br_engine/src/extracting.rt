@@ -8,10 +8,10 @@ ghost use Rattle.br_engine.specs.Outputs.{are_files};
 ghost use Rattle.br_engine.specs.Extracting.{WritesNothing};
 
 use crate::fault::ExtractFault;
-use crate::flushing::{Flush, show};
+use crate::flushing::Flush;
 use crate::turns::Turns;
 use br_join::Outcome;
-use br_sink::manifest;
+use br_sink::{manifest_room, write_manifest as write_parts};
 use br_types::FileKey;
 use std::alloc::Global;
 use std::io::{ErrorKind, Read};
@@ -83,7 +83,7 @@ pub(crate) fn read_text<R: Read>(alloc: Global, reader: &mut R) -> Result<Vec<u8
     }
 }
 
-/// Writes the manifest of the outcomes and flushes it.
+/// Writes the manifest of the outcomes part by part, and flushes it.
 pub(crate) fn write_manifest<W: Flush>(
     alloc: Global,
     outcomes: &[(FileKey, Outcome)],
@@ -94,7 +94,8 @@ pub(crate) fn write_manifest<W: Flush>(
     ensures nothing { IfErr result (WritesNothing (W.contents writer.old) (W.contents writer.new)) }
     ensures free { IfErr result IsFree }
 {
-    let text = manifest(alloc, outcomes)?;
-    show(writer, &text)?;
+    let room = manifest_room(alloc, outcomes)?;
+    write_parts(writer, room, outcomes)?;
+    writer.flush_all()?;
     Ok(())
 }
