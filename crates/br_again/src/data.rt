@@ -1,17 +1,17 @@
-ghost use Rattle.std.specs.Prelude.{◌≡◌, false, true, length, Some, None, option_map, if◌then◌else◌};
+ghost use Rattle.std.specs.Prelude.{◌≡◌, false, true, length, Some, None, IfOk, IfSome, option_map, if◌then◌else◌};
 ghost use Rattle.std.specs.Arc.{arc_slice_items};
 
+use crate::found_bytes::FoundBytes;
+use std::alloc::AllocError;
 use std::marker::Model;
-use std::snapshot::Snapshot;
 use std::sync::ArcSlice;
 
 /// The bytes of a fragment, held in memory or left on the volume.
-#[derive(Drop)]
+#[derive(Debug, Drop)]
 pub struct Data {
     held: Option<ArcSlice<u8>>,
     len: usize,
-    /// The bytes as they were when they were found. They are in no memory.
-    found: Snapshot<ArcSlice<u8>>,
+    found: FoundBytes,
 }
 
 impl Model for Data {
@@ -21,10 +21,10 @@ impl Model for Data {
 
     ghost Value = { model.Kept };
 
-    ghost view = { λ d. record { bytes = arc_slice_items d.found.value; held = is_some d.held } };
+    ghost view = { λ d. record { bytes = d.found.bytes; held = is_some d.held } };
 
-    ghost invariant = { λ d. (d.len ≡ length (arc_slice_items d.found.value))
-        × IfSome d.held (λ held. arc_slice_items held ≡ arc_slice_items d.found.value) };
+    ghost invariant = { λ d. (d.len ≡ length d.found.bytes)
+        × IfSome d.held (λ held. arc_slice_items held ≡ d.found.bytes) };
 }
 
 impl Data {
@@ -34,8 +34,19 @@ impl Data {
     {
         Data {
             len: bytes.len(),
-            found: Snapshot::of(&bytes),
+            found: FoundBytes::of(&bytes),
             held: Some(bytes),
+        }
+    }
+
+    /// Returns the data of these bytes, which are left on the volume.
+    pub fn left(bytes: &[u8]) -> Data
+        ensures { result ≡ record { bytes = bytes.now; held = false } }
+    {
+        Data {
+            held: None,
+            len: bytes.len(),
+            found: FoundBytes::of_slice(bytes),
         }
     }
 
@@ -60,9 +71,25 @@ impl Data {
         self.held = None;
     }
 
+    /// Returns the same data. Bytes that are held are shared, and none are copied.
+    ///
+    /// # Errors
+    ///
+    /// `AllocError` if memory runs out.
+    pub fn share(&self) -> Result<Data, AllocError>
+        ensures { IfOk result (λ shared. shared ≡ self.now) }
+    {
+        Ok(Data {
+            held: self.held.clone()?,
+            len: self.len,
+            found: self.found.copy(),
+        })
+    }
+
     /// Returns the bytes if they are in memory.
     pub fn held(&self) -> Option<&[u8]>
         ensures bytes { option_map (λ bytes. bytes.now) result ≡ if self.now.held then Some self.now.bytes else None }
+        ensures found { IfSome result (λ bytes. bytes.now ≡ self.now.bytes) }
     {
         match &self.held {
             Some(bytes) => Some(bytes),

@@ -80,7 +80,7 @@ fn check_whole(bytes: &[u8]) -> Result<(), AgainFault>
 /// # Errors
 ///
 /// `Failed` if the drive failed, `Changed` if there is no block at the address.
-pub fn read_again<D: Drive>(
+pub(crate) fn read_again<D: Drive>(
     drive: &mut D,
     vol: &VolName,
     addr: u64,
@@ -111,7 +111,7 @@ fn fragment_at(mut fragments: Fragments<'_>, ordinal: u32) -> Option<Fragment<'_
 /// # Errors
 ///
 /// `Changed` if the bytes are no block, or it has too few fragments.
-pub fn fragment_in(bytes: &[u8], ordinal: u32) -> Result<Fragment<'_>, AgainFault>
+pub(crate) fn fragment_in(bytes: &[u8], ordinal: u32) -> Result<Fragment<'_>, AgainFault>
     ensures same { read_block bytes.now ≡ Ok bytes.now → AnswersAlways (λ f. f) (λ e. e) result (some_or (slice_get (fragments_of bytes.now) ordinal) Changed) }
     ensures fault { IfErr result (λ e. e ≡ Changed) }
 {

@@ -2,6 +2,7 @@
 
 use crate::sinks::{key_of, path_of};
 use crate::texts::text_of;
+use br_again::Data;
 use br_bsr::read_bootstrap;
 use br_join::{Item, JoinFault, Joiner, Outcome};
 use br_match::{Batch, Found, Hit, Spot};
@@ -80,7 +81,7 @@ fn hit_with(
         spot,
         stream,
         size,
-        bytes: bytes?,
+        data: Data::new(bytes?),
     })
 }
 
@@ -121,6 +122,14 @@ fn push_ready(case: &mut Case, joiner: &Joiner) {
     case.text(if joiner.ready() { "ready " } else { "open " });
 }
 
+/// Prints the data of a fragment, or that they are not in memory.
+pub(crate) fn push_held(case: &mut Case, hit: &Hit) {
+    match hit.data.held() {
+        Some(bytes) => case.lines(bytes),
+        None => case.text("left"),
+    }
+}
+
 /// Prints the number of a refusal, and how many hits come back with it and the last of them.
 fn push_refused(case: &mut Case, fault: JoinFault, hits: &[Hit]) {
     case.refused(fault.number());
@@ -128,7 +137,7 @@ fn push_refused(case: &mut Case, fault: JoinFault, hits: &[Hit]) {
     case.number(hits.len() as u64);
     case.text(" ");
     if let Some(last) = hits.last() {
-        case.lines(&last.bytes);
+        push_held(case, last);
     }
 }
 
@@ -218,7 +227,8 @@ fn finished(
     match joiner.finish(threads) {
         Ok(outcomes) => outcomes,
         Err(_fault) => {
-            case.fail("out of memory");
+            case.refused(1);
+            case.text(" ");
             Vec::new(case.alloc())
         }
     }
@@ -242,21 +252,27 @@ fn step(case: &mut Case, threads: &(impl Threads + Sync), joiner: &mut Joiner, f
     }
 }
 
-/// Returns a joiner of the two pieces.
-fn joiner_of(case: &mut Case, names: &str) -> Option<Joiner> {
+/// Returns a joiner of the two pieces that has room for this number of bytes.
+fn joiner_of(case: &mut Case, room: u64, names: &str) -> Option<Joiner> {
     let pieces = two_pieces(case);
     let names = names_of(case, names);
-    let joiner = Joiner::new(case.alloc(), &pieces, names).ok();
+    let joiner = Joiner::with_room(case.alloc(), &pieces, names, room).ok();
     if joiner.is_none() {
         case.fail("out of memory");
     }
     joiner
 }
 
-/// Takes steps with a joiner. Prints what comes of each, and before and after each whether it is
-/// ready.
-fn steps(case: &mut Case, threads: &(impl Threads + Sync), names: &str, fields: &[&str]) {
-    if let Some(mut joiner) = joiner_of(case, names) {
+/// Takes steps with a joiner that has room for this number of bytes. Prints what comes of each, and
+/// before and after each whether it is ready.
+fn steps(
+    case: &mut Case,
+    threads: &(impl Threads + Sync),
+    room: u64,
+    names: &str,
+    fields: &[&str],
+) {
+    if let Some(mut joiner) = joiner_of(case, room, names) {
         push_ready(case, &joiner);
         for field in fields {
             step(case, threads, &mut joiner, field);
@@ -349,7 +365,7 @@ fn push_one(case: &mut Case, key: FileKey, outcome: &Outcome) {
 
 /// Prints the indexes of the many files that a joiner makes.
 fn many(case: &mut Case, threads: &(impl Threads + Sync)) {
-    if let Some(mut joiner) = joiner_of(case, "-") {
+    if let Some(mut joiner) = joiner_of(case, u64::MAX, "-") {
         take_many(case, &mut joiner);
         for (key, outcome) in &finished(case, threads, &mut joiner) {
             push_one(case, *key, outcome);
@@ -357,10 +373,20 @@ fn many(case: &mut Case, threads: &(impl Threads + Sync)) {
     }
 }
 
+/// Takes steps with a joiner that has room for the number of bytes of a field. The next field has
+/// the planned files.
+fn steps_in_room(case: &mut Case, threads: &(impl Threads + Sync), room: &str, fields: &[&str]) {
+    let room = case.u64_of(room);
+    if let Some((names, fields)) = fields.split_first() {
+        steps(case, threads, room, names, fields);
+    }
+}
+
 /// Runs a call.
 pub(crate) fn run(case: &mut Case, threads: &(impl Threads + Sync), call: &[&str]) {
     match call {
-        ["steps", names, fields @ ..] => steps(case, threads, names, fields),
+        ["steps", names, fields @ ..] => steps(case, threads, u64::MAX, names, fields),
+        ["room", room, fields @ ..] => steps_in_room(case, threads, room, fields),
         ["many"] => many(case, threads),
         _ => case.fail("there is no such call"),
     }

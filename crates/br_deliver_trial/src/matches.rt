@@ -1,5 +1,6 @@
 //! Which records of a volume the pieces of a bootstrap find, and how a walk over it goes.
 
+use crate::joins::push_held;
 use crate::texts::{copy_of, text_of};
 use br_bsr::read_bootstrap;
 use br_match::{Hit, PieceFault, Walk, match_piece};
@@ -88,7 +89,7 @@ fn push_record(case: &mut Case, hit: &Hit) {
         i64::from(hit.stream),
         i64::from(hit.size),
     ]);
-    case.lines(&hit.bytes);
+    push_held(case, hit);
 }
 
 /// Prints the index of a hit, which is the record of that number.

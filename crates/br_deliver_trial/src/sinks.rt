@@ -5,7 +5,9 @@
 use crate::texts::text_of;
 use br_attr::Stat;
 use br_join::{FileBytes, Item, Outcome};
-use br_sink::{MemSink, Report, Sink, SinkStop, deliver, manifest, totals};
+use br_sink::{
+    MemSink, Report, Sink, SinkStop, deliver, manifest, manifest_room, totals, write_manifest,
+};
 use br_trial_rows::Case;
 use br_types::{FileIndex, FileKey, Path, SessionKey};
 use std::alloc::AllocError;
@@ -246,15 +248,56 @@ fn thrice(case: &mut Case, k: &str, file: &str) {
     push_items(case, &sink);
 }
 
+/// Writes the manifest of outcomes in parts.
+fn written(case: &mut Case, outcomes: &[(FileKey, Outcome)]) -> Vec<u8> {
+    let mut text = Vec::new(case.alloc());
+    match manifest_room(case.alloc(), outcomes) {
+        Ok(room) => {
+            if write_manifest(&mut text, room, outcomes).is_err() {
+                case.fail("a part was not written");
+            }
+        }
+        Err(_fault) => case.fail("out of memory"),
+    }
+    text
+}
+
+/// Returns the manifest of outcomes. Fails if it is another text in parts.
+fn manifest_in_parts(case: &mut Case, outcomes: &[(FileKey, Outcome)]) -> Vec<u8> {
+    let text = written(case, outcomes);
+    match manifest(case.alloc(), outcomes) {
+        Ok(whole) => {
+            if text != whole {
+                case.fail("the parts are another text");
+            }
+        }
+        Err(_fault) => case.fail("out of memory"),
+    }
+    text
+}
+
 /// Prints the manifest of outcomes, of files with the indexes from this one on, and their totals.
 fn manifest_of(case: &mut Case, first: &str, outcomes: &str) {
     let first = case.u32_of(first);
     let outcomes = outcomes_from(case, first, outcomes);
-    match manifest(case.alloc(), &outcomes) {
-        Ok(text) => case.lines(&text),
-        Err(_fault) => case.fail("out of memory"),
-    }
+    let text = manifest_in_parts(case, &outcomes);
+    case.lines(&text);
     push_report(case, totals(&outcomes));
+}
+
+/// Prints the length of the manifest of this number of faults.
+fn long_manifest(case: &mut Case, count: &str) {
+    let count = case.u32_of(count);
+    let mut outcomes = Vec::new(case.alloc());
+    for index in 0..count {
+        let fault = Outcome::Fault {
+            number: 60,
+            stream: 0,
+        };
+        push_outcome(case, &mut outcomes, index.saturating_add(1), Some(fault));
+    }
+    let text = manifest_in_parts(case, &outcomes);
+    case.number(text.len() as u64);
 }
 
 /// Runs a call.
@@ -264,6 +307,7 @@ pub(crate) fn run(case: &mut Case, threads: &(impl Threads + Sync), call: &[&str
         ["at_once", k, outcomes] => at_once(case, threads, k, outcomes),
         ["thrice", k, file] => thrice(case, k, file),
         ["manifest", first, outcomes] => manifest_of(case, first, outcomes),
+        ["long_manifest", count] => long_manifest(case, count),
         _ => case.fail("there is no such call"),
     }
 }

@@ -8,9 +8,9 @@ ghost use Rattle.br_engine.specs.Outputs.{are_files};
 ghost use Rattle.br_engine.specs.Extracting.{WritesNothing};
 
 use crate::fault::ExtractFault;
-use crate::flushing::{Flush, show};
+use crate::flushing::Flush;
 use br_join::Outcome;
-use br_sink::manifest;
+use br_sink::{manifest_room, write_manifest as write_parts};
 use br_types::FileKey;
 use std::alloc::Global;
 
@@ -33,11 +33,11 @@ pub(crate) fn all_files(outcomes: &[(FileKey, Outcome)]) -> bool
     all_outcomes(outcomes)
 }
 
-/// Writes the manifest of the outcomes and flushes it.
+/// Writes the manifest of the outcomes part by part, and flushes it.
 ///
 /// # Errors
 ///
-/// - `Memory` if memory ran out for the manifest; then nothing is written.
+/// - `Memory` if memory ran out before the first part; then nothing is written.
 /// - `Io` if the writer failed, which may have taken a part of the manifest.
 pub fn write_manifest<W: Flush>(
     alloc: Global,
@@ -49,7 +49,8 @@ pub fn write_manifest<W: Flush>(
     ensures nothing { IfErr result (WritesNothing (W.contents writer.old) (W.contents writer.new)) }
     ensures free { IfErr result IsFree }
 {
-    let text = manifest(alloc, outcomes)?;
-    show(writer, &text)?;
+    let room = manifest_room(alloc, outcomes)?;
+    write_parts(writer, room, outcomes)?;
+    writer.flush_all()?;
     Ok(())
 }

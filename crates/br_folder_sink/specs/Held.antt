@@ -5,7 +5,7 @@ use Rattle.std.specs.Prelude.{bytes_eq, Option, Some, None, Ok, OnErr, ⊤}
 use Rattle.std.specs.List.{AllByRecursion}
 use Rattle.std.specs.Io.KnownBytes.{Appends}
 use Rattle.br_model.specs.File.{Item, has_bytes}
-use Rattle.br_join.specs.Written.{AppendsFront}
+use Rattle.br_body.specs.Written.{AppendsFront}
 use Rattle.br_files.specs.Making.{Nodes, Bytes, Opened, IsFinished, IsFree, MakesFile, node_at}
 use Rattle.br_folder_sink.specs.Below.{AddsFolders, IsNewFolder}
 use Rattle.br_folder_sink.specs.declared.window.Made.{Made}

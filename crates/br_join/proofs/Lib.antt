@@ -1,7 +1,7 @@
 mod ChoiceLaws
 mod DataLaws
-mod FilePartLaws
 pub mod HeldLaws
+mod GivenLaws
 mod JoinLaws
 mod PartLaws
 pub mod TakingLaws
@@ -9,6 +9,5 @@ pub mod FilesLaws
 pub mod PieceLaws
 pub mod RunLaws
 pub mod SortLaws
-mod WrittenLaws
 pub mod ReadyLaws
 pub mod StreamedLaws

@@ -1,7 +1,7 @@
 pub mod Code
 pub mod Data
 pub mod Fault
-pub mod FileParts
+pub mod Given
 pub mod Held
 pub mod Joining
 pub mod Making
@@ -10,4 +10,3 @@ pub mod Outcome
 pub mod Pieces
 pub mod Records
 pub mod Runs
-pub mod Written

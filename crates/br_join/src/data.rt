@@ -1,17 +1,16 @@
 ghost use Rattle.std.specs.Prelude.{◌≡◌, ◌+◌, ◌-◌, ◌^◌, ◌<◌, ◌≤◌, length, drop, take, filter, IfOk, []};
 ghost use Rattle.std.specs.Int.{w64, from_be_bytes};
-ghost use Rattle.br_model.specs.Answer.{Answers, AnswersAlways, refused_as};
+ghost use Rattle.br_model.specs.Answer.{Answers, refused_as};
 ghost use Rattle.br_model.specs.File as model;
 ghost use Rattle.br_join.specs.Data.{fitting, laid, laid_from, shown_extent};
-ghost use Rattle.br_join.specs.FileParts.{joined};
-ghost use Rattle.br_join.specs.Making.{cause, file_fault};
+ghost use Rattle.br_body.specs.Parts.{joined};
+ghost use Rattle.br_join.specs.Making.{cause};
 
-use crate::file_bytes::FileBytes;
-use crate::file_part::{Part, push_gap};
 use crate::making_fault::{FileFault, MakingFault};
 use crate::records::FileRecord;
 use crate::streams::{DATA, has_bytes};
-use std::alloc::Global;
+use br_body::{FileBytes, Part, push_gap};
+use std::alloc::{AllocError, Global};
 
 /// The greatest length of a file in bytes.
 const GREATEST_LEN: u64 = 1_073_741_824;
@@ -29,33 +28,34 @@ struct Extent {
 }
 
 impl FileRecord<'_> {
-    /// Returns the address before sparse data, of eight bytes, the highest first.
-    fn address(&self) -> u64
-        ensures { result ≡ from_be_bytes w64 (take 8 self.now.bytes) }
+    /// Returns the address before sparse data, of eight bytes, the highest first, or `AllocError`
+    /// if it is not in memory.
+    fn address(&self) -> Result<u64, AllocError>
+        ensures { IfOk result (λ address. address ≡ from_be_bytes w64 (take 8 self.now.bytes)) }
     {
-        u64::from_be_bytes([
-            self.byte(0),
-            self.byte(1),
-            self.byte(2),
-            self.byte(3),
-            self.byte(4),
-            self.byte(5),
-            self.byte(6),
-            self.byte(7),
-        ])
+        Ok(u64::from_be_bytes([
+            self.byte(0)?,
+            self.byte(1)?,
+            self.byte(2)?,
+            self.byte(3)?,
+            self.byte(4)?,
+            self.byte(5)?,
+            self.byte(6)?,
+            self.byte(7)?,
+        ]))
     }
 
     /// Returns the extent of the bytes without the first `skip`, from an address on, or `TooLarge`.
-    fn extent_at(&self, start: u64, skip: usize) -> Result<Extent, FileFault>
+    fn extent_at(&self, start: u64, skip: usize) -> Result<Extent, MakingFault>
         requires { skip ≤ 8 }
-        ensures same { AnswersAlways (shown_extent self.now.bytes) file_fault result (fitting start (drop skip self.now.bytes)) }
+        ensures same { Answers (shown_extent self.now.bytes) cause result (fitting start (drop skip self.now.bytes)) }
         ensures ends { IfOk result (λ e. e.end ≡ e.start + (length self.now.bytes - e.skip)) }
         ensures begins { IfOk result (λ e. e.start ≡ start) }
     {
         let len = self.len().saturating_sub(skip as u64);
         let end = start.saturating_add(len);
         if end > GREATEST_LEN {
-            return Err(FileFault::TooLarge);
+            return Err(MakingFault::File(FileFault::TooLarge));
         }
         Ok(Extent {
             start: start as usize,
@@ -71,8 +71,8 @@ impl FileRecord<'_> {
     /// `SparseBack` if the address is missing or before the end, `TooLarge` if the file would be
     /// too large.
     #[tactic(auto, unfolding(br_model::specs::File::extent_of))]
-    fn extent_after(&self, end: usize) -> Result<Extent, FileFault>
-        ensures same { AnswersAlways (shown_extent self.now.bytes) file_fault result (refused_as model.fault (model.extent_of end self.now)) }
+    fn extent_after(&self, end: usize) -> Result<Extent, MakingFault>
+        ensures same { Answers (shown_extent self.now.bytes) cause result (refused_as model.fault (model.extent_of end self.now)) }
         ensures ends { IfOk result (λ e. e.end ≡ e.start + (length self.now.bytes - e.skip)) }
         ensures rises { IfOk result (λ e. end ≤ e.start) }
     {
@@ -80,11 +80,11 @@ impl FileRecord<'_> {
             return self.extent_at(end as u64, 0);
         }
         if self.len() < ADDRESS_LEN as u64 {
-            return Err(FileFault::SparseBack);
+            return Err(MakingFault::File(FileFault::SparseBack));
         }
-        let address = self.address();
+        let address = self.address()?;
         if address < end as u64 {
-            return Err(FileFault::SparseBack);
+            return Err(MakingFault::File(FileFault::SparseBack));
         }
         self.extent_at(address, ADDRESS_LEN)
     }
@@ -118,7 +118,8 @@ fn data_of(alloc: Global, records: &[FileRecord<'_>]) -> Result<FileBytes, Makin
             end = record.push_data(&mut file, end)?;
         }
     }
-    Ok(FileBytes::from_parts(file, end))
+    let bytes = FileBytes::from_parts(file, end)?;
+    Ok(bytes)
 }
 
 /// Returns the bytes of a file of this type. Only files of types 2 and 3 have any.
@@ -131,7 +132,8 @@ pub(crate) fn file_bytes(
     ensures { Answers (λ bytes. bytes) cause result (refused_as model.fault (model.file_bytes kind records.now)) }
 {
     if !has_bytes(kind) {
-        return Ok(FileBytes::empty(alloc));
+        let none = FileBytes::empty(alloc)?;
+        return Ok(none);
     }
     data_of(alloc, records)
 }

@@ -5,6 +5,7 @@ ghost use Rattle.br_model.specs.Meaning.{hits_of, with_hits};
 ghost use Rattle.br_join.specs.Held.{AreKeyed, HasOneMore, all_held};
 ghost use Rattle.br_join.specs.Runs.{AreListed};
 
+use crate::room::Room;
 use br_match::{Hit, Spot};
 use br_types::FileKey;
 use std::alloc::{AllocError, Global};
@@ -88,8 +89,9 @@ impl Held {
         }
     }
 
-    /// Takes hits, or returns them if there is no memory.
-    pub(crate) fn take(&mut self, hits: Vec<Hit>) -> Result<(), Vec<Hit>>
+    /// Takes hits, and lets the data go for which there is no room. Returns the hits as they were if
+    /// there is no memory.
+    pub(crate) fn take(&mut self, room: &mut Room, hits: Vec<Hit>) -> Result<(), Vec<Hit>>
         ensures ok { OnOk result (self.new ≡ with_hits self.old hits.items) }
         ensures err { OnErr result (self.new ≡ self.old) }
         ensures back { IfErr result (λ value. value ≡ hits) }
@@ -98,7 +100,7 @@ impl Held {
         if !self.waiting.is_empty() {
             return Err(hits);
         }
-        let mut next = hits;
+        let mut next = room.fit(hits);
         next.reverse();
         self.waiting = next;
         place_all(&mut self.placed, &mut self.waiting);

@@ -1,5 +1,5 @@
-use crate::file_bytes::FileBytes;
 use br_attr::Stat;
+use br_body::FileBytes;
 use br_types::Path;
 use std::marker::Model;
 

@@ -4,6 +4,8 @@ ghost use Rattle.std.specs.BTreeMap.{values, IsOrdered};
 ghost use Rattle.std.specs.Ordering.{nat_cmp};
 ghost use Rattle.std.specs.FinMap as finite;
 ghost use Rattle.br_model.specs.Restored.{files, planned_in};
+ghost use Rattle.br_body.specs.Parts.{KeepsGiving};
+ghost use Rattle.br_join.specs.Given.{GivesSet};
 ghost use Rattle.br_join.specs.Outcome.{restored};
 ghost use Rattle.br_join.specs.Joining.{begun, taken, with_batch, with_closed, is_ready, emptied};
 ghost use Rattle.br_join.specs.Pieces.{as_map, opens};
@@ -12,7 +14,10 @@ ghost use Rattle.br_join.specs.declared.fault.JoinFault.TheVariants.{StrangerPie
 use crate::fault::{JoinFault, Refused};
 use crate::held::Held;
 use crate::item::Outcome;
+use crate::made_again::files_by;
+use crate::room::Room;
 use crate::runs::files_of;
+use br_again::{AgainFault, Fetch};
 use br_match::{Batch, Found};
 use br_piece::Piece;
 use br_types::{FileKey, Names};
@@ -24,6 +29,9 @@ use std::thread::Threads;
 /// Gathers what was found of the pieces of a bootstrap, and makes files of it. Of several hits at
 /// one place of one file it keeps the first that was taken. It keeps hits in order of file and place,
 /// so that the time for taking one is log n in the number of hits.
+///
+/// Data for which there is no room are let go as they are taken, except attributes and digests. The
+/// hits are the same for contracts, which see their bytes whether they are in memory or not.
 #[derive(Debug, Drop)]
 pub struct Joiner {
     /// The number of each piece, and whether the piece is closed.
@@ -31,6 +39,7 @@ pub struct Joiner {
     /// The path under which each file was planned, if there is a plan.
     names: Option<Names>,
     hits: Held,
+    room: Room,
 }
 
 impl Model for Joiner {
@@ -86,14 +95,28 @@ fn all_closed(pieces: &BTreeMap<u32, bool>) -> bool
 
 impl Joiner {
     /// Returns a joiner of these pieces, each of them open. With names it restores the planned
-    /// files and no others, else all files that are found.
+    /// files and no others, else all files that are found. It has room for all data.
     pub fn new(alloc: Global, pieces: &[Piece], names: Option<Names>) -> Result<Joiner, AllocError>
+        ensures { IfOk result (λ joiner. joiner ≡ begun pieces.now names) }
+    {
+        Joiner::with_room(alloc, pieces, names, u64::MAX)
+    }
+
+    /// Returns a joiner as `new` does, which has room for this number of bytes of data. Attributes
+    /// and digests are not counted.
+    pub fn with_room(
+        alloc: Global,
+        pieces: &[Piece],
+        names: Option<Names>,
+        room: u64,
+    ) -> Result<Joiner, AllocError>
         ensures { IfOk result (λ joiner. joiner ≡ begun pieces.now names) }
     {
         Ok(Joiner {
             pieces: opened(alloc, pieces)?,
             names,
             hits: Held::new(alloc),
+            room: Room::new(room),
         })
     }
 
@@ -119,7 +142,7 @@ impl Joiner {
             });
         }
         let piece = found.piece;
-        if let Err(hits) = self.hits.take(found.hits) {
+        if let Err(hits) = self.hits.take(&mut self.room, found.hits) {
             return Err(Refused {
                 value: Found { piece, hits },
                 fault: JoinFault::Memory,
@@ -168,7 +191,7 @@ impl Joiner {
         ensures err { OnErr result (self.new ≡ self.old) }
         ensures back { IfErr result (λ value. value ≡ batch) }
     {
-        match self.hits.take(batch.hits) {
+        match self.hits.take(&mut self.room, batch.hits) {
             Ok(()) => Ok(()),
             Err(hits) => Err(Batch { hits }),
         }
@@ -208,7 +231,8 @@ impl Joiner {
     ///
     /// # Errors
     ///
-    /// `AllocError` if memory runs out. Then the joiner is unchanged.
+    /// `AllocError` if memory runs out, or if data of a file were let go. Then the joiner is
+    /// unchanged.
     pub fn finish(
         &mut self,
         rt: &(impl Threads + Sync),
@@ -222,6 +246,40 @@ impl Joiner {
         match files_of(rt, *hits.allocator(), &hits, self.names.as_ref()) {
             Ok(outcomes) => {
                 open_again(&mut self.pieces);
+                self.room = self.room.emptied();
+                Ok(outcomes)
+            }
+            Err(refused) => {
+                self.hits.put_back(hits);
+                Err(refused)
+            }
+        }
+    }
+
+    /// Returns the files of what was taken as `finish` does, but makes them one after another, of
+    /// data that `fetch` gives if they were let go. The data of one file at a time are read again.
+    ///
+    /// If `fetch` gives what was found, the result is that of `finish`.
+    ///
+    /// # Errors
+    ///
+    /// Those of `fetch`, and `Memory` if memory runs out. Then the joiner is unchanged.
+    pub fn finish_by<F: Fetch>(
+        &mut self,
+        fetch: &mut F,
+    ) -> Result<Vec<(FileKey, Outcome)>, AgainFault>
+        requires { is_ready self.old ≡ true }
+        ensures ok { OnOk result (self.new ≡ emptied self.old) }
+        ensures err { OnErr result (self.new ≡ self.old) }
+        ensures files { IfOk result (λ outcomes. GivesSet F.gives fetch.old self.old.hits
+            → map restored outcomes.items ≡ files self.old.hits (option_map planned_in self.old.names)) }
+        ensures keeps { KeepsGiving F.gives fetch.old fetch.new }
+    {
+        let hits = self.hits.take_out()?;
+        match files_by(*hits.allocator(), fetch, &hits, self.names.as_ref()) {
+            Ok(outcomes) => {
+                open_again(&mut self.pieces);
+                self.room = self.room.emptied();
                 Ok(outcomes)
             }
             Err(refused) => {

@@ -6,20 +6,20 @@
 
 mod data;
 mod fault;
-mod file_bytes;
-mod file_part;
 mod held;
 mod item;
 mod joiner;
+mod made_again;
 mod making;
 mod making_fault;
 mod parts;
 mod records;
+mod rereading;
+mod room;
 mod runs;
 mod streams;
-mod writing;
 
+pub use br_body::FileBytes;
 pub use fault::{JoinFault, Refused};
-pub use file_bytes::FileBytes;
 pub use item::{Item, Outcome};
 pub use joiner::Joiner;

@@ -8,7 +8,6 @@ ghost use Rattle.br_join.specs.Making.{cause, file_fault, making_fault, read_or_
 ghost use Rattle.br_join.specs.Outcome.{shown};
 
 use crate::data::file_bytes;
-use crate::file_bytes::FileBytes;
 use crate::item::{Item, Outcome};
 use crate::making_fault::{FileFault, MakingFault};
 use crate::records::{FileRecord, records_of};
@@ -16,6 +15,7 @@ use crate::streams::{
     ATTRIBUTES, DIGEST, checks_digest, count_in, first_in, refuse_unsupported, skipped_in,
 };
 use br_attr::{Attr, AttrFault};
+use br_body::FileBytes;
 use br_match::Hit;
 use br_types::{FileIndex, FileKey, Path};
 use std::alloc::{AllocError, Global};
@@ -83,13 +83,18 @@ fn attributes_of(
 }
 
 /// Returns whether there is no digest, or one, which is that of the bytes.
+///
+/// # Errors
+///
+/// `AllocError` if the digest is not in memory.
 #[tactic(auto, unfolding(br_model::specs::File::digest_fits))]
-fn digest_fits(records: &[FileRecord<'_>], bytes: &FileBytes) -> bool
-    ensures { result ≡ file.digest_fits (filter (file.is_stream 3) records.now) bytes.now }
+fn digest_fits(records: &[FileRecord<'_>], bytes: &FileBytes) -> Result<bool, AllocError>
+    ensures { IfOk result (λ fits. fits ≡ file.digest_fits (filter (file.is_stream 3) records.now) bytes.now) }
 {
     match first_in(DIGEST, records) {
-        None => true,
-        Some(found) => count_in(DIGEST, records) == 1 && found.has_bytes(&bytes.digest()),
+        None => Ok(true),
+        Some(found) if count_in(DIGEST, records) == 1 => found.has_bytes(&bytes.digest()),
+        Some(_) => Ok(false),
     }
 }
 
@@ -108,7 +113,7 @@ fn content(alloc: Global, index: FileIndex, records: &[FileRecord<'_>]) -> Resul
     let (kind, path, stat, link) = attr.into_parts();
     let bytes = file_bytes(alloc, kind, records)?;
     let checked = checks_digest(kind, records);
-    if checked && !digest_fits(records, &bytes) {
+    if checked && !digest_fits(records, &bytes)? {
         return Err(MakingFault::File(FileFault::DigestDiffers));
     }
     Ok(Item {

@@ -1,16 +1,30 @@
-ghost use Rattle.std.specs.Prelude.{◌≡◌, ◌++◌, ◌-◌, ◌^◌, drop, length, min, bytes_eq, slice_index, IfSome, OnOk};
-ghost use Rattle.br_join.specs.FileParts.{joined};
+ghost use Rattle.std.specs.Prelude.{◌≡◌, ◌++◌, ◌-◌, ◌^◌, drop, length, min, bytes_eq, slice_index, IfOk, OnOk};
+ghost use Rattle.br_body.specs.Parts.{joined};
 ghost use Rattle.br_join.specs.Records.{bytes_in};
 
-use crate::file_part::{Part, push_data};
+use br_body::{Part, push_found};
 use br_match::Hit;
 use std::alloc::AllocError;
 
-/// Returns the data of a fragment.
-pub(crate) fn bytes_of(part: &Hit) -> &[u8]
-    ensures { result.now ≡ part.now.fragment.bytes }
+/// Returns the number of bytes of a fragment.
+fn len_of(part: &Hit) -> usize
+    ensures { result ≡ length part.now.fragment.bytes }
 {
-    &part.bytes
+    part.data.len()
+}
+
+/// Returns the data of a fragment.
+///
+/// # Errors
+///
+/// `AllocError` if they are not in memory.
+fn bytes_of(part: &Hit) -> Result<&[u8], AllocError>
+    ensures { IfOk result (λ bytes. bytes.now ≡ part.now.fragment.bytes) }
+{
+    match part.data.held() {
+        Some(bytes) => Ok(bytes),
+        None => Err(AllocError),
+    }
 }
 
 /// Returns the number of bytes of the parts together, at most 2^64 - 1.
@@ -19,24 +33,28 @@ pub(crate) fn length_of(parts: &[Hit]) -> u64
 {
     let mut len: u64 = 0;
     for part in parts {
-        len = len.saturating_add(bytes_of(part).len() as u64);
+        len = len.saturating_add(len_of(part) as u64);
     }
     len
 }
 
 /// Returns the byte at a place of the parts together, 0 past the last.
-pub(crate) fn byte_at(parts: &[Hit], place: usize) -> u8
-    ensures { result ≡ slice_index (bytes_in parts.now) place }
+///
+/// # Errors
+///
+/// `AllocError` if it is not in memory.
+pub(crate) fn byte_at(parts: &[Hit], place: usize) -> Result<u8, AllocError>
+    ensures { IfOk result (λ byte. byte ≡ slice_index (bytes_in parts.now) place) }
 {
     let mut left = place;
     for part in parts {
-        let held = bytes_of(part);
+        let held = bytes_of(part)?;
         if left < held.len() {
-            return held[left];
+            return Ok(held[left]);
         }
         left -= held.len();
     }
-    0
+    Ok(0)
 }
 
 /// Appends the bytes of the parts, without the first `skip`.
@@ -45,7 +63,7 @@ pub(crate) fn push_bytes(bytes: &mut Vec<u8>, skip: usize, parts: &[Hit]) -> Res
 {
     let mut left = skip;
     for part in parts {
-        let held = bytes_of(part);
+        let held = bytes_of(part)?;
         let skipped = left.min(held.len());
         let (_, more) = held.split_at(skipped);
         bytes.extend_from_slice(more)?;
@@ -59,7 +77,7 @@ pub(crate) fn push_bytes(bytes: &mut Vec<u8>, skip: usize, parts: &[Hit]) -> Res
 fn share_one(file: &mut Vec<Part>, skip: usize, part: &Hit) -> Result<(), AllocError>
     ensures { OnOk result (joined file.new.items ≡ joined file.old.items ++ drop skip part.now.fragment.bytes) }
 {
-    push_data(file, skip, &part.bytes)
+    push_found(file, skip, part.spot, &part.data)
 }
 
 /// Appends the bytes of the fragments, without the first `skip`, to the parts of a file. They are
@@ -73,7 +91,7 @@ pub(crate) fn share_bytes(
 {
     let mut left = skip;
     for part in parts {
-        let skipped = left.min(bytes_of(part).len());
+        let skipped = left.min(len_of(part));
         share_one(file, skipped, part)?;
         left -= skipped;
     }
@@ -81,20 +99,24 @@ pub(crate) fn share_bytes(
 }
 
 /// Returns whether the parts together have these bytes.
-pub(crate) fn are_bytes(parts: &[Hit], bytes: &[u8]) -> bool
-    ensures { result ≡ bytes_eq (bytes_in parts.now) bytes.now }
+///
+/// # Errors
+///
+/// `AllocError` if they are not in memory.
+pub(crate) fn are_bytes(parts: &[Hit], bytes: &[u8]) -> Result<bool, AllocError>
+    ensures { IfOk result (λ same. same ≡ bytes_eq (bytes_in parts.now) bytes.now) }
 {
     let mut rest = bytes;
     for part in parts {
-        let held = bytes_of(part);
+        let held = bytes_of(part)?;
         if rest.len() < held.len() {
-            return false;
+            return Ok(false);
         }
         let (front, more) = rest.split_at(held.len());
         if held != front {
-            return false;
+            return Ok(false);
         }
         rest = more;
     }
-    rest.is_empty()
+    Ok(rest.is_empty())
 }

@@ -5,14 +5,14 @@ ghost use Rattle.br_model.specs.File.{fault};
 ghost use Rattle.br_model.specs.File as model;
 ghost use Rattle.br_model.specs.Meaning as meaning;
 ghost use Rattle.br_model.specs.Record.{with_fragment, join};
-ghost use Rattle.br_join.specs.FileParts.{joined};
+ghost use Rattle.br_body.specs.Parts.{joined};
 ghost use Rattle.br_join.specs.Making.{cause, file_fault};
 ghost use Rattle.br_join.specs.Opening.{begun, begun_from};
 ghost use Rattle.br_join.specs.Records.{fragments_in};
 
-use crate::file_part::Part;
 use crate::making_fault::{FileFault, MakingFault};
 use crate::parts::{are_bytes, byte_at, length_of, push_bytes, share_bytes};
+use br_body::Part;
 use br_match::Hit;
 use br_types::FileIndex;
 use std::alloc::{AllocError, Global};
@@ -57,26 +57,26 @@ impl<'h> FileRecord<'h> {
         length_of(self.parts)
     }
 
-    /// Returns the byte at a place, 0 past the last.
-    pub(crate) fn byte(&self, place: usize) -> u8
-        ensures { result ≡ slice_index self.now.bytes place }
+    /// Returns the byte at a place, 0 past the last, or `AllocError` if it is not in memory.
+    pub(crate) fn byte(&self, place: usize) -> Result<u8, AllocError>
+        ensures { IfOk result (λ byte. byte ≡ slice_index self.now.bytes place) }
     {
         byte_at(self.parts, place)
     }
 
-    /// Returns whether the record has these bytes.
-    pub(crate) fn has_bytes(&self, bytes: &[u8]) -> bool
-        ensures { result ≡ bytes_eq self.now.bytes bytes.now }
+    /// Returns whether the record has these bytes, or `AllocError` if its bytes are not in memory.
+    pub(crate) fn has_bytes(&self, bytes: &[u8]) -> Result<bool, AllocError>
+        ensures { IfOk result (λ same. same ≡ bytes_eq self.now.bytes bytes.now) }
     {
         are_bytes(self.parts, bytes)
     }
 
-    /// Returns the bytes, if they are in one fragment.
+    /// Returns the bytes, if they are in one fragment, and in memory.
     pub(crate) fn in_one_piece(&self) -> Option<&[u8]>
         ensures { IfSome result (λ bytes. bytes.now ≡ self.now.bytes) }
     {
         match self.parts {
-            [part] => Some(&part.bytes),
+            [part] => part.data.held(),
             _ => None,
         }
     }
@@ -115,7 +115,7 @@ fn with_hit(opened: Option<Open>, hit: &Hit) -> Result<Open, FileFault>
         → AnswersAlways (λ o. begun hit.now.key.index (bytes ++ hit.now.fragment.bytes) o) file_fault result
         (refused_as fault (with_fragment (begun_from hit.now.key.index bytes opened) hit.now.fragment)) }
 {
-    let left = u64::from(hit.size).saturating_sub(hit.bytes.len() as u64);
+    let left = u64::from(hit.size).saturating_sub(hit.data.len() as u64);
     let stream = hit.stream.unsigned_abs();
     match opened {
         None if hit.stream < 0 => Err(FileFault::Orphan),

@@ -3,9 +3,10 @@ ghost use Rattle.std.specs.Int.{is_positive};
 ghost use Rattle.br_model.specs.Meaning.{hits_in};
 ghost use Rattle.br_match.specs.Groups.{hit_by, hits_by};
 
-use crate::hit::{Hit, Spot};
+use crate::hit::Hit;
 use crate::matcher::{Matcher, first_admitting};
 use crate::matchers::{Matchers, near};
+use br_again::{Data, Spot};
 use br_block::{Block, Fragment, Fragments};
 use br_types::{FileIndex, FileKey};
 use std::alloc::{AllocError, Global};
@@ -50,7 +51,7 @@ fn hit_of(
         },
         stream: fragment.stream,
         size: fragment.size,
-        bytes: ArcSlice::from_slice(alloc, fragment.bytes)?,
+        data: Data::new(ArcSlice::from_slice(alloc, fragment.bytes)?),
     }))
 }
 

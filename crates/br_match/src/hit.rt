@@ -1,27 +1,6 @@
+use br_again::{Data, Spot};
 use br_types::FileKey;
 use std::marker::Model;
-use std::sync::ArcSlice;
-
-/// The place of a fragment. Spots are ordered by group, then by address, then by ordinal.
-#[derive(Clone, Copy, Debug, PartialEq, Eq, PartialOrd, Ord)]
-pub struct Spot {
-    /// The number of the first group of the bootstrap that hits the fragment.
-    pub group: u32,
-    /// The address of its block, in bytes from the start of the volume.
-    pub addr: u64,
-    /// The number of fragments before it in the block.
-    pub ordinal: u32,
-}
-
-impl Model for Spot {
-    ghost use Rattle.br_model.specs.Meaning as model;
-
-    ghost Value = { model.Spot };
-
-    ghost view = { λ s. record { group = s.group; address = s.addr; ordinal = s.ordinal } };
-
-    ghost inverse = { λ s. record { group = s.group; addr = s.address; ordinal = s.ordinal } };
-}
 
 /// A fragment of a file that a bootstrap asks for.
 #[derive(Debug, Drop)]
@@ -36,12 +15,11 @@ pub struct Hit {
     pub size: u32,
     /// The data in the block: fewer than `size` bytes if the record continues in a later block. A
     /// file that is made of it shares it, so that no byte is copied.
-    pub bytes: ArcSlice<u8>,
+    pub data: Data,
 }
 
 impl Model for Hit {
     ghost use Rattle.std.specs.Prelude.{pos};
-    ghost use Rattle.std.specs.Arc.{arc_slice_items};
     ghost use Rattle.br_model.specs.Meaning as model;
 
     ghost Value = { model.Hit };
@@ -49,7 +27,7 @@ impl Model for Hit {
     ghost view = { λ h. record {
       key = h.key;
       spot = h.spot;
-      fragment = record { session = h.key.session; index = pos h.key.index; stream = h.stream; size = h.size; bytes = arc_slice_items h.bytes };
+      fragment = record { session = h.key.session; index = pos h.key.index; stream = h.stream; size = h.size; bytes = h.data.bytes };
     } };
 }
 

@@ -15,8 +15,9 @@ mod walk;
 
 ghost use Rattle.br_match.specs.Come.{ComeIsMeant, ComeIsReached};
 
+pub use br_again::Spot;
 pub use fault::{PieceCause, PieceFault};
-pub use hit::{Batch, Found, Hit, Spot};
+pub use hit::{Batch, Found, Hit};
 pub use matching::match_piece;
 pub use walk::Walk;
 

@@ -83,7 +83,10 @@ fn is_at(hit: &Hit, (session, group, addr, ordinal): (u32, u32, u64, u32)) -> bo
 
 /// Returns whether a hit has this data.
 fn has(hit: &Hit, (stream, size, bytes): (i32, u32, &[u8])) -> bool {
-    hit.stream == stream && hit.size == size && hit.bytes.as_slice() == bytes
+    match hit.data.held() {
+        Some(held) => hit.stream == stream && hit.size == size && held == bytes,
+        None => false,
+    }
 }
 
 /// Returns the place of the first hit that differs from these.

@@ -1,3 +1,4 @@
 mod LineLaws
 pub mod WayLaws
 pub mod DeliveryLaws
+mod PartLaws

@@ -3,3 +3,4 @@ pub mod Sink
 pub mod MemSink
 pub mod Ways
 pub mod Delivery
+pub mod Parts

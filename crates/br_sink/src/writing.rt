@@ -9,7 +9,7 @@ use br_join::Outcome;
 use br_types::{FileKey, push_wide};
 use std::alloc::{AllocError, Global};
 
-/// Writes a line for each file.
+/// Appends a line for each file.
 fn push_lines(text: &mut Vec<u8>, outcomes: &[(FileKey, Outcome)]) -> Result<(), AllocError>
     ensures { OnOk result (text.new.items ≡ text.old.items ++ flat_map model.file_line (map restored outcomes.now)) }
 {
@@ -19,8 +19,8 @@ fn push_lines(text: &mut Vec<u8>, outcomes: &[(FileKey, Outcome)]) -> Result<(),
     Ok(())
 }
 
-/// Writes the line of the totals.
-fn push_totals(text: &mut Vec<u8>, report: Report) -> Result<(), AllocError>
+/// Appends the line of the totals.
+pub(crate) fn push_totals(text: &mut Vec<u8>, report: Report) -> Result<(), AllocError>
     ensures { OnOk result (text.new.items ≡ text.old.items ++ model.total_line report) }
 {
     text.extend_from_slice(b"total")?;

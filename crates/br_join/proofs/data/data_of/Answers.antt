@@ -3,7 +3,7 @@ use Rattle.std.proofs.lemmas.Result.{err_from_is_err_and}
 use Rattle.br_model.specs.Answer.{refused_as}
 use Rattle.br_model.specs.File.{fault, is_data}
 use Rattle.br_join.specs.Data.{laid_from}
-use Rattle.br_join.specs.FileParts.{joined}
+use Rattle.br_body.specs.Parts.{joined}
 use Rattle.br_join.proofs.DataLaws.{laid_more, laid_given_up, laid_done, data_more, data_not, data_done}
 use Rattle.br_join.proofs.data.data_of.Goals as goal
 use Rattle.br_join.proofs.data.data_of.Goals.{then-is_data+in_ok-end, else-is_data}
@@ -37,4 +37,4 @@ pub returns : goal.returns
 returns c =
     let before = joined c.loop-record.file.items in
     ap (refused_as fault) (c.loop-record.invariant.lays ∙ ap (laid_from before) (data_done c.args.records.now c.loop-record.record-index c.loop-record-test.false) ∙ laid_done before)
-    ∙ ap (λ (bytes : List ℕ). Ok bytes) (sym c.from_parts.ensures)
+    ∙ ap (λ (bytes : List ℕ). Ok bytes) (sym c.in_ok-bytes.ensures)

@@ -14,5 +14,5 @@ loop-part-preserved c =
     let front = c.part-item.result.fragment.bytes in
     let rest = bytes_in (drop (c.loop-part.part-index + 1) c.args.parts.now) in
     let more = ap length (bytes_more c.args.parts.now c.loop-part.part-index c.part-item.result c.loop-part-test.true c.part-item.is) ∙ length-append front rest in
-    let same = ap length c.bytes_of.ensures in
+    let same = c.len_of.ensures in
     record { fits = omega arith; adds = omega (arith, more, same, c.loop-part.invariant.adds) }

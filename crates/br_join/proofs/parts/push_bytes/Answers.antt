@@ -10,5 +10,5 @@ loop-part-preserved c =
     let rest = bytes_in (drop (c.loop-part.part-index + 1) c.args.parts.now) in
     let more = bytes_more c.args.parts.now c.loop-part.part-index c.part-item.result c.loop-part-test.true c.part-item.is in
     let pushed = c.in_ok-extend_from_slice.ensures.items ∙ ap (λ (xs : List ℕ). before ++ xs) c.split_at.ensures.back in
-    pushed_more before front rest _ _ c.loop-part.left _ c.bytes_of-held.ensures c.min-skipped.ensures pushed
+    pushed_more before front rest _ _ c.loop-part.left _ c.in_ok-held.ensures c.min-skipped.ensures pushed
     ∙ sym (ap (λ (xs : List ℕ). before ++ drop c.loop-part.left xs) more) ∙ c.loop-part.invariant

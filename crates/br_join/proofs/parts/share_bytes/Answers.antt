@@ -1,5 +1,5 @@
-use Rattle.std.proofs.Common.{◌+◌, List, ℕ, drop, sym, ap, ◌∙◌, ◌++◌}
-use Rattle.br_join.specs.FileParts.{joined}
+use Rattle.std.proofs.Common.{◌+◌, List, ℕ, drop, min, refl, sym, ap, ◌∙◌, ◌++◌}
+use Rattle.br_body.specs.Parts.{joined}
 use Rattle.br_join.specs.Records.{bytes_in}
 use Rattle.br_join.proofs.PartLaws.{bytes_more, pushed_more}
 use Rattle.br_join.proofs.parts.share_bytes.Goals as goal
@@ -11,6 +11,6 @@ loop-part-preserved c =
     let skipped = c.min-skipped.result in
     let rest = bytes_in (drop (c.loop-part.part-index + 1) c.args.parts.now) in
     let more = bytes_more c.args.parts.now c.loop-part.part-index c.part-item.result c.loop-part-test.true c.part-item.is in
-    let pushed = c.in_ok-share_one.ensures ∙ ap (λ (xs : List ℕ). before ++ drop skipped xs) (sym c.bytes_of.ensures) in
-    pushed_more before front rest _ _ c.loop-part.left _ c.bytes_of.ensures c.min-skipped.ensures pushed
+    let pushed = c.in_ok-share_one.ensures in
+    pushed_more before front rest front _ c.loop-part.left _ refl (c.min-skipped.ensures ∙ ap (min c.loop-part.left) c.len_of.ensures) pushed
     ∙ sym (ap (λ (xs : List ℕ). before ++ drop c.loop-part.left xs) more) ∙ c.loop-part.invariant

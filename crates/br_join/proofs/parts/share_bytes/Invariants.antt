@@ -1,5 +1,5 @@
 use Rattle.std.proofs.Common.{◌≡◌, ◌++◌, drop}
-use Rattle.br_join.specs.FileParts.{joined}
+use Rattle.br_body.specs.Parts.{joined}
 use Rattle.br_join.specs.Records.{bytes_in}
 use Rattle.br_join.proofs.parts.share_bytes.Given as goal
 

@@ -1,0 +1,5 @@
+mod PartLaws
+pub mod GivenLaws
+mod WrittenLaws
+mod ReadLaws
+mod CopyLaws

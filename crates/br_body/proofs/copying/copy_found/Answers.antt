@@ -1,0 +1,33 @@
+use Rattle.std.proofs.Common.{List, ℕ, drop, subst}
+use Rattle.br_body.specs.Written.{AppendsFront}
+use Rattle.br_body.proofs.WrittenLaws.{none_front, on_err}
+use Rattle.br_body.proofs.copying.copy_found.Goals as goal
+
+pub returns-in_err-prepare-clause-front : goal.returns-in_err-prepare-clause-front
+returns-in_err-prepare-clause-front g c =
+    let held = g.W.Write.contents c.args.writer.now in
+    let front : g.F.Fetch.gives c.args.fetch.now c.args.spot c.args.kept.now.bytes → AppendsFront held held (drop c.args.skip c.args.kept.now.bytes) = λ given. none_front held _ in
+    on_err _ front
+
+pub returns-in_err-bytes-clause-front : goal.returns-in_err-bytes-clause-front
+returns-in_err-bytes-clause-front g c =
+    let held = g.W.Write.contents c.args.writer.now in
+    let front : g.F.Fetch.gives c.args.fetch.now c.args.spot c.args.kept.now.bytes → AppendsFront held held (drop c.args.skip c.args.kept.now.bytes) = λ given. none_front held _ in
+    on_err _ front
+
+pub returns-in_err-copy_bytes-clause-front : goal.returns-in_err-copy_bytes-clause-front
+returns-in_err-copy_bytes-clause-front g c =
+    let before = g.W.Write.contents c.args.writer.now in
+    let after = g.W.Write.contents c.copy_bytes.new.writer in
+    let front : g.F.Fetch.gives c.args.fetch.now c.args.spot c.args.kept.now.bytes → AppendsFront before after (drop c.args.skip c.args.kept.now.bytes) = λ given.
+    subst (λ (bytes : List ℕ). AppendsFront before after bytes) (c.in_ok-bytes.ensures.given (c.in_ok-prepare.ensures.ready given)) c.in_err-copy_bytes.ensures.front in
+    on_err _ front
+
+pub returns-clause-copied : goal.returns-clause-copied
+returns-clause-copied g c = record {
+  bytes = c.in_ok-bytes.bytes.now;
+  many = c.in_ok-bytes.ensures.sized;
+  same = λ given. c.in_ok-bytes.ensures.given (c.in_ok-prepare.ensures.ready given);
+  digested = c.copy_bytes.ensures.digested;
+  written = c.in_ok-copy_bytes.ensures.all;
+}

@@ -1,0 +1,40 @@
+//! Runs rows over the bytes of files that are read again from drives over memory, for their digest
+//! and when they are written. It prints the rows that gave something else than wanted.
+#![tactic(auto)]
+
+mod bodies;
+mod fields;
+
+use br_trial_rows::{Case, Rows, fields_of};
+use std::io::{self, BufRead, BufReader};
+
+/// Does what a call says and prints what it gave.
+fn run(case: &mut Case, fields: &[&str]) {
+    match fields {
+        ["body", names, kind, volumes, later, changed, parts @ ..] => {
+            bodies::run(case, names, [kind, volumes], [later, changed], parts)
+        }
+        _ => case.fail("there is no such call"),
+    }
+}
+
+/// Runs the row of a line, if it has one.
+fn run_line(rt: &HostRuntime, rows: &mut Rows, line: &str) -> io::Result<()> {
+    let Some(row) = rows.read(rt, line)? else {
+        return Ok(());
+    };
+    let mut case = Case::new(rt.alloc());
+    match fields_of(rt.alloc(), row.call) {
+        Ok(fields) => run(&mut case, &fields),
+        Err(_fault) => case.fail("out of memory"),
+    }
+    rows.compare(rt, row, &case)
+}
+
+fn main(rt: HostRuntime) -> io::Result<()> {
+    let mut rows = Rows::new(rt.alloc());
+    for line in BufReader::new(rt.alloc(), rt.reader())?.lines(rt.alloc()) {
+        run_line(&rt, &mut rows, line?.as_str())?;
+    }
+    rows.end(&rt)
+}
