@@ -20,6 +20,7 @@ use Rattle.br_rows.specs.Load.{read_history, read_loaded}
 use Rattle.br_rows.specs.Rows.{Rows}
 use Rattle.br_store.specs.Held.{HasTables, layout_in, name_at, rows_in, tree_named}
 use Rattle.br_store.specs.Made.{is_first}
+use Rattle.br_store.specs.declared.renew.MovedFile.{MovedFile}
 
 -- the schema that is made of that of version 1
 abbrev pub moved_schema : Schema
@@ -73,6 +74,10 @@ written shown = column shown 0 ∷ Null ∷ drop 1 shown
 abbrev pub cells : ℤ → ℤ → ℤ → ℤ → List ℕ → List ℕ → List ℕ → Row
 cells id index job path name lstat digest =
     Int id ∷ Int index ∷ Int job ∷ Int path ∷ Blob name ∷ Text lstat ∷ Text digest ∷ []
+
+-- the same of a row that was read
+abbrev pub cells_of : MovedFile → Row
+cells_of f = cells f.id f.index f.job f.path f.name.now f.lstat.now f.digest.now
 
 -- the values in the first seven columns of a row
 abbrev pub first_seven : Row → Row

@@ -8,7 +8,7 @@ ghost use Rattle.sqlite.specs.State.{KeepsCommit};
 ghost use Rattle.br_store.specs.Calls.{BorrowsSame, CommitsNothing, InCatalogue, InOld, InTransaction};
 ghost use Rattle.br_store.specs.Held.{Wrote, rows_in};
 ghost use Rattle.br_store.specs.Made.{is_first};
-ghost use Rattle.br_store.specs.Old.{AreMoved, CanFollow, IsReadOld, Migrates, PutsFiles, Replaces, cells, first_seven};
+ghost use Rattle.br_store.specs.Old.{AreMoved, CanFollow, IsReadOld, Migrates, PutsFiles, Replaces, cells_of, first_seven};
 ghost use Rattle.br_store.specs.Old.{moved_schema, renewed, written};
 
 use br_rows::StoreFault;
@@ -76,7 +76,7 @@ fn text_at(row: &Row, at: usize) -> Option<&[u8]>
 
 /// Returns the values of a row of File, if they have the types of their columns.
 fn moved_file(row: &Row) -> Option<MovedFile<'_>>
-    ensures { IfSome result (λ f. first_seven row.now ≡ cells f.id f.index f.job f.path f.name.now f.lstat.now f.digest.now) }
+    ensures { IfSome result (λ f. first_seven row.now ≡ cells_of f) }
 {
     Some(MovedFile {
         id: int_at(row, 0)?,
@@ -96,8 +96,7 @@ fn put_cells<'a, S: Alter>(
 ) -> Result<(), Error>
     ensures same_reference { BorrowsSame tx.old.conn tx.new.conn }
     ensures added { InCatalogue S.Store tx.old.conn.now tx.new.conn.now (λ old new.
-        (row : _) → row ≡ cells file.now.id file.now.index file.now.job file.now.path file.now.name.now file.now.lstat.now file.now.digest.now
-        → CanFollow old row → OnOk result (PutsFiles (written row ∷ []) old new)) }
+        (row : _) → row ≡ cells_of file.now → CanFollow old row → OnOk result (PutsFiles (written row ∷ []) old new)) }
     ensures kept { InTransaction S.Store tx.old.conn.now tx.new.conn.now (λ old new. OnErr result (KeepsCommit old new)) }
     ensures survives { CommitsNothing S.Store tx.old.conn.now tx.new.conn.now }
 {
