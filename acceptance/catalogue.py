@@ -1,6 +1,6 @@
 #!/usr/bin/env python3
-"""Restores from a catalogue that the real sqlite3 made, with a delivery into a folder and without, and has sqlite3 check a
-catalogue that the program made.
+"""Restores from a catalogue that the real sqlite3 made, with a delivery into a folder and without, migrates one of version 1,
+and has sqlite3 check a catalogue that the program made.
 
     acceptance/catalogue.py                    needs sqlite3, and the program in crates/brestore/out
     acceptance/catalogue.py --program FILE     another program
@@ -10,6 +10,7 @@ The status is 1 if something is not as expected.
 
 import argparse
 import os
+import shutil
 import subprocess
 import sys
 import tempfile
@@ -21,7 +22,8 @@ from common import CASES, ORDER_SQL, PROGRAM, SETS, Checks
 from delivered import delivery, tree_of
 
 VOLUMES = os.path.join(SETS, "order")
-TABLES = "Client File FileSet Filename Job JobMedia Media Path Version".split()
+TABLES = "Client File FileSet Job JobMedia Media Path Version".split()
+VERSION_1_SQL = ORDER_SQL.replace("order.sql", "order_version_1.sql")
 
 
 def manifest_of(case):
@@ -57,6 +59,10 @@ class ConsoleChecks(Checks):
         words = ["console", "--db", db, "--volumes", VOLUMES, "--client", client, "--fileset", fileset, "--before", before]
         words += ["--into", into] if into else []
         ran = subprocess.run([self.program, *words], input=lines, capture_output=True, text=True)
+        return ran.returncode, ran.stdout, ran.stderr
+
+    def migrate(self, db):
+        ran = subprocess.run([self.program, "migrate", "--db", db], input="", capture_output=True, text=True)
         return ran.returncode, ran.stdout, ran.stderr
 
 
@@ -118,7 +124,8 @@ def refuses(checks, folder):
     """Tries files that are no catalogue."""
     for name, sql, number in [
         ("a catalogue of version 3", "UPDATE Version SET VersionId = 3;", 47),
-        ("two versions", "INSERT INTO Version VALUES (1);", 47),
+        ("a catalogue of version 1 with tables of version 2", "UPDATE Version SET VersionId = 1;", 48),
+        ("two versions", "INSERT INTO Version VALUES (2);", 47),
         ("a span number that skips", "UPDATE JobMedia SET VolIndex = 2 WHERE JobId = 3;", 47),
         ("a digest of 31 digits", "UPDATE File SET MD5 = substr(MD5, 2) WHERE FileId = 1;", 47),
         ("numbers that are twelve", "UPDATE File SET LStat = 'A A A A A A A A A A A A' WHERE FileId = 1;", 47),
@@ -133,6 +140,13 @@ def refuses(checks, folder):
         sqlite3(db, sql)
         checks.check(name, checks.console(db), (1, "", f"refused {number}\n"))
         os.remove(db)
+    old = os.path.join(folder, "old.db")
+    with open(VERSION_1_SQL) as text:
+        sqlite3(old, text.read())
+    checks.check("a catalogue of version 1", checks.console(old), (1, "", "refused 48\n"))
+    checks.check("keeps its version", sqlite3(old, "SELECT * FROM Version;"), "1\n")
+    sqlite3(old, "UPDATE Version SET VersionId = 2;")
+    checks.check("a catalogue of version 2 with tables of version 1", checks.console(old), (1, "", "refused 45\n"))
     missing = os.path.join(folder, "missing.db")
     checks.check("a file that is not there", checks.console(missing), (1, "", "refused 45\n"))
     checks.check("and is not made", os.path.exists(missing), False)
@@ -144,6 +158,69 @@ def refuses(checks, folder):
         checks.check("and keeps them", file.read(), text)
 
 
+def takes(checks, folder):
+    """Restores from catalogues to which somebody added something of his own."""
+    for name, sql in [
+        ("an index", "CREATE INDEX FilesOfJobs ON File(JobId);"),
+        ("statistics", "ANALYZE;"),
+        ("a view", "CREATE VIEW Paths AS SELECT CAST(Path AS TEXT) || CAST(Filename AS TEXT) FROM File JOIN Path USING (PathId);"),
+        ("a table", "CREATE TABLE Notes(JobId INTEGER, Note TEXT); INSERT INTO Notes VALUES (1, 'x');"),
+    ]:
+        db = os.path.join(folder, "own.db")
+        with open(ORDER_SQL) as text:
+            sqlite3(db, text.read())
+        sqlite3(db, sql)
+        for before, printed in answers().items():
+            checks.check(f"a catalogue with {name}, before {before}", checks.console(db, before=before), (0, printed, ""))
+        os.remove(db)
+
+
+# All that the rows of a catalogue of either version say, as sqlite3 shows it.
+JOBS = """SELECT * FROM Job JOIN Client USING (ClientId) JOIN FileSet USING (FileSetId) ORDER BY JobId;
+SELECT * FROM JobMedia JOIN Media USING (MediaId) ORDER BY JobMediaId;"""
+OLD_FILES = """SELECT FileId, FileIndex, JobId, hex(Path), hex(Name), LStat, MD5 FROM File
+JOIN Path USING (PathId) JOIN Filename USING (FilenameId) ORDER BY FileId;"""
+FILES = "SELECT FileId, FileIndex, JobId, hex(Path), hex(Filename), LStat, MD5 FROM File JOIN Path USING (PathId) ORDER BY FileId;"
+
+
+def migrates(checks, folder):
+    """Migrates a catalogue of version 1, and restores from it."""
+    db, copy = os.path.join(folder, "migrated.db"), os.path.join(folder, "copy.db")
+    with open(VERSION_1_SQL) as text:
+        sqlite3(db, text.read())
+    rows = sqlite3(db, JOBS + OLD_FILES)
+    checks.check("a migration", checks.migrate(db), (0, "migrated 3\n", ""))
+    shutil.copy(db, copy)
+    checks.check("the rows in the file alone", sqlite3(copy, JOBS + FILES), rows)
+    checks.check("its version", sqlite3(copy, "SELECT * FROM Version;"), "2\n")
+    names = sqlite3(copy, "SELECT name FROM sqlite_master WHERE type = 'table' ORDER BY name;").split()
+    checks.check("its tables", names, TABLES)
+    checks.check("its integrity", sqlite3(copy, "PRAGMA integrity_check; PRAGMA foreign_key_check;"), "ok\n")
+    for before, text in answers().items():
+        checks.check(f"a migrated catalogue, before {before}", checks.console(db, before=before), (0, text, ""))
+    checks.check("a second migration", checks.migrate(db), (1, "", "refused 47\n"))
+    checks.check("of a file that is not there", checks.migrate(os.path.join(folder, "missing.db")), (1, "", "refused 45\n"))
+    empty = os.path.join(folder, "nothing.db")
+    open(empty, "w").close()
+    checks.check("of an empty file", checks.migrate(empty), (1, "", "refused 47\n"))
+    for name, sql, number in [
+        ("two versions", "INSERT INTO Version VALUES (1);", 47),
+        ("a name that is a text", "UPDATE Filename SET Name = 'f1' WHERE FilenameId = 1;", 47),
+        ("a span number that skips", "UPDATE JobMedia SET VolIndex = 2 WHERE JobId = 3;", 47),
+        ("a row that points nowhere", "DELETE FROM Filename WHERE FilenameId = 1;", 45),
+        ("an index of somebody's own", "CREATE INDEX FilesOfJobs ON File(JobId);", 45),
+    ]:
+        other = os.path.join(folder, "refused.db")
+        with open(VERSION_1_SQL) as text:
+            sqlite3(other, text.read() + sql)
+        dump = sqlite3(other, ".dump")
+        checks.check(f"a migration with {name}", checks.migrate(other), (1, "", f"refused {number}\n"))
+        checks.check("changes nothing", sqlite3(other, ".dump"), dump)
+        for file in os.listdir(folder):
+            if file.startswith("refused.db"):
+                os.remove(os.path.join(folder, file))
+
+
 def makes(checks, folder):
     """Checks a catalogue that the program makes of an empty file."""
     db = os.path.join(folder, "empty.db")
@@ -152,7 +229,7 @@ def makes(checks, folder):
     checks.check("PRAGMA integrity_check", sqlite3(db, "PRAGMA integrity_check;"), "ok\n")
     names = sqlite3(db, "SELECT name FROM sqlite_master WHERE type = 'table' ORDER BY name;").split()
     checks.check("its tables", names, TABLES)
-    checks.check("its version", sqlite3(db, "SELECT * FROM Version;"), "1\n")
+    checks.check("its version", sqlite3(db, "SELECT * FROM Version;"), "2\n")
 
 
 def main():
@@ -163,6 +240,8 @@ def main():
         restores(checks, folder)
         delivers(checks, folder)
         refuses(checks, folder)
+        takes(checks, folder)
+        migrates(checks, folder)
         makes(checks, folder)
     return 1 if checks.failed else 0
 

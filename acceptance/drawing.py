@@ -327,7 +327,7 @@ def store_job(connection, job):
     for path, index, numbers in job["files"]:
         cut = path.rindex(b"/") + 1
         lstat = "" if numbers is None else b" ".join(base64_of(number) for number in numbers).decode()
-        row = [index, job["id"], number_of(connection, "Path", "Path", path[:cut]), number_of(connection, "Filename", "Name", path[cut:]), lstat, ""]
+        row = [index, job["id"], number_of(connection, "Path", "Path", path[:cut]), path[cut:], lstat, ""]
         connection.execute("INSERT INTO File VALUES (NULL, ?, ?, ?, ?, ?, ?)", row)
 
 

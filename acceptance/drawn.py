@@ -159,7 +159,7 @@ class Trial:
         catalogue = os.path.join(self.folder, "catalogue")
         with contextlib.closing(sqlite3.connect(catalogue)) as connection:
             connection.executescript("".join(line for line in Path(ORDER_SQL).read_text().split("INSERT")[:1]))
-            connection.execute("INSERT INTO Version VALUES (1)")
+            connection.execute("INSERT INTO Version VALUES (2)")
             for job in jobs if dice.random() < 0.5 else reversed(jobs):
                 store_job(connection, job)
             connection.commit()

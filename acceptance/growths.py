@@ -451,7 +451,7 @@ def filled_catalogue(folder, jobs=None):
     """Returns the file of a catalogue of these jobs, or of those in catalogues/order.sql."""
     catalogue, text = os.path.join(folder, "catalogue"), Path(ORDER_SQL).read_text()
     with contextlib.closing(sqlite3.connect(catalogue)) as connection:
-        connection.executescript(text if jobs is None else text.split("INSERT")[0] + "INSERT INTO Version VALUES (1);")
+        connection.executescript(text if jobs is None else text.split("INSERT")[0] + "INSERT INTO Version VALUES (2);")
         for job in jobs or []:
             store_job(connection, job)
         connection.commit()

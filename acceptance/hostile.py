@@ -392,7 +392,7 @@ def circles(runs):
     job["files"] = [(path, index, numbers[index - 1]) for index, (path, _) in enumerate(paths, 1)]
     job["spans"] = [(b"V", 1, 9, 0, len(volume) - 1)]
     other = job | {"id": 2, "session": (2, 100), "level": "I", "start": 200}
-    catalogue = new_catalogue(runs, "x.db", Path(ORDER_SQL).read_text().split("INSERT")[0] + "INSERT INTO Version VALUES (1);")
+    catalogue = new_catalogue(runs, "x.db", Path(ORDER_SQL).read_text().split("INSERT")[0] + "INSERT INTO Version VALUES (2);")
     with contextlib.closing(sqlite3.connect(catalogue)) as connection:
         store_job(connection, job)
         store_job(connection, other)

@@ -178,16 +178,18 @@ def refusals(checks, folder):
         ran = subprocess.run([checks.program, "serve", *words], input=volume, capture_output=True, timeout=60)
         checks.check(f"serve with {words[0]} alone", (ran.returncode, ran.stdout, bool(ran.stderr)), (2, b"", True))
     checks.check("makes no catalogue", os.path.exists(place.catalogue), False)
+    old = ORDER_SQL.replace("order.sql", "order_version_1.sql")
     changes = {
-        "a catalogue of version 3": ("UPDATE Version SET VersionId = 3", 47),
-        "a span number that skips": ("UPDATE JobMedia SET VolIndex = 2 WHERE JobId = 3", 47),
-        "a row that points nowhere": ("DELETE FROM Path WHERE PathId = 1", 45),
-        "a missing table": ("DROP TABLE JobMedia", 45),
+        "a catalogue of version 3": (ORDER_SQL, "UPDATE Version SET VersionId = 3", 47),
+        "a catalogue of version 1": (old, "", 48),
+        "a span number that skips": (ORDER_SQL, "UPDATE JobMedia SET VolIndex = 2 WHERE JobId = 3", 47),
+        "a row that points nowhere": (ORDER_SQL, "DELETE FROM Path WHERE PathId = 1", 45),
+        "a missing table": (ORDER_SQL, "DROP TABLE JobMedia", 45),
     }
-    for name, (change, number) in changes.items():
+    for name, (tables, change, number) in changes.items():
         Path(place.catalogue).unlink(missing_ok=True)
         with contextlib.closing(sqlite3.connect(place.catalogue)) as connection:
-            connection.executescript(Path(ORDER_SQL).read_text() + change)
+            connection.executescript(Path(tables).read_text() + change)
         checks.check(name, place.serve(checks.program, volume), (1, b"", b"refused %d\n" % number))
         checks.check("no line is read", volumes_of(place.volumes), {})
     Path(place.catalogue).write_bytes(b"no database" * 1000)

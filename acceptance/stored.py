@@ -20,13 +20,12 @@ SELECTS = {
         FROM Job JOIN Client USING (ClientId) JOIN FileSet USING (FileSetId) ORDER BY JobId""",
     "JobMedia": """SELECT JobId, VolumeName, MediaType, FirstIndex, LastIndex, StartFile, EndFile, StartBlock, EndBlock, VolIndex
         FROM JobMedia JOIN Media USING (MediaId) ORDER BY JobId, VolIndex""",
-    "File": """SELECT JobId, FileIndex, CAST(Path AS BLOB), CAST(Name AS BLOB), LStat, MD5
-        FROM File JOIN Path USING (PathId) JOIN Filename USING (FilenameId) ORDER BY FileId""",
+    "File": """SELECT JobId, FileIndex, CAST(Path AS BLOB), CAST(Filename AS BLOB), LStat, MD5
+        FROM File JOIN Path USING (PathId) ORDER BY FileId""",
     "Client": "SELECT Name FROM Client ORDER BY Name",
     "FileSet": "SELECT FileSet FROM FileSet ORDER BY FileSet",
     "Media": "SELECT VolumeName FROM Media ORDER BY VolumeName",
     "Path": "SELECT CAST(Path AS BLOB) FROM Path ORDER BY Path",
-    "Filename": "SELECT CAST(Name AS BLOB) FROM Filename ORDER BY Name",
 }
 
 
@@ -52,7 +51,7 @@ def file_rows(job):
 def rows_by(jobs):
     """Returns the rows that a catalogue of these jobs must have, by the second reading of scripts."""
     by_number = sorted(jobs, key=lambda job: job["id"])
-    rows = {"Version": [(1,)]}
+    rows = {"Version": [(2,)]}
     rows["Job"] = [
         (it["id"], it["type"], it["level"], it["client"].decode(), it["status"], it["start"], it["fileset"].decode(), *it["session"])
         for it in by_number
@@ -63,7 +62,6 @@ def rows_by(jobs):
     rows["FileSet"] = names(job["fileset"].decode() for job in jobs)
     rows["Media"] = names(row[1] for row in rows["JobMedia"])
     rows["Path"] = names(row[2] for row in rows["File"])
-    rows["Filename"] = names(row[3] for row in rows["File"])
     return rows
 
 

@@ -39,8 +39,8 @@ FIRST_JOB = 1000
 ROWS = (
     "SELECT * FROM Job ORDER BY JobId",
     "SELECT JobId, VolumeName, FirstIndex, LastIndex, VolIndex FROM JobMedia JOIN Media USING (MediaId) ORDER BY JobId, VolIndex",
-    """SELECT JobId, FileIndex, CAST(Path AS BLOB), CAST(Name AS BLOB), LStat, MD5
-    FROM File JOIN Path USING (PathId) JOIN Filename USING (FilenameId) ORDER BY FileId""",
+    """SELECT JobId, FileIndex, CAST(Path AS BLOB), CAST(Filename AS BLOB), LStat, MD5
+    FROM File JOIN Path USING (PathId) ORDER BY FileId""",
 )
 
 
@@ -117,9 +117,8 @@ def insert(db, job, count, spans):
         db.execute("INSERT INTO JobMedia VALUES (NULL, ?, ?, ?, ?, ?, ?, ?, ?, ?)", (FIRST_JOB + job, media, *rest, place))
     lstat = STAT.decode()
     for index, (path, name, data) in enumerate(files_of(job, count), 1):
-        numbers = number_of(db, known, "Path", "Path", path), number_of(db, known, "Filename", "Name", name)
-        row = (index, FIRST_JOB + job, *numbers, lstat, hashlib.md5(data).hexdigest())
-        db.execute("INSERT INTO File (FileIndex, JobId, PathId, FilenameId, LStat, MD5) VALUES (?, ?, ?, ?, ?, ?)", row)
+        row = (index, FIRST_JOB + job, number_of(db, known, "Path", "Path", path), name, lstat, hashlib.md5(data).hexdigest())
+        db.execute("INSERT INTO File (FileIndex, JobId, PathId, Filename, LStat, MD5) VALUES (?, ?, ?, ?, ?, ?)", row)
     db.execute("COMMIT")
 
 

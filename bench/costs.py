@@ -196,7 +196,7 @@ CONSOLES = {
 
 def connected(file):
     connection = sqlite3.connect(file)
-    connection.executescript(Path(ORDER_SQL).read_text().split("INSERT")[0] + "INSERT INTO Version VALUES (1);")
+    connection.executescript(Path(ORDER_SQL).read_text().split("INSERT")[0] + "INSERT INTO Version VALUES (2);")
     connection.executescript("INSERT INTO Client VALUES (1, 'c'); INSERT INTO FileSet VALUES (1, 'f'); INSERT INTO Media VALUES (1, 'V', 'File');")
     return connection
 
@@ -218,8 +218,7 @@ def many_spans(connection, count):
 def many_files(connection, count):
     insert_job(connection, 1)
     connection.execute("INSERT INTO Path VALUES (1, CAST('/' AS BLOB))")
-    connection.executemany("INSERT INTO Filename VALUES (?, ?)", ((it, b"%x" % it) for it in range(1, count)))
-    rows = ((it, it, NUMBERS.decode()) for it in range(1, count))
+    rows = ((it, b"%x" % it, NUMBERS.decode()) for it in range(1, count))
     connection.executemany("INSERT INTO File VALUES (NULL, ?, 1, 1, ?, ?, '')", rows)
 
 
@@ -227,8 +226,7 @@ def long_names(connection, count):
     """Names of 4,000 letters that end in another one."""
     insert_job(connection, 1)
     connection.execute("INSERT INTO Path VALUES (1, CAST('/' AS BLOB))")
-    connection.executemany("INSERT INTO Filename VALUES (?, ?)", ((it, b"a" * 4000 + b"%x" % it) for it in range(1, count)))
-    rows = ((it, it, NUMBERS.decode()) for it in range(1, count))
+    rows = ((it, b"a" * 4000 + b"%x" % it, NUMBERS.decode()) for it in range(1, count))
     connection.executemany("INSERT INTO File VALUES (NULL, ?, 1, 1, ?, ?, '')", rows)
 
 
@@ -236,14 +234,13 @@ def same_files(connection, count):
     """Deletions of one path again and again."""
     insert_job(connection, 1)
     connection.execute("INSERT INTO Path VALUES (1, CAST('/' AS BLOB))")
-    connection.execute("INSERT INTO Filename VALUES (1, CAST('a' AS BLOB))")
-    connection.executemany("INSERT INTO File VALUES (NULL, 0, 1, 1, 1, '', '')", (() for _ in range(count)))
+    connection.executemany("INSERT INTO File VALUES (NULL, 0, 1, 1, CAST('a' AS BLOB), '', '')", (() for _ in range(count)))
 
 
 def long_texts(connection, count):
     """Deletions with a text of numbers that is not read."""
     same_files(connection, 0)
-    connection.executemany("INSERT INTO File VALUES (NULL, 0, 1, 1, 1, ?, '')", (("x" * 10_000,) for _ in range(count // 250)))
+    connection.executemany("INSERT INTO File VALUES (NULL, 0, 1, 1, CAST('a' AS BLOB), ?, '')", (("x" * 10_000,) for _ in range(count // 250)))
 
 
 CATALOGUES = {many_jobs: 40, many_spans: 40, many_files: 60, same_files: 17, long_texts: 40}

@@ -32,7 +32,7 @@ DIGEST = "07" * 16
 SELECTS = (
     "SELECT * FROM Job JOIN Client USING (ClientId) JOIN FileSet USING (FileSetId) ORDER BY JobId",
     "SELECT * FROM JobMedia JOIN Media USING (MediaId) ORDER BY JobId, VolIndex",
-    "SELECT JobId, FileIndex, Path, Name, LStat, MD5 FROM File JOIN Path USING (PathId) JOIN Filename USING (FilenameId) ORDER BY FileId",
+    "SELECT JobId, FileIndex, Path, Filename, LStat, MD5 FROM File JOIN Path USING (PathId) ORDER BY FileId",
 )
 
 
@@ -48,16 +48,13 @@ def number_at(place):
 
 
 def put_files(db, count):
-    """Inserts the rows of the Full's files, and each path and name once."""
-    known = {"Path": {}, "Filename": {}}
+    """Inserts the rows of the Full's files, and each path once."""
+    known = {}
     for place in range(count):
         path, _, name = path_of(number_at(place)).encode().rpartition(b"/")
-        row = []
-        for table, column, value in (("Path", "Path", path + b"/"), ("Filename", "Name", name)):
-            if value not in known[table]:
-                known[table][value] = db.execute(f"INSERT INTO {table} ({column}) VALUES (?)", (value,)).lastrowid
-            row.append(known[table][value])
-        db.execute("INSERT INTO File (FileIndex, JobId, PathId, FilenameId, LStat, MD5) VALUES (?, 1, ?, ?, ?, ?)", (place + 1, *row, NUMBERS, DIGEST))
+        if path not in known:
+            known[path] = db.execute("INSERT INTO Path (Path) VALUES (?)", (path + b"/",)).lastrowid
+        db.execute("INSERT INTO File (FileIndex, JobId, PathId, Filename, LStat, MD5) VALUES (?, 1, ?, ?, ?, ?)", (place + 1, known[path], name, NUMBERS, DIGEST))
 
 
 def make(file, count):
@@ -66,7 +63,7 @@ def make(file, count):
     for statement in tables():
         db.execute(statement)
     db.execute("BEGIN")
-    db.execute("INSERT INTO Version VALUES (1)")
+    db.execute("INSERT INTO Version VALUES (2)")
     db.execute("INSERT INTO Client VALUES (1, 'mars')")
     db.execute("INSERT INTO FileSet VALUES (1, 'home')")
     db.execute("INSERT INTO Media VALUES (1, 'Vol-0001', 'File')")

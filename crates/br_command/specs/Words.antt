@@ -31,12 +31,13 @@ pub data Goal : Type 0 where
 
 -- a command of the program: a script; a script, a catalogue's file and the folder of the volumes; a bootstrap's file, the folder of the
 -- volumes, where the files go, the number of drives, and what else is done; a catalogue's file, the folder of the volumes, client, file
--- set and moment, where the files go and the number of drives; a number; all numbers
+-- set and moment, where the files go and the number of drives; a catalogue's file; a number; all numbers
 pub data Asked : Type 0 where
   Serve : Asked
   ServeFiles : Text → Text → Asked
   Extract : Text → Text → Goal → ℕ → Wanted → Asked
   Console : Text → Text → Text → Text → Text → Goal → ℕ → Asked
+  Migrate : Text → Asked
   Explain : ℕ → Asked
   ExplainAll : Asked
 
@@ -54,6 +55,7 @@ asked (commands.ServeFiles o) = ServeFiles o.db.now o.volumes.now
 asked (commands.Extract o) = Extract o.bsr.now o.volumes.now (target o.target) o.drives o.wanted
 asked (commands.Console o) =
     Console o.db.now o.volumes.now o.client.now o.fileset.now o.before.now (target o.target) o.drives
+asked (commands.Migrate db) = Migrate db.now
 asked (commands.Explain number) = Explain number
 asked commands.ExplainAll = ExplainAll
 
@@ -119,6 +121,10 @@ explain_app = with_rule (new_app (codes "explain")) number_rule
 unfoldable pub serve_app : App
 serve_app = with_rule (with_rule (new_app (codes "serve")) (value_rule (codes "db") false)) (value_rule (codes "volumes") false)
 
+-- `migrate --db FILE`
+unfoldable pub migrate_app : App
+migrate_app = with_rule (new_app (codes "migrate")) (value_rule (codes "db") true)
+
 -- the program with its version and the command `extract`
 unfoldable pub extracting_app : App
 extracting_app = with_subcommand (on_top (λ s. record s { has_version = true }) (new_app (codes "brestore"))) extract_app.top
@@ -128,8 +134,12 @@ unfoldable pub restoring_app : App
 restoring_app = with_subcommand extracting_app console_app.top
 
 -- the program also has the commands `explain` and `serve`
+unfoldable pub serving_app : App
+serving_app = with_subcommand (with_subcommand restoring_app explain_app.top) serve_app.top
+
+-- the program also has the command `migrate`
 unfoldable pub program_app : App
-program_app = with_subcommand (with_subcommand restoring_app explain_app.top) serve_app.top
+program_app = with_subcommand serving_app migrate_app.top
 
 -- the number that a text is, if it is one from `low` to `high`
 abbrev pub number_in : ℕ → ℕ → Text → Option ℕ
@@ -230,6 +240,10 @@ serve_by None (Some volumes) = None
 unfoldable pub serve_asked : List Row → Option Asked
 serve_asked rows = serve_by (first_of (codes "db") rows) (first_of (codes "volumes") rows)
 
+-- the command `migrate` by the value that was found for its option
+unfoldable pub migrate_asked : List Row → Option Asked
+migrate_asked rows = option_map Migrate (first_of (codes "db") rows)
+
 -- the command by the name of the subcommand and what was found for its options; with no subcommand it is a script
 unfoldable pub asked_by : Option (Text × List Row) → Option Asked
 asked_by None = Some Serve
@@ -238,6 +252,7 @@ asked_by (Some (name, rows)) =
     else if bytes_eq name (codes "console") then console_asked rows
     else if bytes_eq name (codes "explain") then explain_asked rows
     else if bytes_eq name (codes "serve") then serve_asked rows
+    else if bytes_eq name (codes "migrate") then migrate_asked rows
     else None
 
 -- the command that words ask for, the first of which is the program's name

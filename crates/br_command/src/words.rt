@@ -7,10 +7,12 @@ ghost use Rattle.br_options.specs.Options.{AreFew, HasDrives};
 ghost use Rattle.br_command.specs.Words.{copies_asked, copies_by, gaps_asked, gaps_by, is_given, wanted_asked};
 ghost use Rattle.br_command.specs.Words.{flag_rule, with_wanted_rules};
 ghost use Rattle.br_command.specs.Words.{AsksFor, MissesBy, asked, asked_by, words_asked, words_fault, words_kind, with_run_rules};
-ghost use Rattle.br_command.specs.Words.{console_asked, drives_asked, explain_asked, extract_asked, number_asked, serve_asked, serve_by, target_asked};
+ghost use Rattle.br_command.specs.Words.{console_asked, drives_asked, explain_asked, extract_asked, migrate_asked, number_asked, serve_asked, serve_by};
+ghost use Rattle.br_command.specs.Words.{target_asked};
 ghost use Rattle.br_command.specs.Words.{kind_by, kind_in, tar_target, target, target_by, with_target_rules};
 ghost use Rattle.br_command.specs.Words.{console_app, console_jobs_app, console_start_app, explain_app, extract_app};
-ghost use Rattle.br_command.specs.Words.{drives_rule, extracting_app, number_rule, program_app, restoring_app, serve_app, value_rule};
+ghost use Rattle.br_command.specs.Words.{drives_rule, extracting_app, migrate_app, number_rule, program_app, restoring_app, serve_app, serving_app};
+ghost use Rattle.br_command.specs.Words.{value_rule};
 
 use br_options::{
     ConsoleOptions, Copies, ExtractOptions, Gaps, Invocation, ServeOptions, Target, Wanted,
@@ -241,6 +243,16 @@ fn serve_command<'a>(alloc: Global) -> Result<Command<'a>, AllocError>
         .arg(value_option(alloc, "volumes", "DIR", false, volumes))
 }
 
+/// Returns `migrate` with its option.
+fn migrate_command<'a>(alloc: Global) -> Result<Command<'a>, AllocError>
+    ensures app { IfOk result (λ command. app_of command ≡ migrate_app) }
+    ensures local { IfOk result (λ command. (fields_of command).has_globals ≡ false) }
+{
+    Command::new(alloc, "migrate")
+        .about("Makes a catalogue of version 1 one of version 2")
+        .arg(value_option(alloc, "db", "FILE", true, "The file of the catalogue"))
+}
+
 /// Returns the program with its command `extract`.
 fn extracting<'a>(alloc: Global) -> Result<Command<'a>, AllocError>
     ensures app { IfOk result (λ command. app_of command ≡ extracting_app) }
@@ -262,13 +274,22 @@ fn restoring<'a>(alloc: Global) -> Result<Command<'a>, AllocError>
     extracting(alloc)?.subcommand(console)
 }
 
-/// Returns the program with its commands.
-fn program<'a>(alloc: Global) -> Result<Command<'a>, AllocError>
-    ensures { IfOk result (λ command. app_of command ≡ program_app) }
+/// Returns the program with its commands but `migrate`.
+fn serving<'a>(alloc: Global) -> Result<Command<'a>, AllocError>
+    ensures app { IfOk result (λ command. app_of command ≡ serving_app) }
+    ensures local { IfOk result (λ command. (fields_of command).has_globals ≡ false) }
 {
     let explain = explain_command(alloc)?;
     let serve = serve_command(alloc)?;
     restoring(alloc)?.subcommand(explain)?.subcommand(serve)
+}
+
+/// Returns the program with its commands.
+fn program<'a>(alloc: Global) -> Result<Command<'a>, AllocError>
+    ensures { IfOk result (λ command. app_of command ≡ program_app) }
+{
+    let migrate = migrate_command(alloc)?;
+    serving(alloc)?.subcommand(migrate)
 }
 
 /// Returns what was found for an option.
@@ -455,6 +476,15 @@ fn serve_found<'a>(found: &ArgMatches<'a>) -> Option<Invocation<'a>>
     serve_by(value_of(found, "db"), value_of(found, "volumes"))
 }
 
+/// Returns `migrate` with the file that was found, if it was.
+#[tactic(auto, unfolding(crate::specs::Words::migrate_asked))]
+fn migrate_found<'a>(found: &ArgMatches<'a>) -> Option<Invocation<'a>>
+    ensures asked { option_map asked result ≡ migrate_asked (rows_of (found_of found.now)) }
+    ensures drives { IfSome result HasDrives }
+{
+    Some(Invocation::Migrate(value_of(found, "db")?))
+}
+
 /// Returns the name of the subcommand that was found, and what was found for its options.
 fn found_command<'m, 'a>(matches: &'m ArgMatches<'a>) -> Option<(&'a str, &'m ArgMatches<'a>)>
     ensures { subcommand_rows_of matches.now ≡ option_map (λ p. (p.0.now, rows_of (found_of p.1.now))) result }
@@ -474,6 +504,7 @@ fn invocation_of<'a>(matches: &ArgMatches<'a>) -> Option<Invocation<'a>>
         Some((name, found)) if name == "console" => console_found(found),
         Some((name, found)) if name == "explain" => explain_found(found),
         Some((name, found)) if name == "serve" => serve_found(found),
+        Some((name, found)) if name == "migrate" => migrate_found(found),
         Some(_) => None,
     }
 }
@@ -545,8 +576,9 @@ fn read_by<'a>(command: &mut Command<'a>, words: &'a [String]) -> Result<Invocat
 /// Reads the words of a command line, of which the first is the program's name.
 ///
 /// The commands are `extract --bsr FILE --volumes DIR`, `console --db FILE --volumes DIR --client NAME --fileset NAME
-/// --before MOMENT`, `explain [N]` and `serve`. The first two also take `--into DIR` or `--tar FILE`, and `--drives N`; the first takes
-/// `--newest` and `--complete`; the last takes `--db FILE` and `--volumes DIR`, both or neither. No command is the same as `serve`.
+/// --before MOMENT`, `migrate --db FILE`, `explain [N]` and `serve`. The first two also take `--into DIR` or `--tar FILE`, and
+/// `--drives N`; the first takes `--newest` and `--complete`; the last takes `--db FILE` and `--volumes DIR`, both or neither. No command
+/// is the same as `serve`.
 ///
 /// # Errors
 ///

@@ -240,6 +240,14 @@ fn scripts_over_files_are_asked_for(rt: HostRuntime) -> Result<(), Fail> {
 }
 
 #[test]
+fn a_migration_is_asked_for(rt: HostRuntime) -> Result<(), Fail> {
+    let lines = ["brestore migrate --db j.db", "brestore migrate --db=j.db"];
+    let other = first_other(rt.alloc(), &lines, &Invocation::Migrate("j.db"))?;
+    assert_eq!(rt; other, None);
+    Ok(())
+}
+
+#[test]
 fn catalogue_and_volumes_are_given_together(rt: HostRuntime) -> Result<(), Fail> {
     let alone = [
         "brestore serve --db j.db",
@@ -415,7 +423,7 @@ fn drives_are_named_once_and_if_volumes_are_read(rt: HostRuntime) -> Result<(), 
     Ok(())
 }
 
-const REFUSED: [&str; 31] = [
+const REFUSED: [&str; 35] = [
     "brestore x",
     "brestore --bsr x",
     "brestore serve x",
@@ -445,6 +453,10 @@ const REFUSED: [&str; 31] = [
     "brestore console --db j.db --volumes d --client mars --fileset home --before 2026-11-22 --bsr x",
     "brestore console --db j.db --volumes d --client mars --fileset home --before 2026-11-22 --into=",
     "brestore console --db j.db --volumes d --client mars --fileset home --into e",
+    "brestore migrate",
+    "brestore migrate j.db",
+    "brestore migrate --db=",
+    "brestore migrate --db j.db --volumes d",
     "brestore explain 13 14",
     "brestore explain --bsr x",
 ];
@@ -465,6 +477,7 @@ fn help_is_given(rt: HostRuntime) -> Result<(), Fail> {
         ("brestore console --help", ErrorKind::DisplayHelp),
         ("brestore explain --help", ErrorKind::DisplayHelp),
         ("brestore serve --help", ErrorKind::DisplayHelp),
+        ("brestore migrate --help", ErrorKind::DisplayHelp),
         ("brestore --version", ErrorKind::DisplayVersion),
     ] {
         let answer = fault_of(rt.alloc(), line)?;

@@ -9,6 +9,7 @@ mod console;
 mod explaining;
 mod extract;
 mod folders;
+mod migrating;
 mod status;
 mod tar;
 

@@ -115,6 +115,8 @@ impl<'c> Catalogue for OneCatalogue<'c> {
 
     ghost opens = { λ _ _ _. ⊤ };
 
+    ghost migrates = { λ _ _ _. ⊤ };
+
     fn open(&self, db: &str) -> Result<OneJob<'c>, CatalogueFault> {
         if db != self.db {
             return Err(CatalogueFault::Unreadable);
@@ -131,5 +133,12 @@ impl<'c> Catalogue for OneCatalogue<'c> {
             return Err(CatalogueFault::Unreadable);
         }
         history_of(self.alloc, self.second).ok_or(CatalogueFault::BadCatalogue)
+    }
+
+    fn migrate(&self, db: &str) -> Result<u64, CatalogueFault> {
+        if db != self.db {
+            return Err(CatalogueFault::Unreadable);
+        }
+        Ok(1)
     }
 }

@@ -293,6 +293,8 @@ impl Catalogue for NewCatalogues<'_> {
 
     ghost opens = { λ _ _ _. ⊤ };
 
+    ghost migrates = { λ _ _ _. ⊤ };
+
     fn open(&self, _db: &str) -> Result<Forgetful, CatalogueFault> {
         Err(CatalogueFault::Unreadable)
     }
@@ -302,6 +304,10 @@ impl Catalogue for NewCatalogues<'_> {
             Ok(()) => Err(CatalogueFault::BadCatalogue),
             Err(_) => Err(CatalogueFault::Memory),
         }
+    }
+
+    fn migrate(&self, _db: &str) -> Result<u64, CatalogueFault> {
+        Err(CatalogueFault::Unreadable)
     }
 }
 

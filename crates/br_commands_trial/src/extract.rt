@@ -302,11 +302,17 @@ impl Catalogue for NoCatalogue {
 
     ghost opens = { λ _ _ _. ⊤ };
 
+    ghost migrates = { λ _ _ _. ⊤ };
+
     fn open(&self, _db: &str) -> Result<Forgetful, CatalogueFault> {
         Err(CatalogueFault::Unreadable)
     }
 
     fn load(&self, _db: &str) -> Result<History, CatalogueFault> {
+        Err(CatalogueFault::Unreadable)
+    }
+
+    fn migrate(&self, _db: &str) -> Result<u64, CatalogueFault> {
         Err(CatalogueFault::Unreadable)
     }
 }

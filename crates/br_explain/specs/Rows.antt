@@ -101,8 +101,11 @@ all_rows =
     (codes "The job is in the catalogue, but restores do not see it yet.")
     (codes "In a script, free memory and commit again, which publishes the job first.") ∷
     row_with 47 (codes "BadCatalogue")
-    (codes "The catalogue is not of version 1, or its rows contradict each other.")
-    (codes "Try another copy, or restore by a bootstrap with `extract`; a catalogue that Bacula made cannot be used.") ∷
+    (codes "The catalogue is not of version 2, for `migrate` not of version 1, or its rows contradict each other.")
+    (codes "If `migrate` says it, try `console`; else try another copy, or restore by a bootstrap with `extract`; a catalogue that Bacula made cannot be used.") ∷
+    row_with 48 (codes "OldCatalogue")
+    (codes "The catalogue is of version 1, which this program no longer reads as it is.")
+    (codes "Keep a copy of the file, and make it version 2 with `migrate`.") ∷
     row_with 50 (codes "NoFull")
     (codes "No good Full backup of this client and file set began before the moment.")
     (codes "Choose a later moment, in UTC, or restore by a bootstrap with `extract`.") ∷

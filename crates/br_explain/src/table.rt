@@ -1,7 +1,7 @@
 use crate::refusal::Refusal;
 
 /// The refusals and the outcomes, in order of number.
-pub const REFUSALS: [Refusal; 53] = [
+pub const REFUSALS: [Refusal; 54] = [
     Refusal {
         number: 1,
         name: "Memory",
@@ -167,8 +167,14 @@ pub const REFUSALS: [Refusal; 53] = [
     Refusal {
         number: 47,
         name: "BadCatalogue",
-        meaning: "The catalogue is not of version 1, or its rows contradict each other.",
-        next: "Try another copy, or restore by a bootstrap with `extract`; a catalogue that Bacula made cannot be used.",
+        meaning: "The catalogue is not of version 2, for `migrate` not of version 1, or its rows contradict each other.",
+        next: "If `migrate` says it, try `console`; else try another copy, or restore by a bootstrap with `extract`; a catalogue that Bacula made cannot be used.",
+    },
+    Refusal {
+        number: 48,
+        name: "OldCatalogue",
+        meaning: "The catalogue is of version 1, which this program no longer reads as it is.",
+        next: "Keep a copy of the file, and make it version 2 with `migrate`.",
     },
     Refusal {
         number: 50,

@@ -1,6 +1,6 @@
 -- What the calls of a store of jobs make of its database.
 use Rattle.std.specs.Prelude.{ℕ, List, Option, Some, None, Result, OnOk, IsTrue}
-use Rattle.sqlite.specs.Held.{Held, state}
+use Rattle.sqlite.specs.Held.{Held}
 use Rattle.sqlite_trees.specs.declared.store.Store.{Ghosts}
 use Rattle.br_model.specs.Answer.{Answers}
 use Rattle.br_model.specs.Job.{JobRows}
@@ -12,11 +12,12 @@ use Rattle.br_store.specs.Calls.{AddsJob, CommitsNothing, IsCommitted, IsDurable
 use Rattle.br_keeper.specs.declared.job_store.JobStoreFault.{JobStoreFault}
 use Rattle.br_keeper.specs.declared.job_store.JobStoreFault.TheVariants.{Memory, Store, BadCatalogue}
 
--- why a store refused, as a keeper sees it
+-- why a store refused, as a keeper sees it; a store that is open is not of version 1
 abbrev pub of_fault : StoreFault → JobStoreFault
 of_fault store.Memory = Memory
 of_fault (store.Store why) = Store
 of_fault store.BadCatalogue = BadCatalogue
+of_fault store.OldCatalogue = Store
 
 -- the refusal that the rows have; none if memory ran out or the database failed
 abbrev pub load_cause : JobStoreFault → Option ℕ

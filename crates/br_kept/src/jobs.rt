@@ -14,7 +14,7 @@ fn kept_fault(fault: StoreFault) -> JobStoreFault
 {
     match fault {
         StoreFault::Memory => JobStoreFault::Memory,
-        StoreFault::Store(_) => JobStoreFault::Store,
+        StoreFault::Store(_) | StoreFault::OldCatalogue => JobStoreFault::Store,
         StoreFault::BadCatalogue => JobStoreFault::BadCatalogue,
     }
 }

@@ -85,6 +85,8 @@ pub enum Invocation<'a> {
     Extract(ExtractOptions<'a>),
     /// Runs a console session over the jobs of a catalogue, and restores what was marked.
     Console(ConsoleOptions<'a>),
+    /// Makes the catalogue of version 1 in this file one of version 2.
+    Migrate(&'a str),
     /// Explains the number of a refusal or of an outcome.
     Explain(u32),
     /// Explains all numbers.

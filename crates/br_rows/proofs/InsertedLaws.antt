@@ -284,7 +284,7 @@ whole_is_read spans files k w s f =
     ∙ read_each read_file (file_row k.row.id) k.files (weaken (λ (x : FileRow) (i : IsFile x). file_ok k.row.id x i.index i.path i.lstat i.digest) k.files w.files) in
     rw (spans_read, files_read, numbered_stay 1 k.spans (are_numbered k w.fit), w.fit) refl
 
-versions_are : (jobs : List JobRows) → (rows_of jobs).versions ≡ (Int (pos 1) ∷ []) ∷ []
+versions_are : (jobs : List JobRows) → (rows_of jobs).versions ≡ (Int (pos 2) ∷ []) ∷ []
 unfolding rows_of
 versions_are [] = refl
 versions_are (j ∷ jobs) = versions_are jobs

@@ -15,7 +15,7 @@ use Rattle.br_history.specs.declared.fault.HistoryFault.{HistoryFault}
 use Rattle.br_history.specs.declared.fault.HistoryFault.TheVariants as rows
 use Rattle.br_history.proofs.ClashLaws.{no_pair_push}
 use Rattle.br_rows.specs.declared.fault.StoreFault.{StoreFault}
-use Rattle.br_rows.specs.declared.fault.StoreFault.TheVariants.{Memory, Store, BadCatalogue}
+use Rattle.br_rows.specs.declared.fault.StoreFault.TheVariants.{Memory, Store, BadCatalogue, OldCatalogue}
 use Rattle.br_rows.specs.Fault.{cause, of_history_fault}
 use Rattle.br_rows.specs.Decode.{small}
 use Rattle.br_rows.specs.Load.{read_all, is_read, is_of, has_job, by_job, if_apart}
@@ -97,6 +97,7 @@ pub same_refusal : {X Y : Type 0} (e : StoreFault) (q : Result X ℕ) (p : Resul
 same_refusal Memory q p f h = tt
 same_refusal (Store why) q p f h = tt
 same_refusal BadCatalogue q p f h = f h
+same_refusal OldCatalogue q p f h = f h
 
 pub refused_lacks : (b : Bool) → refuse_if {E = ℕ} (not b) 47 ≡ Err 47 → b ≡ false
 refused_lacks true e = absurd cc

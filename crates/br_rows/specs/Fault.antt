@@ -6,19 +6,22 @@ use Rattle.br_history.specs.declared.fault.HistoryFault.TheVariants as rows
 use Rattle.br_types.specs.declared.fault.NameFault.{NameFault}
 use Rattle.br_types.specs.declared.fault.NameFault.TheVariants as names
 use Rattle.br_rows.specs.declared.fault.StoreFault.{StoreFault}
-use Rattle.br_rows.specs.declared.fault.StoreFault.TheVariants.{Memory, Store, BadCatalogue}
+use Rattle.br_rows.specs.declared.fault.StoreFault.TheVariants.{Memory, Store, BadCatalogue, OldCatalogue}
 
 -- the number of a refusal
 abbrev pub fault_number : StoreFault → ℕ
 fault_number Memory = 1
 fault_number (Store why) = 45
 fault_number BadCatalogue = 47
+fault_number OldCatalogue = 48
 
--- the refusal that the rows have; none if memory ran out or the store failed
+-- the refusal that the rows have, which is that of a bad catalogue also for the rows of an old one;
+-- none if memory ran out or the store failed
 abbrev pub cause : StoreFault → Option ℕ
 cause Memory = None
 cause (Store why) = None
 cause BadCatalogue = Some 47
+cause OldCatalogue = Some 47
 
 -- a bad name or path is a bad catalogue, and out of memory stays so
 abbrev pub of_name_fault : NameFault → StoreFault

@@ -25,13 +25,13 @@ abbrev pub is_read : ℕ → Result ℕ ℕ → Bool
 is_read n (Ok m) = n == m
 is_read n (Err e) = false
 
--- 47 unless the number is 1
+-- 47 unless the number is 2
 unfoldable pub check_first : Value → Result (Unit {0}) ℕ
 check_first v = do
   n ← natural v
-  refuse_if (not (n == 1)) 47
+  refuse_if (not (n == 2)) 47
 
--- 47 unless there is one version, which is 1
+-- 47 unless there is one version, which is 2
 abbrev pub check_version : List Row → Result (Unit {0}) ℕ
 check_version (row ∷ []) = check_first (column row 0)
 check_version _ = Err 47
@@ -80,7 +80,7 @@ read_loaded job_rows span_rows file_rows = do
 
 -- The history of the rows of a catalogue: the jobs in the order of their rows, each with its spans
 -- in order of their numbers and its files in the order of their rows. 47 if the version is not the
--- one row 1, or the rows form no history.
+-- one row 2, or the rows form no history.
 unfoldable pub read_history : Rows → Result (List JobRows) ℕ
 read_history rows = do
   _ ← check_version rows.versions

@@ -47,6 +47,6 @@ with_file_row row rows = record rows { files = rows.files ++ row ∷ [] }
 abbrev pub with_rows : JobRows → Rows → Rows
 with_rows j rows = with_files j.row.id j.files (with_spans j.row.id j.spans (with_job j.row rows))
 
--- the rows of a catalogue of version 1 with no job
+-- the rows of a catalogue with no job, which is of version 2
 abbrev pub no_rows : Rows
-no_rows = record { versions = (Int (pos 1) ∷ []) ∷ []; jobs = []; spans = []; files = [] }
+no_rows = record { versions = (Int (pos 2) ∷ []) ∷ []; jobs = []; spans = []; files = [] }

@@ -19,11 +19,14 @@ pub enum StoreFault {
     Store(SqlError),
     #[error("the catalogue is of another version, or its rows form no history")]
     BadCatalogue,
+    #[error("the catalogue is of version 1")]
+    OldCatalogue,
 }
 
 impl StoreFault {
     /// Returns the number of the refusal: 1 if memory ran out while rows were read, 45 if the store
-    /// failed or refused, 47 if the catalogue is of another version or its rows form no history.
+    /// failed or refused, 47 if the catalogue is of another version or its rows form no history, 48
+    /// if it is of version 1 and has to be migrated.
     pub fn number(self) -> u32
         ensures { result ≡ fault_number self }
     {
@@ -31,6 +34,7 @@ impl StoreFault {
             StoreFault::Memory => 1,
             StoreFault::Store(_) => 45,
             StoreFault::BadCatalogue => 47,
+            StoreFault::OldCatalogue => 48,
         }
     }
 }

@@ -23,18 +23,18 @@ use std::alloc::{AllocError, Global};
 use std::collections::BTreeMap;
 use std::marker::Model;
 
-/// Returns `BadCatalogue` unless a row shows the number 1.
+/// Returns `BadCatalogue` unless a row shows the number 2.
 #[tactic(auto, unfolding(crate::specs::Load::check_first))]
 fn check_first(row: &Row) -> Result<(), StoreFault>
     ensures { Answers (λ u. u) cause result (load.check_first (column row.now 0)) }
 {
-    if natural_at(row, 0)? != 1 {
+    if natural_at(row, 0)? != 2 {
         return Err(StoreFault::BadCatalogue);
     }
     Ok(())
 }
 
-/// Returns `BadCatalogue` unless there is one version, which is 1.
+/// Returns `BadCatalogue` unless there is one version, which is 2.
 fn check_version(rows: &[Row]) -> Result<(), StoreFault>
     ensures { Answers (λ u. u) cause result (load.check_version rows.now) }
 {
@@ -241,7 +241,7 @@ fn loaded(alloc: Global, jobs: &[Row], spans: &[Row], files: &[Row]) -> Result<H
 ///
 /// # Errors
 ///
-/// `BadCatalogue` if the version is not 1 or the rows form no history.
+/// `BadCatalogue` if the version is not 2 or the rows form no history.
 #[tactic(auto, unfolding(crate::specs::Load::read_history))]
 pub fn history_of(alloc: Global, rows: &CatalogueRows) -> Result<History, StoreFault>
     ensures { Answers (λ h. h) cause result (read_history rows.now) }

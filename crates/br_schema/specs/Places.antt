@@ -1,56 +1,31 @@
 -- The trees that hold the tables, and the places of the columns in their rows: the row's number
 -- comes first, then the columns in the order of the table.
-use Rattle.std.specs.Prelude.{ℕ}
+use Rattle.std.specs.Prelude.{◌≡◌, ◌⊎◌, ℕ}
 
--- ---- trees of tables and of their indexes
+-- the trees that hold the catalogue's tables
+pub record Layout : Type 0 where
+  pub version : ℕ
+  pub client : ℕ
+  pub fileset : ℕ
+  pub media : ℕ
+  pub path : ℕ
+  pub job : ℕ
+  pub job_media : ℕ
+  pub file : ℕ
 
-abbrev pub version_tree : ℕ
-version_tree = 0
+-- The trees of a new catalogue: a table has the number after those of the tables before it and of
+-- the indexes of their keys.
+abbrev pub new_layout : Layout
+new_layout = record { version = 0; client = 1; fileset = 3; media = 5; path = 7; job = 9; job_media = 11; file = 13 }
 
-abbrev pub client_tree : ℕ
-client_tree = 1
+-- The trees of a catalogue that was of version 1: the table of names between Path and Job is gone,
+-- and its number with it.
+abbrev pub moved_layout : Layout
+moved_layout = record { version = 0; client = 1; fileset = 3; media = 5; path = 7; job = 11; job_media = 13; file = 15 }
 
-abbrev pub client_index_tree : ℕ
-client_index_tree = 2
-
-abbrev pub fileset_tree : ℕ
-fileset_tree = 3
-
-abbrev pub fileset_index_tree : ℕ
-fileset_index_tree = 4
-
-abbrev pub media_tree : ℕ
-media_tree = 5
-
-abbrev pub media_index_tree : ℕ
-media_index_tree = 6
-
-abbrev pub path_tree : ℕ
-path_tree = 7
-
-abbrev pub path_index_tree : ℕ
-path_index_tree = 8
-
-abbrev pub filename_tree : ℕ
-filename_tree = 9
-
-abbrev pub filename_index_tree : ℕ
-filename_index_tree = 10
-
-abbrev pub job_tree : ℕ
-job_tree = 11
-
-abbrev pub job_index_tree : ℕ
-job_index_tree = 12
-
-abbrev pub job_media_tree : ℕ
-job_media_tree = 13
-
-abbrev pub job_media_index_tree : ℕ
-job_media_index_tree = 14
-
-abbrev pub file_tree : ℕ
-file_tree = 15
+-- the tables are in the trees of a new catalogue, or of one that was of version 1
+abbrev pub IsLayout : Layout → Type 0
+IsLayout l = (l ≡ new_layout) ⊎ (l ≡ moved_layout)
 
 -- ---- columns
 
@@ -61,7 +36,7 @@ row_number = 0
 abbrev pub version_id : ℕ
 version_id = 1
 
--- the name in the tables Client, FileSet, Media, Path and Filename
+-- the name in the tables Client, FileSet, Media and Path
 abbrev pub name_column : ℕ
 name_column = 2
 

@@ -63,22 +63,21 @@ abbrev pub orders_of : Option (Bor (List ℕ)) → List Order
 orders_of None = []
 orders_of (Some places) = record { digits = 0 } ∷ []
 
--- a table with this name and tree, and with no check, no computed default and no count
-abbrev pub bare : List ℕ → ℕ → Table → Table
-bare name tree table = record table {
+-- a table with this name, and with no check, no computed default and no count
+abbrev pub bare : List ℕ → Table → Table
+bare name table = record table {
   name = name;
-  tree = tree;
   checks = [];
   computed = [];
   stamps = record { places = []; terms = []; formats = [] };
   is_counted = false;
 }
 
--- the table of a shape, with no check, no computed default and no count
-abbrev pub table_of : TableShape → Table
-table_of s = record {
+-- the table of a shape in a tree, with no check, no computed default and no count
+abbrev pub table_of : TableShape → ℕ → Table
+table_of s tree = record {
   name = s.name.now;
-  tree = s.tree;
+  tree = tree;
   columns = map column_of s.columns.now;
   key = key_of s.is_keyed;
   primary = primary_of s.is_keyed;
@@ -90,3 +89,8 @@ table_of s = record {
   stamps = record { places = []; terms = []; formats = [] };
   is_counted = false;
 }
+
+-- the tables of shapes in their trees
+abbrev pub placed : List TableShape → List ℕ → List Table
+placed (s ∷ shapes) (tree ∷ trees) = table_of s tree ∷ placed shapes trees
+placed _ _ = []

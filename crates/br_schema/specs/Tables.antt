@@ -1,5 +1,5 @@
 -- The tables of the catalogue.
-use Rattle.std.specs.Prelude.{true, false, [], ◌∷◌, Some, None, codes, List, ℕ, map}
+use Rattle.std.specs.Prelude.{◌≡◌, true, false, [], ◌∷◌, ◌++◌, Some, None, codes, drop, List, ℕ, ◌+◌, map}
 use Rattle.sqlite.specs.Collation.TheVariants.{Binary}
 use Rattle.sqlite.specs.declared.types.Value.TheVariants.{Null}
 use Rattle.sqlite.specs.Table.{Table}
@@ -11,11 +11,12 @@ use Rattle.sqlite_schema.specs.declared.schema.Column.{Column}
 use Rattle.sqlite_schema.specs.declared.schema.Reference.{Reference}
 use Rattle.sqlite_schema.specs.declared.schema.Index.{Index}
 use Rattle.sqlite_schema.specs.declared.schema.Action.TheVariants.{NoAction}
-use Rattle.br_schema.specs.Places.{version_tree, client_tree, client_index_tree, fileset_tree, fileset_index_tree, media_tree, media_index_tree}
-use Rattle.br_schema.specs.Places.{path_tree, path_index_tree, filename_tree, filename_index_tree, job_tree, job_index_tree}
-use Rattle.br_schema.specs.Places.{job_media_tree, job_media_index_tree, file_tree, row_number, name_column}
+use Rattle.sqlite_schema.specs.declared.schema.View.{View}
+use Rattle.br_schema.specs.Places.{IsLayout, Layout, new_layout, row_number, name_column}
 use Rattle.br_schema.specs.Places.{job_client, job_fileset, job_session_id, job_session_time, span_job, span_media, span_vol_index}
-use Rattle.br_schema.specs.Places.{file_job, file_path, file_filename}
+use Rattle.br_schema.specs.Places.{file_job, file_path}
+
+-- ---- the texts that make the tables
 
 abbrev pub create_version : List ℕ
 create_version = codes "CREATE TABLE Version(VersionId INTEGER NOT NULL)"
@@ -32,9 +33,6 @@ create_media = codes "CREATE TABLE Media(MediaId INTEGER PRIMARY KEY, VolumeName
 abbrev pub create_path : List ℕ
 create_path = codes "CREATE TABLE Path(PathId INTEGER PRIMARY KEY, Path BLOB NOT NULL UNIQUE)"
 
-abbrev pub create_filename : List ℕ
-create_filename = codes "CREATE TABLE Filename(FilenameId INTEGER PRIMARY KEY, Name BLOB NOT NULL UNIQUE)"
-
 abbrev pub create_job : List ℕ
 create_job = codes "CREATE TABLE Job(JobId INTEGER PRIMARY KEY, Type TEXT NOT NULL, Level TEXT NOT NULL, ClientId INTEGER NOT NULL REFERENCES Client(ClientId), JobStatus TEXT NOT NULL, StartTime INTEGER NOT NULL, FileSetId INTEGER NOT NULL REFERENCES FileSet(FileSetId), VolSessionId INTEGER NOT NULL, VolSessionTime INTEGER NOT NULL, UNIQUE(VolSessionId, VolSessionTime))"
 
@@ -42,7 +40,9 @@ abbrev pub create_job_media : List ℕ
 create_job_media = codes "CREATE TABLE JobMedia(JobMediaId INTEGER PRIMARY KEY, JobId INTEGER NOT NULL REFERENCES Job(JobId), MediaId INTEGER NOT NULL REFERENCES Media(MediaId), FirstIndex INTEGER NOT NULL, LastIndex INTEGER NOT NULL, StartFile INTEGER NOT NULL, EndFile INTEGER NOT NULL, StartBlock INTEGER NOT NULL, EndBlock INTEGER NOT NULL, VolIndex INTEGER NOT NULL, UNIQUE(JobId, VolIndex))"
 
 abbrev pub create_file : List ℕ
-create_file = codes "CREATE TABLE File(FileId INTEGER PRIMARY KEY, FileIndex INTEGER NOT NULL, JobId INTEGER NOT NULL REFERENCES Job(JobId), PathId INTEGER NOT NULL REFERENCES Path(PathId), FilenameId INTEGER NOT NULL REFERENCES Filename(FilenameId), LStat TEXT NOT NULL, MD5 TEXT NOT NULL)"
+create_file = codes "CREATE TABLE File(FileId INTEGER PRIMARY KEY, FileIndex INTEGER NOT NULL, JobId INTEGER NOT NULL REFERENCES Job(JobId), PathId INTEGER NOT NULL REFERENCES Path(PathId), Filename BLOB NOT NULL, LStat TEXT NOT NULL, MD5 TEXT NOT NULL)"
+
+-- ---- the tables, each in its tree
 
 -- a column that is not null
 abbrev pub column : List ℕ → Kind → Column
@@ -81,10 +81,10 @@ keyed_table name tree columns uniques references = record {
 abbrev pub version_columns : List Column
 version_columns = column (codes "VersionId") Integer ∷ []
 
-abbrev pub version : Table
-version = record {
+abbrev pub version : ℕ → Table
+version tree = record {
   name = codes "Version";
-  tree = version_tree;
+  tree = tree;
   columns = version_columns;
   key = None;
   primary = [];
@@ -100,34 +100,28 @@ version = record {
 abbrev pub client_columns : List Column
 client_columns = key_column (codes "ClientId") ∷ column (codes "Name") Text ∷ []
 
-abbrev pub client : Table
-client = keyed_table (codes "Client") client_tree client_columns ((name_column ∷ []) ∷ []) []
+abbrev pub client : ℕ → Table
+client tree = keyed_table (codes "Client") tree client_columns ((name_column ∷ []) ∷ []) []
 
 abbrev pub fileset_columns : List Column
 fileset_columns = key_column (codes "FileSetId") ∷ column (codes "FileSet") Text ∷ []
 
-abbrev pub fileset : Table
-fileset = keyed_table (codes "FileSet") fileset_tree fileset_columns ((name_column ∷ []) ∷ []) []
+abbrev pub fileset : ℕ → Table
+fileset tree = keyed_table (codes "FileSet") tree fileset_columns ((name_column ∷ []) ∷ []) []
 
 abbrev pub media_columns : List Column
 media_columns =
     key_column (codes "MediaId") ∷ column (codes "VolumeName") Text
     ∷ column (codes "MediaType") Text ∷ []
 
-abbrev pub media : Table
-media = keyed_table (codes "Media") media_tree media_columns ((name_column ∷ []) ∷ []) []
+abbrev pub media : ℕ → Table
+media tree = keyed_table (codes "Media") tree media_columns ((name_column ∷ []) ∷ []) []
 
 abbrev pub path_columns : List Column
 path_columns = key_column (codes "PathId") ∷ column (codes "Path") Any ∷ []
 
-abbrev pub path : Table
-path = keyed_table (codes "Path") path_tree path_columns ((name_column ∷ []) ∷ []) []
-
-abbrev pub filename_columns : List Column
-filename_columns = key_column (codes "FilenameId") ∷ column (codes "Name") Any ∷ []
-
-abbrev pub filename : Table
-filename = keyed_table (codes "Filename") filename_tree filename_columns ((name_column ∷ []) ∷ []) []
+abbrev pub path : ℕ → Table
+path tree = keyed_table (codes "Path") tree path_columns ((name_column ∷ []) ∷ []) []
 
 abbrev pub job_columns : List Column
 job_columns =
@@ -139,8 +133,8 @@ job_columns =
 abbrev pub job_references : List Reference
 job_references = refers job_client (codes "Client") (codes "ClientId") ∷ refers job_fileset (codes "FileSet") (codes "FileSetId") ∷ []
 
-abbrev pub job : Table
-job = keyed_table (codes "Job") job_tree job_columns ((job_session_id ∷ job_session_time ∷ []) ∷ []) job_references
+abbrev pub job : ℕ → Table
+job tree = keyed_table (codes "Job") tree job_columns ((job_session_id ∷ job_session_time ∷ []) ∷ []) job_references
 
 abbrev pub job_media_columns : List Column
 job_media_columns =
@@ -153,75 +147,126 @@ job_media_columns =
 abbrev pub job_media_references : List Reference
 job_media_references = refers span_job (codes "Job") (codes "JobId") ∷ refers span_media (codes "Media") (codes "MediaId") ∷ []
 
-abbrev pub job_media : Table
-job_media = keyed_table (codes "JobMedia") job_media_tree job_media_columns ((span_job ∷ span_vol_index ∷ []) ∷ []) job_media_references
+abbrev pub job_media : ℕ → Table
+job_media tree = keyed_table (codes "JobMedia") tree job_media_columns ((span_job ∷ span_vol_index ∷ []) ∷ []) job_media_references
 
 abbrev pub file_columns : List Column
 file_columns =
     key_column (codes "FileId") ∷ column (codes "FileIndex") Integer
     ∷ column (codes "JobId") Integer ∷ column (codes "PathId") Integer
-    ∷ column (codes "FilenameId") Integer ∷ column (codes "LStat") Text
+    ∷ column (codes "Filename") Any ∷ column (codes "LStat") Text
     ∷ column (codes "MD5") Text ∷ []
 
 abbrev pub file_references : List Reference
 file_references =
-    refers file_job (codes "Job") (codes "JobId") ∷ refers file_path (codes "Path") (codes "PathId")
-    ∷ refers file_filename (codes "Filename") (codes "FilenameId") ∷ []
+    refers file_job (codes "Job") (codes "JobId") ∷ refers file_path (codes "Path") (codes "PathId") ∷ []
 
-abbrev pub file : Table
-file = keyed_table (codes "File") file_tree file_columns [] file_references
+abbrev pub file : ℕ → Table
+file tree = keyed_table (codes "File") tree file_columns [] file_references
+
+-- ---- schemas
+
+-- what a schema has beside the catalogue's tables: tables after them, indexes and views
+pub record Beside : Type 0 where
+  pub others : List Table
+  pub indexes : List Index
+  pub views : List View
+
+-- the catalogue's tables in these trees
+abbrev pub tables_at : Layout → List Table
+tables_at l = version l.version ∷ client l.client ∷ fileset l.fileset ∷ media l.media ∷ path l.path ∷ job l.job ∷ job_media l.job_media ∷ file l.file ∷ []
+
+-- a schema with the catalogue's tables in these trees, and what is beside them
+abbrev pub schema_at : Layout → Beside → Schema
+schema_at l beside = record { tables = tables_at l ++ beside.others; indexes = beside.indexes; views = beside.views }
+
+-- the tree of the first table
+abbrev pub first_tree : List Table → ℕ
+first_tree [] = 0
+first_tree (t ∷ tables) = t.tree
+
+-- the trees of the first tables of a schema, in their order
+abbrev pub layout_of : Schema → Layout
+layout_of schema = record {
+  version = first_tree schema.tables;
+  client = first_tree (drop 1 schema.tables);
+  fileset = first_tree (drop 2 schema.tables);
+  media = first_tree (drop 3 schema.tables);
+  path = first_tree (drop 4 schema.tables);
+  job = first_tree (drop 5 schema.tables);
+  job_media = first_tree (drop 6 schema.tables);
+  file = first_tree (drop 7 schema.tables);
+}
+
+-- what comes after the first eight tables of a schema, its indexes and its views
+abbrev pub beside_of : Schema → Beside
+beside_of schema = record { others = drop 8 schema.tables; indexes = schema.indexes; views = schema.views }
+
+-- the schema begins with the catalogue's tables in these trees
+abbrev pub IsSchemaAt : Layout → Schema → Type 0
+IsSchemaAt l schema = schema ≡ schema_at l (beside_of schema)
+
+-- the schema begins with the catalogue's tables
+abbrev pub IsStoreSchema : Schema → Type 0
+IsStoreSchema schema = IsSchemaAt (layout_of schema) schema × IsLayout (layout_of schema)
+
+-- ---- the schemas of a new catalogue, as its tables are made
+
+-- ---- indexes
 
 -- the index of a table that lets no two of its rows have the same values in these columns
 abbrev pub unique_index : List ℕ → ℕ → ℕ → List ℕ → Index
 unique_index name tree table places = record { name = name; tree = tree; table = table; columns = places; order = record { digits = 0 }; is_unique = true }
 
-abbrev pub client_index : Index
-client_index = unique_index (codes "sqlite_autoindex_Client_1") client_index_tree client_tree (name_column ∷ [])
+abbrev pub client_index : ℕ → Index
+client_index tree = unique_index (codes "sqlite_autoindex_Client_1") (tree + 1) tree (name_column ∷ [])
 
-abbrev pub fileset_index : Index
-fileset_index = unique_index (codes "sqlite_autoindex_FileSet_1") fileset_index_tree fileset_tree (name_column ∷ [])
+abbrev pub fileset_index : ℕ → Index
+fileset_index tree = unique_index (codes "sqlite_autoindex_FileSet_1") (tree + 1) tree (name_column ∷ [])
 
-abbrev pub media_index : Index
-media_index = unique_index (codes "sqlite_autoindex_Media_1") media_index_tree media_tree (name_column ∷ [])
+abbrev pub media_index : ℕ → Index
+media_index tree = unique_index (codes "sqlite_autoindex_Media_1") (tree + 1) tree (name_column ∷ [])
 
-abbrev pub path_index : Index
-path_index = unique_index (codes "sqlite_autoindex_Path_1") path_index_tree path_tree (name_column ∷ [])
+abbrev pub path_index : ℕ → Index
+path_index tree = unique_index (codes "sqlite_autoindex_Path_1") (tree + 1) tree (name_column ∷ [])
 
-abbrev pub filename_index : Index
-filename_index = unique_index (codes "sqlite_autoindex_Filename_1") filename_index_tree filename_tree (name_column ∷ [])
+abbrev pub job_index : ℕ → Index
+job_index tree = unique_index (codes "sqlite_autoindex_Job_1") (tree + 1) tree (job_session_id ∷ job_session_time ∷ [])
 
-abbrev pub job_index : Index
-job_index = unique_index (codes "sqlite_autoindex_Job_1") job_index_tree job_tree (job_session_id ∷ job_session_time ∷ [])
-
-abbrev pub job_media_index : Index
-job_media_index = unique_index (codes "sqlite_autoindex_JobMedia_1") job_media_index_tree job_media_tree (span_job ∷ span_vol_index ∷ [])
+abbrev pub job_media_index : ℕ → Index
+job_media_index tree = unique_index (codes "sqlite_autoindex_JobMedia_1") (tree + 1) tree (span_job ∷ span_vol_index ∷ [])
 
 abbrev pub no_schema : Schema
 no_schema = record { tables = []; indexes = []; views = [] }
 
 abbrev pub one_table : Schema
-one_table = record { tables = version ∷ []; indexes = []; views = [] }
+one_table = record { tables = version 0 ∷ []; indexes = []; views = [] }
 
 abbrev pub two_tables : Schema
-two_tables = record { tables = version ∷ client ∷ []; indexes = client_index ∷ []; views = [] }
+two_tables = record { tables = version 0 ∷ client 1 ∷ []; indexes = client_index 1 ∷ []; views = [] }
 
 abbrev pub three_tables : Schema
-three_tables = record { tables = version ∷ client ∷ fileset ∷ []; indexes = client_index ∷ fileset_index ∷ []; views = [] }
+three_tables = record { tables = version 0 ∷ client 1 ∷ fileset 3 ∷ []; indexes = client_index 1 ∷ fileset_index 3 ∷ []; views = [] }
 
 abbrev pub four_tables : Schema
-four_tables = record { tables = version ∷ client ∷ fileset ∷ media ∷ []; indexes = client_index ∷ fileset_index ∷ media_index ∷ []; views = [] }
+four_tables = record { tables = version 0 ∷ client 1 ∷ fileset 3 ∷ media 5 ∷ []; indexes = client_index 1 ∷ fileset_index 3 ∷ media_index 5 ∷ []; views = [] }
 
 abbrev pub five_tables : Schema
-five_tables = record { tables = version ∷ client ∷ fileset ∷ media ∷ path ∷ []; indexes = client_index ∷ fileset_index ∷ media_index ∷ path_index ∷ []; views = [] }
+five_tables = record { tables = version 0 ∷ client 1 ∷ fileset 3 ∷ media 5 ∷ path 7 ∷ []; indexes = client_index 1 ∷ fileset_index 3 ∷ media_index 5 ∷ path_index 7 ∷ []; views = [] }
 
 abbrev pub six_tables : Schema
-six_tables = record { tables = version ∷ client ∷ fileset ∷ media ∷ path ∷ filename ∷ []; indexes = client_index ∷ fileset_index ∷ media_index ∷ path_index ∷ filename_index ∷ []; views = [] }
+six_tables = record { tables = version 0 ∷ client 1 ∷ fileset 3 ∷ media 5 ∷ path 7 ∷ job 9 ∷ []; indexes = client_index 1 ∷ fileset_index 3 ∷ media_index 5 ∷ path_index 7 ∷ job_index 9 ∷ []; views = [] }
 
 abbrev pub seven_tables : Schema
-seven_tables = record { tables = version ∷ client ∷ fileset ∷ media ∷ path ∷ filename ∷ job ∷ []; indexes = client_index ∷ fileset_index ∷ media_index ∷ path_index ∷ filename_index ∷ job_index ∷ []; views = [] }
+seven_tables = record { tables = version 0 ∷ client 1 ∷ fileset 3 ∷ media 5 ∷ path 7 ∷ job 9 ∷ job_media 11 ∷ []; indexes = client_index 1 ∷ fileset_index 3 ∷ media_index 5 ∷ path_index 7 ∷ job_index 9 ∷ job_media_index 11 ∷ []; views = [] }
 
-abbrev pub eight_tables : Schema
-eight_tables = record { tables = version ∷ client ∷ fileset ∷ media ∷ path ∷ filename ∷ job ∷ job_media ∷ []; indexes = client_index ∷ fileset_index ∷ media_index ∷ path_index ∷ filename_index ∷ job_index ∷ job_media_index ∷ []; views = [] }
+-- the indexes of the keys, each in the tree after that of its table
+abbrev pub key_indexes : Layout → List Index
+key_indexes l = client_index l.client ∷ fileset_index l.fileset ∷ media_index l.media ∷ path_index l.path ∷ job_index l.job ∷ job_media_index l.job_media ∷ []
 
-abbrev pub store_schema : Schema
-store_schema = record { tables = version ∷ client ∷ fileset ∷ media ∷ path ∷ filename ∷ job ∷ job_media ∷ file ∷ []; indexes = client_index ∷ fileset_index ∷ media_index ∷ path_index ∷ filename_index ∷ job_index ∷ job_media_index ∷ []; views = [] }
+-- nothing but the indexes of the keys
+abbrev pub only_keys : Layout → Beside
+only_keys l = record { others = []; indexes = key_indexes l; views = [] }
+
+abbrev pub new_schema : Schema
+new_schema = schema_at new_layout (only_keys new_layout)

@@ -1,8 +1,8 @@
-//! The tables of the catalogue, and whether the schema of a database has these tables and no
-//! others.
+//! The tables of the catalogue and those of version 1, and whether the schema of a database has
+//! them.
 #![tactic(auto)]
 
 mod ours;
 mod shape;
 
-pub use ours::{is_empty, is_ours};
+pub use ours::{is_empty, is_old, is_ours};

@@ -1,11 +1,16 @@
-//! Whether a schema is the catalogue's.
+//! Whether a schema is the catalogue's, or that of version 1.
 
-ghost use Rattle.std.specs.Prelude.{◌≡◌, ◌↔◌, IsTrue, [], ◌∷◌, map};
+ghost use Rattle.std.specs.Prelude.{◌≡◌, ◌↔◌, IsTrue, [], ◌∷◌, ◌++◌, drop, length, map};
 ghost use Rattle.br_schema.specs.Shapes.{HasNoAction, any_column, bare, column_of, index_of, key_of, orders_of};
-ghost use Rattle.br_schema.specs.Shapes.{primary_of, reference_of, table_of, uniques_of};
-ghost use Rattle.br_schema.specs.Tables.{no_schema, store_schema};
+ghost use Rattle.br_schema.specs.Shapes.{placed, primary_of, reference_of, table_of, uniques_of};
+ghost use Rattle.br_schema.specs.Places.{IsLayout, Layout, moved_layout, new_layout};
+ghost use Rattle.br_schema.specs.Tables.{Beside, IsSchemaAt, IsStoreSchema, no_schema, schema_at};
+ghost use Rattle.br_schema.specs.Old.{old_schema};
 
-use crate::shape::{ColumnShape, INDEXES, IndexShape, ReferenceShape, TABLES, TableShape};
+use crate::shape::{
+    ColumnShape, IndexShape, MOVED_TREES, NEW_TREES, OLD_INDEXES, OLD_TABLES, OLD_TREES,
+    ReferenceShape, TABLES, TableShape,
+};
 use sqlite_schema::code::Terms;
 use sqlite_schema::schema::{Action, Column, Index, Kind, Reference, Schema, Stamps, Table};
 use sqlite_value::keys::{Collation, Order};
@@ -157,12 +162,11 @@ fn reads_no_time(stamps: &Stamps) -> bool
     stamps.places.is_empty() && has_none(&stamps.terms) && stamps.formats.is_empty()
 }
 
-/// Returns whether a table has this name and tree, and no check, computed default or count.
-fn is_bare(table: &Table, name: &[u8], tree: u32) -> bool
-    ensures { IsTrue result ↔ (table.now ≡ bare name.now tree table.now) }
+/// Returns whether a table has this name, and no check, computed default or count.
+fn is_bare(table: &Table, name: &[u8]) -> bool
+    ensures { IsTrue result ↔ (table.now ≡ bare name.now table.now) }
 {
     table.name.as_slice() == name
-        && table.tree == tree
         && has_none(&table.checks)
         && table.computed.is_empty()
         && reads_no_time(&table.stamps)
@@ -171,25 +175,37 @@ fn is_bare(table: &Table, name: &[u8], tree: u32) -> bool
 
 /// Returns whether a table has this shape.
 fn is_table(table: &Table, shape: &TableShape) -> bool
-    ensures { IsTrue result ↔ (table.now ≡ table_of shape.now) }
+    ensures { IsTrue result ↔ (table.now ≡ table_of shape.now table.now.tree) }
 {
-    is_bare(table, shape.name, shape.tree)
+    is_bare(table, shape.name)
         && are_columns(table.columns.as_slice(), shape.columns)
         && has_key(table, shape.is_keyed)
         && has_unique(table, shape.unique)
         && are_references(table.references.as_slice(), shape.references)
 }
 
-/// Returns whether tables have these shapes.
-fn are_tables(tables: &[Table], shapes: &[TableShape]) -> bool
-    ensures { IsTrue result ↔ (tables.now ≡ map table_of shapes.now) }
+/// Returns whether a table has this shape, and is in this tree.
+fn is_placed(table: &Table, shape: &TableShape, tree: u32) -> bool
+    ensures { IsTrue result ↔ (table.now ≡ table_of shape.now tree) }
 {
-    match tables {
-        [] => shapes.is_empty(),
-        [table, more @ ..] => match shapes {
-            [shape, others @ ..] => is_table(table, shape) && are_tables(more, others),
-            _ => false,
+    table.tree == tree && is_table(table, shape)
+}
+
+/// Returns whether tables have these shapes, and are in these trees.
+fn are_tables(tables: &[Table], shapes: &[TableShape], trees: &[u32]) -> bool
+    ensures { IsTrue result ↔ (tables.now ≡ placed shapes.now trees.now) }
+{
+    match shapes {
+        [shape, others @ ..] => match trees {
+            [tree, later @ ..] => match tables {
+                [table, more @ ..] => {
+                    is_placed(table, shape, *tree) && are_tables(more, others, later)
+                }
+                _ => false,
+            },
+            _ => tables.is_empty(),
         },
+        _ => tables.is_empty(),
     }
 }
 
@@ -218,13 +234,58 @@ fn are_indexes(indexes: &[Index], shapes: &[IndexShape]) -> bool
     }
 }
 
-/// Returns whether a schema has the catalogue's tables and indexes, and nothing else.
-pub fn is_ours(schema: &Schema) -> bool
-    ensures ours { IsTrue result → schema.now ≡ store_schema }
-    ensures known { schema.now ≡ store_schema → IsTrue result }
+/// Returns whether the first tables have these shapes, and are in these trees.
+fn begin_at(tables: &[Table], shapes: &[TableShape], trees: &[u32]) -> bool
+    ensures { IsTrue result ↔ (tables.now ≡ placed shapes.now trees.now ++ drop (length (placed shapes.now trees.now)) tables.now) }
 {
-    are_tables(schema.tables.as_slice(), &TABLES)
-        && are_indexes(schema.indexes.as_slice(), &INDEXES)
+    match shapes {
+        [shape, others @ ..] => match trees {
+            [tree, later @ ..] => match tables {
+                [table, more @ ..] => {
+                    is_placed(table, shape, *tree) && begin_at(more, others, later)
+                }
+                _ => false,
+            },
+            _ => true,
+        },
+        _ => true,
+    }
+}
+
+/// Returns whether a schema begins with the tables of a new catalogue.
+fn is_new(schema: &Schema) -> bool
+    ensures { IsTrue result ↔ IsSchemaAt new_layout schema.now }
+{
+    begin_at(schema.tables.as_slice(), &TABLES, &NEW_TREES)
+}
+
+/// Returns whether a schema begins with the tables of a catalogue that was of version 1.
+fn is_moved(schema: &Schema) -> bool
+    ensures { IsTrue result ↔ IsSchemaAt moved_layout schema.now }
+{
+    begin_at(schema.tables.as_slice(), &TABLES, &MOVED_TREES)
+}
+
+/// Returns whether a schema begins with the catalogue's tables, in the trees of a new catalogue or
+/// of one that was of version 1. There may be more tables after them, any indexes and any views.
+pub fn is_ours(schema: &Schema) -> bool
+    ensures ours { IsTrue result → IsStoreSchema schema.now }
+    ensures known { (l : Layout) (beside : Beside) → IsLayout l → schema.now ≡ schema_at l beside → IsTrue result }
+{
+    if is_new(schema) {
+        return true;
+    }
+    is_moved(schema)
+}
+
+/// Returns whether a schema has the tables of version 1 in the trees in which they are made, the
+/// indexes of their keys, and nothing else.
+pub fn is_old(schema: &Schema) -> bool
+    ensures old { IsTrue result → schema.now ≡ old_schema }
+    ensures known { schema.now ≡ old_schema → IsTrue result }
+{
+    are_tables(schema.tables.as_slice(), &OLD_TABLES, &OLD_TREES)
+        && are_indexes(schema.indexes.as_slice(), &OLD_INDEXES)
         && schema.views.is_empty()
 }
 

@@ -20,12 +20,11 @@ pub(crate) struct ReferenceShape {
     pub(crate) name: &'static [u8],
 }
 
-/// A table: its name, the tree that holds it, whether its first column is its key, its columns, the
-/// places of the columns in which its rows differ, if there are some, and its references.
+/// A table: its name, whether its first column is its key, its columns, the places of the columns in
+/// which its rows differ, if there are some, and its references.
 #[derive(Clone, Copy)]
 pub(crate) struct TableShape {
     pub(crate) name: &'static [u8],
-    pub(crate) tree: u32,
     pub(crate) is_keyed: bool,
     pub(crate) columns: &'static [ColumnShape],
     pub(crate) unique: Option<&'static [usize]>,
@@ -50,8 +49,6 @@ const FILESET_COLUMNS: [ColumnShape; 2] = [Key(b"FileSetId"), Text(b"FileSet")];
 const MEDIA_COLUMNS: [ColumnShape; 3] = [Key(b"MediaId"), Text(b"VolumeName"), Text(b"MediaType")];
 
 const PATH_COLUMNS: [ColumnShape; 2] = [Key(b"PathId"), Any(b"Path")];
-
-const FILENAME_COLUMNS: [ColumnShape; 2] = [Key(b"FilenameId"), Any(b"Name")];
 
 const JOB_COLUMNS: [ColumnShape; 9] = [
     Key(b"JobId"),
@@ -109,12 +106,112 @@ const FILE_COLUMNS: [ColumnShape; 7] = [
     Integer(b"FileIndex"),
     Integer(b"JobId"),
     Integer(b"PathId"),
+    Any(b"Filename"),
+    Text(b"LStat"),
+    Text(b"MD5"),
+];
+
+const FILE_REFERENCES: [ReferenceShape; 2] = [
+    ReferenceShape {
+        place: 3,
+        parent: b"Job",
+        name: b"JobId",
+    },
+    ReferenceShape {
+        place: 4,
+        parent: b"Path",
+        name: b"PathId",
+    },
+];
+
+const VERSION: TableShape = TableShape {
+    name: b"Version",
+    is_keyed: false,
+    columns: &VERSION_COLUMNS,
+    unique: None,
+    references: &[],
+};
+
+const CLIENT: TableShape = TableShape {
+    name: b"Client",
+    is_keyed: true,
+    columns: &CLIENT_COLUMNS,
+    unique: Some(&[2]),
+    references: &[],
+};
+
+const FILESET: TableShape = TableShape {
+    name: b"FileSet",
+    is_keyed: true,
+    columns: &FILESET_COLUMNS,
+    unique: Some(&[2]),
+    references: &[],
+};
+
+const MEDIA: TableShape = TableShape {
+    name: b"Media",
+    is_keyed: true,
+    columns: &MEDIA_COLUMNS,
+    unique: Some(&[2]),
+    references: &[],
+};
+
+const PATH: TableShape = TableShape {
+    name: b"Path",
+    is_keyed: true,
+    columns: &PATH_COLUMNS,
+    unique: Some(&[2]),
+    references: &[],
+};
+
+const JOB: TableShape = TableShape {
+    name: b"Job",
+    is_keyed: true,
+    columns: &JOB_COLUMNS,
+    unique: Some(&[8, 9]),
+    references: &JOB_REFERENCES,
+};
+
+const JOB_MEDIA: TableShape = TableShape {
+    name: b"JobMedia",
+    is_keyed: true,
+    columns: &JOB_MEDIA_COLUMNS,
+    unique: Some(&[2, 10]),
+    references: &JOB_MEDIA_REFERENCES,
+};
+
+const FILE: TableShape = TableShape {
+    name: b"File",
+    is_keyed: true,
+    columns: &FILE_COLUMNS,
+    unique: None,
+    references: &FILE_REFERENCES,
+};
+
+/// The catalogue's tables.
+pub(crate) const TABLES: [TableShape; 8] = [
+    VERSION, CLIENT, FILESET, MEDIA, PATH, JOB, JOB_MEDIA, FILE,
+];
+
+/// The trees of the tables of a new catalogue.
+pub(crate) const NEW_TREES: [u32; 8] = [0, 1, 3, 5, 7, 9, 11, 13];
+
+/// The trees of the tables of a catalogue that was of version 1.
+pub(crate) const MOVED_TREES: [u32; 8] = [0, 1, 3, 5, 7, 11, 13, 15];
+
+const FILENAME_COLUMNS: [ColumnShape; 2] = [Key(b"FilenameId"), Any(b"Name")];
+
+const OLD_FILE_COLUMNS: [ColumnShape; 7] = [
+    Key(b"FileId"),
+    Integer(b"FileIndex"),
+    Integer(b"JobId"),
+    Integer(b"PathId"),
     Integer(b"FilenameId"),
     Text(b"LStat"),
     Text(b"MD5"),
 ];
 
-const FILE_REFERENCES: [ReferenceShape; 3] = [
+const OLD_FILE_REFERENCES: [ReferenceShape; 3] = [
     ReferenceShape {
         place: 3,
         parent: b"Job",
@@ -132,84 +229,32 @@ const FILE_REFERENCES: [ReferenceShape; 3] = [
     },
 ];
 
-/// The catalogue's tables.
-pub(crate) const TABLES: [TableShape; 9] = [
-    TableShape {
-        name: b"Version",
-        tree: 0,
-        is_keyed: false,
-        columns: &VERSION_COLUMNS,
-        unique: None,
-        references: &[],
-    },
-    TableShape {
-        name: b"Client",
-        tree: 1,
-        is_keyed: true,
-        columns: &CLIENT_COLUMNS,
-        unique: Some(&[2]),
-        references: &[],
-    },
-    TableShape {
-        name: b"FileSet",
-        tree: 3,
-        is_keyed: true,
-        columns: &FILESET_COLUMNS,
-        unique: Some(&[2]),
-        references: &[],
-    },
-    TableShape {
-        name: b"Media",
-        tree: 5,
-        is_keyed: true,
-        columns: &MEDIA_COLUMNS,
-        unique: Some(&[2]),
-        references: &[],
-    },
-    TableShape {
-        name: b"Path",
-        tree: 7,
-        is_keyed: true,
-        columns: &PATH_COLUMNS,
-        unique: Some(&[2]),
-        references: &[],
-    },
-    TableShape {
-        name: b"Filename",
-        tree: 9,
-        is_keyed: true,
-        columns: &FILENAME_COLUMNS,
-        unique: Some(&[2]),
-        references: &[],
-    },
-    TableShape {
-        name: b"Job",
-        tree: 11,
-        is_keyed: true,
-        columns: &JOB_COLUMNS,
-        unique: Some(&[8, 9]),
-        references: &JOB_REFERENCES,
-    },
-    TableShape {
-        name: b"JobMedia",
-        tree: 13,
-        is_keyed: true,
-        columns: &JOB_MEDIA_COLUMNS,
-        unique: Some(&[2, 10]),
-        references: &JOB_MEDIA_REFERENCES,
-    },
-    TableShape {
-        name: b"File",
-        tree: 15,
-        is_keyed: true,
-        columns: &FILE_COLUMNS,
-        unique: None,
-        references: &FILE_REFERENCES,
-    },
+const FILENAME: TableShape = TableShape {
+    name: b"Filename",
+    is_keyed: true,
+    columns: &FILENAME_COLUMNS,
+    unique: Some(&[2]),
+    references: &[],
+};
+
+const OLD_FILE: TableShape = TableShape {
+    name: b"File",
+    is_keyed: true,
+    columns: &OLD_FILE_COLUMNS,
+    unique: None,
+    references: &OLD_FILE_REFERENCES,
+};
+
+/// The tables of version 1.
+pub(crate) const OLD_TABLES: [TableShape; 9] = [
+    VERSION, CLIENT, FILESET, MEDIA, PATH, FILENAME, JOB, JOB_MEDIA, OLD_FILE,
 ];
 
-/// The indexes of the catalogue's tables.
-pub(crate) const INDEXES: [IndexShape; 7] = [
+/// The trees of the tables of version 1.
+pub(crate) const OLD_TREES: [u32; 9] = [0, 1, 3, 5, 7, 9, 11, 13, 15];
+
+/// The indexes of the tables of version 1.
+pub(crate) const OLD_INDEXES: [IndexShape; 7] = [
     IndexShape {
         name: b"sqlite_autoindex_Client_1",
         tree: 2,

@@ -4,7 +4,7 @@ use Rattle.std.specs.List.{AllByRecursion}
 use Rattle.br_model.specs.Job.{JobRows}
 use Rattle.br_folder.specs.Folder.{InFolder}
 use Rattle.br_setup.specs.declared.catalogue.CatalogueFault.{CatalogueFault}
-use Rattle.br_setup.specs.declared.catalogue.CatalogueFault.TheVariants.{Memory, Unreadable, BadCatalogue}
+use Rattle.br_setup.specs.declared.catalogue.CatalogueFault.TheVariants.{Memory, Unreadable, BadCatalogue, OldCatalogue}
 
 -- each of the drives reads the volumes of this folder
 abbrev pub AreOver : List ℕ → List InFolder → Type 0
@@ -23,3 +23,4 @@ abbrev pub catalogue_number : CatalogueFault → ℕ
 catalogue_number Memory = 1
 catalogue_number Unreadable = 45
 catalogue_number BadCatalogue = 47
+catalogue_number OldCatalogue = 48

@@ -15,11 +15,13 @@ pub enum CatalogueFault {
     Unreadable,
     #[error("the catalogue is of another version, or its rows form no history")]
     BadCatalogue,
+    #[error("the catalogue is of version 1")]
+    OldCatalogue,
 }
 
 impl CatalogueFault {
     /// Returns the number of the refusal: 1 out of memory, 45 a catalogue that can't be read, 47 one of
-    /// another version or whose rows form no history.
+    /// another version or whose rows form no history, 48 one of version 1.
     pub fn number(self) -> u32
         ensures { result ≡ catalogue_number self }
     {
@@ -27,6 +29,7 @@ impl CatalogueFault {
             CatalogueFault::Memory => 1,
             CatalogueFault::Unreadable => 45,
             CatalogueFault::BadCatalogue => 47,
+            CatalogueFault::OldCatalogue => 48,
         }
     }
 }
@@ -45,6 +48,9 @@ pub trait Catalogue {
     /// What may be opened at a path.
     ghost opens: { Self → List ℕ → Self.Jobs → Type 0 };
 
+    /// The numbers of jobs that a catalogue at a path may have which is migrated.
+    ghost migrates: { Self → List ℕ → ℕ → Type 0 };
+
     /// Opens the catalogue at the path, or makes one without jobs if there is none.
     fn open(&self, db: &str) -> Result<Self::Jobs, CatalogueFault>
         ensures opened { IfOk result (opens self.now db.now) };
@@ -52,4 +58,8 @@ pub trait Catalogue {
     /// Loads all jobs of the catalogue at the path.
     fn load(&self, db: &str) -> Result<History, CatalogueFault>
         ensures loaded { IfOk result (λ history. AreJobs (jobs_at self.now db.now) history) };
+
+    /// Makes the catalogue of version 1 at the path one of version 2. Returns the number of its jobs.
+    fn migrate(&self, db: &str) -> Result<u64, CatalogueFault>
+        ensures migrated { IfOk result (migrates self.now db.now) };
 }

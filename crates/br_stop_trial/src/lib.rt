@@ -1,5 +1,5 @@
 //! What is left of a catalogue, and of the volumes beside it, if its disk stops while jobs are
-//! committed or its tables are made. There are only tests here.
+//! committed, its tables are made or it is migrated. There are only tests here.
 #![tactic(auto)]
 
 #[cfg(test)]
@@ -8,5 +8,7 @@ mod disk;
 mod jobs;
 #[cfg(test)]
 mod left;
+#[cfg(test)]
+mod migration_tests;
 #[cfg(test)]
 mod stop_tests;

@@ -23,7 +23,7 @@ pub all_push : {X : Type 0} (P : X → Type 0) (xs : List X) (x : X) → AllByRe
 all_push P [] x all p = (p, tt)
 all_push P (y ∷ xs) x all p = (all.0, all_push P xs x all.1 p)
 
-put_last : (new : Row) (rows : List Row) → ((r : Row) → Has rows r → value_cmp (rowid r) (rowid new) ≡ Less) → put_row new rows ≡ rows ++ new ∷ []
+pub put_last : (new : Row) (rows : List Row) → ((r : Row) → Has rows r → value_cmp (rowid r) (rowid new) ≡ Less) → put_row new rows ≡ rows ++ new ∷ []
 put_last new [] below = refl
 put_last new (r ∷ rows) below = rw (below r (inl refl)) (ap (λ x. r ∷ x) (put_last new rows (λ y h. below y (inr h))))
 

@@ -1,5 +1,5 @@
 -- A job that was added has a number and a session that no job before it had.
-use Rattle.std.proofs.Common.{◌≡◌, inl, inr, ℕ, pos, List, [], ◌∷◌, Bool, true, false, not, ◌&&◌, ◌||◌, cond, map, Some, IsTrue, Less, Equal, Greater, refl, sym, ap, ap₂, subst, ◌∙◌}
+use Rattle.std.proofs.Common.{◌≡◌, inl, inr, ℕ, pos, List, [], ◌∷◌, Bool, true, false, ◌&&◌, ◌||◌, cond, map, Some, IsTrue, Less, Equal, Greater, refl, sym, ap, ap₂, subst, ◌∙◌}
 use Rattle.std.specs.declared.cmp.Ordering.{Ordering}
 use Rattle.std.specs.Ordering.{is_eq, is_ne, match_ordering}
 use Rattle.std.proofs.lemmas.Bool.{and_from, or_parts}
@@ -10,19 +10,20 @@ use Rattle.sqlite.specs.Collation.TheVariants.{Binary}
 use Rattle.sqlite.specs.Order.{Row, column, value_cmp}
 use Rattle.sqlite.specs.Edit.{is_taken}
 use Rattle.sqlite.specs.Ops.{binary, is_null, is_true, from_truth}
-use Rattle.sqlite.specs.Tree.{Trees, rowid, put_row}
+use Rattle.sqlite.specs.Tree.{rowid, put_row}
 use Rattle.sqlite.specs.View.{is_int}
 use Rattle.sqlite.specs.Effect.{Database}
-use Rattle.sqlite_schema.specs.Rules.{Keeps, passes, clashes, agree, equal, differ}
-use Rattle.sqlite_schema.specs.declared.schema.Constraint.TheVariants.{Unique}
+use Rattle.sqlite_schema.specs.Rules.{clashes, agree, equal, differ}
+use Rattle.sqlite_catalog.specs.Listing.{IsSound}
+use Rattle.sqlite_catalog.proofs.AlterLemmas.{keys_are_unique}
 use Rattle.sqlite_value.specs.Keys.{plain, first_key}
 use Rattle.sqlite_value.proofs.OrderLemmas.{value_cmp_total}
 use Rattle.sqlite_rules.specs.Lists.{Has}
 use Rattle.sqlite_rules.proofs.ListLemmas.{all_has}
 use Rattle.br_model.specs.Job.{JobRow}
-use Rattle.br_schema.specs.Tables.{job, store_schema}
+use Rattle.br_schema.specs.Tables.{beside_of, job, schema_at}
 use Rattle.br_rows.specs.Inserted.{IsNewIn}
-use Rattle.br_store.specs.Held.{HasTables, Added, job_shown, rows_in}
+use Rattle.br_store.specs.Held.{HasTables, Added, job_shown, layout_in, rows_in}
 use Rattle.br_store.proofs.Values.{names_self}
 use Rattle.br_store.proofs.Joined.{any_true, put_keeps}
 
@@ -65,20 +66,15 @@ do_differ : (v w : Value) → is_null v ≡ false → is_null w ≡ false → is
 unfolding binary
 do_differ v w a b apart = if_apart (is_null v || is_null w) (value_cmp v w) (ap₂ ◌||◌ a b) apart
 
-guarded : (c : Bool) → (not c && true) ≡ true → c ≡ false
-guarded true h = absurd cc
-guarded false h = refl
-
 -- no other row has the session of a row that obeys the rule
-sessions_differ : (trees : Trees) (x row : Row) → passes Unique store_schema trees job row ≡ true → Has (trees 11) x → is_null (column row 8) ≡ false → is_null (column row 9) ≡ false
+sessions_differ : (rows : List Row) (x row : Row) → clashes plain (8 ∷ 9 ∷ []) rows row ≡ false → Has rows x → is_null (column row 8) ≡ false → is_null (column row 9) ≡ false
     → column x 8 ≡ column row 8 → column x 9 ≡ column row 9 → differ (rowid x) (rowid row) ≡ true → ⊥
 unfolding first_key
-sessions_differ trees x row ok has a b first second other =
+sessions_differ rows x row none has a b first second other =
     let places : List ℕ = 8 ∷ 9 ∷ [] in
-    let none : clashes plain places (trees 11) row ≡ false = guarded (clashes plain places (trees 11) row) ok in
     let one : equal Binary (column x 8) (column row 8) ≡ true = ap (λ v. equal Binary v (column row 8)) first ∙ names_self (column row 8) a in
     let two : equal Binary (column x 9) (column row 9) ≡ true = ap (λ v. equal Binary v (column row 9)) second ∙ names_self (column row 9) b in
-    let some : clashes plain places (trees 11) row ≡ true = any_true (λ y. agree plain places y places row && differ (rowid y) (rowid row)) (trees 11) x has
+    let some : clashes plain places rows row ≡ true = any_true (λ y. agree plain places y places row && differ (rowid y) (rowid row)) rows x has
     (and_from (equal Binary (column x 8) (column row 8) && (equal Binary (column x 9) (column row 9) && true)) (differ (rowid x) (rowid row))
     (and_from (equal Binary (column x 8) (column row 8)) (equal Binary (column x 9) (column row 9) && true) one (and_from (equal Binary (column x 9) (column row 9)) true two refl)) other) in
     let e = sym some ∙ none in
@@ -86,15 +82,18 @@ sessions_differ trees x row ok has a b first second other =
 
 -- a job whose row was added was new
 pub new_job : (j : JobRow) (id client fileset start session time : ℕ) (kind level status : List ℕ) (old new : Database) → id ≡ j.id → session ≡ j.session.id → time ≡ j.session.time → HasTables old
-    → Added 11 (Int (pos id) ∷ Null ∷ Text kind ∷ Text level ∷ Int (pos client) ∷ Text status ∷ Int (pos start) ∷ Int (pos fileset) ∷ Int (pos session) ∷ Int (pos time) ∷ []) old new
+    → Added (layout_in old.trees) (beside_of old.schema) (layout_in old.trees).job (Int (pos id) ∷ Null ∷ Text kind ∷ Text level ∷ Int (pos client) ∷ Text status ∷ Int (pos start) ∷ Int (pos fileset) ∷ Int (pos session) ∷ Int (pos time) ∷ []) old new
     → IsNewIn j (rows_in old.trees)
 new_job j id client fileset start session time kind level status old new e1 e2 e3 tables a =
     let row : Row = Int (pos id) ∷ Null ∷ Text kind ∷ Text level ∷ Int (pos client) ∷ Text status ∷ Int (pos start) ∷ Int (pos fileset) ∷ Int (pos session) ∷ Int (pos time) ∷ [] in
-    let jobs = old.trees 11 in
-    let f = job_shown (old.trees 1) (old.trees 3) in
-    let numbered = tables.shaped.1.1.1.1.1.1.0.1 in
-    let uniques = subst (λ s. Keeps Unique s new.trees) a.schema (a.sound.obeys.rules Unique) in
-    let ok = all_has _ (new.trees 11) row uniques.1.1.1.1.1.1.0 (subst (λ rows. Has rows row) (sym a.rows) (put_is_there row jobs a.fresh)) in
+    let l = layout_in old.trees in
+    let jobs = old.trees l.job in
+    let f = job_shown (old.trees l.client) (old.trees l.fileset) in
+    let numbered = tables.shaped.1.1.1.1.1.0.1 in
+    let b = beside_of old.schema in
+    let sound = subst (λ s. IsSound s new.trees) a.schema a.sound in
+    let here = subst (λ rows. Has rows row) (sym a.rows) (put_is_there row jobs a.fresh) in
+    let none = keys_are_unique (schema_at l b) new.trees (job l.job) 0 (8 ∷ 9 ∷ []) row sound (inr (inr (inr (inr (inr (inl refl)))))) refl here in
     record {
       number = λ r has is.
           let it = shown_of f jobs r has in
@@ -106,6 +105,6 @@ new_job j id client fileset start session time kind level status old new e1 e2 e
           let it = shown_of f jobs r has in
           let there = subst (λ rows. Has rows it.0) (sym a.rows) (put_keeps row jobs it.0 a.fresh it.1) in
           let other = do_differ (rowid it.0) (rowid row) (not_null (rowid it.0) (all_has _ jobs it.0 numbered it.1)) refl (other_number jobs it.0 row it.1 a.fresh) in
-          sessions_differ new.trees it.0 row ok there refl refl
+          sessions_differ (new.trees l.job) it.0 row none there refl refl
           (sym (ap (λ y. column y 7) it.2) ∙ is ∙ ap (λ n. Int (pos n)) (sym e2)) (sym (ap (λ y. column y 8) it.2) ∙ also ∙ ap (λ n. Int (pos n)) (sym e3)) other;
     }

@@ -1,5 +1,5 @@
 -- What an INSERT of one row does.
-use Rattle.std.proofs.Common.{◌≡◌, ◌⊎◌, inl, inr, ℕ, ℤ, pos, List, [], ◌∷◌, ◌/◌, length, map, drop, slice_get, Bool, true, false, not, ◌&&◌, cond, codes, Some, None, Ok, Err, Result, refl, sym, ap, subst, subst₂, ◌∙◌, MatchBool}
+use Rattle.std.proofs.Common.{◌≡◌, ◌⊎◌, inl, inr, ℕ, ℤ, pos, List, [], ◌∷◌, ◌/◌, length, map, drop, ◌++◌, slice_get, Bool, true, false, not, ◌&&◌, cond, codes, Some, None, Ok, Err, Result, refl, sym, ap, subst, subst₂, ◌∙◌, MatchBool}
 use Rattle.std.specs.List.{AllByRecursion}
 use Rattle.sqlite.specs.declared.types.Value.{Value}
 use Rattle.sqlite.specs.declared.types.Value.TheVariants.{Null, Int, Text, Blob}
@@ -24,8 +24,9 @@ use Rattle.sqlite.specs.Listing.{understood}
 use Rattle.sqlite.specs.State.{State, mode_of, Executes}
 use Rattle.sqlite.proofs.Callers.{IsPlain, command_of, statement_of, runs_as, one_step}
 use Rattle.br_store.specs.declared.names.Dictionary.{Dictionary}
-use Rattle.br_store.specs.declared.names.Dictionary.TheVariants.{Client, FileSet, Media, Path, Filename}
-use Rattle.br_schema.specs.Tables.{store_schema, version, client, fileset, media, path, filename, job, job_media, file}
+use Rattle.br_store.specs.declared.names.Dictionary.TheVariants.{Client, FileSet, Media, Path}
+use Rattle.br_schema.specs.Places.{Layout}
+use Rattle.br_schema.specs.Tables.{Beside, schema_at, tables_at, version, client, fileset, media, path, job, job_media, file}
 use Rattle.br_store.specs.Names.{tree_of, word, name_row, insert_text}
 use Rattle.br_store.specs.Held.{Added}
 use Rattle.br_store.proofs.RowTexts.{insert_version, insert_version_is, version_terms, insert_job, insert_job_is, job_terms, insert_span, insert_span_is, span_terms, insert_file, insert_file_is, file_terms}
@@ -92,81 +93,100 @@ pub is_fresh : (b : Bool) → (not b && true) ≡ true → b ≡ false
 is_fresh true h = absurd cc
 is_fresh false h = refl
 
--- an edit that adds one row
-pub one_row : (tree : ℕ) (table : Table) (row : Row) (old new : Database) (rows : List Row) → table.tree ≡ tree
-    → new.schema ≡ store_schema → IsDatabase new → Applies store_schema Enforced old.trees (edit_of old.trees table [] Chosen 0 rows) new.trees
-    → (edit_of old.trees table [] Chosen 0 rows).news ≡ row ∷ [] → Added tree row old new
-one_row tree table row old new rows at schema sound h news = record {
-  schema = schema;
-  sound = sound;
-  rows = ap new.trees (sym at) ∙ h.rows ∙ ap (λ all. put_all (old.trees table.tree) all) news ∙ ap (λ t. put_row row (old.trees t)) at;
-  fresh = is_fresh _ (ap (λ all. are_fresh (old.trees tree) all) (sym news) ∙ ap (λ t. are_fresh (old.trees t) (edit_of old.trees table [] Chosen 0 rows).news) (sym at) ∙ h.fresh);
-  others = subst (λ n. AllByRecursion (λ (t : Table). (t.tree ≡ n → ⊥) → new.trees t.tree ≡ old.trees t.tree) store_schema.tables) at h.tables;
-}
+-- what holds of all, holds of the first
+pub all_front : {X : Type 0} (P : X → Type 0) (xs ys : List X) → AllByRecursion P (xs ++ ys) → AllByRecursion P xs
+all_front P [] ys all = tt
+all_front P (x ∷ xs) ys all = (all.0, all_front P xs ys all.1)
 
--- what the texts over names add
-pub puts_name : (d : Dictionary) (old new : State) (name : List ℕ) (count : ℕ) → old.now.schema ≡ store_schema
-    → Executes (insert_text d) (word d name ∷ []) old new (Ok count) → Added (tree_of d) (name_row d (next_rowid (old.now.trees (tree_of d))) name) old.now new.now
-puts_name Client old new name count has h =
-    let row : Row = Null ∷ Null ∷ Text name ∷ [] in
-    let did = inserts store_schema 1 client (record { found = refl; uncounted = refl }) (insert_text Client) (Text name ∷ []) old new has (name_terms Client) 3 (insert_is Client).command (insert_is Client).plain count h in
-    let as_it_is : map (λ s. cast_row client (drop 0 s)) (row ∷ []) ≡ row ∷ [] = rw cast_null refl in
-    one_row 1 client _ old.now new.now (row ∷ []) refl did.0 did.2 did.1 (ap (numbered Chosen (old.now.trees 1)) as_it_is)
-puts_name FileSet old new name count has h =
-    let row : Row = Null ∷ Null ∷ Text name ∷ [] in
-    let did = inserts store_schema 2 fileset (record { found = refl; uncounted = refl }) (insert_text FileSet) (Text name ∷ []) old new has (name_terms FileSet) 3 (insert_is FileSet).command (insert_is FileSet).plain count h in
-    let as_it_is : map (λ s. cast_row fileset (drop 0 s)) (row ∷ []) ≡ row ∷ [] = rw cast_null refl in
-    one_row 3 fileset _ old.now new.now (row ∷ []) refl did.0 did.2 did.1 (ap (numbered Chosen (old.now.trees 3)) as_it_is)
-puts_name Media old new name count has h =
-    let row : Row = Null ∷ Null ∷ Text name ∷ Text (codes "File") ∷ [] in
-    let did = inserts store_schema 3 media (record { found = refl; uncounted = refl }) (insert_text Media) (Text name ∷ []) old new has (name_terms Media) 4 (insert_is Media).command (insert_is Media).plain count h in
-    let as_it_is : map (λ s. cast_row media (drop 0 s)) (row ∷ []) ≡ row ∷ [] = rw cast_null refl in
-    one_row 5 media _ old.now new.now (row ∷ []) refl did.0 did.2 did.1 (ap (numbered Chosen (old.now.trees 5)) as_it_is)
-puts_name Path old new name count has h =
-    let row : Row = Null ∷ Null ∷ Blob name ∷ [] in
-    let did = inserts store_schema 4 path (record { found = refl; uncounted = refl }) (insert_text Path) (Blob name ∷ []) old new has (name_terms Path) 3 (insert_is Path).command (insert_is Path).plain count h in
-    let as_it_is : map (λ s. cast_row path (drop 0 s)) (row ∷ []) ≡ row ∷ [] = rw cast_null refl in
-    one_row 7 path _ old.now new.now (row ∷ []) refl did.0 did.2 did.1 (ap (numbered Chosen (old.now.trees 7)) as_it_is)
-puts_name Filename old new name count has h =
-    let row : Row = Null ∷ Null ∷ Blob name ∷ [] in
-    let did = inserts store_schema 5 filename (record { found = refl; uncounted = refl }) (insert_text Filename) (Blob name ∷ []) old new has (name_terms Filename) 3 (insert_is Filename).command (insert_is Filename).plain count h in
-    let as_it_is : map (λ s. cast_row filename (drop 0 s)) (row ∷ []) ≡ row ∷ [] = rw cast_null refl in
-    one_row 9 filename _ old.now new.now (row ∷ []) refl did.0 did.2 did.1 (ap (numbered Chosen (old.now.trees 9)) as_it_is)
+module _ (l : Layout) (b : Beside) where
+  -- an edit that adds one row
+  pub one_row : (tree : ℕ) (table : Table) (row : Row) (old new : Database) (rows : List Row) → table.tree ≡ tree
+      → new.schema ≡ schema_at l b → IsDatabase new → Applies (schema_at l b) Enforced old.trees (edit_of old.trees table [] Chosen 0 rows) new.trees
+      → (edit_of old.trees table [] Chosen 0 rows).news ≡ row ∷ [] → Added l b tree row old new
+  one_row tree table row old new rows at schema sound h news = record {
+    schema = schema;
+    sound = sound;
+    rows = ap new.trees (sym at) ∙ h.rows ∙ ap (λ all. put_all (old.trees table.tree) all) news ∙ ap (λ t. put_row row (old.trees t)) at;
+    fresh = is_fresh _ (ap (λ all. are_fresh (old.trees tree) all) (sym news) ∙ ap (λ t. are_fresh (old.trees t) (edit_of old.trees table [] Chosen 0 rows).news) (sym at) ∙ h.fresh);
+    others = all_front (λ (t : Table). (t.tree ≡ tree → ⊥) → new.trees t.tree ≡ old.trees t.tree) (tables_at l) b.others
+        (subst (λ n. AllByRecursion (λ (t : Table). (t.tree ≡ n → ⊥) → new.trees t.tree ≡ old.trees t.tree) (schema_at l b).tables) at h.tables);
+  }
 
-pub puts_version : (old new : State) (count : ℕ) → old.now.schema ≡ store_schema → Executes insert_version [] old new (Ok count)
-    → Added 0 (Int (next_rowid (old.now.trees 0)) ∷ Int (pos 1) ∷ []) old.now new.now
-puts_version old new count has h =
-    let row : Row = Null ∷ Int (pos 1) ∷ [] in
-    let did = inserts store_schema 0 version (record { found = refl; uncounted = refl }) insert_version [] old new has version_terms 2 insert_version_is.command insert_version_is.plain count h in
-    let as_it_is : map (λ s. cast_row version (drop 0 s)) (row ∷ []) ≡ row ∷ [] = rw (cast_null, cast_int (pos 1)) refl in
-    one_row 0 version _ old.now new.now (row ∷ []) refl did.0 did.2 did.1 (ap (numbered Chosen (old.now.trees 0)) as_it_is)
+  -- what the texts over names add
+  pub puts_name : (d : Dictionary) (old new : State) (name : List ℕ) (count : ℕ) → old.now.schema ≡ schema_at l b
+      → Executes (insert_text d) (word d name ∷ []) old new (Ok count) → Added l b (tree_of l d) (name_row d (next_rowid (old.now.trees (tree_of l d))) name) old.now new.now
+  puts_name Client old new name count has h =
+      let row : Row = Null ∷ Null ∷ Text name ∷ [] in
+      let table = client l.client in
+      let is = insert_is l b Client in
+      let did = inserts (schema_at l b) 1 table (record { found = refl; uncounted = refl }) (insert_text Client) (Text name ∷ []) old new has (name_terms Client) 3 is.command is.plain count h in
+      let as_it_is : map (λ s. cast_row table (drop 0 s)) (row ∷ []) ≡ row ∷ [] = rw cast_null refl in
+      one_row l.client table _ old.now new.now (row ∷ []) refl did.0 did.2 did.1 (ap (numbered Chosen (old.now.trees l.client)) as_it_is)
+  puts_name FileSet old new name count has h =
+      let row : Row = Null ∷ Null ∷ Text name ∷ [] in
+      let table = fileset l.fileset in
+      let is = insert_is l b FileSet in
+      let did = inserts (schema_at l b) 2 table (record { found = refl; uncounted = refl }) (insert_text FileSet) (Text name ∷ []) old new has (name_terms FileSet) 3 is.command is.plain count h in
+      let as_it_is : map (λ s. cast_row table (drop 0 s)) (row ∷ []) ≡ row ∷ [] = rw cast_null refl in
+      one_row l.fileset table _ old.now new.now (row ∷ []) refl did.0 did.2 did.1 (ap (numbered Chosen (old.now.trees l.fileset)) as_it_is)
+  puts_name Media old new name count has h =
+      let row : Row = Null ∷ Null ∷ Text name ∷ Text (codes "File") ∷ [] in
+      let table = media l.media in
+      let is = insert_is l b Media in
+      let did = inserts (schema_at l b) 3 table (record { found = refl; uncounted = refl }) (insert_text Media) (Text name ∷ []) old new has (name_terms Media) 4 is.command is.plain count h in
+      let as_it_is : map (λ s. cast_row table (drop 0 s)) (row ∷ []) ≡ row ∷ [] = rw cast_null refl in
+      one_row l.media table _ old.now new.now (row ∷ []) refl did.0 did.2 did.1 (ap (numbered Chosen (old.now.trees l.media)) as_it_is)
+  puts_name Path old new name count has h =
+      let row : Row = Null ∷ Null ∷ Blob name ∷ [] in
+      let table = path l.path in
+      let is = insert_is l b Path in
+      let did = inserts (schema_at l b) 4 table (record { found = refl; uncounted = refl }) (insert_text Path) (Blob name ∷ []) old new has (name_terms Path) 3 is.command is.plain count h in
+      let as_it_is : map (λ s. cast_row table (drop 0 s)) (row ∷ []) ≡ row ∷ [] = rw cast_null refl in
+      one_row l.path table _ old.now new.now (row ∷ []) refl did.0 did.2 did.1 (ap (numbered Chosen (old.now.trees l.path)) as_it_is)
 
-pub puts_job : (old new : State) (id client start fileset session time : ℤ) (kind level status : List ℕ) (count : ℕ) → old.now.schema ≡ store_schema
-    → Executes insert_job (Int id ∷ Text kind ∷ Text level ∷ Int client ∷ Text status ∷ Int start ∷ Int fileset ∷ Int session ∷ Int time ∷ []) old new (Ok count)
-    → Added 11 (Int id ∷ Null ∷ Text kind ∷ Text level ∷ Int client ∷ Text status ∷ Int start ∷ Int fileset ∷ Int session ∷ Int time ∷ []) old.now new.now
-puts_job old new id client start fileset session time kind level status count has h =
-    let row : Row = Int id ∷ Null ∷ Text kind ∷ Text level ∷ Int client ∷ Text status ∷ Int start ∷ Int fileset ∷ Int session ∷ Int time ∷ [] in
-    let did = inserts store_schema 6 job (record { found = refl; uncounted = refl }) insert_job (Int id ∷ Text kind ∷ Text level ∷ Int client ∷ Text status ∷ Int start ∷ Int fileset ∷ Int session ∷ Int time ∷ []) old new has job_terms 10 insert_job_is.command insert_job_is.plain count h in
-    let as_it_is : map (λ s. cast_row job (drop 0 s)) (row ∷ []) ≡ row ∷ [] = rw (cast_int id, cast_null, cast_int client, cast_int start, cast_int fileset, cast_int session, cast_int time) refl in
-    one_row 11 job row old.now new.now (row ∷ []) refl did.0 did.2 did.1 (ap (numbered Chosen (old.now.trees 11)) as_it_is)
+  pub puts_version : (old new : State) (count : ℕ) → old.now.schema ≡ schema_at l b → Executes insert_version [] old new (Ok count)
+      → Added l b l.version (Int (next_rowid (old.now.trees l.version)) ∷ Int (pos 2) ∷ []) old.now new.now
+  puts_version old new count has h =
+      let row : Row = Null ∷ Int (pos 2) ∷ [] in
+      let table = version l.version in
+      let is = insert_version_is l b in
+      let did = inserts (schema_at l b) 0 table (record { found = refl; uncounted = refl }) insert_version [] old new has version_terms 2 is.command is.plain count h in
+      let as_it_is : map (λ s. cast_row table (drop 0 s)) (row ∷ []) ≡ row ∷ [] = rw (cast_null, cast_int (pos 2)) refl in
+      one_row l.version table _ old.now new.now (row ∷ []) refl did.0 did.2 did.1 (ap (numbered Chosen (old.now.trees l.version)) as_it_is)
 
-pub puts_span : (old new : State) (job media first last start_file end_file start_block end_block vol_index : ℤ) (count : ℕ) → old.now.schema ≡ store_schema
-    → Executes insert_span (Int job ∷ Int media ∷ Int first ∷ Int last ∷ Int start_file ∷ Int end_file ∷ Int start_block ∷ Int end_block ∷ Int vol_index ∷ []) old new (Ok count)
-    → Added 13 (Int (next_rowid (old.now.trees 13)) ∷ Null ∷ Int job ∷ Int media ∷ Int first ∷ Int last ∷ Int start_file ∷ Int end_file ∷ Int start_block ∷ Int end_block ∷ Int vol_index ∷ []) old.now new.now
-puts_span old new job media first last start_file end_file start_block end_block vol_index count has h =
-    let params : Row = Int job ∷ Int media ∷ Int first ∷ Int last ∷ Int start_file ∷ Int end_file ∷ Int start_block ∷ Int end_block ∷ Int vol_index ∷ [] in
-    let row : Row = Null ∷ Null ∷ params in
-    let did = inserts store_schema 7 job_media (record { found = refl; uncounted = refl }) insert_span params old new has span_terms 11 insert_span_is.command insert_span_is.plain count h in
-    let as_it_is : map (λ s. cast_row job_media (drop 0 s)) (row ∷ []) ≡ row ∷ [] =
-    rw (cast_null, cast_int job, cast_int media, cast_int first, cast_int last, cast_int start_file, cast_int end_file, cast_int start_block, cast_int end_block, cast_int vol_index) refl in
-    one_row 13 job_media _ old.now new.now (row ∷ []) refl did.0 did.2 did.1 (ap (numbered Chosen (old.now.trees 13)) as_it_is)
+  pub puts_job : (old new : State) (id client start fileset session time : ℤ) (kind level status : List ℕ) (count : ℕ) → old.now.schema ≡ schema_at l b
+      → Executes insert_job (Int id ∷ Text kind ∷ Text level ∷ Int client ∷ Text status ∷ Int start ∷ Int fileset ∷ Int session ∷ Int time ∷ []) old new (Ok count)
+      → Added l b l.job (Int id ∷ Null ∷ Text kind ∷ Text level ∷ Int client ∷ Text status ∷ Int start ∷ Int fileset ∷ Int session ∷ Int time ∷ []) old.now new.now
+  puts_job old new id client start fileset session time kind level status count has h =
+      let row : Row = Int id ∷ Null ∷ Text kind ∷ Text level ∷ Int client ∷ Text status ∷ Int start ∷ Int fileset ∷ Int session ∷ Int time ∷ [] in
+      let params : Row = Int id ∷ Text kind ∷ Text level ∷ Int client ∷ Text status ∷ Int start ∷ Int fileset ∷ Int session ∷ Int time ∷ [] in
+      let table = job l.job in
+      let is = insert_job_is l b in
+      let did = inserts (schema_at l b) 5 table (record { found = refl; uncounted = refl }) insert_job params old new has job_terms 10 is.command is.plain count h in
+      let as_it_is : map (λ s. cast_row table (drop 0 s)) (row ∷ []) ≡ row ∷ [] = rw (cast_int id, cast_null, cast_int client, cast_int start, cast_int fileset, cast_int session, cast_int time) refl in
+      one_row l.job table row old.now new.now (row ∷ []) refl did.0 did.2 did.1 (ap (numbered Chosen (old.now.trees l.job)) as_it_is)
 
-pub puts_file : (old new : State) (index job path filename : ℤ) (lstat digest : List ℕ) (count : ℕ) → old.now.schema ≡ store_schema
-    → Executes insert_file (Int index ∷ Int job ∷ Int path ∷ Int filename ∷ Text lstat ∷ Text digest ∷ []) old new (Ok count)
-    → Added 15 (Int (next_rowid (old.now.trees 15)) ∷ Null ∷ Int index ∷ Int job ∷ Int path ∷ Int filename ∷ Text lstat ∷ Text digest ∷ []) old.now new.now
-puts_file old new index job path filename lstat digest count has h =
-    let params : Row = Int index ∷ Int job ∷ Int path ∷ Int filename ∷ Text lstat ∷ Text digest ∷ [] in
-    let row : Row = Null ∷ Null ∷ params in
-    let did = inserts store_schema 8 file (record { found = refl; uncounted = refl }) insert_file params old new has file_terms 8 insert_file_is.command insert_file_is.plain count h in
-    let as_it_is : map (λ s. cast_row file (drop 0 s)) (row ∷ []) ≡ row ∷ [] = rw (cast_null, cast_int index, cast_int job, cast_int path, cast_int filename) refl in
-    one_row 15 file _ old.now new.now (row ∷ []) refl did.0 did.2 did.1 (ap (numbered Chosen (old.now.trees 15)) as_it_is)
+  pub puts_span : (old new : State) (job media first last start_file end_file start_block end_block vol_index : ℤ) (count : ℕ) → old.now.schema ≡ schema_at l b
+      → Executes insert_span (Int job ∷ Int media ∷ Int first ∷ Int last ∷ Int start_file ∷ Int end_file ∷ Int start_block ∷ Int end_block ∷ Int vol_index ∷ []) old new (Ok count)
+      → Added l b l.job_media (Int (next_rowid (old.now.trees l.job_media)) ∷ Null ∷ Int job ∷ Int media ∷ Int first ∷ Int last ∷ Int start_file ∷ Int end_file ∷ Int start_block ∷ Int end_block ∷ Int vol_index ∷ []) old.now new.now
+  puts_span old new job media first last start_file end_file start_block end_block vol_index count has h =
+      let params : Row = Int job ∷ Int media ∷ Int first ∷ Int last ∷ Int start_file ∷ Int end_file ∷ Int start_block ∷ Int end_block ∷ Int vol_index ∷ [] in
+      let row : Row = Null ∷ Null ∷ params in
+      let table = job_media l.job_media in
+      let is = insert_span_is l b in
+      let did = inserts (schema_at l b) 6 table (record { found = refl; uncounted = refl }) insert_span params old new has span_terms 11 is.command is.plain count h in
+      let as_it_is : map (λ s. cast_row table (drop 0 s)) (row ∷ []) ≡ row ∷ [] =
+      rw (cast_null, cast_int job, cast_int media, cast_int first, cast_int last, cast_int start_file, cast_int end_file, cast_int start_block, cast_int end_block, cast_int vol_index) refl in
+      one_row l.job_media table _ old.now new.now (row ∷ []) refl did.0 did.2 did.1 (ap (numbered Chosen (old.now.trees l.job_media)) as_it_is)
+
+  pub puts_file : (old new : State) (index job path : ℤ) (name lstat digest : List ℕ) (count : ℕ) → old.now.schema ≡ schema_at l b
+      → Executes insert_file (Int index ∷ Int job ∷ Int path ∷ Blob name ∷ Text lstat ∷ Text digest ∷ []) old new (Ok count)
+      → Added l b l.file (Int (next_rowid (old.now.trees l.file)) ∷ Null ∷ Int index ∷ Int job ∷ Int path ∷ Blob name ∷ Text lstat ∷ Text digest ∷ []) old.now new.now
+  puts_file old new index job path name lstat digest count has h =
+      let params : Row = Int index ∷ Int job ∷ Int path ∷ Blob name ∷ Text lstat ∷ Text digest ∷ [] in
+      let row : Row = Null ∷ Null ∷ params in
+      let table = file l.file in
+      let is = insert_file_is l b in
+      let did = inserts (schema_at l b) 7 table (record { found = refl; uncounted = refl }) insert_file params old new has file_terms 8 is.command is.plain count h in
+      let as_it_is : map (λ s. cast_row table (drop 0 s)) (row ∷ []) ≡ row ∷ [] = rw (cast_null, cast_int index, cast_int job, cast_int path) refl in
+      one_row l.file table _ old.now new.now (row ∷ []) refl did.0 did.2 did.1 (ap (numbered Chosen (old.now.trees l.file)) as_it_is)

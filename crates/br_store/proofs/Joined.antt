@@ -19,7 +19,8 @@ use Rattle.sqlite_schema.specs.declared.schema.Constraint.TheVariants.{ForeignKe
 use Rattle.sqlite_value.proofs.OrderLemmas.{value_cmp_total}
 use Rattle.sqlite_rules.specs.Lists.{Has}
 use Rattle.sqlite_rules.proofs.ListLemmas.{some_has, all_has, all_from}
-use Rattle.br_schema.specs.Tables.{job, job_media, file, store_schema}
+use Rattle.br_schema.specs.Places.{Layout}
+use Rattle.br_schema.specs.Tables.{Beside, job, job_media, file, schema_at}
 use Rattle.br_store.specs.Held.{is_named, job_shown, span_shown, file_shown}
 use Rattle.br_store.proofs.Values.{tied, names_itself}
 
@@ -63,12 +64,12 @@ map_same f g (x ∷ xs) h = ap (λ y. y ∷ map f xs) h.0 ∙ ap (λ ys. g x ∷
 
 -- ---- each number of a sound database is that of a row
 
-present : (b rest : Bool) → (not b && rest) ≡ true → (b ≡ false) × (rest ≡ true)
+pub present : (b rest : Bool) → (not b && rest) ≡ true → (b ≡ false) × (rest ≡ true)
 present false rest h = (refl, h)
 present true rest h = absurd cc
 
 -- the first reference has its row
-referred : (v : Value) (rows : List Row) (rest : Bool) → (((is_null v || false) || list_any (λ r. is_named v r && true) rows) && rest) ≡ true → is_null v ≡ false
+pub referred : (v : Value) (rows : List Row) (rest : Bool) → (((is_null v || false) || list_any (λ r. is_named v r && true) rows) && rest) ≡ true → is_null v ≡ false
     → (list_any (is_named v) rows ≡ true) × (rest ≡ true)
 referred v rows rest h full = go (is_null v) full (list_any (λ r. is_named v r && true) rows) (any_same _ _ (λ r. and_true (is_named v r)) rows) h
   where
@@ -80,54 +81,53 @@ referred v rows rest h full = go (is_null v) full (list_any (λ r. is_named v r 
 abbrev pub Knows : List Row → Value → Type 0
 Knows rows id = list_any (is_named id) rows ≡ true
 
-job_known : (trees : Trees) (row : Row) → passes ForeignKey store_schema trees job row ≡ true → passes NotNull store_schema trees job row ≡ true
-    → Knows (trees 1) (column row 4) × Knows (trees 3) (column row 7)
-unfolding first_key joined same_name
-job_known trees row key full =
-    let a = present (is_null (column row 2)) _ full in
-    let b = present (is_null (column row 3)) _ a.1 in
-    let c = present (is_null (column row 4)) _ b.1 in
-    let d = present (is_null (column row 5)) _ c.1 in
-    let e = present (is_null (column row 6)) _ d.1 in
-    let f = present (is_null (column row 7)) _ e.1 in
-    let one = referred (column row 4) (trees 1) _ key c.0 in
-    (one.0, (referred (column row 7) (trees 3) _ one.1 f.0).0)
+module _ (l : Layout) (b : Beside) where
+  job_known : (trees : Trees) (row : Row) → passes ForeignKey (schema_at l b) trees (job l.job) row ≡ true → passes NotNull (schema_at l b) trees (job l.job) row ≡ true
+      → Knows (trees l.client) (column row 4) × Knows (trees l.fileset) (column row 7)
+  unfolding first_key joined same_name
+  job_known trees row key full =
+      let a = present (is_null (column row 2)) _ full in
+      let b = present (is_null (column row 3)) _ a.1 in
+      let c = present (is_null (column row 4)) _ b.1 in
+      let d = present (is_null (column row 5)) _ c.1 in
+      let e = present (is_null (column row 6)) _ d.1 in
+      let f = present (is_null (column row 7)) _ e.1 in
+      let one = referred (column row 4) (trees l.client) _ key c.0 in
+      (one.0, (referred (column row 7) (trees l.fileset) _ one.1 f.0).0)
 
-span_known : (trees : Trees) (row : Row) → passes ForeignKey store_schema trees job_media row ≡ true → passes NotNull store_schema trees job_media row ≡ true
-    → Knows (trees 5) (column row 3)
-unfolding first_key joined same_name
-span_known trees row key full =
-    let a = present (is_null (column row 2)) _ full in
-    let b = present (is_null (column row 3)) _ a.1 in
-    let one = referred (column row 2) (trees 11) _ key a.0 in
-    (referred (column row 3) (trees 5) _ one.1 b.0).0
+  span_known : (trees : Trees) (row : Row) → passes ForeignKey (schema_at l b) trees (job_media l.job_media) row ≡ true → passes NotNull (schema_at l b) trees (job_media l.job_media) row ≡ true
+      → Knows (trees l.media) (column row 3)
+  unfolding first_key joined same_name
+  span_known trees row key full =
+      let a = present (is_null (column row 2)) _ full in
+      let b = present (is_null (column row 3)) _ a.1 in
+      let one = referred (column row 2) (trees l.job) _ key a.0 in
+      (referred (column row 3) (trees l.media) _ one.1 b.0).0
 
-file_known : (trees : Trees) (row : Row) → passes ForeignKey store_schema trees file row ≡ true → passes NotNull store_schema trees file row ≡ true
-    → Knows (trees 7) (column row 4) × Knows (trees 9) (column row 5)
-unfolding first_key joined same_name
-file_known trees row key full =
-    let a = present (is_null (column row 2)) _ full in
-    let b = present (is_null (column row 3)) _ a.1 in
-    let c = present (is_null (column row 4)) _ b.1 in
-    let d = present (is_null (column row 5)) _ c.1 in
-    let one = referred (column row 3) (trees 11) _ key b.0 in
-    let two = referred (column row 4) (trees 7) _ one.1 c.0 in
-    (two.0, (referred (column row 5) (trees 9) _ two.1 d.0).0)
+  file_known : (trees : Trees) (row : Row) → passes ForeignKey (schema_at l b) trees (file l.file) row ≡ true → passes NotNull (schema_at l b) trees (file l.file) row ≡ true
+      → Knows (trees l.path) (column row 4)
+  unfolding first_key joined same_name
+  file_known trees row key full =
+      let a = present (is_null (column row 2)) _ full in
+      let b = present (is_null (column row 3)) _ a.1 in
+      let c = present (is_null (column row 4)) _ b.1 in
+      let one = referred (column row 3) (trees l.job) _ key b.0 in
+      (referred (column row 4) (trees l.path) _ one.1 c.0).0
 
 -- each number in the rows that are shown is that of a row
-pub record AreKnown (trees : Trees) : Type 0 where
-  pub jobs : AllByRecursion (λ row. Knows (trees 1) (column row 4) × Knows (trees 3) (column row 7)) (trees 11)
-  pub spans : AllByRecursion (λ row. Knows (trees 5) (column row 3)) (trees 13)
-  pub files : AllByRecursion (λ row. Knows (trees 7) (column row 4) × Knows (trees 9) (column row 5)) (trees 15)
+pub record AreKnown (l : Layout) (trees : Trees) : Type 0 where
+  pub jobs : AllByRecursion (λ row. Knows (trees l.client) (column row 4) × Knows (trees l.fileset) (column row 7)) (trees l.job)
+  pub spans : AllByRecursion (λ row. Knows (trees l.media) (column row 3)) (trees l.job_media)
+  pub files : AllByRecursion (λ row. Knows (trees l.path) (column row 4)) (trees l.file)
 
-pub are_known : (db : Database) → db.schema ≡ store_schema → IsDatabase db → AreKnown db.trees
-are_known db has sound =
+pub are_known : (l : Layout) (b : Beside) (db : Database) → db.schema ≡ schema_at l b → IsDatabase db → AreKnown l db.trees
+are_known l b db has sound =
     let keys = subst (λ s. Keeps ForeignKey s db.trees) has (sound.obeys.rules ForeignKey) in
     let full = subst (λ s. Keeps NotNull s db.trees) has (sound.obeys.rules NotNull) in
     record {
-      jobs = all_from _ (db.trees 11) (λ row in_it. job_known db.trees row (all_has _ (db.trees 11) row keys.1.1.1.1.1.1.0 in_it) (all_has _ (db.trees 11) row full.1.1.1.1.1.1.0 in_it));
-      spans = all_from _ (db.trees 13) (λ row in_it. span_known db.trees row (all_has _ (db.trees 13) row keys.1.1.1.1.1.1.1.0 in_it) (all_has _ (db.trees 13) row full.1.1.1.1.1.1.1.0 in_it));
-      files = all_from _ (db.trees 15) (λ row in_it. file_known db.trees row (all_has _ (db.trees 15) row keys.1.1.1.1.1.1.1.1.0 in_it) (all_has _ (db.trees 15) row full.1.1.1.1.1.1.1.1.0 in_it));
+      jobs = all_from _ (db.trees l.job) (λ row in_it. job_known l b db.trees row (all_has _ (db.trees l.job) row keys.1.1.1.1.1.0 in_it) (all_has _ (db.trees l.job) row full.1.1.1.1.1.0 in_it));
+      spans = all_from _ (db.trees l.job_media) (λ row in_it. span_known l b db.trees row (all_has _ (db.trees l.job_media) row keys.1.1.1.1.1.1.0 in_it) (all_has _ (db.trees l.job_media) row full.1.1.1.1.1.1.0 in_it));
+      files = all_from _ (db.trees l.file) (λ row in_it. file_known l b db.trees row (all_has _ (db.trees l.file) row keys.1.1.1.1.1.1.1.0 in_it) (all_has _ (db.trees l.file) row full.1.1.1.1.1.1.1.0 in_it));
     }
 
 -- ---- a table that has gained a row at most
@@ -192,10 +192,8 @@ same_spans a b spans first known =
     ap (λ (o : Option Row). column row 2 ∷ column (unwrap_or o []) 2 ∷ column row 4 ∷ column row 5 ∷ column row 6 ∷ column row 7 ∷ column row 8 ∷ column row 9 ∷ column row 10 ∷ [])
     (same_found a b first (column row 3) (all_has _ spans row known in_it))))
 
-pub same_files : (a b c d files : List Row) → HasGrown a b → HasGrown c d → AllByRecursion (λ row. Knows a (column row 4) × Knows c (column row 5)) files
-    → map (file_shown b d) files ≡ map (file_shown a c) files
-same_files a b c d files first second known =
+pub same_files : (a b files : List Row) → HasGrown a b → AllByRecursion (λ row. Knows a (column row 4)) files → map (file_shown b) files ≡ map (file_shown a) files
+same_files a b files first known =
     map_same _ _ files (all_from _ files (λ row in_it.
-    let is = all_has _ files row known in_it in
-    ap₂ (λ (o p : Option Row). column row 3 ∷ column row 2 ∷ column (unwrap_or o []) 2 ∷ column (unwrap_or p []) 2 ∷ column row 6 ∷ column row 7 ∷ [])
-    (same_found a b first (column row 4) is.0) (same_found c d second (column row 5) is.1)))
+    ap (λ (o : Option Row). column row 3 ∷ column row 2 ∷ column (unwrap_or o []) 2 ∷ column row 5 ∷ column row 6 ∷ column row 7 ∷ [])
+    (same_found a b first (column row 4) (all_has _ files row known in_it))))

@@ -8,8 +8,16 @@ pub mod Selects
 pub mod Ready
 pub mod Appends
 pub mod Joined
+pub mod Layouts
 pub mod Fresh
 pub mod Writes
 pub mod Creates
 pub mod Opens
 pub mod Loads
+pub mod Drops
+pub mod OldTexts
+pub mod Olds
+pub mod Replaced
+pub mod Moves
+pub mod PutVersion
+pub mod Migrated

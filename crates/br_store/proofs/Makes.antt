@@ -11,7 +11,8 @@ use Rattle.sqlite.specs.Compile.{table_defined_by}
 use Rattle.sqlite.specs.Listing.{understood}
 use Rattle.sqlite_tied.specs.Compute.{everything}
 use Rattle.sqlite.proofs.Callers.{IsPlain, command_of, statement_of}
-use Rattle.br_schema.specs.Tables.{create_version, create_client, create_fileset, create_media, create_path, create_filename, create_job, create_job_media, create_file, version, client, fileset, media, path, filename, job, job_media, file, no_schema, one_table, two_tables, three_tables, four_tables, five_tables, six_tables, seven_tables, eight_tables, store_schema}
+use Rattle.br_schema.specs.Tables.{create_version, create_client, create_fileset, create_media, create_path, create_job, create_job_media, create_file, version, client, fileset, media, path, job, job_media, file}
+use Rattle.br_schema.specs.Tables.{no_schema, one_table, two_tables, three_tables, four_tables, five_tables, six_tables, seven_tables, new_schema}
 
 -- a text that makes a table
 abbrev pub Makes : Schema → List ℕ → Table → Schema → Type 0
@@ -25,74 +26,66 @@ pub record Follows (schema : Schema) (table : Table) (after : Schema) : Type 0 w
   pub tree : next_tree schema ≡ table.tree
   pub whole : lacks_sequence after ≡ false
 
-pub makes_version : Makes no_schema create_version (record version { tree = 0 }) one_table
+pub makes_version : Makes no_schema create_version (version 0) one_table
 unfolding understood everything
 makes_version = (refl, refl, refl, (refl, refl))
 
-pub after_version : Follows no_schema version one_table
+pub after_version : Follows no_schema (version 0) one_table
 unfolding digits
 after_version = record { is = refl; last = refl; tree = refl; whole = refl }
 
-pub makes_client : Makes one_table create_client (record client { tree = 0 }) two_tables
+pub makes_client : Makes one_table create_client (client 0) two_tables
 unfolding understood everything
 makes_client = (refl, refl, refl, (refl, refl))
 
-pub after_client : Follows one_table client two_tables
+pub after_client : Follows one_table (client 1) two_tables
 unfolding digits
 after_client = record { is = refl; last = refl; tree = refl; whole = refl }
 
-pub makes_fileset : Makes two_tables create_fileset (record fileset { tree = 0 }) three_tables
+pub makes_fileset : Makes two_tables create_fileset (fileset 0) three_tables
 unfolding understood everything
 makes_fileset = (refl, refl, refl, (refl, refl))
 
-pub after_fileset : Follows two_tables fileset three_tables
+pub after_fileset : Follows two_tables (fileset 3) three_tables
 unfolding digits
 after_fileset = record { is = refl; last = refl; tree = refl; whole = refl }
 
-pub makes_media : Makes three_tables create_media (record media { tree = 0 }) four_tables
+pub makes_media : Makes three_tables create_media (media 0) four_tables
 unfolding understood everything
 makes_media = (refl, refl, refl, (refl, refl))
 
-pub after_media : Follows three_tables media four_tables
+pub after_media : Follows three_tables (media 5) four_tables
 unfolding digits
 after_media = record { is = refl; last = refl; tree = refl; whole = refl }
 
-pub makes_path : Makes four_tables create_path (record path { tree = 0 }) five_tables
+pub makes_path : Makes four_tables create_path (path 0) five_tables
 unfolding understood everything
 makes_path = (refl, refl, refl, (refl, refl))
 
-pub after_path : Follows four_tables path five_tables
+pub after_path : Follows four_tables (path 7) five_tables
 unfolding digits
 after_path = record { is = refl; last = refl; tree = refl; whole = refl }
 
-pub makes_filename : Makes five_tables create_filename (record filename { tree = 0 }) six_tables
-unfolding understood everything
-makes_filename = (refl, refl, refl, (refl, refl))
-
-pub after_filename : Follows five_tables filename six_tables
-unfolding digits
-after_filename = record { is = refl; last = refl; tree = refl; whole = refl }
-
-pub makes_job : Makes six_tables create_job (record job { tree = 0 }) seven_tables
+pub makes_job : Makes five_tables create_job (job 0) six_tables
 unfolding understood everything
 makes_job = (refl, refl, refl, (refl, refl))
 
-pub after_job : Follows six_tables job seven_tables
+pub after_job : Follows five_tables (job 9) six_tables
 unfolding digits
 after_job = record { is = refl; last = refl; tree = refl; whole = refl }
 
-pub makes_job_media : Makes seven_tables create_job_media (record job_media { tree = 0 }) eight_tables
+pub makes_job_media : Makes six_tables create_job_media (job_media 0) seven_tables
 unfolding understood everything
 makes_job_media = (refl, refl, refl, (refl, refl))
 
-pub after_job_media : Follows seven_tables job_media eight_tables
+pub after_job_media : Follows six_tables (job_media 11) seven_tables
 unfolding digits
 after_job_media = record { is = refl; last = refl; tree = refl; whole = refl }
 
-pub makes_file : Makes eight_tables create_file (record file { tree = 0 }) store_schema
+pub makes_file : Makes seven_tables create_file (file 0) new_schema
 unfolding understood everything
 makes_file = (refl, refl, refl, (refl, refl))
 
-pub after_file : Follows eight_tables file store_schema
+pub after_file : Follows seven_tables (file 13) new_schema
 unfolding digits
 after_file = record { is = refl; last = refl; tree = refl; whole = refl }

@@ -9,9 +9,14 @@ use Rattle.sqlite_trees.specs.Objects.{catalog_tree, IsListed}
 use Rattle.sqlite_trees.specs.declared.store.Shape.TheVariants.{Table}
 use Rattle.sqlite_catalog.specs.Listing.{AreListed, IsTableRow, is_table_row}
 use Rattle.sqlite_catalog.proofs.LayoutLemmas.{laid_out, objects_rise}
-use Rattle.br_schema.specs.Tables.{no_schema, store_schema, version, client, fileset, media, path, filename, job, job_media, file}
+use Rattle.br_schema.specs.Places.{IsLayout, Layout}
+use Rattle.br_schema.specs.Tables.{Beside, IsStoreSchema, beside_of, layout_of, no_schema, schema_at, tables_at}
+use Rattle.br_schema.specs.Tables.{version, client, fileset, media, path, job, job_media, file}
 use Rattle.br_store.specs.Held.{HasTables}
 use Rattle.br_store.specs.Made.{Finds, IsMade}
+use Rattle.br_store.specs.Old.{AreRising}
+use Rattle.br_store.proofs.Inserts.{all_front}
+use Rattle.br_store.proofs.Layouts.{layout_is, schema_is}
 
 shaped : (v : View) (trees : Trees) → trees ≡ v.trees → IsOrdered v.shape v.trees → (tables : List Declared) → AllByRecursion (λ (t : Declared). v.shape t.tree ≡ Table) tables
     → AllByRecursion (λ (t : Declared). IsShaped Table (trees t.tree)) tables
@@ -19,20 +24,37 @@ shaped v trees same ordered [] laid = tt
 shaped v trees same ordered (t ∷ tables) laid =
     (subst (IsShaped Table) (ap (λ (all : Trees). all t.tree) (sym same)) (subst (λ s. IsShaped s (v.trees t.tree)) laid.0 (ordered t.tree)), shaped v trees same ordered tables laid.1)
 
-pub stands_in : (v : View) (db : Database) → db.trees ≡ v.trees → db.schema ≡ store_schema → IsDatabase db → IsListed (v.trees catalog_tree) v.shape v.reals → IsOrdered v.shape v.trees → HasTables db
-stands_in v db trees schema sound listed ordered =
-    let are = subst₂ (λ (t : Trees) s. AreListed (t catalog_tree) s) trees schema sound.lists.listed in
+-- the rows of each table of a sound database in a store ascend
+pub rising_in : (v : View) (db : Database) → db.trees ≡ v.trees → IsDatabase db → IsListed (v.trees catalog_tree) v.shape v.reals → IsOrdered v.shape v.trees → AreRising db
+rising_in v db trees sound listed ordered =
+    let are = subst (λ (t : Trees). AreListed (t catalog_tree) db.schema) trees sound.lists.listed in
     let laid = laid_out listed (objects_rise v listed ordered) are in
-    record { schema = schema; sound = sound; shaped = shaped v db.trees trees ordered store_schema.tables laid.tables }
+    shaped v db.trees trees ordered db.schema.tables laid.tables
+
+pub stands_in : (v : View) (db : Database) → db.trees ≡ v.trees → IsStoreSchema db.schema → IsDatabase db → IsListed (v.trees catalog_tree) v.shape v.reals → IsOrdered v.shape v.trees → HasTables db
+stands_in v db trees schema sound listed ordered =
+    let l = layout_of db.schema in
+    let b = beside_of db.schema in
+    let are = subst₂ (λ (t : Trees) s. AreListed (t catalog_tree) s) trees schema.0 sound.lists.listed in
+    let laid = laid_out listed (objects_rise v listed ordered) are in
+    let now = sym (layout_is l b db schema.0 sound) in
+    let all = all_front (λ (t : Declared). IsShaped Table (db.trees t.tree)) (tables_at l) b.others (shaped v db.trees trees ordered (schema_at l b).tables laid.tables) in
+    record {
+      schema = schema_is l b db schema.0 sound;
+      sound = sound;
+      shaped = subst (λ (m : Layout). AllByRecursion (λ (t : Declared). IsShaped Table (db.trees t.tree)) (tables_at m)) now all;
+      known = subst IsLayout now schema.1;
+    }
 
 -- a database that lists no table has none of these
 zipped : {X Y : Type 0} (R : X → Y → Type 0) (xs : List X) (y : Y) (ys : List Y) → AllZip R xs [] → AllZip R xs (y ∷ ys) → ⊥
 zipped R [] y ys none some = some
 zipped R (x ∷ xs) y ys none some = none
 
-pub not_both : (trees : Trees) → IsDatabase (record { schema = no_schema; trees = trees }) → IsDatabase (record { schema = store_schema; trees = trees }) → ⊥
-not_both trees none all =
-    zipped IsTableRow (filter is_table_row (trees catalog_tree)) version (client ∷ fileset ∷ media ∷ path ∷ filename ∷ job ∷ job_media ∷ file ∷ [])
+pub not_both : (l : Layout) (b : Beside) (trees : Trees) → IsDatabase (record { schema = no_schema; trees = trees }) → IsDatabase (record { schema = schema_at l b; trees = trees }) → ⊥
+not_both l b trees none all =
+    zipped IsTableRow (filter is_table_row (trees catalog_tree)) (version l.version)
+    (client l.client ∷ fileset l.fileset ∷ media l.media ∷ path l.path ∷ job l.job ∷ job_media l.job_media ∷ file l.file ∷ b.others)
     none.lists.listed.tables all.lists.listed.tables
 
 -- what is not broken is not shut
@@ -48,5 +70,6 @@ finds_made before now new sound trees schema made = inr (subst₂ (λ s t. IsDat
 pub finds_kept : (before now : Database) → now.trees ≡ before.trees → Finds before now
 finds_kept before now trees = inl trees
 
-pub not_fresh : (P : Type 0) (now : Database) → IsDatabase now → now.schema ≡ store_schema → IsDatabase (record { schema = no_schema; trees = now.trees }) → P
-not_fresh P now sound schema none = absurd (not_both now.trees none (subst (λ s. IsDatabase (record { schema = s; trees = now.trees })) schema sound))
+pub not_fresh : (P : Type 0) (now : Database) → IsDatabase now → IsStoreSchema now.schema → IsDatabase (record { schema = no_schema; trees = now.trees }) → P
+not_fresh P now sound schema none =
+    absurd (not_both (layout_of now.schema) (beside_of now.schema) now.trees none (subst (λ s. IsDatabase (record { schema = s; trees = now.trees })) schema.0 sound))

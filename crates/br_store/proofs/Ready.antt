@@ -1,5 +1,5 @@
 -- What calls one after another leave of a store that may be shut.
-use Rattle.std.proofs.Common.{◌≡◌, IsTrue, Result, Ok, Err, IfOk, IfErr, OnOk, OnErr, sym, ◌∙◌}
+use Rattle.std.proofs.Common.{Result, Ok, Err, IfOk, IfErr, OnOk, OnErr, sym, ◌∙◌}
 use Rattle.sqlite.specs.State.{State, KeepsCommit}
 use Rattle.br_store.specs.Calls.{IsSettled, Stays}
 
@@ -27,3 +27,7 @@ stays_both a b c one two up =
 pub err_with : {T E P : Type 0} (r : Result T E) → P → OnErr r P
 err_with (Ok x) p = tt
 err_with (Err e) p = p
+
+pub if_ok_both : {T E : Type 0} (P Q : T → Type 0) (r : Result T E) → IfOk r P → IfOk r Q → IfOk r (λ x. P x × Q x)
+if_ok_both P Q (Ok x) p q = (p, q)
+if_ok_both P Q (Err e) p q = tt

@@ -1,10 +1,10 @@
 -- What a plain SELECT in a transaction leaves and shows.
-use Rattle.std.proofs.Common.{◌≡◌, ◌⊎◌, inl, inr, ℕ, pos, List, Option, IfSome, [], ◌∷◌, map, Bool, true, false, ◌&&◌, cond, None, Some, refl, sym, ap, subst, ◌∙◌}
+use Rattle.std.proofs.Common.{◌≡◌, ◌⊎◌, inl, inr, ℕ, ◌-◌, ◌^◌, nat_le, slice_get, unwrap_or, pos, List, Option, IfSome, [], ◌∷◌, map, Bool, true, false, ◌&&◌, cond, None, Some, refl, sym, ap, subst, ◌∙◌}
 use Rattle.sqlite.specs.declared.types.Value.TheVariants.{Null, Int}
 use Rattle.sqlite.specs.Order.{Row, column}
 use Rattle.sqlite.specs.Query.{Query, IsAnswer, Output, output}
 use Rattle.sqlite.specs.Program.{overlay}
-use Rattle.std.specs.List.{AllByRecursion, list_all, flat_map}
+use Rattle.std.specs.List.{AllByRecursion, list_all}
 use Rattle.sqlite.specs.Term.{Env, holds}
 use Rattle.sqlite.specs.Tree.{Trees}
 use Rattle.sqlite.specs.Ops.{binary, is_true}
@@ -14,10 +14,10 @@ use Rattle.sqlite_sql.specs.declared.ops.CompareOp.TheVariants.{Eq}
 use Rattle.sqlite_rules.specs.Lists.{Has}
 use Rattle.sqlite_rules.proofs.ListLemmas.{all_from, all_has}
 use Rattle.sqlite_trees.proofs.ListLemmas.{all-permutation, all-flat_map}
-use Rattle.br_store.specs.Held.{IsName, IsNumberOf}
+use Rattle.br_schema.specs.Places.{Layout}
+use Rattle.br_store.specs.Held.{IsName, IsNumberAt, IsNumberOf, layout_in}
 use Rattle.br_store.specs.Names.{tree_of, word}
 use Rattle.br_store.specs.declared.names.Dictionary.{Dictionary}
-use Rattle.br_store.specs.declared.names.Dictionary.TheVariants.{Client, FileSet, Media, Path, Filename}
 use Rattle.br_store.proofs.Values.{word_tied}
 use Rattle.br_store.proofs.NameTexts.{name_query}
 use Rattle.sqlite.specs.Schema.{Schema}
@@ -63,40 +63,50 @@ module _ (schema : Schema) (sql : List ℕ) (params : Row) (old new : State) (ha
     pub answers : (rows : List Row) → Shown sql params old new rows → IsAnswer q (overlay old.now.trees []) params rows
     answers rows h = (reads_as sql params old new schema has (Select (record { lets = []; body = q }) names) is plain unlisted rows h).answer Null
 
+-- no table is computed first, so a query reads the tables as they are
+pub not_over : (trees : Trees) (tree : ℕ) → overlay trees [] tree ≡ trees tree
+not_over trees tree = go (nat_le (2 ^ 31) tree)
+  where
+    go : (b : Bool) → unwrap_or (cond b (slice_get [] (tree - 2 ^ 31)) None) (trees tree) ≡ trees tree
+    go true = refl
+    go false = refl
+
 all-map : {X Y : Type 0} (P : Y → Type 0) (f : X → Y) (xs : List X) → AllByRecursion (λ x. P (f x)) xs → AllByRecursion P (map f xs)
 all-map P f [] h = tt
 all-map P f (x ∷ xs) h = (h.0, all-map P f xs h.1)
 
 -- each row of the answer is that of a row with the name
-found_one : (trees : Trees) (d : Dictionary) (name : List ℕ) (row : Row) → Has (trees (tree_of d)) row
-    → AllByRecursion (λ env. IsNumberOf trees d name (output (name_query (tree_of d)) env).1)
-    (cond (list_all (holds ((word d name ∷ []) ∷ row ∷ [])) (name_query (tree_of d)).filter) (((word d name ∷ []) ∷ row ∷ []) ∷ []) [])
-found_one trees d name row has = go (is_true (binary (Compare Eq Binary) (column row 2) (word d name))) refl
+found_one : (l : Layout) (trees : Trees) (d : Dictionary) (name : List ℕ) (row : Row) → Has (trees (tree_of l d)) row
+    → AllByRecursion (λ env. IsNumberAt l trees d name (output (name_query (tree_of l d)) env).1)
+    (cond (list_all (holds ((word d name ∷ []) ∷ row ∷ [])) (name_query (tree_of l d)).filter) (((word d name ∷ []) ∷ row ∷ []) ∷ []) [])
+found_one l trees d name row has = go (is_true (binary (Compare Eq Binary) (column row 2) (word d name))) refl
   where
     go : (b : Bool) → is_true (binary (Compare Eq Binary) (column row 2) (word d name)) ≡ b
-        → AllByRecursion (λ env. IsNumberOf trees d name (output (name_query (tree_of d)) env).1) (cond (b && true) (((word d name ∷ []) ∷ row ∷ []) ∷ []) [])
+        → AllByRecursion (λ env. IsNumberAt l trees d name (output (name_query (tree_of l d)) env).1) (cond (b && true) (((word d name ∷ []) ∷ row ∷ []) ∷ []) [])
     go true e = ((row, has, refl, word_tied d (column row 2) name e), tt)
     go false e = tt
 
-as_it_is : (d : Dictionary) (trees : Trees) → overlay trees [] (tree_of d) ≡ trees (tree_of d)
-as_it_is Client trees = refl
-as_it_is FileSet trees = refl
-as_it_is Media trees = refl
-as_it_is Path trees = refl
-as_it_is Filename trees = refl
-
-pub numbers_found : (trees : Trees) (d : Dictionary) (name : List ℕ) (rows : List Row) → IsAnswer (name_query (tree_of d)) (overlay trees []) (word d name ∷ []) rows
-    → AllByRecursion (IsNumberOf trees d name) rows
-numbers_found trees d name rows a =
-    let q = name_query (tree_of d) in
-    let P = λ (env : Env). IsNumberOf trees d name (output q env).1 in
-    let Q = λ (o : Output). IsNumberOf trees d name o.1 in
+numbers_read : (l : Layout) (trees : Trees) (d : Dictionary) (name : List ℕ) (rows : List Row) → IsAnswer (name_query (tree_of l d)) trees (word d name ∷ []) rows
+    → AllByRecursion (IsNumberAt l trees d name) rows
+numbers_read l trees d name rows a =
+    let q = name_query (tree_of l d) in
+    let P = λ (env : Env). IsNumberAt l trees d name (output q env).1 in
+    let Q = λ (o : Output). IsNumberAt l trees d name o.1 in
     let look = λ (row : Row). cond (list_all (holds ((word d name ∷ []) ∷ row ∷ [])) q.filter) (((word d name ∷ []) ∷ row ∷ []) ∷ []) [] in
-    let matched = subst (λ rows. AllByRecursion P (flat_map look rows)) (sym (as_it_is d trees)) (all-flat_map P look (trees (tree_of d)) (all_from _ (trees (tree_of d)) (λ row has. found_one trees d name row has))) in
+    let matched = all-flat_map P look (trees (tree_of l d)) (all_from _ (trees (tree_of l d)) (λ row has. found_one l trees d name row has)) in
     let staged : AllByRecursion P a.staged = subst (AllByRecursion P) (sym a.grouped) matched in
     let kept : AllByRecursion Q a.kept = subst (AllByRecursion Q) (sym a.distinct) (all-map Q (output q) a.staged staged) in
     let ordered = all-permutation Q a.kept a.ordered a.same kept in
-    subst (AllByRecursion (IsNumberOf trees d name)) (sym a.shown) (all-map (IsNumberOf trees d name) (λ (o : Output). o.1) a.ordered ordered)
+    subst (AllByRecursion (IsNumberAt l trees d name)) (sym a.shown) (all-map (IsNumberAt l trees d name) (λ (o : Output). o.1) a.ordered ordered)
+
+pub numbers_found : (trees : Trees) (d : Dictionary) (name : List ℕ) (rows : List Row) → IsAnswer (name_query (tree_of (layout_in trees) d)) (overlay trees []) (word d name ∷ []) rows
+    → AllByRecursion (IsNumberOf trees d name) rows
+numbers_found trees d name rows a =
+    let l = layout_in trees in
+    let all = numbers_read l (overlay trees []) d name rows a in
+    all_from (IsNumberOf trees d name) rows (λ row has.
+    let it = all_has (IsNumberAt l (overlay trees []) d name) rows row all has in
+    (it.0, subst (λ rows. Has rows it.0) (not_over trees (tree_of l d)) it.1, it.2, it.3))
 
 pub first_is_name : (trees : Trees) (d : Dictionary) (name : List ℕ) (rows : List Row) → AllByRecursion (IsNumberOf trees d name) rows → (o : Option ℕ)
     → IfSome o (λ id. (row : Row) × Has rows row × (column row 0 ≡ Int (pos id))) → IfSome o (IsName trees d name)

@@ -15,7 +15,7 @@ use Rattle.std.proofs.lemmas.Cmp.{tied_itself}
 use Rattle.br_store.specs.Held.{is_named}
 use Rattle.br_store.specs.Names.{word}
 use Rattle.br_store.specs.declared.names.Dictionary.{Dictionary}
-use Rattle.br_store.specs.declared.names.Dictionary.TheVariants.{Client, FileSet, Media, Path, Filename}
+use Rattle.br_store.specs.declared.names.Dictionary.TheVariants.{Client, FileSet, Media, Path}
 use Rattle.sqlite_value.proofs.KeyLemmas.{class_tied}
 
 if_true : (nulls : Bool) (o : Ordering) → is_true (cond nulls Null (from_truth (Some (is_eq o)))) ≡ true → o ≡ Equal
@@ -49,7 +49,6 @@ word_tied Client v name h = text_tied v name (tied v (Text name) h)
 word_tied FileSet v name h = text_tied v name (tied v (Text name) h)
 word_tied Media v name h = text_tied v name (tied v (Text name) h)
 word_tied Path v name h = blob_tied v name (tied v (Blob name) h)
-word_tied Filename v name h = blob_tied v name (tied v (Blob name) h)
 
 pub names_self : (v : Value) → is_null v ≡ false → is_true (binary (Compare Eq Binary) v v) ≡ true
 unfolding binary

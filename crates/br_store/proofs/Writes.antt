@@ -6,22 +6,24 @@ use Rattle.sqlite.specs.declared.types.Value.TheVariants.{Null, Int, Text, Blob}
 use Rattle.sqlite.specs.Order.{Row, column}
 use Rattle.sqlite.specs.Edit.{is_taken, next_rowid}
 use Rattle.sqlite.specs.Table.{Table}
-use Rattle.sqlite.specs.Tree.{Trees, IsTable, put_row, rowid}
+use Rattle.sqlite.specs.Tree.{Trees, IsAscending, IsTable, put_row, rowid}
 use Rattle.sqlite.specs.Effect.{Database}
 use Rattle.sqlite.specs.View.{IsShaped, is_int}
 use Rattle.sqlite_trees.specs.declared.store.Shape.TheVariants.{Table as Shaped}
 use Rattle.sqlite_trees.proofs.TreeLemmas.{IsShaped-put_row}
 use Rattle.sqlite.specs.State.{State, KeepsCommit, IsUnchanged}
 use Rattle.br_store.specs.declared.names.Dictionary.{Dictionary}
-use Rattle.br_store.specs.declared.names.Dictionary.TheVariants.{Client, FileSet, Media, Path, Filename}
-use Rattle.br_schema.specs.Tables.{store_schema}
+use Rattle.br_store.specs.declared.names.Dictionary.TheVariants.{Client, FileSet, Media, Path}
+use Rattle.br_schema.specs.Places.{IsLayout, Layout, moved_layout, new_layout}
+use Rattle.br_schema.specs.Tables.{Beside, beside_of, tables_at}
 use Rattle.br_store.specs.Names.{tree_of, word, name_row}
 use Rattle.br_rows.specs.Decode.{job_row, span_row, file_row, digest_text, front, rest, high, low}
 use Rattle.br_model.specs.Job.{JobRow, FileRow, Span, JobRows}
 use Rattle.br_rows.specs.Rows.{Rows, with_job, with_spans, with_files, with_rows, with_file_row}
-use Rattle.br_store.specs.Held.{name_at, Added, HasTables, Wrote, GoesOn, IsName, rows_in, job_shown, span_shown, file_shown}
+use Rattle.br_store.specs.Held.{name_at, Added, HasTables, Wrote, GoesOn, IsNameAt, IsName, layout_in, rows_at, rows_in, job_shown, span_shown, file_shown}
 use Rattle.br_store.proofs.Joined.{HasGrown, AreKnown, are_known, grown_has, find_row, put-map, same_jobs, same_spans, same_files}
 use Rattle.br_store.proofs.Appends.{map-append, put_next}
+use Rattle.br_store.proofs.Layouts.{layout_is, schema_is}
 
 decide : (a b : ℕ) → (a ≡ b) ⊎ (a ≡ b → ⊥)
 decide a b = go (a == b) refl
@@ -39,28 +41,25 @@ grown_at t tree row old new put free same = elim (decide t tree) [
 ]
 
 -- the trees of names have at most one row more
-pub record HasNames (old new : Trees) : Type 0 where
-  pub clients : HasGrown (old 1) (new 1)
-  pub filesets : HasGrown (old 3) (new 3)
-  pub media : HasGrown (old 5) (new 5)
-  pub paths : HasGrown (old 7) (new 7)
-  pub filenames : HasGrown (old 9) (new 9)
+pub record HasNames (l : Layout) (old new : Trees) : Type 0 where
+  pub clients : HasGrown (old l.client) (new l.client)
+  pub filesets : HasGrown (old l.fileset) (new l.fileset)
+  pub media : HasGrown (old l.media) (new l.media)
+  pub paths : HasGrown (old l.path) (new l.path)
 
-pub names_grow : (tree : ℕ) (row : Row) (old new : Database) → Added tree row old new → HasNames old.trees new.trees
-names_grow tree row old new a = record {
-  clients = grown_at 1 tree row old.trees new.trees a.rows a.fresh a.others.1.0;
-  filesets = grown_at 3 tree row old.trees new.trees a.rows a.fresh a.others.1.1.0;
-  media = grown_at 5 tree row old.trees new.trees a.rows a.fresh a.others.1.1.1.0;
-  paths = grown_at 7 tree row old.trees new.trees a.rows a.fresh a.others.1.1.1.1.0;
-  filenames = grown_at 9 tree row old.trees new.trees a.rows a.fresh a.others.1.1.1.1.1.0;
+pub names_grow : (l : Layout) (b : Beside) (tree : ℕ) (row : Row) (old new : Database) → Added l b tree row old new → HasNames l old.trees new.trees
+names_grow l b tree row old new a = record {
+  clients = grown_at l.client tree row old.trees new.trees a.rows a.fresh a.others.1.0;
+  filesets = grown_at l.fileset tree row old.trees new.trees a.rows a.fresh a.others.1.1.0;
+  media = grown_at l.media tree row old.trees new.trees a.rows a.fresh a.others.1.1.1.0;
+  paths = grown_at l.path tree row old.trees new.trees a.rows a.fresh a.others.1.1.1.1.0;
 }
 
-pub names_kept : (old new : Trees) → HasNames old new → (d : Dictionary) (name : List ℕ) (id : ℕ) → IsName old d name id → IsName new d name id
-names_kept old new h Client name id is = (is.0, grown_has (old 1) (new 1) h.clients is.0 is.1, is.2, is.3)
-names_kept old new h FileSet name id is = (is.0, grown_has (old 3) (new 3) h.filesets is.0 is.1, is.2, is.3)
-names_kept old new h Media name id is = (is.0, grown_has (old 5) (new 5) h.media is.0 is.1, is.2, is.3)
-names_kept old new h Path name id is = (is.0, grown_has (old 7) (new 7) h.paths is.0 is.1, is.2, is.3)
-names_kept old new h Filename name id is = (is.0, grown_has (old 9) (new 9) h.filenames is.0 is.1, is.2, is.3)
+pub names_kept : (l : Layout) (old new : Trees) → HasNames l old new → (d : Dictionary) (name : List ℕ) (id : ℕ) → IsNameAt l old d name id → IsNameAt l new d name id
+names_kept l old new h Client name id is = (is.0, grown_has (old l.client) (new l.client) h.clients is.0 is.1, is.2, is.3)
+names_kept l old new h FileSet name id is = (is.0, grown_has (old l.fileset) (new l.fileset) h.filesets is.0 is.1, is.2, is.3)
+names_kept l old new h Media name id is = (is.0, grown_has (old l.media) (new l.media) h.media is.0 is.1, is.2, is.3)
+names_kept l old new h Path name id is = (is.0, grown_has (old l.path) (new l.path) h.paths is.0 is.1, is.2, is.3)
 
 -- the shape of a tree after one row was added to one tree
 shaped_at : (t tree : ℕ) (row : Row) (old new : Trees) → IsTrue (is_int (rowid row)) → new tree ≡ put_row row (old tree) → ((t ≡ tree → ⊥) → new t ≡ old t)
@@ -77,135 +76,174 @@ shaped_all tree row old new keyed put [] same shaped = tt
 shaped_all tree row old new keyed put (t ∷ tables) same shaped =
     (shaped_at t.tree tree row old new keyed put same.0 shaped.0, shaped_all tree row old new keyed put tables same.1 shaped.1)
 
-pub still_stands : (tree : ℕ) (row : Row) (old new : Database) → IsTrue (is_int (rowid row)) → HasTables old → Added tree row old new → HasTables new
-still_stands tree row old new keyed tables a = record {
-  schema = a.schema;
-  sound = a.sound;
-  shaped = shaped_all tree row old.trees new.trees keyed a.rows store_schema.tables a.others tables.shaped;
-}
+-- a catalogue to which one row was added is one still, with its tables in the same trees
+pub still_stands : (l : Layout) (b : Beside) (tree : ℕ) (row : Row) (old new : Database) → IsTrue (is_int (rowid row)) → layout_in old.trees ≡ l → HasTables old → Added l b tree row old new → HasTables new
+still_stands l b tree row old new keyed was tables a =
+    let now = sym (layout_is l b new a.schema a.sound) in
+    let all : AllByRecursion (λ (t : Table). IsShaped Shaped (new.trees t.tree)) (tables_at l) =
+    shaped_all tree row old.trees new.trees keyed a.rows (tables_at l) a.others (subst (λ (m : Layout). AllByRecursion (λ (t : Table). IsShaped Shaped (old.trees t.tree)) (tables_at m)) was tables.shaped) in
+    record {
+      schema = schema_is l b new a.schema a.sound;
+      sound = a.sound;
+      shaped = subst (λ (m : Layout). AllByRecursion (λ (t : Table). IsShaped Shaped (new.trees t.tree)) (tables_at m)) now all;
+      known = subst IsLayout (was ∙ now) tables.known;
+    }
 
 -- what one more row of a table makes of the rows
-pub wrote_row : (tree : ℕ) (row : Row) (rows : Rows) (old new : State) → IsTrue (is_int (rowid row)) → HasTables old.now → GoesOn old new → Added tree row old.now new.now
-    → rows_in new.now.trees ≡ rows → Wrote rows old new
-wrote_row tree row rows old new keyed tables on a has = record {
-  was_open = λ up. on.was_open;
-  mode = subst IsTrue (sym on.mode) refl;
-  committed = on.committed_is;
-  tables = still_stands tree row old.now new.now keyed tables a;
-  names = names_kept old.now.trees new.now.trees (names_grow tree row old.now new.now a);
-  has = has;
-}
+pub wrote_row : (l : Layout) (b : Beside) (tree : ℕ) (row : Row) (rows : Rows) (old new : State) → IsTrue (is_int (rowid row)) → layout_in old.now.trees ≡ l → HasTables old.now → GoesOn old new
+    → Added l b tree row old.now new.now → rows_at l new.now.trees ≡ rows → Wrote rows old new
+wrote_row l b tree row rows old new keyed was tables on a has =
+    let now = layout_is l b new.now a.schema a.sound in
+    record {
+      was_open = λ up. on.was_open;
+      mode = subst IsTrue (sym on.mode) refl;
+      committed = on.committed_is;
+      tables = still_stands l b tree row old.now new.now keyed was tables a;
+      names = λ d name id is. subst (λ (m : Layout). IsNameAt m new.now.trees d name id) (sym now)
+          (names_kept l old.now.trees new.now.trees (names_grow l b tree row old.now new.now a) d name id (subst (λ (m : Layout). IsNameAt m old.now.trees d name id) was is));
+      has = ap (λ (m : Layout). rows_at m new.now.trees) now ∙ has;
+    }
 
 pub four : (a b : Rows) → a.versions ≡ b.versions → a.jobs ≡ b.jobs → a.spans ≡ b.spans → a.files ≡ b.files → a ≡ b
 four a b versions jobs spans files =
     ap₂ (λ v j. record a { versions = v; jobs = j }) versions jobs ∙ ap₂ (λ s f. record b { spans = s; files = f }) spans files
 
-rows_are : (old new : Trees) (versions : new 0 ≡ old 0) → HasNames old new → AreKnown old → new 11 ≡ old 11 → new 13 ≡ old 13 → new 15 ≡ old 15 → rows_in new ≡ rows_in old
-rows_are old new versions grow known jobs spans files =
-    let a : (rows_in new).versions ≡ (rows_in old).versions = ap (map (λ (r : Row). column r 1 ∷ [])) versions in
-    let b : (rows_in new).jobs ≡ (rows_in old).jobs = ap (map (job_shown (new 1) (new 3))) jobs ∙ same_jobs (old 1) (new 1) (old 3) (new 3) (old 11) grow.clients grow.filesets known.jobs in
-    let c : (rows_in new).spans ≡ (rows_in old).spans = ap (map (span_shown (new 5))) spans ∙ same_spans (old 5) (new 5) (old 13) grow.media known.spans in
-    let d : (rows_in new).files ≡ (rows_in old).files = ap (map (file_shown (new 7) (new 9))) files ∙ same_files (old 7) (new 7) (old 9) (new 9) (old 15) grow.paths grow.filenames known.files in
-    four (rows_in new) (rows_in old) a b c d
+rows_are : (l : Layout) (old new : Trees) (versions : new l.version ≡ old l.version) → HasNames l old new → AreKnown l old → new l.job ≡ old l.job → new l.job_media ≡ old l.job_media → new l.file ≡ old l.file
+    → rows_at l new ≡ rows_at l old
+rows_are l old new versions grow known jobs spans files =
+    let a : (rows_at l new).versions ≡ (rows_at l old).versions = ap (map (λ (r : Row). column r 1 ∷ [])) versions in
+    let b : (rows_at l new).jobs ≡ (rows_at l old).jobs = ap (map (job_shown (new l.client) (new l.fileset))) jobs ∙ same_jobs (old l.client) (new l.client) (old l.fileset) (new l.fileset) (old l.job) grow.clients grow.filesets known.jobs in
+    let c : (rows_at l new).spans ≡ (rows_at l old).spans = ap (map (span_shown (new l.media))) spans ∙ same_spans (old l.media) (new l.media) (old l.job_media) grow.media known.spans in
+    let d : (rows_at l new).files ≡ (rows_at l old).files = ap (map (file_shown (new l.path))) files ∙ same_files (old l.path) (new l.path) (old l.file) grow.paths known.files in
+    four (rows_at l new) (rows_at l old) a b c d
+
+-- the trees in the order of the tables
+abbrev trees_at : Layout → List ℕ
+trees_at l = l.version ∷ l.client ∷ l.fileset ∷ l.media ∷ l.path ∷ l.job ∷ l.job_media ∷ l.file ∷ []
+
+-- the tables are in different trees
+abbrev pub AreApart : Layout → Type 0
+AreApart l = IsAscending (λ (tree other : ℕ). tree ≡ other → ⊥) (trees_at l)
+
+new_apart : AreApart new_layout
+new_apart =
+    (((λ e. cc), ((λ e. cc), ((λ e. cc), ((λ e. cc), ((λ e. cc), ((λ e. cc), ((λ e. cc), tt))))))), (((λ e. cc), ((λ e. cc), ((λ e. cc), ((λ e. cc), ((λ e. cc), ((λ e. cc), tt)))))), (((λ e. cc), ((λ e. cc), ((λ e. cc), ((λ e. cc), ((λ e. cc), tt))))), (((λ e. cc), ((λ e. cc), ((λ e. cc), ((λ e. cc), tt)))), (((λ e. cc), ((λ e. cc), ((λ e. cc), tt))), (((λ e. cc), ((λ e. cc), tt)), (((λ e. cc), tt), (tt, tt))))))))
+
+moved_apart : AreApart moved_layout
+moved_apart =
+    (((λ e. cc), ((λ e. cc), ((λ e. cc), ((λ e. cc), ((λ e. cc), ((λ e. cc), ((λ e. cc), tt))))))), (((λ e. cc), ((λ e. cc), ((λ e. cc), ((λ e. cc), ((λ e. cc), ((λ e. cc), tt)))))), (((λ e. cc), ((λ e. cc), ((λ e. cc), ((λ e. cc), ((λ e. cc), tt))))), (((λ e. cc), ((λ e. cc), ((λ e. cc), ((λ e. cc), tt)))), (((λ e. cc), ((λ e. cc), ((λ e. cc), tt))), (((λ e. cc), ((λ e. cc), tt)), (((λ e. cc), tt), (tt, tt))))))))
+
+pub apart_of : (l : Layout) → IsLayout l → AreApart l
+apart_of l (inl e) = subst AreApart (sym e) new_apart
+apart_of l (inr e) = subst AreApart (sym e) moved_apart
 
 -- the trees of rows are not those of names
-apart : (d : Dictionary) (P : ℕ → Type 0) → P 1 → P 3 → P 5 → P 7 → P 9 → P (tree_of d)
-apart Client P a b c d e = a
-apart FileSet P a b c d e = b
-apart Media P a b c d e = c
-apart Path P a b c d e = d
-apart Filename P a b c d e = e
+apart : (l : Layout) (d : Dictionary) (P : ℕ → Type 0) → P l.client → P l.fileset → P l.media → P l.path → P (tree_of l d)
+apart l Client P a b c d = a
+apart l FileSet P a b c d = b
+apart l Media P a b c d = c
+apart l Path P a b c d = d
 
 name_keyed : (d : Dictionary) (id : ℤ) (name : List ℕ) → IsTrue (is_int (rowid (name_row d id name)))
 name_keyed Client id name = refl
 name_keyed FileSet id name = refl
 name_keyed Media id name = refl
 name_keyed Path id name = refl
-name_keyed Filename id name = refl
 
 pub wrote_name : (d : Dictionary) (name : List ℕ) (old new : State) → HasTables old.now → GoesOn old new
-    → Added (tree_of d) (name_row d (next_rowid (old.now.trees (tree_of d))) name) old.now new.now → Wrote (rows_in old.now.trees) old new
+    → Added (layout_in old.now.trees) (beside_of old.now.schema) (tree_of (layout_in old.now.trees) d) (name_row d (next_rowid (old.now.trees (tree_of (layout_in old.now.trees) d))) name) old.now new.now → Wrote (rows_in old.now.trees) old new
 wrote_name d name old new tables on a =
-    let row = name_row d (next_rowid (old.now.trees (tree_of d))) name in
-    wrote_row (tree_of d) row (rows_in old.now.trees) old new (name_keyed d _ name) tables on a
-    (rows_are old.now.trees new.now.trees
-    (a.others.0 (apart d (λ n. 0 ≡ n → ⊥) (λ e. cc) (λ e. cc) (λ e. cc) (λ e. cc) (λ e. cc)))
-    (names_grow (tree_of d) row old.now new.now a) (are_known old.now tables.schema tables.sound)
-    (a.others.1.1.1.1.1.1.0 (apart d (λ n. 11 ≡ n → ⊥) (λ e. cc) (λ e. cc) (λ e. cc) (λ e. cc) (λ e. cc)))
-    (a.others.1.1.1.1.1.1.1.0 (apart d (λ n. 13 ≡ n → ⊥) (λ e. cc) (λ e. cc) (λ e. cc) (λ e. cc) (λ e. cc)))
-    (a.others.1.1.1.1.1.1.1.1.0 (apart d (λ n. 15 ≡ n → ⊥) (λ e. cc) (λ e. cc) (λ e. cc) (λ e. cc) (λ e. cc))))
+    let l = layout_in old.now.trees in
+    let b = beside_of old.now.schema in
+    let h : AreApart l = apart_of l tables.known in
+    let row = name_row d (next_rowid (old.now.trees (tree_of l d))) name in
+    wrote_row l b (tree_of l d) row (rows_in old.now.trees) old new (name_keyed d _ name) refl tables on a
+    (rows_are l old.now.trees new.now.trees
+    (a.others.0 (apart l d (λ n. l.version ≡ n → ⊥) h.0.0 h.0.1.0 h.0.1.1.0 h.0.1.1.1.0))
+    (names_grow l b (tree_of l d) row old.now new.now a) (are_known l b old.now tables.schema tables.sound)
+    (a.others.1.1.1.1.1.0 (apart l d (λ n. l.job ≡ n → ⊥) (λ e. h.1.0.1.1.1.0 (sym e)) (λ e. h.1.1.0.1.1.0 (sym e)) (λ e. h.1.1.1.0.1.0 (sym e)) (λ e. h.1.1.1.1.0.0 (sym e))))
+    (a.others.1.1.1.1.1.1.0 (apart l d (λ n. l.job_media ≡ n → ⊥) (λ e. h.1.0.1.1.1.1.0 (sym e)) (λ e. h.1.1.0.1.1.1.0 (sym e)) (λ e. h.1.1.1.0.1.1.0 (sym e)) (λ e. h.1.1.1.1.0.1.0 (sym e))))
+    (a.others.1.1.1.1.1.1.1.0 (apart l d (λ n. l.file ≡ n → ⊥) (λ e. h.1.0.1.1.1.1.1.0 (sym e)) (λ e. h.1.1.0.1.1.1.1.0 (sym e)) (λ e. h.1.1.1.0.1.1.1.0 (sym e)) (λ e. h.1.1.1.1.0.1.1.0 (sym e)))))
 
 -- ---- rows of jobs, spans and files
 
-find_name : (trees : Trees) (d : Dictionary) (name : List ℕ) (id : ℕ) (tables : IsTable (trees (tree_of d))) (is : IsName trees d name id)
-    → name_at (trees (tree_of d)) (Int (pos id)) ≡ word d name
-find_name trees d name id up is = ap (λ (o : Option Row). column (unwrap_or o []) 2) (find_row (trees (tree_of d)) is.0 (pos id) up is.1 is.2) ∙ is.3
+find_name : (l : Layout) (trees : Trees) (d : Dictionary) (name : List ℕ) (id : ℕ) (tables : IsTable (trees (tree_of l d))) (is : IsNameAt l trees d name id)
+    → name_at (trees (tree_of l d)) (Int (pos id)) ≡ word d name
+find_name l trees d name id up is = ap (λ (o : Option Row). column (unwrap_or o []) 2) (find_row (trees (tree_of l d)) is.0 (pos id) up is.1 is.2) ∙ is.3
 
 pub wrote_job : (j : JobRow) (client fileset : ℕ) (old new : State) → HasTables old.now → GoesOn old new
     → IsName old.now.trees Client j.client client → IsName old.now.trees FileSet j.fileset fileset
-    → Added 11 (Int (pos j.id) ∷ Null ∷ Text (j.kind ∷ []) ∷ Text (j.level ∷ []) ∷ Int (pos client) ∷ Text (j.status ∷ []) ∷ Int (pos j.start) ∷ Int (pos fileset) ∷ Int (pos j.session.id) ∷ Int (pos j.session.time) ∷ []) old.now new.now
+    → Added (layout_in old.now.trees) (beside_of old.now.schema) (layout_in old.now.trees).job (Int (pos j.id) ∷ Null ∷ Text (j.kind ∷ []) ∷ Text (j.level ∷ []) ∷ Int (pos client) ∷ Text (j.status ∷ []) ∷ Int (pos j.start) ∷ Int (pos fileset) ∷ Int (pos j.session.id) ∷ Int (pos j.session.time) ∷ []) old.now new.now
     → Wrote (with_job j (rows_in old.now.trees)) old new
 wrote_job j client fileset old new tables on is_client is_fileset a =
+    let l = layout_in old.now.trees in
+    let b = beside_of old.now.schema in
+    let h : AreApart l = apart_of l tables.known in
     let before = old.now.trees in
     let after = new.now.trees in
     let row : Row = Int (pos j.id) ∷ Null ∷ Text (j.kind ∷ []) ∷ Text (j.level ∷ []) ∷ Int (pos client) ∷ Text (j.status ∷ []) ∷ Int (pos j.start) ∷ Int (pos fileset) ∷ Int (pos j.session.id) ∷ Int (pos j.session.time) ∷ [] in
-    let clients : after 1 ≡ before 1 = a.others.1.0 (λ e. cc) in
-    let filesets : after 3 ≡ before 3 = a.others.1.1.0 (λ e. cc) in
-    let shown : job_shown (before 1) (before 3) row ≡ job_row j =
+    let clients : after l.client ≡ before l.client = a.others.1.0 h.1.0.1.1.1.0 in
+    let filesets : after l.fileset ≡ before l.fileset = a.others.1.1.0 h.1.1.0.1.1.0 in
+    let shown : job_shown (before l.client) (before l.fileset) row ≡ job_row j =
     ap₂ (λ c f. Int (pos j.id) ∷ Text (j.kind ∷ []) ∷ Text (j.level ∷ []) ∷ c ∷ Text (j.status ∷ []) ∷ Int (pos j.start) ∷ f ∷ Int (pos j.session.id) ∷ Int (pos j.session.time) ∷ [])
-    (find_name before Client j.client client tables.shaped.1.0.0 is_client) (find_name before FileSet j.fileset fileset tables.shaped.1.1.0.0 is_fileset) in
-    let jobs : map (job_shown (after 1) (after 3)) (after 11) ≡ put_row (job_row j) (map (job_shown (before 1) (before 3)) (before 11)) =
-    ap₂ (λ c f. map (job_shown c f) (after 11)) clients filesets ∙ ap (map (job_shown (before 1) (before 3))) a.rows
-    ∙ put-map (job_shown (before 1) (before 3)) (λ r. refl) row (before 11) ∙ ap (λ r. put_row r (map (job_shown (before 1) (before 3)) (before 11))) shown in
-    let versions : (rows_in after).versions ≡ (rows_in before).versions = ap (map (λ (r : Row). column r 1 ∷ [])) (a.others.0 (λ e. cc)) in
-    let spans : (rows_in after).spans ≡ (rows_in before).spans = ap₂ (λ m s. map (span_shown m) s) (a.others.1.1.1.0 (λ e. cc)) (a.others.1.1.1.1.1.1.1.0 (λ e. cc)) in
-    let files : (rows_in after).files ≡ (rows_in before).files =
-    ap₂ (λ p n. map (file_shown p n) (after 15)) (a.others.1.1.1.1.0 (λ e. cc)) (a.others.1.1.1.1.1.0 (λ e. cc)) ∙ ap (map (file_shown (before 7) (before 9))) (a.others.1.1.1.1.1.1.1.1.0 (λ e. cc)) in
-    wrote_row 11 row (with_job j (rows_in before)) old new refl tables on a (four _ _ versions jobs spans files)
+    (find_name l before Client j.client client tables.shaped.1.0.0 is_client) (find_name l before FileSet j.fileset fileset tables.shaped.1.1.0.0 is_fileset) in
+    let jobs : map (job_shown (after l.client) (after l.fileset)) (after l.job) ≡ put_row (job_row j) (map (job_shown (before l.client) (before l.fileset)) (before l.job)) =
+    ap₂ (λ c f. map (job_shown c f) (after l.job)) clients filesets ∙ ap (map (job_shown (before l.client) (before l.fileset))) a.rows
+    ∙ put-map (job_shown (before l.client) (before l.fileset)) (λ r. refl) row (before l.job) ∙ ap (λ r. put_row r (map (job_shown (before l.client) (before l.fileset)) (before l.job))) shown in
+    let versions : (rows_at l after).versions ≡ (rows_in before).versions = ap (map (λ (r : Row). column r 1 ∷ [])) (a.others.0 h.0.1.1.1.1.0) in
+    let spans : (rows_at l after).spans ≡ (rows_in before).spans = ap₂ (λ m s. map (span_shown m) s) (a.others.1.1.1.0 h.1.1.1.0.1.0) (a.others.1.1.1.1.1.1.0 (λ e. h.1.1.1.1.1.0.0 (sym e))) in
+    let files : (rows_at l after).files ≡ (rows_in before).files =
+    ap (λ p. map (file_shown p) (after l.file)) (a.others.1.1.1.1.0 h.1.1.1.1.0.0) ∙ ap (map (file_shown (before l.path))) (a.others.1.1.1.1.1.1.1.0 (λ e. h.1.1.1.1.1.0.1.0 (sym e))) in
+    wrote_row l b l.job row (with_job j (rows_in before)) old new refl refl tables on a (four _ _ versions jobs spans files)
 
 pub wrote_span : (job : ℕ) (s : Span) (media : ℕ) (old new : State) → HasTables old.now → GoesOn old new → IsName old.now.trees Media s.volume media
-    → Added 13 (Int (next_rowid (old.now.trees 13)) ∷ Null ∷ Int (pos job) ∷ Int (pos media) ∷ Int (pos s.first) ∷ Int (pos s.last) ∷ Int (pos (high s.start)) ∷ Int (pos (high s.end)) ∷ Int (pos (low s.start)) ∷ Int (pos (low s.end)) ∷ Int (pos s.vol_index) ∷ []) old.now new.now
+    → Added (layout_in old.now.trees) (beside_of old.now.schema) (layout_in old.now.trees).job_media (Int (next_rowid (old.now.trees (layout_in old.now.trees).job_media)) ∷ Null ∷ Int (pos job) ∷ Int (pos media) ∷ Int (pos s.first) ∷ Int (pos s.last) ∷ Int (pos (high s.start)) ∷ Int (pos (high s.end)) ∷ Int (pos (low s.start)) ∷ Int (pos (low s.end)) ∷ Int (pos s.vol_index) ∷ []) old.now new.now
     → Wrote (with_spans job (s ∷ []) (rows_in old.now.trees)) old new
 wrote_span job s media old new tables on is_media a =
+    let l = layout_in old.now.trees in
+    let b = beside_of old.now.schema in
+    let h : AreApart l = apart_of l tables.known in
     let before = old.now.trees in
     let after = new.now.trees in
     let rest : Row = Null ∷ Int (pos job) ∷ Int (pos media) ∷ Int (pos s.first) ∷ Int (pos s.last) ∷ Int (pos (high s.start)) ∷ Int (pos (high s.end)) ∷ Int (pos (low s.start)) ∷ Int (pos (low s.end)) ∷ Int (pos s.vol_index) ∷ [] in
-    let row : Row = Int (next_rowid (before 13)) ∷ rest in
-    let last : after 13 ≡ before 13 ++ row ∷ [] = a.rows ∙ put_next rest (before 13) tables.shaped.1.1.1.1.1.1.1.0 in
-    let shown : span_shown (before 5) row ≡ span_row job s =
+    let row : Row = Int (next_rowid (before l.job_media)) ∷ rest in
+    let last : after l.job_media ≡ before l.job_media ++ row ∷ [] = a.rows ∙ put_next rest (before l.job_media) tables.shaped.1.1.1.1.1.1.0 in
+    let shown : span_shown (before l.media) row ≡ span_row job s =
     ap (λ m. Int (pos job) ∷ m ∷ Int (pos s.first) ∷ Int (pos s.last) ∷ Int (pos (high s.start)) ∷ Int (pos (high s.end)) ∷ Int (pos (low s.start)) ∷ Int (pos (low s.end)) ∷ Int (pos s.vol_index) ∷ [])
-    (find_name before Media s.volume media tables.shaped.1.1.1.0.0 is_media) in
-    let spans : (rows_in after).spans ≡ (rows_in before).spans ++ span_row job s ∷ [] =
-    ap₂ (λ m l. map (span_shown m) l) (a.others.1.1.1.0 (λ e. cc)) last ∙ map-append (span_shown (before 5)) (before 13) (row ∷ []) ∙ ap (λ r. (rows_in before).spans ++ r ∷ []) shown in
-    let versions : (rows_in after).versions ≡ (rows_in before).versions = ap (map (λ (r : Row). column r 1 ∷ [])) (a.others.0 (λ e. cc)) in
-    let jobs : (rows_in after).jobs ≡ (rows_in before).jobs =
-    ap₂ (λ c f. map (job_shown c f) (after 11)) (a.others.1.0 (λ e. cc)) (a.others.1.1.0 (λ e. cc)) ∙ ap (map (job_shown (before 1) (before 3))) (a.others.1.1.1.1.1.1.0 (λ e. cc)) in
-    let files : (rows_in after).files ≡ (rows_in before).files =
-    ap₂ (λ p n. map (file_shown p n) (after 15)) (a.others.1.1.1.1.0 (λ e. cc)) (a.others.1.1.1.1.1.0 (λ e. cc)) ∙ ap (map (file_shown (before 7) (before 9))) (a.others.1.1.1.1.1.1.1.1.0 (λ e. cc)) in
-    wrote_row 13 row (with_spans job (s ∷ []) (rows_in before)) old new refl tables on a (four _ _ versions jobs spans files)
+    (find_name l before Media s.volume media tables.shaped.1.1.1.0.0 is_media) in
+    let spans : (rows_at l after).spans ≡ (rows_in before).spans ++ span_row job s ∷ [] =
+    ap₂ (λ m rows. map (span_shown m) rows) (a.others.1.1.1.0 h.1.1.1.0.1.1.0) last ∙ map-append (span_shown (before l.media)) (before l.job_media) (row ∷ []) ∙ ap (λ r. (rows_in before).spans ++ r ∷ []) shown in
+    let versions : (rows_at l after).versions ≡ (rows_in before).versions = ap (map (λ (r : Row). column r 1 ∷ [])) (a.others.0 h.0.1.1.1.1.1.0) in
+    let jobs : (rows_at l after).jobs ≡ (rows_in before).jobs =
+    ap₂ (λ c f. map (job_shown c f) (after l.job)) (a.others.1.0 h.1.0.1.1.1.1.0) (a.others.1.1.0 h.1.1.0.1.1.1.0) ∙ ap (map (job_shown (before l.client) (before l.fileset))) (a.others.1.1.1.1.1.0 h.1.1.1.1.1.0.0) in
+    let files : (rows_at l after).files ≡ (rows_in before).files =
+    ap (λ p. map (file_shown p) (after l.file)) (a.others.1.1.1.1.0 h.1.1.1.1.0.1.0) ∙ ap (map (file_shown (before l.path))) (a.others.1.1.1.1.1.1.1.0 (λ e. h.1.1.1.1.1.1.0.0 (sym e))) in
+    wrote_row l b l.job_media row (with_spans job (s ∷ []) (rows_in before)) old new refl refl tables on a (four _ _ versions jobs spans files)
 
-pub wrote_file : (index job path filename : ℕ) (front rest lstat digest : List ℕ) (old new : State) → HasTables old.now → GoesOn old new
-    → IsName old.now.trees Path front path → IsName old.now.trees Filename rest filename
-    → Added 15 (Int (next_rowid (old.now.trees 15)) ∷ Null ∷ Int (pos index) ∷ Int (pos job) ∷ Int (pos path) ∷ Int (pos filename) ∷ Text lstat ∷ Text digest ∷ []) old.now new.now
+pub wrote_file : (index job path : ℕ) (front rest lstat digest : List ℕ) (old new : State) → HasTables old.now → GoesOn old new
+    → IsName old.now.trees Path front path
+    → Added (layout_in old.now.trees) (beside_of old.now.schema) (layout_in old.now.trees).file (Int (next_rowid (old.now.trees (layout_in old.now.trees).file)) ∷ Null ∷ Int (pos index) ∷ Int (pos job) ∷ Int (pos path) ∷ Blob rest ∷ Text lstat ∷ Text digest ∷ []) old.now new.now
     → Wrote (with_file_row (Int (pos job) ∷ Int (pos index) ∷ Blob front ∷ Blob rest ∷ Text lstat ∷ Text digest ∷ []) (rows_in old.now.trees)) old new
-wrote_file index job path filename front rest lstat digest old new tables on is_path is_filename a =
+wrote_file index job path front rest lstat digest old new tables on is_path a =
+    let l = layout_in old.now.trees in
+    let b = beside_of old.now.schema in
+    let h : AreApart l = apart_of l tables.known in
     let before = old.now.trees in
     let after = new.now.trees in
     let shows : Row = Int (pos job) ∷ Int (pos index) ∷ Blob front ∷ Blob rest ∷ Text lstat ∷ Text digest ∷ [] in
-    let more : Row = Null ∷ Int (pos index) ∷ Int (pos job) ∷ Int (pos path) ∷ Int (pos filename) ∷ Text lstat ∷ Text digest ∷ [] in
-    let row : Row = Int (next_rowid (before 15)) ∷ more in
-    let last : after 15 ≡ before 15 ++ row ∷ [] = a.rows ∙ put_next more (before 15) tables.shaped.1.1.1.1.1.1.1.1.0 in
-    let shown : file_shown (before 7) (before 9) row ≡ shows =
-    ap₂ (λ p n. Int (pos job) ∷ Int (pos index) ∷ p ∷ n ∷ Text lstat ∷ Text digest ∷ [])
-    (find_name before Path front path tables.shaped.1.1.1.1.0.0 is_path) (find_name before Filename rest filename tables.shaped.1.1.1.1.1.0.0 is_filename) in
-    let files : (rows_in after).files ≡ (rows_in before).files ++ shows ∷ [] =
-    ap₂ (λ p n. map (file_shown p n) (after 15)) (a.others.1.1.1.1.0 (λ e. cc)) (a.others.1.1.1.1.1.0 (λ e. cc)) ∙ ap (map (file_shown (before 7) (before 9))) last
-    ∙ map-append (file_shown (before 7) (before 9)) (before 15) (row ∷ []) ∙ ap (λ r. (rows_in before).files ++ r ∷ []) shown in
-    let versions : (rows_in after).versions ≡ (rows_in before).versions = ap (map (λ (r : Row). column r 1 ∷ [])) (a.others.0 (λ e. cc)) in
-    let jobs : (rows_in after).jobs ≡ (rows_in before).jobs =
-    ap₂ (λ c f. map (job_shown c f) (after 11)) (a.others.1.0 (λ e. cc)) (a.others.1.1.0 (λ e. cc)) ∙ ap (map (job_shown (before 1) (before 3))) (a.others.1.1.1.1.1.1.0 (λ e. cc)) in
-    let spans : (rows_in after).spans ≡ (rows_in before).spans = ap₂ (λ m s. map (span_shown m) s) (a.others.1.1.1.0 (λ e. cc)) (a.others.1.1.1.1.1.1.1.0 (λ e. cc)) in
-    wrote_row 15 row (with_file_row shows (rows_in before)) old new refl tables on a (four _ _ versions jobs spans files)
+    let more : Row = Null ∷ Int (pos index) ∷ Int (pos job) ∷ Int (pos path) ∷ Blob rest ∷ Text lstat ∷ Text digest ∷ [] in
+    let row : Row = Int (next_rowid (before l.file)) ∷ more in
+    let last : after l.file ≡ before l.file ++ row ∷ [] = a.rows ∙ put_next more (before l.file) tables.shaped.1.1.1.1.1.1.1.0 in
+    let shown : file_shown (before l.path) row ≡ shows =
+    ap (λ p. Int (pos job) ∷ Int (pos index) ∷ p ∷ Blob rest ∷ Text lstat ∷ Text digest ∷ []) (find_name l before Path front path tables.shaped.1.1.1.1.0.0 is_path) in
+    let files : (rows_at l after).files ≡ (rows_in before).files ++ shows ∷ [] =
+    ap (λ p. map (file_shown p) (after l.file)) (a.others.1.1.1.1.0 h.1.1.1.1.0.1.1.0) ∙ ap (map (file_shown (before l.path))) last
+    ∙ map-append (file_shown (before l.path)) (before l.file) (row ∷ []) ∙ ap (λ r. (rows_in before).files ++ r ∷ []) shown in
+    let versions : (rows_at l after).versions ≡ (rows_in before).versions = ap (map (λ (r : Row). column r 1 ∷ [])) (a.others.0 h.0.1.1.1.1.1.1.0) in
+    let jobs : (rows_at l after).jobs ≡ (rows_in before).jobs =
+    ap₂ (λ c f. map (job_shown c f) (after l.job)) (a.others.1.0 h.1.0.1.1.1.1.1.0) (a.others.1.1.0 h.1.1.0.1.1.1.1.0) ∙ ap (map (job_shown (before l.client) (before l.fileset))) (a.others.1.1.1.1.1.0 h.1.1.1.1.1.0.1.0) in
+    let spans : (rows_at l after).spans ≡ (rows_in before).spans = ap₂ (λ m s. map (span_shown m) s) (a.others.1.1.1.0 h.1.1.1.0.1.1.1.0) (a.others.1.1.1.1.1.1.0 h.1.1.1.1.1.1.0.0) in
+    wrote_row l b l.file row (with_file_row shows (rows_in before)) old new refl refl tables on a (four _ _ versions jobs spans files)
 
 -- ---- one after the other
 
@@ -269,7 +307,7 @@ rows_are_all j id row spans files rows e1 e2 e3 e4 = rw (e1, e2, e3, e4) refl
 pub wrote_job_as : (j : JobRow) (id client fileset start session time : ℕ) (kind level status : List ℕ) (old new : State)
     → id ≡ j.id → start ≡ j.start → session ≡ j.session.id → time ≡ j.session.time → kind ≡ j.kind ∷ [] → level ≡ j.level ∷ [] → status ≡ j.status ∷ []
     → HasTables old.now → GoesOn old new → IsName old.now.trees Client j.client client → IsName old.now.trees FileSet j.fileset fileset
-    → Added 11 (Int (pos id) ∷ Null ∷ Text kind ∷ Text level ∷ Int (pos client) ∷ Text status ∷ Int (pos start) ∷ Int (pos fileset) ∷ Int (pos session) ∷ Int (pos time) ∷ []) old.now new.now
+    → Added (layout_in old.now.trees) (beside_of old.now.schema) (layout_in old.now.trees).job (Int (pos id) ∷ Null ∷ Text kind ∷ Text level ∷ Int (pos client) ∷ Text status ∷ Int (pos start) ∷ Int (pos fileset) ∷ Int (pos session) ∷ Int (pos time) ∷ []) old.now new.now
     → Wrote (with_job j (rows_in old.now.trees)) old new
 wrote_job_as j id client fileset start session time kind level status old new e1 e2 e3 e4 e5 e6 e7 tables on is_client is_fileset a =
     wrote_job j client fileset old new tables on is_client is_fileset (rw (e1, e2, e3, e4, e5, e6, e7) at a)

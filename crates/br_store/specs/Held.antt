@@ -1,5 +1,5 @@
 -- The rows that a database holds, with names in place of numbers, and what a call adds to them.
-use Rattle.std.specs.Prelude.{◌≡◌, ℕ, pos, List, [], ◌∷◌, Bool, true, map, find, unwrap_or, IsTrue, false}
+use Rattle.std.specs.Prelude.{◌≡◌, ℕ, ◌-◌, pos, List, [], ◌∷◌, Bool, true, map, filter, find, unwrap_or, codes, bytes_eq, IsTrue, false}
 use Rattle.std.specs.List.{AllByRecursion}
 use Rattle.sqlite.specs.declared.types.Value.TheVariants.{Int, Text, Blob}
 use Rattle.sqlite.specs.declared.types.Value.{Value}
@@ -21,13 +21,43 @@ use Rattle.br_rows.specs.Inserted.{IsNewIn}
 use Rattle.br_store.specs.declared.names.Dictionary.{Dictionary}
 use Rattle.br_store.specs.Names.{tree_of, word}
 use Rattle.br_rows.specs.Rows.{Rows, with_job}
-use Rattle.br_schema.specs.Places.{version_tree, client_tree, fileset_tree, media_tree, path_tree, filename_tree}
-use Rattle.br_schema.specs.Places.{job_tree, job_media_tree, file_tree, row_number, version_id, name_column}
+use Rattle.sqlite_trees.specs.Objects.{catalog_tree, number_in}
+use Rattle.sqlite_catalog.specs.Listing.{is_table_row}
+use Rattle.br_schema.specs.Places.{IsLayout, Layout, row_number, version_id, name_column}
 use Rattle.br_schema.specs.Places.{job_type, job_level, job_client, job_status, job_start_time, job_fileset}
 use Rattle.br_schema.specs.Places.{job_session_id, job_session_time, span_job, span_media, span_first_index, span_last_index}
 use Rattle.br_schema.specs.Places.{span_start_file, span_end_file, span_start_block, span_end_block, span_vol_index}
 use Rattle.br_schema.specs.Places.{file_index, file_job, file_path, file_filename, file_lstat, file_md5}
-use Rattle.br_schema.specs.Tables.{store_schema}
+use Rattle.br_schema.specs.Tables.{Beside, beside_of, schema_at, tables_at}
+
+-- ---- where the tables are
+
+-- the value is this text
+abbrev pub is_text : List ℕ → Value → Bool
+is_text name (Text t) = bytes_eq t name
+is_text name _ = false
+
+-- the row of the list of objects has this name
+abbrev pub has_name : List ℕ → Row → Bool
+has_name name row = is_text name (column row 2)
+
+-- The tree that holds the table with this name. The list of objects is a tree too, in which the row
+-- of a table has the number after that of the table's tree.
+unfoldable pub tree_named : Trees → List ℕ → ℕ
+tree_named trees name = number_in (column (unwrap_or (find (has_name name) (filter is_table_row (trees catalog_tree))) []) row_number) - 1
+
+-- the trees that hold the catalogue's tables, found by the names of the tables
+abbrev pub layout_in : Trees → Layout
+layout_in trees = record {
+  version = tree_named trees (codes "Version");
+  client = tree_named trees (codes "Client");
+  fileset = tree_named trees (codes "FileSet");
+  media = tree_named trees (codes "Media");
+  path = tree_named trees (codes "Path");
+  job = tree_named trees (codes "Job");
+  job_media = tree_named trees (codes "JobMedia");
+  file = tree_named trees (codes "File");
+}
 
 -- ---- names for numbers
 
@@ -57,10 +87,10 @@ span_shown media span =
     ∷ column span span_start_file ∷ column span span_end_file ∷ column span span_start_block ∷ column span span_end_block
     ∷ column span span_vol_index ∷ []
 
--- a row of File, with the two parts of its path in place of their numbers
-abbrev pub file_shown : List Row → List Row → Row → Row
-file_shown paths filenames file =
-    column file file_job ∷ column file file_index ∷ name_at paths (column file file_path) ∷ name_at filenames (column file file_filename)
+-- a row of File, with the front of its path in place of its number
+abbrev pub file_shown : List Row → Row → Row
+file_shown paths file =
+    column file file_job ∷ column file file_index ∷ name_at paths (column file file_path) ∷ column file file_filename
     ∷ column file file_lstat ∷ column file file_md5 ∷ []
 
 -- the row that shows a file of a job: its index, the two parts of its path, its numbers and its
@@ -69,30 +99,36 @@ abbrev pub file_cells : ℕ → ℕ → List ℕ → List ℕ → List ℕ → L
 file_cells job index front rest lstat digest =
     Int (pos job) ∷ Int (pos index) ∷ Blob front ∷ Blob rest ∷ Text lstat ∷ Text digest ∷ []
 
+-- the catalogue's rows in the trees of a database whose tables are in these
+abbrev pub rows_at : Layout → Trees → Rows
+rows_at l trees = record {
+  versions = map (λ (version : Row). column version version_id ∷ []) (trees l.version);
+  jobs = map (job_shown (trees l.client) (trees l.fileset)) (trees l.job);
+  spans = map (span_shown (trees l.media)) (trees l.job_media);
+  files = map (file_shown (trees l.path)) (trees l.file);
+}
+
 -- the catalogue's rows in the trees of a database
 abbrev pub rows_in : Trees → Rows
-rows_in trees = record {
-  versions = map (λ (version : Row). column version version_id ∷ []) (trees version_tree);
-  jobs = map (job_shown (trees client_tree) (trees fileset_tree)) (trees job_tree);
-  spans = map (span_shown (trees media_tree)) (trees job_media_tree);
-  files = map (file_shown (trees path_tree) (trees filename_tree)) (trees file_tree);
-}
+rows_in trees = rows_at (layout_in trees) trees
 
 -- ---- databases
 
 -- one row was added to one table, and the other tables are as before
-pub record Added (tree : ℕ) (row : Row) (old new : Database) : Type 0 where
-  pub schema : new.schema ≡ store_schema
+pub record Added (l : Layout) (beside : Beside) (tree : ℕ) (row : Row) (old new : Database) : Type 0 where
+  pub schema : new.schema ≡ schema_at l beside
   pub sound : IsDatabase new
   pub rows : new.trees tree ≡ put_row row (old.trees tree)
   pub fresh : is_taken (old.trees tree) row ≡ false
-  pub others : AllByRecursion (λ (t : Table). (t.tree ≡ tree → ⊥) → new.trees t.tree ≡ old.trees t.tree) store_schema.tables
+  pub others : AllByRecursion (λ (t : Table). (t.tree ≡ tree → ⊥) → new.trees t.tree ≡ old.trees t.tree) (tables_at l)
 
--- a sound database with the catalogue's tables, each with its rows in ascending order
+-- A sound database that begins with the catalogue's tables, each with its rows in ascending order.
+-- It may have more tables after them, indexes and views.
 pub record HasTables (db : Database) : Type 0 where
-  pub schema : db.schema ≡ store_schema
+  pub schema : db.schema ≡ schema_at (layout_in db.trees) (beside_of db.schema)
   pub sound : IsDatabase db
-  pub shaped : AllByRecursion (λ (t : Table). IsShaped Shaped (db.trees t.tree)) store_schema.tables
+  pub shaped : AllByRecursion (λ (t : Table). IsShaped Shaped (db.trees t.tree)) (tables_at (layout_in db.trees))
+  pub known : IsLayout (layout_in db.trees)
 
 -- what a store keeps true of its connection: no transaction is open, and while the connection is
 -- open the database has the tables
@@ -105,14 +141,22 @@ abbrev pub rows_of : {S : Type 0} → Ghosts S → Held S → Rows
 rows_of g h = rows_in (state g h).now.trees
 
 -- a row of the table has this number and this name
+abbrev pub IsNameAt : Layout → Trees → Dictionary → List ℕ → ℕ → Type 0
+IsNameAt l trees dictionary name id =
+    (row : Row) × Has (trees (tree_of l dictionary)) row × (column row row_number ≡ Int (pos id)) × (column row name_column ≡ word dictionary name)
+
+-- the catalogue gives a name this number
 abbrev pub IsName : Trees → Dictionary → List ℕ → ℕ → Type 0
-IsName trees dictionary name id =
-    (row : Row) × Has (trees (tree_of dictionary)) row × (column row row_number ≡ Int (pos id)) × (column row name_column ≡ word dictionary name)
+IsName trees dictionary name id = IsNameAt (layout_in trees) trees dictionary name id
 
 -- a query shows the number of a row of the table that has this name
+abbrev pub IsNumberAt : Layout → Trees → Dictionary → List ℕ → Row → Type 0
+IsNumberAt l trees dictionary name shown =
+    (row : Row) × Has (trees (tree_of l dictionary)) row × (shown ≡ column row row_number ∷ []) × (column row name_column ≡ word dictionary name)
+
+-- a query shows a number that the catalogue gives to this name
 abbrev pub IsNumberOf : Trees → Dictionary → List ℕ → Row → Type 0
-IsNumberOf trees dictionary name shown =
-    (row : Row) × Has (trees (tree_of dictionary)) row × (shown ≡ column row row_number ∷ []) × (column row name_column ≡ word dictionary name)
+IsNumberOf trees dictionary name shown = IsNumberAt (layout_in trees) trees dictionary name shown
 
 -- the transaction goes on, and nothing is committed
 abbrev pub GoesOn : State → State → Type 0

@@ -1,4 +1,5 @@
 pub mod Names
 pub mod Held
 pub mod Made
+pub mod Old
 pub mod Calls

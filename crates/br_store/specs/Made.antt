@@ -1,10 +1,16 @@
 -- A catalogue that is being made.
-use Rattle.std.specs.Prelude.{◌≡◌, ◌⊎◌, [], IsTrue}
+use Rattle.std.specs.Prelude.{◌≡◌, ◌⊎◌, List, [], ◌∷◌, Bool, false, IsTrue}
 use Rattle.std.specs.List.{AllByRecursion}
 use Rattle.sqlite.specs.Table.{Table}
 use Rattle.sqlite.specs.Schema.{Schema}
 use Rattle.sqlite.specs.Effect.{Database, IsDatabase}
 use Rattle.sqlite.specs.State.{State}
+use Rattle.sqlite.specs.Order.{Row, column}
+use Rattle.br_rows.specs.Decode.{natural}
+use Rattle.br_rows.specs.Load.{is_read}
+use Rattle.br_rows.specs.Fault.{IsStoreFault}
+use Rattle.br_rows.specs.declared.fault.StoreFault.{StoreFault}
+use Rattle.br_rows.specs.declared.fault.StoreFault.TheVariants.{OldCatalogue}
 use Rattle.br_rows.specs.Rows.{no_rows}
 use Rattle.br_schema.specs.Tables.{no_schema}
 use Rattle.br_store.specs.Held.{HasTables, rows_in}
@@ -21,7 +27,7 @@ pub record MakesTables (schema : Schema) (old new : State) : Type 0 where
   pub committed : new.committed ≡ old.committed
   pub emptied : HasEmptied schema new.now
 
--- a catalogue of version 1 with no job
+-- a catalogue with no job
 pub record IsMade (db : Database) : Type 0 where
   pub tables : HasTables db
   pub rows : rows_in db.trees ≡ no_rows
@@ -32,6 +38,15 @@ pub record HasMade (old new : State) : Type 0 where
   pub mode : IsTrue new.in_transaction
   pub committed : new.committed ≡ old.committed
   pub made : IsMade new.now
+
+-- the versions are the one row 1
+abbrev pub is_first : List Row → Bool
+is_first (row ∷ []) = is_read 1 (natural (column row 0))
+is_first _ = false
+
+-- why a catalogue is not opened: the store failed or refused, or the catalogue is of version 1
+abbrev pub IsOpenFault : StoreFault → Type 0
+IsOpenFault fault = IsStoreFault fault ⊎ (fault ≡ OldCatalogue)
 
 -- an open keeps the database that it finds, or makes a catalogue with no job in a database with no
 -- table

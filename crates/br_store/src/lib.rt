@@ -7,13 +7,18 @@
 #![tactic(auto)]
 
 mod facts;
+mod migration;
 mod names;
+mod old;
 mod opening;
 mod queries;
+mod reads;
+mod renew;
 mod store;
 mod tables;
+mod version;
 mod write;
 
 pub use br_rows::{StoreFault, inserted_jobs_load};
-pub use opening::create;
+pub use opening::{create, reopened};
 pub use store::Store;

@@ -21,7 +21,6 @@ pub(crate) enum Dictionary {
     FileSet,
     Media,
     Path,
-    Filename,
 }
 
 /// Returns the query for the number of a name.
@@ -33,7 +32,6 @@ fn select_of(dictionary: Dictionary) -> &'static str
         Dictionary::FileSet => "SELECT FileSetId FROM FileSet WHERE FileSet = ?1",
         Dictionary::Media => "SELECT MediaId FROM Media WHERE VolumeName = ?1",
         Dictionary::Path => "SELECT PathId FROM Path WHERE Path = ?1",
-        Dictionary::Filename => "SELECT FilenameId FROM Filename WHERE Name = ?1",
     }
 }
 
@@ -46,17 +44,16 @@ fn insert_of(dictionary: Dictionary) -> &'static str
         Dictionary::FileSet => "INSERT INTO FileSet (FileSet) VALUES (?1)",
         Dictionary::Media => "INSERT INTO Media (VolumeName, MediaType) VALUES (?1, 'File')",
         Dictionary::Path => "INSERT INTO Path (Path) VALUES (?1)",
-        Dictionary::Filename => "INSERT INTO Filename (Name) VALUES (?1)",
     }
 }
 
-/// Returns the value of a name in its table: a text, or a blob for the parts of paths.
+/// Returns the value of a name in its table: a text, or a blob for the front of a path.
 fn word_of(dictionary: Dictionary, name: &[u8]) -> ValueRef<'_>
     ensures { owned result ≡ word dictionary name.now }
 {
     match dictionary {
         Dictionary::Client | Dictionary::FileSet | Dictionary::Media => ValueRef::Text(name),
-        Dictionary::Path | Dictionary::Filename => ValueRef::Blob(name),
+        Dictionary::Path => ValueRef::Blob(name),
     }
 }
 

@@ -1,16 +1,21 @@
 //! A database made into a catalogue, or opened as one.
 
-ghost use Rattle.std.specs.Prelude.{◌≡◌, false, IsTrue, IfOk, OnOk, OnErr};
+ghost use Rattle.std.specs.Prelude.{◌≡◌, false, IsTrue, IfOk, IfErr, OnOk, OnErr};
 ghost use Rattle.sqlite.specs.Held.{state};
 ghost use Rattle.sqlite.specs.Effect.{IsDatabase};
-ghost use Rattle.sqlite.specs.State.{Opens, Survives};
-ghost use Rattle.br_schema.specs.Tables.{no_schema, store_schema};
-ghost use Rattle.br_store.specs.Calls.{IsSame, OnCleanDisk, WhileClean};
-ghost use Rattle.br_store.specs.Held.{IsCatalogue, HasTables};
-ghost use Rattle.br_store.specs.Made.{Finds, IsMade};
+ghost use Rattle.sqlite.specs.State.{HasCleanDisk, IsUnchanged, Opens, Survives};
+ghost use Rattle.br_schema.specs.Tables.{IsStoreSchema, no_schema};
+ghost use Rattle.br_store.specs.Calls.{CommitsNothing, IsReadable, IsSame, OnCleanDisk, StaysIdle, WhileClean};
+ghost use Rattle.br_store.specs.Held.{IsCatalogue, HasTables, rows_in};
+ghost use Rattle.br_rows.specs.Fault.{IsStoreFault};
+ghost use Rattle.br_store.specs.Made.{Finds, IsMade, IsOpenFault, is_first};
+ghost use Rattle.br_store.specs.Old.{AreRising};
 
+use crate::queries::versions;
 use crate::tables::make_tables;
-use br_schema::{is_empty, is_ours};
+use crate::version::are_first;
+use br_rows::StoreFault;
+use br_schema::{is_empty, is_old, is_ours};
 use sqlite::{Alter, Connection, Error, ErrorCode};
 use std::alloc::Global;
 
@@ -35,7 +40,8 @@ pub fn create<S: Alter>(conn: &mut Connection<S>) -> Result<(), Error>
 /// Opens the store of this connection again: the same database, with the rows of each table in
 /// ascending order.
 fn opened<S: Alter + Drop>(alloc: Global, conn: Connection<S>) -> Result<Connection<S>, Error>
-    ensures tables { IfOk result (λ c. WhileClean S.Store c (λ is. is.now.schema ≡ store_schema → HasTables is.now)) }
+    ensures tables { IfOk result (λ c. WhileClean S.Store c (λ is. IsStoreSchema is.now.schema → HasTables is.now)) }
+    ensures rising { IfOk result (λ c. WhileClean S.Store c (λ is. AreRising is.now)) }
     ensures opens { IfOk result (λ c. WhileClean S.Store c Opens) }
     ensures found { IfOk result (λ c. WhileClean S.Store c (λ is.
         IsDatabase is.now × (is.now.trees ≡ (state S.Store conn).committed.trees))) }
@@ -54,18 +60,82 @@ fn opened<S: Alter + Drop>(alloc: Global, conn: Connection<S>) -> Result<Connect
     }
 }
 
-/// Opens a catalogue: makes the tables in a database with no table, and refuses another database
-/// unless it has just these tables.
+/// Opens the store of this connection again: the same database, of which it is then known that the
+/// rows of each table ascend. `migrate` needs that.
+pub fn reopened<S: Alter + Drop>(
+    alloc: Global,
+    conn: Connection<S>,
+) -> Result<Connection<S>, StoreFault>
+    ensures rising { IfOk result (λ c. WhileClean S.Store c (λ is. AreRising is.now)) }
+    ensures opens { IfOk result (λ c. WhileClean S.Store c Opens) }
+    ensures found { IfOk result (λ c. WhileClean S.Store c (λ is. is.now.trees ≡ (state S.Store conn).committed.trees)) }
+    ensures idle { IfOk result (λ c. c.in_transaction ≡ false) }
+    ensures cause { IfErr result (λ e. IsStoreFault e) }
+{
+    Ok(opened(alloc, conn)?)
+}
+
+/// Refuses a catalogue whose version is the one row 1.
+fn check_current<S: Alter>(conn: &mut Connection<S>) -> Result<(), StoreFault>
+    requires { IsReadable S.Store conn.old }
+    ensures current { OnCleanDisk S.Store conn.old conn.new (λ old new.
+        OnOk result (is_first (rows_in old.now.trees).versions ≡ false)) }
+    ensures same { OnCleanDisk S.Store conn.old conn.new (λ old new. OnOk result (IsUnchanged old new)) }
+    ensures idle { StaysIdle conn.old conn.new }
+    ensures survives { CommitsNothing S.Store conn.old conn.new }
+    ensures cause { IfErr result (λ e. IsOpenFault e) }
+{
+    let versions = versions(conn)?;
+    if are_first(&versions) {
+        return Err(StoreFault::OldCatalogue);
+    }
+    Ok(())
+}
+
+/// Returns why a database with the tables of version 1 is refused.
+fn refusal_of_old<S: Alter>(conn: &mut Connection<S>) -> StoreFault
+    ensures { IsOpenFault result }
+{
+    match conn.query_all("SELECT VersionId FROM Version ORDER BY rowid", &[]) {
+        Ok(versions) => {
+            if are_first(&versions) {
+                StoreFault::OldCatalogue
+            } else {
+                StoreFault::Store(Error::SqliteFailure(ErrorCode::NotADatabase))
+            }
+        }
+        Err(why) => StoreFault::Store(why),
+    }
+}
+
+/// Returns the catalogue in a database that has its tables, unless it is of version 1.
+fn current<S: Alter + Drop>(mut conn: Connection<S>) -> Result<Connection<S>, StoreFault>
+    requires idle { conn.in_transaction ≡ false }
+    requires tables { WhileClean S.Store conn (λ is. HasTables is.now) }
+    ensures catalogue { IfOk result (λ c. IsCatalogue S.Store c) }
+    ensures same { IfOk result (λ c. OnCleanDisk S.Store conn c IsUnchanged) }
+    ensures clean { IfOk result (λ c. HasCleanDisk (state S.Store c) → HasCleanDisk (state S.Store conn)) }
+    ensures current { IfOk result (λ c. WhileClean S.Store c (λ is. is_first (rows_in is.now.trees).versions ≡ false)) }
+    ensures cause { IfErr result (λ e. IsOpenFault e) }
+{
+    check_current(&mut conn)?;
+    Ok(conn)
+}
+
+/// Opens a catalogue: makes the tables in a database with no table, and refuses a catalogue of
+/// version 1 and a database that does not begin with the tables.
 pub(crate) fn opened_or_made<S: Alter + Drop>(
     alloc: Global,
     conn: Connection<S>,
-) -> Result<Connection<S>, Error>
+) -> Result<Connection<S>, StoreFault>
     ensures catalogue { IfOk result (λ c. IsCatalogue S.Store c) }
     ensures open { IfOk result (λ c. WhileClean S.Store c (λ is. IsTrue is.is_open)) }
     ensures settled { IfOk result (λ c. WhileClean S.Store c (λ is. is.now ≡ is.committed)) }
     ensures finds { IfOk result (λ c. WhileClean S.Store c (λ is. Finds (state S.Store conn).committed is.now)) }
     ensures fresh { IfOk result (λ c. WhileClean S.Store c (λ is.
         (state S.Store conn).committed.schema ≡ no_schema → IsMade is.now)) }
+    ensures current { IfOk result (λ c. WhileClean S.Store c (λ is. is_first (rows_in is.now.trees).versions ≡ false)) }
+    ensures cause { IfErr result (λ e. IsOpenFault e) }
 {
     let mut conn = opened(alloc, conn)?;
     if is_empty(conn.schema()) {
@@ -73,7 +143,10 @@ pub(crate) fn opened_or_made<S: Alter + Drop>(
         return Ok(conn);
     }
     if is_ours(conn.schema()) {
-        return Ok(conn);
+        return current(conn);
     }
-    Err(Error::SqliteFailure(ErrorCode::NotADatabase))
+    if is_old(conn.schema()) {
+        return Err(refusal_of_old(&mut conn));
+    }
+    Err(StoreFault::Store(Error::SqliteFailure(ErrorCode::NotADatabase)))
 }

@@ -11,7 +11,7 @@ use br_rows::CatalogueRows;
 use sqlite::{Alter, Connection, Error, Row};
 
 /// Reads the versions.
-fn versions<S: Alter>(conn: &mut Connection<S>) -> Result<Vec<Row>, Error>
+pub(crate) fn versions<S: Alter>(conn: &mut Connection<S>) -> Result<Vec<Row>, Error>
     requires { IsReadable S.Store conn.old }
     ensures rows { OnCleanDisk S.Store conn.old conn.new (λ old new.
         IfOk result (λ rows. rows.items ≡ (rows_in old.now.trees).versions)) }
@@ -55,7 +55,7 @@ fn spans<S: Alter>(conn: &mut Connection<S>) -> Result<Vec<Row>, Error>
     )
 }
 
-/// Reads the files with the two parts of their paths, in order of FileId.
+/// Reads the files with the fronts of their paths, in order of FileId.
 fn files<S: Alter>(conn: &mut Connection<S>) -> Result<Vec<Row>, Error>
     requires { IsReadable S.Store conn.old }
     ensures rows { OnCleanDisk S.Store conn.old conn.new (λ old new.
@@ -66,7 +66,7 @@ fn files<S: Alter>(conn: &mut Connection<S>) -> Result<Vec<Row>, Error>
     ensures survives { CommitsNothing S.Store conn.old conn.new }
 {
     conn.query_all(
-        "SELECT File.JobId, File.FileIndex, Path.Path, Filename.Name, File.LStat, File.MD5 FROM File JOIN Path ON Path.PathId = File.PathId JOIN Filename ON Filename.FilenameId = File.FilenameId ORDER BY File.FileId",
+        "SELECT File.JobId, File.FileIndex, Path.Path, File.Filename, File.LStat, File.MD5 FROM File JOIN Path ON Path.PathId = File.PathId ORDER BY File.FileId",
         &[],
     )
 }

@@ -10,7 +10,7 @@ ghost use Rattle.br_rows.specs.Rows.{no_rows};
 ghost use Rattle.br_store.specs.Calls.{AddsJob, CommitsNothing, IsCommitted, IsDurable, IsReadable, IsSame};
 ghost use Rattle.br_store.specs.Calls.{MayCommit, OnCleanDisk, WhileClean};
 ghost use Rattle.br_store.specs.Held.{IsCatalogue, HasTables, rows_in};
-ghost use Rattle.br_store.specs.Made.{Finds};
+ghost use Rattle.br_store.specs.Made.{Finds, IsOpenFault, is_first};
 
 use crate::opening::opened_or_made;
 use crate::queries::{read, ready};
@@ -21,7 +21,7 @@ use sqlite::{Alter, Connection, Error};
 use std::alloc::Global;
 use std::marker::Model;
 
-/// A catalogue of version 1, in a database that nothing else has open.
+/// A catalogue, in a database that nothing else has open.
 #[derive(Drop)]
 pub struct Store<S: Alter> {
     conn: Connection<S>,
@@ -48,7 +48,8 @@ impl<S: Alter + Drop> Store<S> {
     ///
     /// # Errors
     ///
-    /// `Store`, with its cause, if the database fails or has other tables than a catalogue.
+    /// `Store`, with its cause, if the database fails or does not have the tables of a catalogue;
+    /// `OldCatalogue` if it is of version 1, and has to be migrated.
     pub fn open(alloc: Global, conn: Connection<S>) -> Result<Store<S>, StoreFault>
         ensures open { IfOk result (λ s. WhileClean S.Store s (λ is. IsTrue is.is_open)) }
         ensures finds { IfOk result (λ s. WhileClean S.Store s (λ is. Finds (state S.Store conn).committed is.now)) }
@@ -56,7 +57,8 @@ impl<S: Alter + Drop> Store<S> {
             (state S.Store conn).committed.schema ≡ no_schema → rows_in is.now.trees ≡ no_rows)) }
         ensures settled { IfOk result (λ s. WhileClean S.Store s (λ is. is.now ≡ is.committed)) }
         ensures crash { IfOk result (λ s. WhileClean S.Store s IsDurable) }
-        ensures cause { IfErr result (λ e. IsStoreFault e) }
+        ensures current { IfOk result (λ s. WhileClean S.Store s (λ is. is_first (rows_in is.now.trees).versions ≡ false)) }
+        ensures cause { IfErr result (λ e. IsOpenFault e) }
     {
         let conn = opened_or_made(alloc, conn)?;
         Ok(Store { conn, alloc })
@@ -87,7 +89,7 @@ impl<S: Alter> Store<S> {
     ///
     /// # Errors
     ///
-    /// `Store`, with its cause, if the database fails; `BadCatalogue` if the version is not 1 or
+    /// `Store`, with its cause, if the database fails; `BadCatalogue` if the version is not 2 or
     /// the rows form no history; `Memory` if memory runs out while the rows are read.
     pub fn load_history(&mut self) -> Result<History, StoreFault>
         ensures answers { OnCleanDisk S.Store self.old self.new (λ old new.

@@ -2,7 +2,7 @@
 
 ghost use Rattle.std.specs.Prelude.{OnOk, OnErr};
 ghost use Rattle.sqlite.specs.State.{KeepsCommit};
-ghost use Rattle.br_schema.specs.Tables.{no_schema, three_tables, six_tables, store_schema};
+ghost use Rattle.br_schema.specs.Tables.{no_schema, three_tables, five_tables, new_schema};
 ghost use Rattle.br_store.specs.Calls.{BorrowsSame, CommitsNothing, InEmptied};
 ghost use Rattle.br_store.specs.Made.{HasMade, MakesTables};
 
@@ -29,11 +29,11 @@ fn make_first<S: Alter>(tx: &mut Transaction<'_, S>) -> Result<(), Error>
     Ok(())
 }
 
-/// Makes the tables of volumes and the parts of paths.
+/// Makes the tables of volumes and the fronts of paths.
 fn make_names<S: Alter>(tx: &mut Transaction<'_, S>) -> Result<(), Error>
     ensures same_reference { BorrowsSame tx.old.conn tx.new.conn }
     ensures made { InEmptied three_tables S.Store tx.old.conn.now tx.new.conn.now (λ old new.
-        OnOk result (MakesTables six_tables old new)) }
+        OnOk result (MakesTables five_tables old new)) }
     ensures kept { InEmptied three_tables S.Store tx.old.conn.now tx.new.conn.now (λ old new.
         OnErr result (KeepsCommit old new)) }
     ensures survives { CommitsNothing S.Store tx.old.conn.now tx.new.conn.now }
@@ -46,19 +46,15 @@ fn make_names<S: Alter>(tx: &mut Transaction<'_, S>) -> Result<(), Error>
         "CREATE TABLE Path(PathId INTEGER PRIMARY KEY, Path BLOB NOT NULL UNIQUE)",
         &[],
     )?;
-    tx.execute(
-        "CREATE TABLE Filename(FilenameId INTEGER PRIMARY KEY, Name BLOB NOT NULL UNIQUE)",
-        &[],
-    )?;
     Ok(())
 }
 
 /// Makes the tables of jobs, spans and files.
 fn make_rows<S: Alter>(tx: &mut Transaction<'_, S>) -> Result<(), Error>
     ensures same_reference { BorrowsSame tx.old.conn tx.new.conn }
-    ensures made { InEmptied six_tables S.Store tx.old.conn.now tx.new.conn.now (λ old new.
-        OnOk result (MakesTables store_schema old new)) }
-    ensures kept { InEmptied six_tables S.Store tx.old.conn.now tx.new.conn.now (λ old new.
+    ensures made { InEmptied five_tables S.Store tx.old.conn.now tx.new.conn.now (λ old new.
+        OnOk result (MakesTables new_schema old new)) }
+    ensures kept { InEmptied five_tables S.Store tx.old.conn.now tx.new.conn.now (λ old new.
         OnErr result (KeepsCommit old new)) }
     ensures survives { CommitsNothing S.Store tx.old.conn.now tx.new.conn.now }
 {
@@ -71,22 +67,22 @@ fn make_rows<S: Alter>(tx: &mut Transaction<'_, S>) -> Result<(), Error>
         &[],
     )?;
     tx.execute(
-        "CREATE TABLE File(FileId INTEGER PRIMARY KEY, FileIndex INTEGER NOT NULL, JobId INTEGER NOT NULL REFERENCES Job(JobId), PathId INTEGER NOT NULL REFERENCES Path(PathId), FilenameId INTEGER NOT NULL REFERENCES Filename(FilenameId), LStat TEXT NOT NULL, MD5 TEXT NOT NULL)",
+        "CREATE TABLE File(FileId INTEGER PRIMARY KEY, FileIndex INTEGER NOT NULL, JobId INTEGER NOT NULL REFERENCES Job(JobId), PathId INTEGER NOT NULL REFERENCES Path(PathId), Filename BLOB NOT NULL, LStat TEXT NOT NULL, MD5 TEXT NOT NULL)",
         &[],
     )?;
     Ok(())
 }
 
-/// Adds the row of version 1.
+/// Adds the row of version 2.
 fn put_version<S: Alter>(tx: &mut Transaction<'_, S>) -> Result<(), Error>
     ensures same_reference { BorrowsSame tx.old.conn tx.new.conn }
-    ensures made { InEmptied store_schema S.Store tx.old.conn.now tx.new.conn.now (λ old new.
+    ensures made { InEmptied new_schema S.Store tx.old.conn.now tx.new.conn.now (λ old new.
         OnOk result (HasMade old new)) }
-    ensures kept { InEmptied store_schema S.Store tx.old.conn.now tx.new.conn.now (λ old new.
+    ensures kept { InEmptied new_schema S.Store tx.old.conn.now tx.new.conn.now (λ old new.
         OnErr result (KeepsCommit old new)) }
     ensures survives { CommitsNothing S.Store tx.old.conn.now tx.new.conn.now }
 {
-    tx.execute("INSERT INTO Version (VersionId) VALUES (1)", &[])?;
+    tx.execute("INSERT INTO Version (VersionId) VALUES (2)", &[])?;
     Ok(())
 }
 

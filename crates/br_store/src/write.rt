@@ -3,7 +3,7 @@
 ghost use Rattle.std.specs.Prelude.{◌≡◌, ℕ, List, [], ◌∷◌, OnOk, OnErr};
 ghost use Rattle.std.specs.List.{AllByRecursion};
 ghost use Rattle.sqlite.specs.State.{KeepsCommit};
-ghost use Rattle.br_store.specs.declared.names.Dictionary.TheVariants.{Client, FileSet, Media, Path, Filename};
+ghost use Rattle.br_store.specs.declared.names.Dictionary.TheVariants.{Client, FileSet, Media, Path};
 ghost use Rattle.br_rows.specs.Rows.{with_spans, with_files, with_rows, with_file_row};
 ghost use Rattle.br_rows.specs.Inserted.{IsFile, IsSpan};
 ghost use Rattle.br_store.specs.Calls.{AddsJob, BorrowsSame, CommitsNothing, InCatalogue, InTransaction};
@@ -25,11 +25,11 @@ struct Letters<'a> {
     status: &'a [u8],
 }
 
-/// The numbers of the two parts of a path.
+/// The two parts of a path: the number of the front, and the rest.
 #[derive(Clone, Copy)]
-struct PathNumbers {
+struct Parts<'a> {
     path: u32,
-    filename: u32,
+    rest: &'a [u8],
 }
 
 /// Adds the row of a job with these letters and this session, whose client and file set have these
@@ -105,31 +105,30 @@ fn put_span_row<S: Alter>(
     Ok(())
 }
 
-/// Adds the row of a file, given the numbers of the two parts of its path, and its numbers and its
-/// digest as texts.
+/// Adds the row of a file, given the two parts of its path, and its numbers and its digest as texts.
 fn put_file_row<'a, S: Alter>(
     tx: &mut Transaction<'_, S>,
     job: u32,
     index: u32,
-    parts: PathNumbers,
+    parts: &'a Parts<'a>,
     lstat: &'a [u8],
     digest: &'a [u8],
 ) -> Result<(), Error>
     ensures same_reference { BorrowsSame tx.old.conn tx.new.conn }
     ensures added { InCatalogue S.Store tx.old.conn.now tx.new.conn.now (λ old new.
-        (front rest : List ℕ) → IsName old.now.trees Path front parts.path → IsName old.now.trees Filename rest parts.filename
-        → OnOk result (Writes (with_file_row (file_cells job index front rest lstat.now digest.now)) old new)) }
+        (front : List ℕ) → IsName old.now.trees Path front parts.now.path
+        → OnOk result (Writes (with_file_row (file_cells job index front parts.now.rest.now lstat.now digest.now)) old new)) }
     ensures kept { InTransaction S.Store tx.old.conn.now tx.new.conn.now (λ old new.
         OnErr result (KeepsCommit old new)) }
     ensures survives { CommitsNothing S.Store tx.old.conn.now tx.new.conn.now }
 {
     tx.execute(
-        "INSERT INTO File (FileIndex, JobId, PathId, FilenameId, LStat, MD5) VALUES (?1, ?2, ?3, ?4, ?5, ?6)",
+        "INSERT INTO File (FileIndex, JobId, PathId, Filename, LStat, MD5) VALUES (?1, ?2, ?3, ?4, ?5, ?6)",
         &[
             index.to_sql(),
             job.to_sql(),
             parts.path.to_sql(),
-            parts.filename.to_sql(),
+            ValueRef::Blob(parts.rest),
             ValueRef::Text(lstat),
             ValueRef::Text(digest),
         ],
@@ -183,12 +182,11 @@ fn put_file<S: Alter>(tx: &mut Transaction<'_, S>, job: u32, file: &FileRow) -> 
 {
     let (front, rest) = cut(file.path.bytes());
     let path = name_id(tx, Dictionary::Path, front)?;
-    let filename = name_id(tx, Dictionary::Filename, rest)?;
-    let parts = PathNumbers { path, filename };
+    let parts = Parts { path, rest };
     let lstat = file.lstat.as_bytes();
     match file.md5 {
-        Some(digest) => { put_file_row(tx, job, file.index, parts, lstat, &digits_of(digest)) }
-        None => put_file_row(tx, job, file.index, parts, lstat, &[]),
+        Some(digest) => { put_file_row(tx, job, file.index, &parts, lstat, &digits_of(digest)) }
+        None => put_file_row(tx, job, file.index, &parts, lstat, &[]),
     }
 }
 

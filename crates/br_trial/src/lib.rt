@@ -7,6 +7,8 @@ mod drawn;
 #[cfg(test)]
 mod generated_tests;
 #[cfg(test)]
+mod migration_tests;
+#[cfg(test)]
 mod restore_tests;
 #[cfg(test)]
 mod rows_tests;

@@ -5,7 +5,7 @@ use sqlite::{Connection, Row};
 use std::alloc::Global;
 use std::test::Fail;
 
-const VERSION: &str = "SELECT 1";
+const VERSION: &str = "SELECT 2";
 
 const JOB: &str = "SELECT 2, 'B', 'F', 'web', 'T', 100, 'all', 7, 9";
 

@@ -197,9 +197,11 @@ fn changed(alloc: Global, change: &str) -> Result<u32, Fail> {
 
 /// Changes of a catalogue with one job, and the number with which it is refused after each; 0 if it
 /// is loaded.
-const CHANGES: [(&str, u32); 13] = [
+const CHANGES: [(&str, u32); 17] = [
     ("UPDATE Version SET VersionId = 3", 47),
+    ("UPDATE Version SET VersionId = 1", 48),
     ("INSERT INTO Version (VersionId) VALUES (1)", 47),
+    ("INSERT INTO Version (VersionId) VALUES (2)", 47),
     (
         "INSERT INTO JobMedia (JobId, MediaId, FirstIndex, LastIndex, StartFile, EndFile, StartBlock, EndBlock, VolIndex) VALUES (2, 1, 1, 1, 5, 5, 0, 9, 2)",
         0,
@@ -237,7 +239,9 @@ const CHANGES: [(&str, u32); 13] = [
         47,
     ),
     ("DROP TABLE File", 45),
-    ("CREATE TABLE Extra(Id INTEGER PRIMARY KEY)", 45),
+    ("CREATE TABLE Extra(Id INTEGER PRIMARY KEY)", 0),
+    ("CREATE INDEX FilesOfJobs ON File(JobId)", 0),
+    ("CREATE VIEW Names AS SELECT Filename FROM File", 0),
 ];
 
 /// Returns the first change after which a catalogue is refused with another number than the given
@@ -258,6 +262,44 @@ fn wrongly_read(
 #[test]
 fn changed_catalogues_are_refused(rt: HostRuntime) -> Result<(), Fail> {
     assert_eq!(rt; wrongly_read(rt.alloc(), &CHANGES)?, None);
+    Ok(())
+}
+
+/// The tables of version 1, with one job of one file.
+const OLD: &str = "\
+CREATE TABLE Version(VersionId INTEGER NOT NULL);\
+CREATE TABLE Client(ClientId INTEGER PRIMARY KEY, Name TEXT NOT NULL UNIQUE);\
+CREATE TABLE FileSet(FileSetId INTEGER PRIMARY KEY, FileSet TEXT NOT NULL UNIQUE);\
+CREATE TABLE Media(MediaId INTEGER PRIMARY KEY, VolumeName TEXT NOT NULL UNIQUE, MediaType TEXT NOT NULL);\
+CREATE TABLE Path(PathId INTEGER PRIMARY KEY, Path BLOB NOT NULL UNIQUE);\
+CREATE TABLE Filename(FilenameId INTEGER PRIMARY KEY, Name BLOB NOT NULL UNIQUE);\
+CREATE TABLE Job(JobId INTEGER PRIMARY KEY, Type TEXT NOT NULL, Level TEXT NOT NULL, ClientId INTEGER NOT NULL REFERENCES Client(ClientId), JobStatus TEXT NOT NULL, StartTime INTEGER NOT NULL, FileSetId INTEGER NOT NULL REFERENCES FileSet(FileSetId), VolSessionId INTEGER NOT NULL, VolSessionTime INTEGER NOT NULL, UNIQUE(VolSessionId, VolSessionTime));\
+CREATE TABLE JobMedia(JobMediaId INTEGER PRIMARY KEY, JobId INTEGER NOT NULL REFERENCES Job(JobId), MediaId INTEGER NOT NULL REFERENCES Media(MediaId), FirstIndex INTEGER NOT NULL, LastIndex INTEGER NOT NULL, StartFile INTEGER NOT NULL, EndFile INTEGER NOT NULL, StartBlock INTEGER NOT NULL, EndBlock INTEGER NOT NULL, VolIndex INTEGER NOT NULL, UNIQUE(JobId, VolIndex));\
+CREATE TABLE File(FileId INTEGER PRIMARY KEY, FileIndex INTEGER NOT NULL, JobId INTEGER NOT NULL REFERENCES Job(JobId), PathId INTEGER NOT NULL REFERENCES Path(PathId), FilenameId INTEGER NOT NULL REFERENCES Filename(FilenameId), LStat TEXT NOT NULL, MD5 TEXT NOT NULL);\
+INSERT INTO Version VALUES (1);\
+INSERT INTO Client VALUES (1, 'web');\
+INSERT INTO FileSet VALUES (1, 'all');\
+INSERT INTO Media VALUES (1, 'V1', 'File');\
+INSERT INTO Path VALUES (1, x'2f612f');\
+INSERT INTO Filename VALUES (1, x'74776f');\
+INSERT INTO Job VALUES (2, 'B', 'F', 1, 'T', 4999999998, 1, 1, 9);\
+INSERT INTO JobMedia VALUES (1, 2, 1, 1, 1, 1, 2, 1, 7, 1);\
+INSERT INTO File VALUES (1, 1, 2, 1, 1, '1 2 33188 1 0 0 0 5 4096 1 3 4 5', 'abababababababababababababababab')";
+
+/// Returns the number with which a catalogue of version 1 is refused after this change.
+fn old_refusal(alloc: Global, change: &str) -> Result<u32, Fail> {
+    let mut conn = Connection::open_in_memory(alloc)?;
+    conn.execute_batch(OLD)?;
+    conn.execute_batch(change)?;
+    Ok(refusal(alloc, conn))
+}
+
+#[test]
+fn catalogues_of_version_1_are_refused(rt: HostRuntime) -> Result<(), Fail> {
+    let alloc = rt.alloc();
+    assert_eq!(rt; old_refusal(alloc, "DROP TABLE IF EXISTS Extra")?, 48);
+    assert_eq!(rt; old_refusal(alloc, "UPDATE Version SET VersionId = 2")?, 45);
+    assert_eq!(rt; old_refusal(alloc, "INSERT INTO Version VALUES (1)")?, 45);
     Ok(())
 }
 

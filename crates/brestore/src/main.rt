@@ -2,6 +2,7 @@
 //!
 //! `extract` runs a bootstrap over the volumes of a folder. `console` lets the operator mark files as they were at a moment, and
 //! restores them. Both write the restored files into another folder, if one is given. `explain` says what a refusal number means.
+//! `migrate` makes a catalogue of version 1 one of version 2.
 //! `serve` runs a script from standard input, over a catalogue and a folder of volumes, or in memory; without a command the
 //! program does the same in memory.
 //!
@@ -17,7 +18,7 @@ use br_commands::{BAD_STREAM, run_command};
 use br_history::History;
 use br_kept::StoredJobs;
 use br_setup::{CLEAN, Catalogue, CatalogueFault, REFUSED};
-use br_store::{Store, StoreFault};
+use br_store::{Store, StoreFault, reopened};
 use sqlite::{Connection, File, FileStore};
 use std::io::{self, ErrorKind};
 use std::process::ExitCode;
@@ -39,6 +40,15 @@ fn load(rt: &HostRuntime, db: &str) -> Result<History, StoreFault> {
     open(rt, db)?.load_history()
 }
 
+/// Makes the catalogue of version 1 in a file one of version 2. Returns the number of its jobs. Afterwards the file alone is the
+/// catalogue.
+fn migrate(rt: &HostRuntime, db: &str) -> Result<u64, StoreFault> {
+    let mut conn = reopened(rt.alloc(), Connection::open(rt, db)?)?;
+    let jobs = Store::migrate(rt.alloc(), &mut conn)?;
+    conn.close()?;
+    Ok(jobs)
+}
+
 /// Returns the fault of a catalogue's file as one of a catalogue.
 fn catalogue_fault(fault: StoreFault) -> CatalogueFault
     ensures { catalogue_number result ≡ fault_number fault }
@@ -47,6 +57,7 @@ fn catalogue_fault(fault: StoreFault) -> CatalogueFault
         StoreFault::Memory => CatalogueFault::Memory,
         StoreFault::Store(_) => CatalogueFault::Unreadable,
         StoreFault::BadCatalogue => CatalogueFault::BadCatalogue,
+        StoreFault::OldCatalogue => CatalogueFault::OldCatalogue,
     }
 }
 
@@ -65,6 +76,8 @@ impl Catalogue for CatalogueFiles<'_> {
 
     ghost opens = { λ _ _ _. ⊤ };
 
+    ghost migrates = { λ _ _ _. ⊤ };
+
     fn open(&self, db: &str) -> Result<StoredJobs<FileStore<File>>, CatalogueFault> {
         match open(self.rt, db) {
             Ok(store) => Ok(StoredJobs::new(store)),
@@ -74,6 +87,10 @@ impl Catalogue for CatalogueFiles<'_> {
 
     fn load(&self, db: &str) -> Result<History, CatalogueFault> {
         load(self.rt, db).map_err(catalogue_fault)
+    }
+
+    fn migrate(&self, db: &str) -> Result<u64, CatalogueFault> {
+        migrate(self.rt, db).map_err(catalogue_fault)
     }
 }
 

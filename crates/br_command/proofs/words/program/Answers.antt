@@ -1,14 +1,13 @@
 use Rattle.std.proofs.lemmas.Result.{IfOk-weaker}
 use Rattle.br_command.specs.Words.{program_app}
-use Rattle.br_command.proofs.WordsLaws.{two_commands}
+use Rattle.br_command.proofs.WordsLaws.{one_command}
 use Rattle.br_command.proofs.words.program.Goals as goal
 
 pub returns : goal.returns
 unfolding program_app
 returns c =
-    IfOk-weaker c.subcommand-2.result _ _
+    IfOk-weaker c.subcommand.result _ _
     (λ last added.
-    two_commands c.in_ok-restoring.field-0 c.in_ok-subcommand.field-0 last c.in_ok-explain.explain c.in_ok-serve.serve _ _ _
-    c.in_ok-restoring.ensures.app c.in_ok-subcommand.ensures added c.in_ok-explain.ensures.app c.in_ok-explain.ensures.local
-    c.in_ok-serve.ensures.app c.in_ok-serve.ensures.local)
-    c.subcommand-2.ensures
+    one_command c.in_ok-serving.field-0 last c.in_ok-migrate.migrate _ _
+    c.in_ok-serving.ensures.app added c.in_ok-migrate.ensures.app c.in_ok-migrate.ensures.local)
+    c.subcommand.ensures

@@ -1,7 +1,12 @@
-use Rattle.std.proofs.Common.{◌≡◌, arith, sym, ◌∙◌}
+use Rattle.std.proofs.Common.{◌≡◌, arith, ap, sym, subst, ◌∙◌}
+use Rattle.std.proofs.lemmas.Result.{IfOk-weaker}
+use Rattle.sqlite.specs.Effect.{Database}
 use Rattle.sqlite.specs.Held.{state}
 use Rattle.sqlite.specs.State.{HasCleanDisk}
-use Rattle.br_schema.specs.Tables.{no_schema, store_schema}
+use Rattle.br_schema.specs.Tables.{IsStoreSchema, no_schema}
+use Rattle.br_rows.specs.Rows.{Rows}
+use Rattle.br_store.specs.Made.{is_first}
+use Rattle.br_store.proofs.Ready.{if_ok_both}
 use Rattle.br_store.proofs.Opens.{finds_made, finds_kept, not_fresh}
 use Rattle.br_store.proofs.opening.opened_or_made.Goals as goal
 
@@ -23,24 +28,32 @@ returns-then-is_empty-clause-finds g c clean =
 pub returns-then-is_empty-clause-fresh : goal.returns-then-is_empty-clause-fresh
 returns-then-is_empty-clause-fresh g c clean none = (c.in_ok-create.ensures.made clean).0
 
-pub returns-then-is_ours-clause-catalogue : goal.returns-then-is_ours-clause-catalogue
-returns-then-is_ours-clause-catalogue g c =
-    let now = state g.S.Store c.in_ok-conn.conn in
-    let schema : now.now.schema ≡ store_schema = sym c.schema-2.ensures.value ∙ c.is_ours.ensures.ours c.if-is_ours.true in
-    record { idle = c.in_ok-conn.ensures.idle; tables = λ clean up. c.in_ok-conn.ensures.tables clean schema }
+pub current-requires-clause-tables : goal.current-requires-clause-tables
+current-requires-clause-tables g c clean =
+    c.in_ok-conn.ensures.tables clean (subst IsStoreSchema c.schema-2.ensures.value (c.is_ours.ensures.ours c.if-is_ours.true))
 
 pub returns-then-is_ours-clause-open : goal.returns-then-is_ours-clause-open
-returns-then-is_ours-clause-open g c clean = (c.in_ok-conn.ensures.opens clean).is_open
+returns-then-is_ours-clause-open g c = IfOk-weaker c.current.result _ _ (λ conn same clean. (same clean).0.is_open) c.current.ensures.same
 
 pub returns-then-is_ours-clause-settled : goal.returns-then-is_ours-clause-settled
-returns-then-is_ours-clause-settled g c clean = (c.in_ok-conn.ensures.opens clean).clean
+returns-then-is_ours-clause-settled g c =
+    IfOk-weaker c.current.result _ _ (λ conn both clean.
+    let same = (both.0 clean).0 in
+    same.now_is ∙ (c.in_ok-conn.ensures.opens (both.1 clean)).clean ∙ sym same.committed_is) (if_ok_both _ _ c.current.result c.current.ensures.same c.current.ensures.clean)
 
 pub returns-then-is_ours-clause-finds : goal.returns-then-is_ours-clause-finds
-returns-then-is_ours-clause-finds g c clean =
-    finds_kept (state g.S.Store c.args.conn).committed (state g.S.Store c.in_ok-conn.conn).now (c.in_ok-conn.ensures.found clean).1
+returns-then-is_ours-clause-finds g c =
+    IfOk-weaker c.current.result _ _ (λ conn both clean.
+    finds_kept (state g.S.Store c.args.conn).committed (state g.S.Store conn).now (ap (λ (db : Database). db.trees) (both.0 clean).0.now_is ∙ (c.in_ok-conn.ensures.found (both.1 clean)).1))
+    (if_ok_both _ _ c.current.result c.current.ensures.same c.current.ensures.clean)
 
 pub returns-then-is_ours-clause-fresh : goal.returns-then-is_ours-clause-fresh
-returns-then-is_ours-clause-fresh g c clean none =
+returns-then-is_ours-clause-fresh g c =
+    IfOk-weaker c.current.result _ _ (λ conn clean_before clean none.
     let now = state g.S.Store c.in_ok-conn.conn in
-    let schema : now.now.schema ≡ store_schema = sym c.schema-2.ensures.value ∙ c.is_ours.ensures.ours c.if-is_ours.true in
-    not_fresh _ now.now (c.in_ok-conn.ensures.found clean).0 schema (c.in_ok-conn.ensures.fresh clean none)
+    let schema = subst IsStoreSchema c.schema-2.ensures.value (c.is_ours.ensures.ours c.if-is_ours.true) in
+    let before = clean_before clean in
+    not_fresh _ now.now (c.in_ok-conn.ensures.found before).0 schema (c.in_ok-conn.ensures.fresh before none)) c.current.ensures.clean
+
+pub returns-then-is_empty-clause-current : goal.returns-then-is_empty-clause-current
+returns-then-is_empty-clause-current g c clean = ap (λ (r : Rows). is_first r.versions) (c.in_ok-create.ensures.made clean).0.rows

@@ -18,7 +18,7 @@ returns-clause-made g c clean inside was =
       was_open = λ up. one.1.was_open;
       mode = three.1.mode;
       committed = three.1.committed_is ∙ two.1.committed_is ∙ one.1.committed_is;
-      emptied = emptied_more two_tables three_tables create_fileset fileset second third c.in_ok-execute-3.field-0 makes_fileset after_fileset
-          (emptied_more one_table two_tables create_client client first second c.in_ok-execute-2.field-0 makes_client after_client
-          (emptied_more no_schema one_table create_version version start first c.in_ok-execute.field-0 makes_version after_version was one.0) two.0) three.0;
+      emptied = emptied_more two_tables three_tables create_fileset (fileset 3) second third c.in_ok-execute-3.field-0 makes_fileset after_fileset
+          (emptied_more one_table two_tables create_client (client 1) first second c.in_ok-execute-2.field-0 makes_client after_client
+          (emptied_more no_schema one_table create_version (version 0) start first c.in_ok-execute.field-0 makes_version after_version was one.0) two.0) three.0;
     }

@@ -1,4 +1,6 @@
 use Rattle.sqlite.specs.Held.{state}
+use Rattle.br_schema.specs.Places.{new_layout}
+use Rattle.br_schema.specs.Tables.{only_keys}
 use Rattle.br_store.proofs.Inserts.{puts_version}
 use Rattle.br_store.proofs.Creates.{made_version}
 use Rattle.br_store.proofs.tables.put_version.Goals as goal
@@ -12,5 +14,5 @@ returns-clause-made g c clean inside was =
       was_open = λ up. ran.1.was_open;
       mode = ran.1.mode;
       committed = ran.1.committed_is;
-      made = made_version old.now new.now was (puts_version old new c.in_ok-execute.field-0 was.is ran.0);
+      made = made_version old.now new.now was (puts_version new_layout (only_keys new_layout) old new c.in_ok-execute.field-0 was.is ran.0);
     }

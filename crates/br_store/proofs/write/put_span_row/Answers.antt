@@ -4,7 +4,8 @@ use Rattle.br_model.specs.Job.{Span}
 use Rattle.br_store.specs.declared.names.Dictionary.TheVariants.{Media}
 use Rattle.br_rows.specs.Decode.{high, low}
 use Rattle.br_rows.specs.Rows.{with_spans}
-use Rattle.br_store.specs.Held.{Wrote, IsName, rows_in}
+use Rattle.br_schema.specs.Tables.{beside_of}
+use Rattle.br_store.specs.Held.{Wrote, IsName, layout_in, rows_in}
 use Rattle.br_store.proofs.Inserts.{puts_span}
 use Rattle.br_store.proofs.Writes.{wrote_span}
 use Rattle.br_store.proofs.write.put_span_row.Goals as goal
@@ -31,5 +32,5 @@ returns-clause-added g c clean inside tables is_media =
     ) at (c.in_ok-execute.ensures.runs clean inside) in
     subst (λ (s : Span). IsName old.now.trees Media s.volume c.args.media → Wrote (with_spans c.args.job (s ∷ []) (rows_in old.now.trees)) old new) c.span.view_is
     (λ is. wrote_span c.args.job _ c.args.media old new tables ran.1 is
-    (puts_span old new (pos c.args.job) (pos c.args.media) (pos i.first) (pos i.last) (pos (high i.start)) (pos (high i.end)) (pos (low i.start)) (pos (low i.end)) (pos i.vol_index) c.in_ok-execute.field-0 tables.schema ran.0))
+    (puts_span (layout_in old.now.trees) (beside_of old.now.schema) old new (pos c.args.job) (pos c.args.media) (pos i.first) (pos i.last) (pos (high i.start)) (pos (high i.end)) (pos (low i.start)) (pos (low i.end)) (pos i.vol_index) c.in_ok-execute.field-0 tables.schema ran.0))
     is_media

@@ -1,0 +1,6 @@
+-- What the command `migrate` prints.
+use Rattle.std.specs.Prelude.{ℕ, List, [], ◌∷◌, ◌++◌, codes, decimal}
+
+-- the line `migrated N`
+abbrev pub migrated_line : ℕ → List ℕ
+migrated_line jobs = codes "migrated " ++ decimal jobs ++ 10 ∷ []

@@ -1,0 +1,165 @@
+//! A catalogue of version 1 is migrated on a disk that stops at each call in turn.
+use crate::disk::{Disk, Stopping, open_stopping, reopened as reopened_after};
+use br_history::{History, JobRows};
+use br_schema::is_old;
+use br_store::{Store, reopened};
+use sqlite::Connection;
+use std::alloc::Global;
+use std::fmt::Write;
+use std::test::Fail;
+
+/// The tables of version 1, with two jobs, in one transaction. Each job has a file that was saved and a folder that was
+/// deleted.
+const OLD: &str = "\
+BEGIN;\
+CREATE TABLE Version(VersionId INTEGER NOT NULL);\
+CREATE TABLE Client(ClientId INTEGER PRIMARY KEY, Name TEXT NOT NULL UNIQUE);\
+CREATE TABLE FileSet(FileSetId INTEGER PRIMARY KEY, FileSet TEXT NOT NULL UNIQUE);\
+CREATE TABLE Media(MediaId INTEGER PRIMARY KEY, VolumeName TEXT NOT NULL UNIQUE, MediaType TEXT NOT NULL);\
+CREATE TABLE Path(PathId INTEGER PRIMARY KEY, Path BLOB NOT NULL UNIQUE);\
+CREATE TABLE Filename(FilenameId INTEGER PRIMARY KEY, Name BLOB NOT NULL UNIQUE);\
+CREATE TABLE Job(JobId INTEGER PRIMARY KEY, Type TEXT NOT NULL, Level TEXT NOT NULL, ClientId INTEGER NOT NULL REFERENCES Client(ClientId), JobStatus TEXT NOT NULL, StartTime INTEGER NOT NULL, FileSetId INTEGER NOT NULL REFERENCES FileSet(FileSetId), VolSessionId INTEGER NOT NULL, VolSessionTime INTEGER NOT NULL, UNIQUE(VolSessionId, VolSessionTime));\
+CREATE TABLE JobMedia(JobMediaId INTEGER PRIMARY KEY, JobId INTEGER NOT NULL REFERENCES Job(JobId), MediaId INTEGER NOT NULL REFERENCES Media(MediaId), FirstIndex INTEGER NOT NULL, LastIndex INTEGER NOT NULL, StartFile INTEGER NOT NULL, EndFile INTEGER NOT NULL, StartBlock INTEGER NOT NULL, EndBlock INTEGER NOT NULL, VolIndex INTEGER NOT NULL, UNIQUE(JobId, VolIndex));\
+CREATE TABLE File(FileId INTEGER PRIMARY KEY, FileIndex INTEGER NOT NULL, JobId INTEGER NOT NULL REFERENCES Job(JobId), PathId INTEGER NOT NULL REFERENCES Path(PathId), FilenameId INTEGER NOT NULL REFERENCES Filename(FilenameId), LStat TEXT NOT NULL, MD5 TEXT NOT NULL);\
+INSERT INTO Version VALUES (1);\
+INSERT INTO Client VALUES (1, 'web');\
+INSERT INTO FileSet VALUES (1, 'all');\
+INSERT INTO Media VALUES (1, 'V1', 'File');\
+INSERT INTO Path VALUES (1, x'2f612f');\
+INSERT INTO Path VALUES (2, x'2f612f676f6e652f');\
+INSERT INTO Filename VALUES (1, x'74776f');\
+INSERT INTO Filename VALUES (2, x'');\
+INSERT INTO Filename VALUES (3, x'6f6e65');\
+INSERT INTO Job VALUES (2, 'B', 'F', 1, 'T', 4999999998, 1, 1, 9);\
+INSERT INTO Job VALUES (1, 'B', 'F', 1, 'T', 4999999999, 1, 2, 9);\
+INSERT INTO JobMedia VALUES (1, 2, 1, 1, 1, 1, 2, 1, 7, 1);\
+INSERT INTO JobMedia VALUES (2, 1, 1, 1, 1, 1, 2, 1, 7, 1);\
+INSERT INTO File VALUES (1, 1, 2, 1, 1, '1 2 33188 1 0 0 0 5 4096 1 3 4 5', 'abababababababababababababababab');\
+INSERT INTO File VALUES (2, 0, 2, 2, 2, '', '');\
+INSERT INTO File VALUES (9, 0, 1, 2, 2, '', '');\
+INSERT INTO File VALUES (5, 1, 1, 1, 3, '1 2 33188 1 0 0 0 5 4096 1 3 4 5', 'abababababababababababababababab');\
+COMMIT";
+
+/// The jobs of these tables, each with its session and its files.
+const JOBS: &str = "1 of 2: 1 /a/one 0 /a/gone/; 2 of 1: 1 /a/two 0 /a/gone/; ";
+
+/// More calls than any run makes of a file.
+const MANY: u64 = 2000;
+
+/// Writes a job: its number, its session, and its files with their indexes.
+fn write_job(text: &mut String, rows: &JobRows) -> Result<(), Fail> {
+    write!(
+        text,
+        "{} of {}:",
+        rows.row().id.get(),
+        rows.row().session.id
+    )?;
+    for file in rows.files() {
+        write!(
+            text,
+            " {} {}",
+            file.index,
+            str::from_utf8(file.path.bytes())?
+        )?;
+    }
+    Ok(text.push_str("; ")?)
+}
+
+/// Returns the jobs of a history as text.
+fn shown(alloc: Global, history: &History) -> Result<String, Fail> {
+    let mut text = String::new(alloc);
+    for rows in history.jobs() {
+        write_job(&mut text, rows)?;
+    }
+    Ok(text)
+}
+
+/// Makes a database of version 1 of which this file fails after so many calls. Returns none if it fails
+/// before the database is whole.
+fn made(alloc: Global, file: Stopping, calls: u64) -> Option<Connection<Disk>> {
+    let mut conn = open_stopping(alloc, file, calls)?;
+    match conn.execute_batch(OLD) {
+        Ok(()) => Some(conn),
+        Err(_) => None,
+    }
+}
+
+/// What a run gives: whether the migration is acknowledged, which version is left, and its jobs.
+#[derive(Debug, Drop)]
+struct Run {
+    is_told: bool,
+    version: u8,
+    jobs: String,
+}
+
+/// Returns the version that a stop left, and the catalogue, migrated if it is of version 1.
+fn found_after(alloc: Global, conn: Connection<Disk>) -> Result<(u8, Store<Disk>), Fail> {
+    if is_old(conn.schema()) {
+        let mut conn = reopened(alloc, conn)?;
+        let _ = Store::migrate(alloc, &mut conn)?;
+        Ok((1, Store::open(alloc, conn)?))
+    } else {
+        Ok((2, Store::open(alloc, conn)?))
+    }
+}
+
+/// Migrates a database of version 1 whose disk may stop, and looks at what is left.
+fn run_over(alloc: Global, conn: Connection<Disk>) -> Result<Run, Fail> {
+    let mut conn = reopened(alloc, conn)?;
+    let is_told = Store::migrate(alloc, &mut conn).is_ok();
+    let (version, mut store) = found_after(alloc, reopened_after(alloc, conn)?)?;
+    let jobs = shown(alloc, &store.load_history()?)?;
+    Ok(Run {
+        is_told,
+        version,
+        jobs,
+    })
+}
+
+/// Adds the version that is left if it is not what was added last, or all of a run that gave what it must
+/// not: other jobs, or version 1 after a migration that was acknowledged.
+fn note(text: &mut String, calls: u64, run: &Run) -> Result<(), Fail> {
+    let is_right = run.jobs.as_str() == JOBS;
+    match run.version {
+        1 if is_right && !run.is_told && text.ends_with("1 ") => {}
+        1 if is_right && !run.is_told => text.push_str("1 ")?,
+        2 if is_right && text.ends_with("2 ") => {}
+        2 if is_right => text.push_str("2 ")?,
+        _ => write!(text, "{calls} calls: {run:?} ")?,
+    }
+    Ok(())
+}
+
+/// Stops this file at each call in turn, until a migration is acknowledged. Returns which versions are
+/// left, each once as it comes.
+fn versions_left(alloc: Global, file: Stopping) -> Result<String, Fail> {
+    let mut text = String::new(alloc);
+    for calls in 0..MANY {
+        let Some(conn) = made(alloc, file, calls) else {
+            continue;
+        };
+        let run = run_over(alloc, conn)?;
+        note(&mut text, calls, &run)?;
+        if run.is_told {
+            return Ok(text);
+        }
+    }
+    text.push_str("no migration is acknowledged")?;
+    Ok(text)
+}
+
+/// A migration writes to the log.
+#[test]
+fn a_migration_that_stops_leaves_either_version(rt: HostRuntime) -> Result<(), Fail> {
+    let versions = versions_left(rt.alloc(), Stopping::Log)?;
+    assert_eq!(rt; versions.as_str(), "1 2 ");
+    Ok(())
+}
+
+/// Only the opening asks the file of the database.
+#[test]
+fn a_database_that_stops_leaves_either_version(rt: HostRuntime) -> Result<(), Fail> {
+    let versions = versions_left(rt.alloc(), Stopping::Database)?;
+    assert_eq!(rt; versions.as_str(), "2 ");
+    Ok(())
+}

@@ -1,0 +1,261 @@
+//! Catalogues of version 1 that are made catalogues of version 2.
+use br_history::{FileRow, JobRow, JobRows};
+use br_session::Span;
+use br_store::{Store, reopened};
+use br_types::{JobId, Letter, Name, Path, SessionKey, VolName};
+use sqlite::{Alter, Connection, MemStore};
+use std::alloc::Global;
+use std::test::Fail;
+
+const LSTAT: &str = "1 2 33188 1 0 0 0 5 4096 1 3 4 5";
+
+/// The tables of version 1, with two jobs. Each has a file that was saved and a folder that was deleted.
+const OLD: &str = "\
+CREATE TABLE Version(VersionId INTEGER NOT NULL);\
+CREATE TABLE Client(ClientId INTEGER PRIMARY KEY, Name TEXT NOT NULL UNIQUE);\
+CREATE TABLE FileSet(FileSetId INTEGER PRIMARY KEY, FileSet TEXT NOT NULL UNIQUE);\
+CREATE TABLE Media(MediaId INTEGER PRIMARY KEY, VolumeName TEXT NOT NULL UNIQUE, MediaType TEXT NOT NULL);\
+CREATE TABLE Path(PathId INTEGER PRIMARY KEY, Path BLOB NOT NULL UNIQUE);\
+CREATE TABLE Filename(FilenameId INTEGER PRIMARY KEY, Name BLOB NOT NULL UNIQUE);\
+CREATE TABLE Job(JobId INTEGER PRIMARY KEY, Type TEXT NOT NULL, Level TEXT NOT NULL, ClientId INTEGER NOT NULL REFERENCES Client(ClientId), JobStatus TEXT NOT NULL, StartTime INTEGER NOT NULL, FileSetId INTEGER NOT NULL REFERENCES FileSet(FileSetId), VolSessionId INTEGER NOT NULL, VolSessionTime INTEGER NOT NULL, UNIQUE(VolSessionId, VolSessionTime));\
+CREATE TABLE JobMedia(JobMediaId INTEGER PRIMARY KEY, JobId INTEGER NOT NULL REFERENCES Job(JobId), MediaId INTEGER NOT NULL REFERENCES Media(MediaId), FirstIndex INTEGER NOT NULL, LastIndex INTEGER NOT NULL, StartFile INTEGER NOT NULL, EndFile INTEGER NOT NULL, StartBlock INTEGER NOT NULL, EndBlock INTEGER NOT NULL, VolIndex INTEGER NOT NULL, UNIQUE(JobId, VolIndex));\
+CREATE TABLE File(FileId INTEGER PRIMARY KEY, FileIndex INTEGER NOT NULL, JobId INTEGER NOT NULL REFERENCES Job(JobId), PathId INTEGER NOT NULL REFERENCES Path(PathId), FilenameId INTEGER NOT NULL REFERENCES Filename(FilenameId), LStat TEXT NOT NULL, MD5 TEXT NOT NULL);\
+INSERT INTO Version VALUES (1);\
+INSERT INTO Client VALUES (1, 'web');\
+INSERT INTO FileSet VALUES (1, 'all');\
+INSERT INTO Media VALUES (1, 'V1', 'File');\
+INSERT INTO Path VALUES (1, x'2f612f');\
+INSERT INTO Path VALUES (2, x'2f612f676f6e652f');\
+INSERT INTO Filename VALUES (1, x'74776f');\
+INSERT INTO Filename VALUES (2, x'');\
+INSERT INTO Filename VALUES (3, x'6f6e65');\
+INSERT INTO Job VALUES (2, 'B', 'F', 1, 'T', 4999999998, 1, 1, 9);\
+INSERT INTO Job VALUES (1, 'B', 'F', 1, 'T', 4999999999, 1, 2, 9);\
+INSERT INTO JobMedia VALUES (1, 2, 1, 1, 1, 1, 2, 1, 7, 1);\
+INSERT INTO JobMedia VALUES (2, 1, 1, 1, 1, 1, 2, 1, 7, 1);\
+INSERT INTO File VALUES (1, 1, 2, 1, 1, '1 2 33188 1 0 0 0 5 4096 1 3 4 5', 'abababababababababababababababab');\
+INSERT INTO File VALUES (2, 0, 2, 2, 2, '', '');\
+INSERT INTO File VALUES (9, 0, 1, 2, 2, '', '');\
+INSERT INTO File VALUES (5, 1, 1, 1, 3, '1 2 33188 1 0 0 0 5 4096 1 3 4 5', 'abababababababababababababababab')";
+
+fn letter(byte: u8) -> Result<Letter, Fail> {
+    Ok(Letter::new(byte).ok_or("a letter")?)
+}
+
+fn job_row(alloc: Global, id: u32, session: u32) -> Result<JobRow, Fail> {
+    Ok(JobRow {
+        id: JobId::new(id).ok_or("a number")?,
+        kind: letter(b'B')?,
+        level: letter(b'F')?,
+        status: letter(b'T')?,
+        start: 5_000_000_000 - u64::from(id),
+        session: SessionKey {
+            id: session,
+            time: 9,
+        },
+        client: Name::new(alloc, b"web")?,
+        fileset: Name::new(alloc, b"all")?,
+    })
+}
+
+fn saved(alloc: Global, path: &[u8]) -> Result<FileRow, Fail> {
+    let path = Path::new(alloc, path)?;
+    Ok(FileRow {
+        path,
+        index: 1,
+        lstat: String::from_str(alloc, LSTAT)?,
+        md5: Some([0xabu8; 16]),
+    })
+}
+
+fn deleted(alloc: Global) -> Result<FileRow, Fail> {
+    Ok(FileRow {
+        path: Path::new(alloc, b"/a/gone/")?,
+        index: 0,
+        lstat: String::new(alloc),
+        md5: None,
+    })
+}
+
+fn files(alloc: Global, path: &[u8]) -> Result<Vec<FileRow>, Fail> {
+    let mut files = Vec::new(alloc);
+    files.push(saved(alloc, path)?)?;
+    files.push(deleted(alloc)?)?;
+    Ok(files)
+}
+
+fn span(alloc: Global) -> Result<Span, Fail> {
+    Ok(Span {
+        vol: VolName::new(alloc, b"V1")?,
+        first: 1,
+        last: 1,
+        start: 4_294_967_297,
+        end: 8_589_934_599,
+        vol_index: 1,
+    })
+}
+
+fn spans(alloc: Global) -> Result<Vec<Span>, Fail> {
+    let mut spans = Vec::new(alloc);
+    spans.push(span(alloc)?)?;
+    Ok(spans)
+}
+
+fn job_of(alloc: Global, row: JobRow, files: Vec<FileRow>) -> Result<JobRows, Fail> {
+    Ok(JobRows::new(row, files, spans(alloc)?)?)
+}
+
+fn job(alloc: Global, id: u32, session: u32, path: &[u8]) -> Result<JobRows, Fail> {
+    job_of(alloc, job_row(alloc, id, session)?, files(alloc, path)?)
+}
+
+/// Shows the two jobs of the tables of version 1, in order of their numbers.
+fn both_shown(alloc: Global) -> Result<String, Fail> {
+    let mut jobs = Vec::new(alloc);
+    jobs.push(job(alloc, 1, 2, b"/a/one")?)?;
+    jobs.push(job(alloc, 2, 1, b"/a/two")?)?;
+    Ok(format!(in alloc; "{jobs:?}")?)
+}
+
+/// Makes the database of version 1, and changes it.
+fn old_with(alloc: Global, change: &str) -> Result<Connection<MemStore>, Fail> {
+    let mut conn = Connection::open_in_memory(alloc)?;
+    conn.execute_batch(OLD)?;
+    conn.execute_batch(change)?;
+    Ok(conn)
+}
+
+/// Migrates a database. Returns the number of jobs, or the number with which it is refused, and the database.
+fn migrated<S: Alter + Drop>(
+    alloc: Global,
+    conn: Connection<S>,
+) -> Result<(Result<u64, u32>, Connection<S>), Fail> {
+    let mut conn = reopened(alloc, conn)?;
+    match Store::migrate(alloc, &mut conn) {
+        Ok(jobs) => Ok((Ok(jobs), conn)),
+        Err(fault) => Ok((Err(fault.number()), conn)),
+    }
+}
+
+/// Returns the number with which a database is not opened as a catalogue, or 0 if it is.
+fn refusal(alloc: Global, conn: Connection<MemStore>) -> u32 {
+    match Store::open(alloc, conn) {
+        Ok(_) => 0,
+        Err(fault) => fault.number(),
+    }
+}
+
+/// Shows the jobs of a catalogue.
+fn loaded(alloc: Global, store: &mut Store<MemStore>) -> Result<String, Fail> {
+    let history = store.load_history()?;
+    Ok(format!(in alloc; "{:?}", history.jobs())?)
+}
+
+#[test]
+fn a_catalogue_of_version_1_is_migrated_once(rt: HostRuntime) -> Result<(), Fail> {
+    let alloc = rt.alloc();
+    assert_eq!(rt; refusal(alloc, old_with(alloc, "")?), 48);
+    let (first, conn) = migrated(alloc, old_with(alloc, "")?)?;
+    let (again, conn) = migrated(alloc, conn)?;
+    assert_eq!(rt; first, Ok(2));
+    assert_eq!(rt; again, Err(47));
+    let mut store = Store::open(alloc, conn)?;
+    assert_eq!(rt;
+        loaded(alloc, &mut store)?.as_str(),
+        both_shown(alloc)?.as_str()
+    );
+    Ok(())
+}
+
+/// A migrated catalogue takes a job as any other does.
+#[test]
+fn a_migrated_catalogue_takes_jobs(rt: HostRuntime) -> Result<(), Fail> {
+    let alloc = rt.alloc();
+    let (_, conn) = migrated(alloc, old_with(alloc, "")?)?;
+    let mut store = Store::open(alloc, conn)?;
+    store.insert_job(&job(alloc, 3, 5, b"/a/three")?)?;
+    assert_eq!(rt; store.load_history()?.len(), 3);
+    Ok(())
+}
+
+#[test]
+fn an_empty_database_is_not_migrated(rt: HostRuntime) -> Result<(), Fail> {
+    let alloc = rt.alloc();
+    let (end, conn) = migrated(alloc, Connection::open_in_memory(alloc)?)?;
+    assert_eq!(rt; end, Err(47));
+    assert_eq!(rt; refusal(alloc, conn), 0);
+    Ok(())
+}
+
+/// Changes of the tables of version 1, and the number with which a migration is refused after each; 0 if it is not.
+const CHANGES: [(&str, u32); 17] = [
+    ("UPDATE File SET FileId = 77 WHERE FileId = 5", 0),
+    ("INSERT INTO Filename VALUES (7, x'ff')", 0),
+    ("UPDATE Version SET VersionId = 2", 47),
+    ("UPDATE Version SET VersionId = '1'", 0),
+    ("UPDATE Version SET VersionId = 'one'", 47),
+    ("INSERT INTO Version VALUES (1)", 47),
+    ("DELETE FROM Version", 47),
+    ("UPDATE File SET LStat = '1 2' WHERE FileIndex = 1", 47),
+    ("UPDATE File SET MD5 = x'00' WHERE FileIndex = 1", 47),
+    ("UPDATE Filename SET Name = 'two' WHERE FilenameId = 1", 47),
+    (
+        "UPDATE Filename SET Name = x'612f2f62' WHERE FilenameId = 1",
+        47,
+    ),
+    ("UPDATE JobMedia SET VolIndex = 2 WHERE JobId = 2", 47),
+    ("DROP TABLE File", 45),
+    ("DROP TABLE File; DROP TABLE Filename", 45),
+    ("CREATE TABLE Extra(Id INTEGER PRIMARY KEY)", 45),
+    ("CREATE INDEX FilesOfJobs ON File(JobId)", 45),
+    ("CREATE VIEW Names AS SELECT Name FROM Filename", 45),
+];
+
+/// Returns the number with which a migration is refused after this change, or 0 if it is not.
+fn refused_after(alloc: Global, change: &str) -> Result<u32, Fail> {
+    match migrated(alloc, old_with(alloc, change)?)? {
+        (Ok(_), _) => Ok(0),
+        (Err(number), _) => Ok(number),
+    }
+}
+
+/// Returns the first change after which a migration ends otherwise than with its number, and that end.
+fn wrongly_migrated(alloc: Global) -> Result<Option<(&'static str, u32)>, Fail> {
+    for (change, number) in CHANGES {
+        let found = refused_after(alloc, change)?;
+        if found != number {
+            return Ok(Some((change, found)));
+        }
+    }
+    Ok(None)
+}
+
+#[test]
+fn changed_catalogues_are_not_migrated(rt: HostRuntime) -> Result<(), Fail> {
+    assert_eq!(rt; wrongly_migrated(rt.alloc())?, None);
+    Ok(())
+}
+
+/// Shows all rows of a database of version 1 that a migration changes.
+fn rows_shown(alloc: Global, conn: &mut Connection<MemStore>) -> Result<String, Fail> {
+    let versions = conn.query_all("SELECT VersionId FROM Version", &[])?;
+    let names = conn.query_all("SELECT FilenameId, Name FROM Filename", &[])?;
+    let files = conn.query_all(
+        "SELECT FileId, FileIndex, JobId, PathId, FilenameId, LStat, MD5 FROM File",
+        &[],
+    )?;
+    Ok(format!(in alloc; "{versions:?} {names:?} {files:?}")?)
+}
+
+/// Rows that form no history are found last, when all rows were written.
+#[test]
+fn a_refused_migration_leaves_all_rows(rt: HostRuntime) -> Result<(), Fail> {
+    let alloc = rt.alloc();
+    let mut conn = old_with(alloc, "UPDATE File SET LStat = '1 2' WHERE FileIndex = 1")?;
+    let before = rows_shown(alloc, &mut conn)?;
+    let (end, mut conn) = migrated(alloc, conn)?;
+    assert_eq!(rt; end, Err(47));
+    assert_eq!(rt; rows_shown(alloc, &mut conn)?.as_str(), before.as_str());
+    assert_eq!(rt; refusal(alloc, conn), 48);
+    Ok(())
+}
