@@ -320,7 +320,7 @@ and_go_on_from_0 : written_block key (4294967297, []) ≡ written_block key (1, 
 unfolding packing
 and_go_on_from_0 = refl
 
-the_greatest_block_number : written_block key (4294967295, []) ≡ header_bytes (record { checksum = 0; size = 24; number = 4294967295; session = key })
+the_greatest_block_number : written_block key (4294967295, []) ≡ header_bytes (record { checksum = 0; size = 24; number = 4294967295; session = Some key })
 unfolding packing
 the_greatest_block_number = refl
 
