@@ -151,7 +151,7 @@ filter_none p (g ∷ gs) none =
     rw here (filter_none p gs (λ k d lt. none (suc k) d (omega arith)))
 
 -- all that admit a block there are among them
-pub admitting_around : (address : ℕ) (session : SessionKey) (groups near : List (ℕ × Group)) → IsAround address groups near
+pub admitting_around : (address : ℕ) (session : Option SessionKey) (groups near : List (ℕ × Group)) → IsAround address groups near
     → filter (λ (m : ℕ × Group). admits_block m.1 address session) near ≡ filter (λ (m : ℕ × Group). admits_block m.1 address session) groups
 admitting_around address session groups near a =
     sym (ap (filter p) a.all ∙ filter-append p a.before (near ++ a.after)

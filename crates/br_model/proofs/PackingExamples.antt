@@ -1,5 +1,5 @@
 -- Files, records, blocks and spans of a session, by example.
-use Rattle.std.proofs.Common.{◌≡◌, ℕ, ◌-◌, ◌^◌, ◌<◌, ◌≤◌, List, [], ◌∷◌, ◌++◌, map, length, replicate, Result, Ok, Err, true, false, refl, arith, lit≤, flat_map}
+use Rattle.std.proofs.Common.{◌≡◌, ℕ, ◌-◌, ◌^◌, ◌<◌, ◌≤◌, List, [], ◌∷◌, ◌++◌, map, length, replicate, Result, Ok, Err, true, false, refl, arith, lit≤, flat_map, Some}
 use Rattle.std.proofs.lemmas.Bool.{lt-ltb}
 use Rattle.std.specs.Prelude.{codes, pos, negsuc, ℤ}
 use Rattle.std.specs.Result.{result_map_both}

@@ -2,7 +2,7 @@
 use Rattle.std.proofs.Common.{◌≡◌, ℕ, suc, ◌+◌, ◌<◌, ◌≤◌, Bool, true, false, not, ◌||◌, cond, ltb, List, [], ◌∷◌, length, ◌++◌, filter, Option, Some, None, Result, Ok, Err, refl, sym, ap, subst, ◌∙◌, inl, inr, arith}
 use Rattle.std.proofs.lemmas.Bool.{cases_lt, leb-true, ltb-true, ltb-false, le-ltb, lt-ltb, and_parts, both_ways, false_from_ne_true, or_cases}
 use Rattle.std.proofs.lemmas.Option.{same_Some}
-use Rattle.std.proofs.lemmas.List.{length-append, length-drop, length-take-le, take-append-drop, take-append-le, drop-append-le}
+use Rattle.std.proofs.lemmas.List.{length-append, length-drop, length-take-le, take_all, take-append-drop, take-append-le, drop-append-le}
 use Rattle.std.specs.Prelude.{nat_le, Contains, drop, take, flat_map, fold, max}
 use Rattle.std.specs.List.{AllByRecursion, AllZip, list_any}
 use Rattle.br_model.specs.Name.{SessionKey}
@@ -11,7 +11,7 @@ use Rattle.br_model.specs.Volume.{Volume, volume_bytes, Extends, LaidBlock, is_a
 use Rattle.br_model.specs.Job.{Span, Job}
 use Rattle.br_model.specs.Stored.{is_in_span, IsSpanLaid, Holds}
 use Rattle.br_model.proofs.AnswerLaws.{bind_ok, chosen, ok_is, err_is_not_ok}
-use Rattle.br_model.proofs.VolumeLaws.{at_least_16, header_reads, header_has_16, laid_is_found}
+use Rattle.br_model.proofs.VolumeLaws.{at_least_16, at_most_24, header_reads, header_has_16, laid_is_found}
 use Rattle.br_model.proofs.ListLaws.{all_any, all_filter, all_weaker, at_least, filter_within, first_or_later, keeps_none, kept_passes}
 use Rattle.br_model.proofs.PairLaws.{EachPair}
 
@@ -55,13 +55,30 @@ read_header_front p m long whole =
 pub read_header_more : (p m : List ℕ) (h : Header) → read_header p ≡ Ok h → read_header (p ++ m) ≡ Ok h
 read_header_more p m h e = let r = header_reads p h e in read_header_front p m r.lettered r.long ∙ e
 
--- a header is read from as many bytes as it says
+-- a header is read from as many bytes as it has
+pub read_header_within : (p m : List ℕ) (h : Header) → read_header (p ++ m) ≡ Ok h → header_length h.session ≤ length p → read_header p ≡ Ok h
+read_header_within p m h e le =
+    let r = header_reads (p ++ m) h e in
+    let same = ap header_length r.session_is in
+    let long : 16 ≤ length p = omega (arith, at_least_16 h.session, le) in
+    let whole : header_length (session_of p) ≤ length p = omega (arith, length_front p m long, same, le) in
+    sym (read_header_front p m long whole) ∙ e
+
+-- and from as many as it says
 pub read_header_fewer : (p m : List ℕ) (h : Header) → read_header (p ++ m) ≡ Ok h → h.size ≤ length p → read_header p ≡ Ok h
 read_header_fewer p m h e le =
     let r = header_reads (p ++ m) h e in
-    let long : 16 ≤ length p = omega (arith, at_least_16 (session_of (p ++ m)), r.size_from, le) in
-    let whole : header_length (session_of p) ≤ length p = omega (arith, length_front p m long, r.size_from, le) in
-    sym (read_header_front p m long whole) ∙ e
+    read_header_within p m h e (omega (arith, ap header_length r.session_is, r.size_from, le))
+
+-- a header is read in the first 24 bytes, or in all if there are fewer
+pub read_header_alone : (left : List ℕ) → read_header (take 24 left) ≡ read_header left
+read_header_alone left =
+    elim (cases_lt (length left) 24) [
+      | inl short ↦ ap read_header (take_all 24 left (omega (arith, short)))
+      | inr long ↦
+          let size = length-take-le 24 left long in
+          sym (read_header_front (take 24 left) (drop 24 left) (omega (arith, size)) (omega (arith, size, at_most_24 (session_of (take 24 left))))) ∙ ap read_header (take-append-drop 24 left)
+    ]
 
 -- a whole block at the front is read whatever comes behind it
 pub read_block_front : (p m block : List ℕ) → read_block p ≡ Ok block → read_block (p ++ m) ≡ Ok block

@@ -1,5 +1,5 @@
 -- What a job's spans hold, by example.
-use Rattle.std.proofs.Common.{◌≡◌, ℕ, ◌+◌, List, [], ◌∷◌, ◌++◌, true, false, refl, inr, lit≤}
+use Rattle.std.proofs.Common.{◌≡◌, ℕ, ◌+◌, List, [], ◌∷◌, ◌++◌, true, false, refl, inr, lit≤, Some}
 use Rattle.std.specs.Prelude.{codes, pos, negsuc, ℤ}
 use Rattle.std.specs.List.{AllZip}
 use Rattle.br_model.specs.Name.{SessionKey}

@@ -16,6 +16,11 @@ pub at_least_16 : (session : Option SessionKey) → 16 ≤ header_length session
 at_least_16 None = omega arith
 at_least_16 (Some key) = omega arith
 
+-- and 24 at most
+pub at_most_24 : (session : Option SessionKey) → header_length session ≤ 24
+at_most_24 None = omega arith
+at_most_24 (Some key) = omega arith
+
 -- a header that is read stands in as many bytes as one with its letters has, and says as many at least
 pub record ReadsHeader (bytes : List ℕ) (h : Header) : Type 0 where
   pub lettered : 16 ≤ length bytes

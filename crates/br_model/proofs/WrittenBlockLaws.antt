@@ -10,10 +10,10 @@ use Rattle.std.specs.Prelude.{ℤ, pos, negsuc, neg_ℤ, FitsSigned, flat_map, s
 use Rattle.std.specs.Int.{w32, is_positive}
 use Rattle.std.specs.List.{AllByRecursion}
 use Rattle.br_model.specs.Name.{SessionKey}
-use Rattle.br_model.specs.Block.{Header, header_length, header_bytes, letters, older_letters, has_letters, u32_at, session_of, read_header, Fragment, fragment_bytes, spelling, IsFragmentOf, AreFilled, AreFragments, fragments_of}
+use Rattle.br_model.specs.Block.{Header, header_length, header_bytes, letters, older_letters, has_letters, u32_at, session_of, read_header, Fragment, fragment_bytes, spelling, IsFragmentOf, AreFilled, fragments_of}
 use Rattle.br_model.specs.Record.{Record, GoOn, AreParts, IsCut}
 use Rattle.br_model.specs.Session.{block_size, AreWritten, written_block}
-use Rattle.br_model.proofs.BlockLaws.{at_least_12, length-fragment_bytes, fragments_are_read}
+use Rattle.br_model.proofs.BlockLaws.{at_least_12, length-fragment_bytes, fragments_read_as}
 use Rattle.br_model.proofs.VolumeLaws.{at_least_16}
 use Rattle.br_model.proofs.ListLaws.{all_append}
 
@@ -168,7 +168,7 @@ written_is_header key block is to = record {
   size_from = omega arith;
   size_to = to;
   number_to = mod_below block.0 (2 ^ 32) (omega arith);
-  session_is = λ other e. subst IsKey (same_Some e) is;
+  session_is = λ other e. subst IsKey (same_Some key other e) is;
 }
 
 -- the block is read with its header
@@ -222,13 +222,7 @@ pub fragments_behind : (h : Header) (fs : List Fragment) → IsHeader h → AreF
 fragments_behind h fs is filled each =
     let body = flat_map (spelling h.session) fs in
     let session = session_is_read h body is in
-    fragments_are_read (header_bytes h ++ body) fs (rw session (record {
-      rest = [];
-      joined = behind_header h body ∙ sym (append-nil body);
-      rest_is_short = omega (arith, at_least_12 h.session);
-      filled = filled;
-      each = each;
-    }))
+    fragments_read_as (header_bytes h ++ body) h.session fs [] session (behind_header h body ∙ sym (append-nil body)) (omega (arith, at_least_12 h.session)) filled each
 
 -- the fragments of a written block are those that it was written of
 pub written_fragments : (key : SessionKey) (block : ℕ × List Fragment) → IsKey key → block_size block.1 ≤ 4194304 → AreWritten block.1
