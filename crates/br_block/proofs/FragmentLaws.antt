@@ -20,8 +20,8 @@ first_in session n bytes long = rw (le-ltb (length bytes) (record_header_length 
 
 -- a number of fragments that is large enough gives them all
 enough : (session : Option SessionKey) (n m : ℕ) (bytes : List ℕ) → length bytes < 12 * suc n → length bytes < 12 * suc m → fragments_in session n bytes ≡ fragments_in session m bytes
-enough session zero m bytes fits fits_too = none_in session zero bytes (omega arith) ∙ sym (none_in session m bytes (omega arith))
-enough session (suc n) zero bytes fits fits_too = none_in session (suc n) bytes (omega arith) ∙ sym (none_in session zero bytes (omega arith))
+enough session zero m bytes fits fits_too = none_in session zero bytes (omega (arith, at_least_12 session)) ∙ sym (none_in session m bytes (omega (arith, at_least_12 session)))
+enough session (suc n) zero bytes fits fits_too = none_in session (suc n) bytes (omega (arith, at_least_12 session)) ∙ sym (none_in session zero bytes (omega (arith, at_least_12 session)))
 enough session (suc n) (suc m) bytes fits fits_too =
     elim (cases_lt (length bytes) (record_header_length session)) [
       | inl short ↦ none_in session (suc n) bytes short ∙ sym (none_in session (suc m) bytes short)
@@ -56,7 +56,7 @@ none_left session bytes short = none_in session (length bytes / 12) bytes short
 
 first_by : (session : Option SessionKey) (n : ℕ) (bytes : List ℕ) → record_header_length session ≤ length bytes → length bytes < 12 * suc n
     → fragments_in session n bytes ≡ first_fragment session bytes ∷ fragments_in session (length (behind_first session bytes) / 12) (behind_first session bytes)
-first_by session zero bytes long fits = absurd (omega arith)
+first_by session zero bytes long fits = absurd (omega (arith, at_least_12 session))
 first_by session (suc n) bytes long fits =
     let fewer = fewer_behind session bytes long in
     let more = enough session n (length (behind_first session bytes) / 12) (behind_first session bytes) (omega (arith, fewer)) (omega arith) in
