@@ -1,4 +1,4 @@
-ghost use Rattle.std.specs.Prelude.{◌≡◌, ◌≤◌, length, IfOk, Ok, is_some, true};
+ghost use Rattle.std.specs.Prelude.{◌≡◌, ◌^◌, ◌<◌, ◌≤◌, length, IfOk, Ok, is_some, true};
 ghost use Rattle.br_model.specs.Answer.{AnswersAlways};
 ghost use Rattle.br_model.specs.Block.{has_letters, header_bytes, header_length, letters, older_letters, read_header};
 ghost use Rattle.br_model.specs.Block as model;
@@ -97,6 +97,14 @@ pub(crate) fn header_len(session: Option<SessionKey>) -> usize
     }
 }
 
+/// States that the numbers are below 2^32.
+fn have_32_bits(checksum: u32, number: u32, id: u32, time: u32)
+    ensures checksum { checksum < 2 ^ 32 }
+    ensures number { number < 2 ^ 32 }
+    ensures id { id < 2 ^ 32 }
+    ensures time { time < 2 ^ 32 }
+{}
+
 impl BlockHead {
     /// Reads the header at the front of the bytes. It does not test whether the whole block
     /// follows.
@@ -144,15 +152,16 @@ impl BlockHead {
         ensures text { bytes.new ≡ header_bytes self.now }
         ensures reads_back { 24 ≤ self.now.size → self.now.size ≤ 4194304 → read_header bytes.new ≡ Ok self.now }
     {
+        let Some(SessionKey { id, time }) = self.session else {
+            unreachable!()
+        };
         let BlockHead {
             checksum,
             size,
             number,
-            session: Some(SessionKey { id, time }),
-        } = *self
-        else {
-            unreachable!()
-        };
+            ..
+        } = *self;
+        have_32_bits(checksum, number, id, time);
         let [c0, c1, c2, c3] = checksum.to_be_bytes();
         let [s0, s1, s2, s3] = size.to_be_bytes();
         let [n0, n1, n2, n3] = number.to_be_bytes();

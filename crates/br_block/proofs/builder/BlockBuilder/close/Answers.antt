@@ -42,5 +42,5 @@ returns-clause-reads_back c =
     let i = c.self.invariant in
     let fs = fragments_after b.session b.bytes.items in
     let behind : drop 24 c.put_header.new.bytes ≡ flat_map fragment_bytes fs =
-    ap (drop 24) c.put_header.ensures.text ∙ behind_header _ (drop 24 c.deref_mut.result.now) ∙ ap (drop 24) c.deref_mut.ensures.value ∙ i.joined in
+    ap (drop 24) c.put_header.ensures.text ∙ behind_header (header c) (drop 24 c.deref_mut.result.now) ∙ ap (drop 24) c.deref_mut.ensures.value ∙ i.joined in
     rw (back c) (closed_reads_back c.put_header.new.bytes (header c) b.session fs (read c) refl behind i.filled i.each ∙ ap (λ (x : Building). x.fragments) c.self.view_is)
