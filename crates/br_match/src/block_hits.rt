@@ -100,7 +100,7 @@ pub(crate) fn push_hits(
 ) -> Result<(), AllocError>
     ensures { OnOk result (hits.new.items ≡ hits.old.items ++ hits_in matchers.now (record { address = addr; bytes = block.now })) }
 {
-    let session = block.head().session;
-    let near = near(alloc, matchers, addr, session)?;
-    push_hits_of(alloc, &near, session, addr, block.fragments(), hits)
+    let head = block.head();
+    let near = near(alloc, matchers, addr, head.session)?;
+    push_hits_of(alloc, &near, head.session, addr, block.fragments(), hits)
 }
