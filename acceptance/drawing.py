@@ -106,22 +106,69 @@ def cut_into_blocks(dice, records, session, limit):
     return blocks
 
 
+def cut_into_older_blocks(dice, records, limit):
+    """Returns blocks of the level BB01 that hold records of sessions by turns, cut if they do not fit."""
+    blocks, block = [], bytearray()
+    left = {session: [(index, stream, stream, data) for index, stream, data in own] for session, own in records.items() if own}
+    while left:
+        session = dice.choice([*left])
+        index, stream, own, data = left[session][0]
+        room = limit - 16 - len(block) - 20
+        if room < (1 if data else 0):
+            blocks.append(older_block(dice, block, len(blocks)))
+            block = bytearray()
+            continue
+        block += struct.pack(">IIiiI", *session, index, own, len(data)) + data[:room]
+        if len(data) > room:
+            left[session][0] = index, stream, -stream, data[room:]
+            continue
+        left[session].pop(0)
+        if not left[session]:
+            del left[session]
+    if block:
+        blocks.append(older_block(dice, block, len(blocks)))
+    return blocks
+
+
+def older_block(dice, body, number):
+    """Returns a block of the level BB01."""
+    return struct.pack(">III4s", dice.getrandbits(32), 16 + len(body), number, b"BB01") + bytes(body)
+
+
+def draw_session(dice):
+    """Returns the key, the number of files and the records of a session."""
+    session = dice.choice((1, 2, 2**32 - 1)), dice.choice((100, 200, 0))
+    files = dice.randrange(1, 6)
+    records = [(index, *record) for index in range(1, files + 1) for record in draw_records(dice, index)]
+    if dice.random() < 0.3:
+        records.insert(0, (dice.choice((-1, -2, -4, 0)), dice.choice((0, 1, 5)), draw_data(dice)))
+    return session, files, records
+
+
+def draw_blocks(dice, sessions, limit):
+    """Returns the blocks of one session or more, whose keys and numbers of files are added to the sessions."""
+    session, files, records = draw_session(dice)
+    sessions.append((session, files))
+    if dice.random() < 0.7:
+        return cut_into_blocks(dice, records, session, limit)
+    together = {session: records}
+    for _ in range(dice.randrange(0, 3)):
+        session, files, records = draw_session(dice)
+        sessions.append((session, files))
+        together.setdefault(session, []).extend(records)
+    return cut_into_older_blocks(dice, together, limit)
+
+
 def draw_volumes(dice):
     """Returns volumes by name, with the sessions that are on them."""
     names = dice.sample(NAMES, dice.randrange(1, 4))
     volumes, sessions = {name: b"" for name in names}, []
     for _ in range(dice.randrange(1, 4)):
-        session = dice.choice((1, 2, 2**32 - 1)), dice.choice((100, 200, 0))
-        files = dice.randrange(1, 6)
-        records = [(index, *record) for index in range(1, files + 1) for record in draw_records(dice, index)]
-        if dice.random() < 0.3:
-            records.insert(0, (dice.choice((-1, -2, -4, 0)), dice.choice((0, 1, 5)), draw_data(dice)))
         limit, name = dice.choice((64, 100, 300, 2000, 64512)), dice.choice(names)
-        for block in cut_into_blocks(dice, records, session, limit):
+        for block in draw_blocks(dice, sessions, limit):
             if dice.random() < 0.2:
                 name = dice.choice(names)
             volumes[name] += block
-        sessions.append((session, files))
     return volumes, sessions
 
 

@@ -32,6 +32,10 @@ HELLO = bytes.fromhex(
     "000000000000005b0000000042423032000000010000006400000001000000010000002631203320"
     "2f61004120412049476b2042204120412041204620412041204120412041204100000000000100000002" "0000000568656c6c6f"
 )
+OLDER = bytes.fromhex(
+    "00000000000000630000000042423031000000010000006400000001000000010000002631203320"
+    "2f61004120412049476b204220412041204120462041204120412041204120410000" "00000001000000640000000100000002" "0000000568656c6c6f"
+)
 ONE = b'Volume="V"\nFileIndex=1\n'
 PLAIN = "A A IGk B A A A F A A A A A A"
 
@@ -95,27 +99,30 @@ def shortened(result):
 
 def prefixes(runs):
     """Each front of a small volume."""
-    for length in range(len(HELLO)):
-        runs.extract(f"{length} bytes", ONE, {"V": HELLO[:length]})
+    for volume in (HELLO, OLDER):
+        for length in range(len(volume)):
+            runs.extract(f"{length} bytes", ONE, {"V": volume[:length]})
     return 1, 64
 
 
 def sizes(runs):
     """Each kind of BlockSize and DataSize that lies."""
-    for size in (0, 1, 23, 24, 25, 36, 90, 91, 92, 4_194_303, 4_194_304, 4_194_305, 2**31 - 1, 2**31, 2**32 - 1):
-        runs.extract(f"BlockSize {size}", ONE, {"V": HELLO[:4] + struct.pack(">I", size) + HELLO[8:]})
-    for at in (32, 82):
-        for size in (0, 1, 4, 5, 6, 37, 39, 2**31 - 1, 2**31, 2**32 - 1):
-            runs.extract(f"DataSize {size} at {at}", ONE, {"V": HELLO[:at] + struct.pack(">I", size) + HELLO[at + 4 :]})
+    for volume, places in ((HELLO, (32, 82)), (OLDER, (32, 90))):
+        for size in (0, 1, 15, 16, 17, 23, 24, 25, 36, 90, 91, 92, 99, 4_194_303, 4_194_304, 4_194_305, 2**31 - 1, 2**31, 2**32 - 1):
+            runs.extract(f"BlockSize {size}", ONE, {"V": volume[:4] + struct.pack(">I", size) + volume[8:]})
+        for at in places:
+            for size in (0, 1, 4, 5, 6, 37, 39, 2**31 - 1, 2**31, 2**32 - 1):
+                runs.extract(f"DataSize {size} at {at}", ONE, {"V": volume[:at] + struct.pack(">I", size) + volume[at + 4 :]})
     return 1, 64
 
 
 def letters(runs):
-    """Each byte of a small volume, changed in eight ways."""
-    for at in range(len(HELLO)):
-        for bit in range(8):
-            changed = HELLO[:at] + bytes([HELLO[at] ^ 1 << bit]) + HELLO[at + 1 :]
-            runs.extract(f"bit {bit} of byte {at}", ONE, {"V": changed})
+    """Each byte of a small volume of either level, changed in eight ways."""
+    for volume in (HELLO, OLDER):
+        for at in range(len(volume)):
+            for bit in range(8):
+                changed = volume[:at] + bytes([volume[at] ^ 1 << bit]) + volume[at + 1 :]
+                runs.extract(f"bit {bit} of byte {at}", ONE, {"V": changed})
     return 1, 64
 
 
@@ -199,8 +206,10 @@ def many_ranges(runs):
 
 
 def small_blocks(runs):
-    """A million blocks of 24 bytes, which hold nothing, and 40,000 records without data in one block."""
-    runs.extract("blocks of 24 bytes", ONE, {"V": block([]) * 1_000_000}, expected=(0, b"total 0 0 0\n", b""))
+    """A million blocks of 24 bytes and of 16, which hold nothing, and 40,000 records without data in one block."""
+    older = struct.pack(">III4s", 0, 16, 0, b"BB01")
+    for label, empty in (("blocks of 24 bytes", block([])), ("blocks of 16 bytes", older)):
+        runs.extract(label, ONE, {"V": empty * 1_000_000}, expected=(0, b"total 0 0 0\n", b""))
     runs.extract("records without data", ONE, {"V": block([attributes(1), *[(1, 2, None, b"")] * 40_000])})
     return 25, 600
 

@@ -131,27 +131,35 @@ def admits(group, keyword, value):
 def size_of_block(volume, address, is_covered):
     """Returns the size of the block at an address, or raises the number of its fault."""
     head = volume[address : address + 24]
-    if len(head) < 24:
+    if len(head) < 16:
         raise Fault(12)
-    if head[12:16] != b"BB02":
+    if head[12:16] not in (b"BB01", b"BB02"):
         raise Fault(10)
+    if head[12:16] == b"BB02" and len(head) < 24:
+        raise Fault(12)
     size = number_at(head, 4)
-    if not 24 <= size <= LIMIT:
+    if not (16 if head[12:16] == b"BB01" else 24) <= size <= LIMIT:
         raise Fault(11)
     if is_covered and len(volume) - address < size:
         raise Fault(12)
     return size
 
 
+def session_at(block, place):
+    return number_at(block, place), number_at(block, place + 4)
+
+
 def fragments_of(block):
-    """Returns the fragments of a block: index, stream, size and bytes of each."""
-    found, place = [], 24
-    while len(block) - place >= 12:
-        index, stream = number_at(block, place, signed=True), number_at(block, place + 4, signed=True)
-        size = number_at(block, place + 8)
-        data = block[place + 12 : place + 12 + size]
-        found.append((index, stream, size, data))
-        place += 12 + size
+    """Returns the fragments of a block: session, index, stream, size and bytes of each."""
+    own = block[12:16] == b"BB01"
+    found, place, least = [], 16 if own else 24, 20 if own else 12
+    while len(block) - place >= least:
+        session = session_at(block, place if own else 16)
+        place += least
+        index, stream = number_at(block, place - 12, signed=True), number_at(block, place - 8, signed=True)
+        size = number_at(block, place - 4)
+        found.append((session, index, stream, size, block[place : place + size]))
+        place += size
     return found
 
 
@@ -180,8 +188,7 @@ def walk(volume, groups, found):
         size = size_of_block(volume, address, is_covered)
         if is_covered:
             block = volume[address : address + size]
-            session = number_at(block, 16), number_at(block, 20)
-            for ordinal, (index, stream, length, data) in enumerate(fragments_of(block)):
+            for ordinal, (session, index, stream, length, data) in enumerate(fragments_of(block)):
                 first = next((n for n, group in groups if hits(group, address, session, index, stream)), None)
                 if first is not None:
                     found.setdefault((*session, index), {})[first, address, ordinal] = (stream, length, data)

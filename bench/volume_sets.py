@@ -23,7 +23,6 @@ from bacula import LABEL_FRONT, volume_label
 from common import MIB, escaped
 
 BLOCK_LIMIT = 64_512
-BLOCK_HEADER = struct.Struct(">III4sII")
 RECORD_HEADER = struct.Struct(">iiI")
 RECORD_BYTES = 65_536
 ATTRIBUTES, DATA, DIGEST = 1, 2, 3
@@ -51,11 +50,29 @@ def session_label(number, time):
     return LABEL_FRONT + front + "".join(it + "\0" for it in names).encode() + struct.pack(">II", ord("B"), ord("F")) + b"\0"
 
 
+class Level:
+    """The level of blocks: BB02, whose header names their session, or BB01, in which each record names its own."""
+
+    def __init__(self, letters):
+        self.letters = letters
+        self.is_older = letters == b"BB01"
+        self.header_size = 16 if self.is_older else 24
+        self.record_header_size = RECORD_HEADER.size + (8 if self.is_older else 0)
+
+    def header(self, size, number, session):
+        """The header of a block without its checksum."""
+        return struct.pack(">II4s", size, number, self.letters) + (b"" if self.is_older else struct.pack(">II", *session))
+
+    def record_header(self, session, index, stream, size):
+        return (struct.pack(">II", *session) if self.is_older else b"") + RECORD_HEADER.pack(index, stream, size)
+
+
 class Volumes:
     """The volumes of a set, which are filled one after another."""
 
-    def __init__(self, folder, prefix, capacity):
+    def __init__(self, folder, prefix, capacity, level):
         os.makedirs(folder, exist_ok=True)
+        self.level = level
         self.folder = folder
         self.prefix = prefix
         self.capacity = capacity
@@ -71,7 +88,8 @@ class Volumes:
         self.file = open(os.path.join(self.folder, self.names[-1]), "wb", buffering=4 * MIB)
         self.at = 0
         label = volume_label(self.names[-1])
-        self.put([RECORD_HEADER.pack(VOLUME_LABEL, 0, len(label)), label], RECORD_HEADER.size + len(label), 0, 0, 0)
+        header = self.level.record_header((0, 0), VOLUME_LABEL, 0, len(label))
+        self.put([header, label], len(header) + len(label), 0, (0, 0))
 
     def end(self):
         if self.file is not None:
@@ -83,10 +101,10 @@ class Volumes:
             self.begin()
         return self.names[-1], self.at
 
-    def put(self, parts, length, number, session_id, session_time):
+    def put(self, parts, length, number, session):
         """Appends a block to the others, and returns the address of its last byte."""
-        size = BLOCK_HEADER.size + length
-        header = BLOCK_HEADER.pack(0, size, number, b"BB02", session_id, session_time)[4:]
+        size = self.level.header_size + length
+        header = self.level.header(size, number, session)
         checksum = zlib.crc32(header)
         for part in parts:
             checksum = zlib.crc32(part, checksum)
@@ -101,8 +119,9 @@ class Volumes:
 class VolumesInTurns:
     """Two rows of volumes, of which each takes one block in turn, so that each block is a visit of its own."""
 
-    def __init__(self, folder, prefix, capacity):
-        self.rows = [Volumes(folder, f"{prefix}-{row}", capacity) for row in "AB"]
+    def __init__(self, folder, prefix, capacity, level):
+        self.level = level
+        self.rows = [Volumes(folder, f"{prefix}-{row}", capacity, level) for row in "AB"]
         self.turn = 0
 
     def place(self):
@@ -137,6 +156,7 @@ class Session:
 
     def __init__(self, volumes, session_id, session_time):
         self.volumes = volumes
+        self.level = volumes.level
         self.id = session_id
         self.time = session_time
         self.files = 0
@@ -149,7 +169,7 @@ class Session:
 
     def empty_block(self):
         self.parts = []
-        self.room = BLOCK_LIMIT - BLOCK_HEADER.size
+        self.room = BLOCK_LIMIT - self.level.header_size
         self.first_index = 0
         self.last_index = 0
 
@@ -157,13 +177,14 @@ class Session:
         """Packs a record, which may go on in later blocks."""
         left = len(data)
         at = 0
-        if self.room < RECORD_HEADER.size + (left > 0):
+        front = self.level.record_header_size
+        if self.room < front + (left > 0):
             self.close_block()
         while True:
-            take = min(left, self.room - RECORD_HEADER.size)
-            self.parts.append(RECORD_HEADER.pack(index, stream if at == 0 else -stream, left))
+            take = min(left, self.room - front)
+            self.parts.append(self.level.record_header((self.id, self.time), index, stream if at == 0 else -stream, left))
             self.parts.append(data[at : at + take])
-            self.room -= RECORD_HEADER.size + take
+            self.room -= front + take
             at += take
             left -= take
             if index > 0:
@@ -180,8 +201,8 @@ class Session:
         span = self.spans[-1]
         span.first_index = span.first_index or self.first_index
         span.last_index = self.last_index or span.last_index
-        length = BLOCK_LIMIT - BLOCK_HEADER.size - self.room
-        span.end = self.volumes.put(self.parts, length, self.blocks, self.id, self.time)
+        length = BLOCK_LIMIT - self.level.header_size - self.room
+        span.end = self.volumes.put(self.parts, length, self.blocks, (self.id, self.time))
         self.blocks += 1
         self.empty_block()
 
@@ -311,21 +332,23 @@ def fill_large(sessions, size, source):
         session.add_large(b"/srv/image-%d" % number, each, source.chunks(each))
 
 
-# For each kind: how the sessions are filled, how many there are, and on how many volumes of which sort.
+# For each kind: how the sessions are filled, how many there are, on how many volumes of which sort, and the level of blocks.
 KINDS = {
-    "small": (fill_small, 2, 4, Volumes),
-    "large": (fill_large, 1, 5, Volumes),
-    "one-session": (fill_small, 1, 4, Volumes),
-    "many-volumes": (fill_small, 2, 2000, Volumes),
-    "many-visits": (fill_small, 1, 2, VolumesInTurns),
+    "small": (fill_small, 2, 4, Volumes, b"BB02"),
+    "large": (fill_large, 1, 5, Volumes, b"BB02"),
+    "small-older": (fill_small, 2, 4, Volumes, b"BB01"),
+    "large-older": (fill_large, 1, 5, Volumes, b"BB01"),
+    "one-session": (fill_small, 1, 4, Volumes, b"BB02"),
+    "many-volumes": (fill_small, 2, 2000, Volumes, b"BB02"),
+    "many-visits": (fill_small, 1, 2, VolumesInTurns, b"BB02"),
 }
 
 
 def make_set(folder, kind, size, seed, without_every=0):
     """Makes a set of files of so many bytes in all, or a little more."""
-    fill, session_count, volume_count, volumes_of = KINDS[kind]
+    fill, session_count, volume_count, volumes_of, letters = KINDS[kind]
     os.mkdir(folder)
-    volumes = volumes_of(os.path.join(folder, "volumes"), kind.capitalize(), size // volume_count + 1)
+    volumes = volumes_of(os.path.join(folder, "volumes"), kind.capitalize(), size // volume_count + 1, Level(letters))
     sessions = [Session(volumes, n + 1, 1_700_000_000 + 60 * n) for n in range(session_count)]
     fill(sessions, size, Source(seed))
     for session in sessions:

@@ -1,13 +1,13 @@
 -- What the calls of a drive say of a block that is read again.
 use Rattle.std.proofs.Common.{◌≡◌, ℕ, ◌≤◌, List, ◌++◌, length, drop, take, Option, Some, None, Result, Ok, Err, sym, ap, ◌∙◌, arith}
 use Rattle.std.proofs.lemmas.Option.{same_Some}
-use Rattle.std.proofs.lemmas.List.{length-drop, length-take, take-take, take-append-drop, length-take-le, take_all}
+use Rattle.std.proofs.lemmas.List.{length-drop, take_at, take-append-drop, length-take-le, take_all}
 use Rattle.std.specs.Prelude.{OnOk, OnErr}
 use Rattle.br_model.specs.Block.{Header, read_header, read_block}
 use Rattle.br_model.specs.Volume.{Volume}
 use Rattle.br_model.proofs.AnswerLaws.{err_is, err_is_not_ok, ok_is}
-use Rattle.br_model.proofs.SpanLaws.{read_block_front, read_header_front}
-use Rattle.br_model.proofs.VolumeLaws.{header_has_24}
+use Rattle.br_model.proofs.SpanLaws.{read_block_front, read_header_alone, read_header_fewer, read_header_more}
+use Rattle.br_model.proofs.VolumeLaws.{header_has_16}
 use Rattle.br_volume.specs.Drive.{AnswersOver, OnlyGrows}
 use Rattle.br_volume.specs.declared.drive.Got.TheVariants.{Block, End}
 use Rattle.br_volume.specs.declared.fault.DriveFault.TheVariants.{UnknownVolume}
@@ -36,7 +36,7 @@ none_at_end (Some shown) name a s buffer answers volumes block shows is =
     let there = block_stays volumes shown name a block shows is in
     let same : there.bytes ≡ e.0 = same_Some _ _ (sym there.found ∙ e.1) in
     let h = read_has_header (drop a there.bytes) block there.whole in
-    let long = (header_has_24 (drop a there.bytes) h.0 h.1).0 in
+    let long = (header_has_16 (drop a there.bytes) h.0 h.1).0 in
     absurd (omega (arith, e.2, ap length same, long, length-drop a there.bytes))
 
 some_is_not_none : {A : Type 0} {x : A} → Some x ≡ None → ⊥
@@ -49,54 +49,56 @@ none_if_unknown (Some shown) name a s buffer answers volumes block shows is =
     let there = block_stays volumes shown name a block shows is in
     absurd (some_is_not_none (sym there.found ∙ not_shown shown name a s 14 answers))
 
-first_of : (xs block : List ℕ) (s : ℕ) → read_block xs ≡ Ok block → s ≤ length block → take s xs ≡ take s block
-first_of xs block s e fits =
+-- a block is the front of the bytes in which it is read
+front_of : (xs block : List ℕ) → read_block xs ≡ Ok block → (more : List ℕ) × (xs ≡ block ++ more)
+front_of xs block e =
     let h = read_has_header xs block e in
-    sym (ap (take s) (sym h.3) ∙ take-take s h.0.size xs (omega (arith, fits, ap length (sym h.3), length-take h.0.size xs)))
+    (drop h.0.size xs, sym (take-append-drop h.0.size xs) ∙ ap (λ (front : List ℕ). front ++ drop h.0.size xs) h.3)
 
 -- a read gives the first bytes of the block
 pub first_read : (shown : Option (List Volume)) (name : List ℕ) (a s n : ℕ) (buffer : List ℕ) → AnswersOver shown name a s buffer (Ok (Block n)) → HasFirst shown name a s buffer
-first_read None name a s n buffer answers volumes block shows is fits = absurd shows
-first_read (Some shown) name a s n buffer answers volumes block shows is fits =
+first_read None name a s n buffer answers volumes block shows is = absurd shows
+first_read (Some shown) name a s n buffer answers volumes block shows is =
     let e = shown_block shown name a s buffer answers in
     let there = block_stays volumes shown name a block shows is in
     let same : there.bytes ≡ e.0 = same_Some _ _ (sym there.found ∙ e.1) in
-    sym e.3 ∙ ap (λ (bs : List ℕ). take s (drop a bs)) (sym same) ∙ first_of (drop a there.bytes) block s there.whole fits
+    let front = front_of (drop a there.bytes) block there.whole in
+    (front.0, sym e.3 ∙ ap (λ (bs : List ℕ). take s (drop a bs)) (sym same) ∙ ap (take s) front.1)
 
--- the first bytes of a block have its header
-header_of_first : (xs block : List ℕ) → read_block xs ≡ Ok block → (h : Header) × (read_header (take 24 block) ≡ Ok h) × (length block ≡ h.size) × (24 ≤ length block)
-header_of_first xs block e =
+-- a block has a header that says its length
+header_of_block : (xs block : List ℕ) → read_block xs ≡ Ok block → (h : Header) × (read_header block ≡ Ok h) × (length block ≡ h.size)
+header_of_block xs block e =
     let h = read_has_header xs block e in
-    let long = header_has_24 xs h.0 h.1 in
-    let sized : length block ≡ h.0.size = ap length (sym h.3) ∙ length-take-le h.0.size xs h.2 in
-    let first : take 24 xs ≡ take 24 block = first_of xs block 24 e (omega (arith, sized, long.1)) in
-    let read : read_header (take 24 xs) ≡ read_header xs =
-    sym (read_header_front (take 24 xs) (drop 24 xs) (omega (arith, length-take-le 24 xs long.0))) ∙ ap read_header (take-append-drop 24 xs) in
-    (h.0, ap read_header (sym first) ∙ read ∙ h.1, sized, omega (arith, sized, long.1))
+    let sized : length (take h.0.size xs) ≡ h.0.size = length-take-le h.0.size xs h.2 in
+    let read = read_header_fewer (take h.0.size xs) (drop h.0.size xs) h.0 (ap read_header (take-append-drop h.0.size xs) ∙ h.1) (omega (arith, sized)) in
+    (h.0, ap read_header (sym h.3) ∙ read, ap length (sym h.3) ∙ sized)
+
+-- its first 24 bytes, or those of it and of what follows it, have this header
+header_of_first : (buffer block more : List ℕ) (h : Header) → read_header block ≡ Ok h → buffer ≡ take 24 (block ++ more) → read_header buffer ≡ Ok h
+header_of_first buffer block more h read is = ap read_header is ∙ read_header_alone (block ++ more) ∙ read_header_more block more h read
 
 -- a header that is read says how long the block is
 pub length_read : (shown : Option (List Volume)) (name : List ℕ) (a : ℕ) (buffer : List ℕ) (h : Header) → HasFirst shown name a 24 buffer → read_header buffer ≡ Ok h
     → HasLength shown name a h.size
 length_read shown name a buffer h first read volumes block shows is =
-    let p = header_of_first (drop a is.bytes) block is.whole in
-    let same : h ≡ p.0 = ok_is h p.0 (sym read ∙ ap read_header (first volumes block shows is p.3) ∙ p.1) in
+    let p = header_of_block (drop a is.bytes) block is.whole in
+    let f = first volumes block shows is in
+    let same : h ≡ p.0 = ok_is h p.0 (sym read ∙ header_of_first buffer block f.0 p.0 p.1 f.1) in
     p.2 ∙ ap (λ (x : Header). x.size) (sym same)
 
 -- a header that is refused is that of no block
 pub none_if_refused : (shown : Option (List Volume)) (name : List ℕ) (a n : ℕ) (buffer : List ℕ) → HasFirst shown name a 24 buffer → read_header buffer ≡ Err n
     → OfBlock shown name a (λ block. ⊥)
 none_if_refused shown name a n buffer first read volumes block shows is =
-    let p = header_of_first (drop a is.bytes) block is.whole in
-    absurd (err_is_not_ok n p.0 (sym read ∙ ap read_header (first volumes block shows is p.3) ∙ p.1))
+    let p = header_of_block (drop a is.bytes) block is.whole in
+    let f = first volumes block shows is in
+    absurd (err_is_not_ok n p.0 (sym read ∙ header_of_first buffer block f.0 p.0 p.1 f.1))
 
 -- a block is read as itself
 pub block_is_block : (xs block : List ℕ) → read_block xs ≡ Ok block → read_block block ≡ Ok block
 block_is_block xs block e =
-    let h = read_has_header xs block e in
-    let p = header_of_first xs block e in
-    let read : read_header block ≡ Ok p.0 =
-    ap read_header (sym (take-append-drop 24 block)) ∙ read_header_front (take 24 block) (drop 24 block) (omega (arith, length-take-le 24 block p.3)) ∙ p.1 in
-    whole_is_read block p.0 read (omega (arith, p.2)) ∙ ap (λ (bs : List ℕ). Ok bs) (ap (λ (n : ℕ). take n block) (sym p.2) ∙ take_all (length block) block (omega arith))
+    let p = header_of_block xs block e in
+    whole_is_read block p.0 p.1 (omega (arith, p.2)) ∙ ap (λ (bs : List ℕ). Ok bs) (ap (λ (n : ℕ). take n block) (sym p.2) ∙ take_all (length block) block (omega arith))
 
 -- a fault that is passed on
 pub gone_on : {A B : Type 0} (shown : Option (List Volume)) (name : List ℕ) (a : ℕ) (e : AgainFault) → IsGone {A = A} shown name a (Err e) → IsGone {A = B} shown name a (Err e)
@@ -119,7 +121,8 @@ pub whole_first : (earlier later : Option (List Volume)) (name : List ℕ) (a s 
     → HasLength earlier name a s → HasFirst later name a s buffer → IsBlock earlier name a buffer
 whole_first earlier later name a s buffer grown long first volumes block shows is =
     let n : length block ≡ s = long volumes block shows is in
-    first volumes block (shows_more earlier later volumes grown shows) is (omega (arith, n)) ∙ take_all s block (omega (arith, n))
+    let f = first volumes block (shows_more earlier later volumes grown shows) is in
+    f.1 ∙ take_at block f.0 s n
 
 -- what a read gives is the first of the volume's bytes there
 pub shows_first : (shown : Option (List Volume)) (name : List ℕ) (a s n : ℕ) (buffer : List ℕ) → AnswersOver shown name a s buffer (Ok (Block n)) → ShowsFirst shown name a s buffer

@@ -13,7 +13,7 @@ use Rattle.br_model.proofs.ListLaws.{first_or_later, from_joined, none_in}
 use Rattle.br_model.proofs.FoundLaws.{hit_in_block}
 use Rattle.br_model.proofs.PlanVolumeLaws.{uncovered_has_no_hits}
 use Rattle.br_model.proofs.SpanLaws.{read_block_front}
-use Rattle.br_model.proofs.VolumeLaws.{header_has_24, walk_is_exact_lem}
+use Rattle.br_model.proofs.VolumeLaws.{header_has_16, walk_is_exact_lem}
 use Rattle.br_again.specs.Stands.{IsBlockAt, HitsStand, StandingStays, StandsOnce}
 
 -- a block whose header is read and that is whole is read
@@ -74,7 +74,7 @@ hits_stand_lem volumes piece hits hit e inside =
     give : List LaidBlock → Result (List Hit) BlockFault
     give blocks = Ok (flat_map (hits_in piece.groups) blocks)
 
--- a block that is read has a header, and so the bytes there are 24 at least
+-- a block that is read has a header, and so the bytes there are 16 at least
 pub read_has_header : (left block : List ℕ) → read_block left ≡ Ok block → (h : Header) × (read_header left ≡ Ok h) × (h.size ≤ length left) × (take h.size left ≡ block)
 unfolding read_block
 read_has_header left block e =
@@ -89,7 +89,7 @@ read_has_header left block e =
 read_further : (a : ℕ) (bytes more block : List ℕ) → read_block (drop a bytes) ≡ Ok block → read_block (drop a (bytes ++ more)) ≡ Ok block
 read_further a bytes more block e =
     let h = read_has_header (drop a bytes) block e in
-    let long = (header_has_24 (drop a bytes) h.0 h.1).0 in
+    let long = (header_has_16 (drop a bytes) h.0 h.1).0 in
     ap read_block (drop-append-le a bytes more (omega (arith, long, length-drop a bytes))) ∙ read_block_front (drop a bytes) more block e
 
 -- a block stays where it is while volumes grow

@@ -1,5 +1,5 @@
 -- What is read again of a volume.
-use Rattle.std.specs.Prelude.{◌≡◌, ℕ, ◌≤◌, List, length, take, drop, Option, Some, None, Result, Err, ⊤}
+use Rattle.std.specs.Prelude.{◌≡◌, ℕ, List, ◌++◌, length, take, drop, Option, Some, None, Result, Err, ⊤}
 use Rattle.br_model.specs.Volume.{Volume, volume_bytes}
 use Rattle.br_again.specs.Stands.{IsBlockAt, ShowsAll}
 use Rattle.br_again.specs.declared.fault.AgainFault.{AgainFault}
@@ -13,9 +13,13 @@ OfBlock shown name address P = (volumes : List Volume) (block : List ℕ) → Sh
 abbrev pub IsGone : {A : Type 0} → Option (List Volume) → List ℕ → ℕ → Result A AgainFault → Type 0
 IsGone shown name address result = result ≡ Err Changed → OfBlock shown name address (λ block. ⊥)
 
--- the buffer has the first bytes of the block
+-- the bytes are the first ones of the block and of what follows it
+abbrev pub AreFirst : List ℕ → ℕ → List ℕ → Type 0
+AreFirst bytes size block = (more : List ℕ) × (bytes ≡ take size (block ++ more))
+
+-- the buffer has the first bytes of the block and of what follows it
 abbrev pub HasFirst : Option (List Volume) → List ℕ → ℕ → ℕ → List ℕ → Type 0
-HasFirst shown name address size buffer = OfBlock shown name address (λ block. size ≤ length block → buffer ≡ take size block)
+HasFirst shown name address size buffer = OfBlock shown name address (AreFirst buffer size)
 
 -- the block has this length
 abbrev pub HasLength : Option (List Volume) → List ℕ → ℕ → ℕ → Type 0

@@ -11,7 +11,7 @@ use br_block::{Block, BlockHead, Fragment, Fragments};
 use br_types::VolName;
 use br_volume::{Drive, DriveFault, Got};
 
-/// The length of a block's header in bytes.
+/// The greatest length of a block's header in bytes.
 const HEADER_LEN: u32 = 24;
 
 /// Reads `size` bytes of the volume from the address into `buf`, or all that are left. `Changed` if
@@ -71,8 +71,8 @@ fn check_whole(bytes: &[u8]) -> Result<(), AgainFault>
     }
 }
 
-/// Reads the block at the address of the volume into `buf`, by two calls of the drive: the header
-/// for the block's length, and then the block.
+/// Reads the block at the address of the volume into `buf`, by two calls of the drive: its first 24
+/// bytes for the block's length, and then the block.
 ///
 /// Over all volumes that the drive shows, whatever else it shows, `buf` is the block that they have
 /// there. After a refusal `buf` may hold anything.

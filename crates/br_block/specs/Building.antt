@@ -1,5 +1,5 @@
 -- A block under construction.
-use Rattle.std.specs.Prelude.{◌≡◌, ℕ, ◌/◌, ◌^◌, ◌<◌, ◌≤◌, List, [], length, drop, flat_map}
+use Rattle.std.specs.Prelude.{◌≡◌, ℕ, ◌/◌, ◌^◌, ◌<◌, ◌≤◌, List, [], length, drop, flat_map, Some}
 use Rattle.std.specs.List.{AllByRecursion}
 use Rattle.br_model.specs.Name.{SessionKey}
 use Rattle.br_model.specs.Block.{Fragment, fragment_bytes, IsFragmentOf, AreFilled, fragments_in}
@@ -18,7 +18,7 @@ pub record Building : Type 0 where
 
 -- the fragments after the room for a header
 unfoldable pub fragments_after : SessionKey → List ℕ → List Fragment
-fragments_after key bytes = fragments_in key (length bytes / 12) (drop 24 bytes)
+fragments_after key bytes = fragments_in (Some key) (length bytes / 12) (drop 24 bytes)
 
 -- The number has four bytes, and the bytes are room for a header and fragments of the session,
 -- within the limit. Only the last fragment may have less than all its data.
@@ -29,4 +29,4 @@ pub record IsBuilding (key : SessionKey) (limit number : ℕ) (bytes : List ℕ)
   pub bound : limit ≤ 64512
   pub joined : drop 24 bytes ≡ flat_map fragment_bytes (fragments_after key bytes)
   pub filled : AreFilled (fragments_after key bytes) []
-  pub each : AllByRecursion (IsFragmentOf key) (fragments_after key bytes)
+  pub each : AllByRecursion (IsFragmentOf (Some key)) (fragments_after key bytes)

@@ -6,7 +6,7 @@ ghost use Rattle.br_block.specs.Fault.{fault_number};
 
 use crate::fault::BlockFault;
 use crate::fragments::Fragments;
-use crate::head::{BlockHead, HEADER_LEN};
+use crate::head::{BlockHead, header_len};
 use br_model::fragments_are_exact;
 use std::marker::Model;
 
@@ -55,7 +55,7 @@ impl<'a> Block<'a> {
     pub fn head(&self) -> BlockHead
         ensures header { read_header self.now ≡ Ok result }
         ensures whole { length self.now ≡ result.size }
-        ensures least { 24 ≤ result.size }
+        ensures least { 16 ≤ result.size }
         ensures most { result.size ≤ 4194304 }
     {
         self.head
@@ -69,18 +69,18 @@ impl<'a> Block<'a> {
         self.bytes
     }
 
-    /// Returns the fragments of the block in order. The block is its header, these, and a rest of
-    /// fewer than 12 bytes.
+    /// Returns the fragments of the block in order. The block is its header, these, and a rest that
+    /// is shorter than a record's header: fewer than 12 bytes, or 20 for the level BB01.
     pub fn fragments(&self) -> Fragments<'a>
         ensures read { result ≡ fragments_of self.now }
         ensures exact { AreFragments self.now result }
-        ensures few { 24 + 12 * length result ≤ length self.now }
+        ensures few { 16 + 12 * length result ≤ length self.now }
         ensures most { length self.now ≤ 4194304 }
     {
         fragments_are_exact();
         let head = self.head();
         let bytes = self.bytes();
-        let (_, rest) = bytes.split_at(HEADER_LEN);
+        let (_, rest) = bytes.split_at(header_len(head.session));
         Fragments::new(head.session, rest)
     }
 }

@@ -1,4 +1,4 @@
-ghost use Rattle.std.specs.Prelude.{◌≡◌, ◌+◌, ◌++◌, ◌∷◌, ◌^◌, ◌<◌, ◌≤◌, FitsSigned, [], length, drop, IfOk, OnOk, OnErr, Ok};
+ghost use Rattle.std.specs.Prelude.{◌≡◌, ◌+◌, ◌++◌, ◌∷◌, ◌^◌, ◌<◌, ◌≤◌, FitsSigned, [], length, drop, is_some, true, IfOk, OnOk, OnErr, Ok};
 ghost use Rattle.std.specs.Int.{w32};
 ghost use Rattle.std.specs.List.{AllByRecursion};
 ghost use Rattle.br_model.specs.Block.{fragment_bytes, header_bytes, fragments_of, read_block, read_header};
@@ -11,7 +11,7 @@ use br_types::SessionKey;
 use std::alloc::{AllocError, Global};
 use std::marker::Model;
 
-/// A block under construction: fragments of records are added one after another, and closing it
+/// A block of the level BB02 under construction: fragments of records are added one after another, and closing it
 /// writes its header before them.
 #[derive(Debug, Drop)]
 pub struct BlockBuilder {
@@ -37,7 +37,7 @@ impl Model for BlockBuilder {
     ghost invariant = { λ b. IsBuilding b.session b.limit b.number b.bytes.items };
 }
 
-/// Returns the record header that precedes the fragment's data.
+/// Returns the record header that precedes the fragment's data in a block of the level BB02.
 #[tactic(auto, unfolding(br_model::specs::Block::fragment_bytes))]
 fn record_header(fragment: &Fragment<'_>) -> [u8; 12]
     ensures text { result ++ fragment.now.bytes ≡ fragment_bytes fragment.now }
@@ -54,7 +54,8 @@ fn record_header(fragment: &Fragment<'_>) -> [u8; 12]
 
 /// Writes a header over the first 24 bytes.
 fn put_header(bytes: &mut [u8], head: BlockHead)
-    requires { 24 ≤ length bytes.old }
+    requires room { 24 ≤ length bytes.old }
+    requires session { is_some head.session ≡ true }
     ensures text { bytes.new ≡ header_bytes head ++ drop 24 bytes.old }
     ensures reads_back { 24 ≤ head.size → head.size ≤ 4194304 → read_header bytes.new ≡ Ok head }
 {
@@ -126,7 +127,7 @@ impl BlockBuilder {
             checksum: 0,
             size: bytes.len() as u32,
             number,
-            session,
+            session: Some(session),
         };
         put_header(&mut bytes, head);
         bytes

@@ -1,6 +1,7 @@
 ghost use Rattle.std.specs.Prelude.{◌≡◌, ◌/◌, ◌≤◌, length, take, drop};
 ghost use Rattle.std.specs.Iterator.{YieldsFirst, item_count};
-ghost use Rattle.br_model.specs.Block.{u32_at, first_fragment, fragments_in};
+ghost use Rattle.br_model.specs.Block.{u32_at, record_header_length, fragment_under, behind_fragment, first_fragment};
+ghost use Rattle.br_model.specs.Block.{behind_first, behind_session, fragments_in, record_session};
 
 use crate::numbers::{i32_from, u32_from};
 use br_types::SessionKey;
@@ -9,11 +10,16 @@ use std::marker::Model;
 /// The number of bytes of a record's header.
 pub(crate) const RECORD_HEADER_LEN: usize = 12;
 
+/// The number of bytes of a session, which in a block of the level BB01 precedes each record's
+/// header.
+const SESSION_LEN: usize = 8;
+
 /// A record in a block, or the part of it that the block contains. The record's header is
-/// FileIndex, Stream and DataSize, four bytes each, and its data follows.
+/// FileIndex, Stream and DataSize, four bytes each, and its data follows. In a block of the level
+/// BB01 VolSessionId and VolSessionTime precede these.
 #[derive(Clone, Debug, Drop)]
 pub struct Fragment<'a> {
-    /// The session of the block.
+    /// The session of the block, or of the record alone in a block of the level BB01.
     pub session: SessionKey,
     /// The number of the file in its session; 0 and below for a label.
     pub index: i32,
@@ -36,7 +42,8 @@ impl<'a> Model for Fragment<'a> {
 /// The fragments of a block that are left.
 #[derive(Clone, Debug, Drop)]
 pub struct Fragments<'a> {
-    session: SessionKey,
+    /// The session of the block; none if each record has its own.
+    session: Option<SessionKey>,
     rest: &'a [u8],
 }
 
@@ -57,11 +64,39 @@ fn cut(bytes: &[u8], size: usize) -> (&[u8], &[u8])
     bytes.split_at(size.min(bytes.len()))
 }
 
-/// Reads the fragment at the front of the bytes. Returns it and the bytes after it.
-fn first_of(session: SessionKey, bytes: &[u8]) -> (Fragment<'_>, &[u8])
+/// Returns the number of bytes of a record's header in a block with this session, or without one.
+fn record_header_len(session: Option<SessionKey>) -> usize
+    ensures { result ≡ record_header_length session }
+{
+    match session {
+        None => SESSION_LEN + RECORD_HEADER_LEN,
+        Some(_) => RECORD_HEADER_LEN,
+    }
+}
+
+/// Reads the session of the record at the front of the bytes, which is that of the block if it has
+/// one. Returns it and the bytes after it.
+fn session_at(session: Option<SessionKey>, bytes: &[u8]) -> (SessionKey, &[u8])
+    requires { record_header_length session ≤ length bytes.now }
+    ensures session { result.0 ≡ record_session session bytes.now }
+    ensures rest { result.1.now ≡ behind_session session bytes.now }
+{
+    match session {
+        None => {
+            let id = u32_from(bytes, 0);
+            let time = u32_from(bytes, 4);
+            let (_, rest) = bytes.split_at(SESSION_LEN);
+            (SessionKey { id, time }, rest)
+        }
+        Some(session) => (session, bytes),
+    }
+}
+
+/// Reads the fragment of a session at the front of the bytes. Returns it and the bytes after it.
+fn fragment_of(session: SessionKey, bytes: &[u8]) -> (Fragment<'_>, &[u8])
     requires { 12 ≤ length bytes.now }
-    ensures first { result.0 ≡ first_fragment session bytes.now }
-    ensures rest { result.1.now ≡ drop (u32_at 8 bytes.now) (drop 12 bytes.now) }
+    ensures first { result.0 ≡ fragment_under session bytes.now }
+    ensures rest { result.1.now ≡ behind_fragment bytes.now }
 {
     let index = i32_from(bytes, 0);
     let stream = i32_from(bytes, 4);
@@ -78,9 +113,19 @@ fn first_of(session: SessionKey, bytes: &[u8]) -> (Fragment<'_>, &[u8])
     (fragment, left)
 }
 
+/// Reads the fragment at the front of the bytes. Returns it and the bytes after it.
+fn first_of(session: Option<SessionKey>, bytes: &[u8]) -> (Fragment<'_>, &[u8])
+    requires { record_header_length session ≤ length bytes.now }
+    ensures first { result.0 ≡ first_fragment session bytes.now }
+    ensures rest { result.1.now ≡ behind_first session bytes.now }
+{
+    let (session, rest) = session_at(session, bytes);
+    fragment_of(session, rest)
+}
+
 impl<'a> Fragments<'a> {
     /// Returns the fragments in the bytes after a block's header.
-    pub(crate) fn new(session: SessionKey, rest: &'a [u8]) -> Fragments<'a>
+    pub(crate) fn new(session: Option<SessionKey>, rest: &'a [u8]) -> Fragments<'a>
         ensures { result ≡ fragments_in session (length rest.now / 12) rest.now }
     {
         Fragments { session, rest }
@@ -96,7 +141,7 @@ impl<'a> Iterator for Fragments<'a> {
 
     fn next(&mut self) -> Option<Fragment<'a>> {
         let rest = self.rest;
-        if rest.len() < RECORD_HEADER_LEN {
+        if rest.len() < record_header_len(self.session) {
             return None;
         }
         let (fragment, left) = first_of(self.session, rest);

@@ -1,5 +1,8 @@
-//! Reads and writes Bacula's BB02 blocks: the header of a block and the fragments of records in it,
-//! which borrow from the block.
+//! Reads Bacula's blocks and writes those of the level BB02: the header of a block and the fragments
+//! of records in it, which borrow from the block.
+//!
+//! In a block of the level BB02 all records are of the session in its header. In one of the older
+//! level BB01 each record has its own, so one block may contain records of several sessions.
 //!
 //! The format is that of Bacula's Developer's Guide, "Storage Media Output Format". All numbers are
 //! in network byte order. Contracts see a header as its record of the model, a block as the list of

@@ -8,8 +8,8 @@ use Rattle.br_model.specs.Block.{Header, read_header}
 use Rattle.br_model.specs.Volume.{Volume, volume_bytes, Extends, is_above, next_block}
 use Rattle.br_model.specs.Meaning.{Piece, PieceFault, Hit, bound_of, is_covered, just_groups, hits_in, hits_on}
 use Rattle.br_model.proofs.AnswerLaws.{bind_ok}
-use Rattle.br_model.proofs.SpanLaws.{read_header_front}
-use Rattle.br_model.proofs.VolumeLaws.{header_has_24, laid_block}
+use Rattle.br_model.proofs.SpanLaws.{read_header_more}
+use Rattle.br_model.proofs.VolumeLaws.{laid_block}
 use Rattle.br_match.specs.Walk.{step_among, step_on, rest_on, and_rest, Follows, HasHead}
 use Rattle.br_match.proofs.StepLaws.{rest_is_step_on}
 use Rattle.br_match.proofs.SeenLaws.{step_in, step_of_head, step_of_bad_head, step_uncovered}
@@ -106,7 +106,7 @@ step_over_more volumes later piece a bytes more near found grown within block =
       bytes = bytes ++ more;
       found = grown;
       within = omega (arith, within, length-append bytes more);
-      read = ap read_header front ∙ read_header_front (drop a bytes) more (header_has_24 (drop a bytes) h block.read).0 ∙ block.read;
+      read = ap read_header front ∙ read_header_more (drop a bytes) more h block.read;
     }
 
     go : (b : Bool) → is_covered (just_groups piece.groups) a ≡ b → step_on later piece a ≡ step_on volumes piece a

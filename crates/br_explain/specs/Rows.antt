@@ -29,10 +29,10 @@ all_rows =
     (codes "A path does not begin with `/`, is longer than 4,096 bytes, or has an empty part or a part `.` or `..`.")
     (codes "In a script, give a path that follows these rules.") ∷
     row_with 10 (codes "BadId")
-    (codes "At the printed address of the volume there is no block of level `BB02`.")
+    (codes "At the printed address of the volume there is no block of level `BB01` or `BB02`.")
     (codes "Check that the file is a volume and not packed, and try another copy; without one, choose an earlier moment.") ∷
     row_with 11 (codes "BadBlockSize")
-    (codes "The block at the printed address of the volume states a size below 24 or above 4,194,304 bytes.")
+    (codes "The block at the printed address of the volume states a size below that of its header or above 4,194,304 bytes.")
     (codes "Try another copy; without one, choose an earlier moment.") ∷
     row_with 12 (codes "Truncated")
     (codes "The volume ends inside a block header, or inside a block that the restore needs.")

@@ -23,13 +23,13 @@ pub const REFUSALS: [Refusal; 54] = [
     Refusal {
         number: 10,
         name: "BadId",
-        meaning: "At the printed address of the volume there is no block of level `BB02`.",
+        meaning: "At the printed address of the volume there is no block of level `BB01` or `BB02`.",
         next: "Check that the file is a volume and not packed, and try another copy; without one, choose an earlier moment.",
     },
     Refusal {
         number: 11,
         name: "BadBlockSize",
-        meaning: "The block at the printed address of the volume states a size below 24 or above 4,194,304 bytes.",
+        meaning: "The block at the printed address of the volume states a size below that of its header or above 4,194,304 bytes.",
         next: "Try another copy; without one, choose an earlier moment.",
     },
     Refusal {

@@ -10,7 +10,7 @@ use Rattle.std.specs.List.{AllByRecursion, list_any, list_all, enumerate_from}
 use Rattle.br_model.specs.Job.{Span, is_span, overlaps, no_pair}
 use Rattle.br_model.specs.Session.{Visit, length_of, least_of, greatest_of, visit_indexes, visit_length, spans_from, checked_spans}
 use Rattle.br_model.proofs.AnswerLaws.{chosen, ok_is, err_is_not_ok}
-use Rattle.br_model.proofs.VolumeLaws.{header_has_24}
+use Rattle.br_model.proofs.VolumeLaws.{header_has_16}
 use Rattle.br_model.proofs.WrittenVolumeLaws.{IsWholeBlock, joined}
 use Rattle.br_model.proofs.WrittenSpanLaws.{IsWholeVisit, with_visit}
 
@@ -33,7 +33,7 @@ least_to_greatest (n ∷ ns) = let low = fold_low n ns in let high = fold_high (
 blocks_have_bytes : (blocks : List (List ℕ)) → 0 < length blocks → AllByRecursion IsWholeBlock blocks → 0 < length (joined blocks)
 blocks_have_bytes [] some whole = absurd (omega (arith, some))
 blocks_have_bytes (b ∷ bs) some whole =
-    let long : 24 ≤ length b = (header_has_24 b whole.0.header whole.0.read).0 in
+    let long : 16 ≤ length b = (header_has_16 b whole.0.header whole.0.read).0 in
     omega (arith, long, length-append b (joined bs))
 
 visit_has_bytes : (v : Visit) → IsWholeVisit v → 0 < visit_length v

@@ -14,7 +14,7 @@ use Rattle.br_model.specs.Bootstrap.{Group}
 use Rattle.br_model.specs.Meaning.{Piece, PieceFault, Hit, HasHit, IsHit, bound_of, is_covered, groups_on, just_groups, volumes_of, hits_in, hits_among, hits_on, hits_on_each, hits_of, meaning, pieces_of, blocks_for, first_hitting}
 use Rattle.br_model.proofs.AnswerLaws.{bind_ok, chosen, ok_is, refuse_ok, refused_as_ok, some_mapped, some_or_ok}
 use Rattle.br_model.proofs.ListLaws.{first_in, first_or_later, from_image, from_joined, later_in, none_in, not_empty_is_long}
-use Rattle.br_model.proofs.VolumeLaws.{header_has_24, laid_block, walk_is_exact_lem}
+use Rattle.br_model.proofs.VolumeLaws.{header_has_16, laid_block, walk_is_exact_lem}
 use Rattle.br_model.proofs.PieceLaws.{piece_of}
 use Rattle.br_model.proofs.FoundLaws.{hit_in_block}
 use Rattle.br_model.proofs.PlanVolumeLaws.{uncovered_has_no_hits}
@@ -199,7 +199,7 @@ laid_to volumes piece bytes place b found (suc n) address come near blocks laid 
     let same : s.bytes ≡ bytes = same_Some s.bytes bytes (sym s.found ∙ found) in
     let p = subst (λ (xs : List ℕ). IsPassed piece.groups xs come.0 (s.block, address)) same s.passed in
     let left = drop come.0 bytes in
-    let size : 24 ≤ p.head.size = (header_has_24 left p.head p.read).1 in
+    let size : 16 ≤ p.head.size = (header_has_16 left p.head p.read).1 in
     let next : come.0 + p.head.size ≡ address = p.next in
     let after : drop p.head.size left ≡ drop address bytes = drop-drop p.head.size come.0 bytes ∙ ap (λ (a : ℕ). drop a bytes) next in
     let rest : AreLaidFrom (come.0 + p.head.size) (drop p.head.size left) (Some place) (is_at place) blocks =
@@ -231,7 +231,7 @@ come_is_reached groups volumes hit is =
     let s = stepped volumes is.piece is.address is.next is.batch is.step in
     let p = s.passed in
     let left = drop is.address s.bytes in
-    let size : 24 ≤ p.head.size = (header_has_24 left p.head p.read).1 in
+    let size : 16 ≤ p.head.size = (header_has_16 left p.head p.read).1 in
     let inside : Contains (hits_in is.piece.groups s.block) hit = subst (λ (hs : List Hit). Contains hs hit) (sym s.hits) is.inside in
     let at : s.block.address ≡ is.address = ap (λ (b : LaidBlock). b.address) (sym p.block) in
     let asked : is_covered (just_groups is.piece.groups) is.address ≡ true = ap (is_covered (just_groups is.piece.groups)) (sym at) ∙ is_asked is.piece.groups s.block hit inside in

@@ -1,19 +1,18 @@
 -- The groups of a piece, one after the other.
-use Rattle.std.proofs.Common.{◌≡◌, ℕ, ◌+◌, ◌/◌, ◌%◌, ◌^◌, ◌<◌, Bool, true, false, not, ◌&&◌, ◌||◌, ltb, cond, take, drop, filter, get_or, subst, Result, Ok, List, [], ◌∷◌, ◌++◌, Option, Some, None, length, refl, ap, sym, ◌∙◌, append_assoc, add-zero, arith}
+use Rattle.std.proofs.Common.{◌≡◌, ℕ, ◌+◌, ◌/◌, ◌%◌, ◌^◌, ◌<◌, Bool, true, false, ◌&&◌, ◌||◌, cond, take, filter, get_or, subst, Ok, List, [], ◌∷◌, ◌++◌, Option, Some, None, length, refl, ap, sym, ◌∙◌, append_assoc, add-zero, arith}
 use Rattle.std.proofs.lemmas.List.{take_more}
-use Rattle.std.specs.Prelude.{fold, max, option_map, find, bytes_eq, nat_abs}
+use Rattle.std.specs.Prelude.{fold, max, option_map, find, nat_abs}
 use Rattle.std.specs.Int.{is_positive}
 use Rattle.std.specs.List.{AllByRecursion, AllZip, list_any, cons_option}
 use Rattle.br_model.specs.Text.{is_empty}
-use Rattle.br_model.specs.Answer.{◌>>=◌, refuse_if}
 use Rattle.br_model.specs.Name.{SessionKey}
-use Rattle.br_model.specs.Block.{Header, u32_at, letters, session_of, read_header, Fragment, IsFragmentOf, fragments_of}
+use Rattle.br_model.specs.Block.{Header, session_of, read_header, Fragment, MayHold, IsFragmentOf, fragments_of}
 use Rattle.br_model.specs.Volume.{LaidBlock}
 use Rattle.br_model.specs.Bootstrap.{Group, admits, hits}
 use Rattle.br_model.specs.Meaning.{Hit, last_address, is_covered, covers, just_groups, first_hitting, hit_at, hits_in}
-use Rattle.br_model.proofs.AnswerLaws.{refuse_ok, ok_is}
 use Rattle.br_model.proofs.ListLaws.{all_any, all_weaker}
-use Rattle.br_match.specs.Groups.{AreAlike, admits_block, admits_record, first_admitting, hits_of_fragments}
+use Rattle.br_model.proofs.VolumeLaws.{header_reads}
+use Rattle.br_match.specs.Groups.{AreAlike, admits_block, admits_record, admits_session, first_admitting, first_for, hits_of_fragments, own_session}
 
 -- the end of the walk for some groups, if it is no earlier than an address
 abbrev pub bound_from : ℕ → List Group → Option ℕ
@@ -68,11 +67,11 @@ pushed_more first address ordinal fragments f o before found after is place so_f
     ∙ ap (λ (hs : List Hit). before ++ hs) (sym (one_more first address 0 fragments f))
 
 -- a label is not hit
-pub label_not_hit : (near : List (ℕ × Group)) (address ordinal : ℕ) (f : Fragment) → is_positive f.index ≡ false
-    → None ≡ option_map (hit_at (record { address = address; bytes = [] }) (ordinal, f)) (first_admitting f.index f.stream near)
-label_not_hit near address ordinal f label = ap (option_map (hit_at (record { address = address; bytes = [] }) (ordinal, f))) (sym (never near))
+pub label_not_hit : (session : Option SessionKey) (near : List (ℕ × Group)) (address ordinal : ℕ) (f : Fragment) → is_positive f.index ≡ false
+    → None ≡ option_map (hit_at (record { address = address; bytes = [] }) (ordinal, f)) (first_for session near f)
+label_not_hit session near address ordinal f label = ap (option_map (hit_at (record { address = address; bytes = [] }) (ordinal, f))) (sym (never near))
   where
-    never : (gs : List (ℕ × Group)) → first_admitting f.index f.stream gs ≡ None
+    never : (gs : List (ℕ × Group)) → first_for session gs f ≡ None
     never [] = refl
     never (g ∷ gs) = rw label (never gs)
 
@@ -152,12 +151,35 @@ never_both : (x : Bool) → false ≡ (x && false)
 never_both true = refl
 never_both false = refl
 
-hits_split : (g : Group) (address : ℕ) (f : Fragment) → hits g address f ≡ (admits_block g address f.session && admits_record g f.index f.stream)
+hits_split : (session : Option SessionKey) (g : Group) (address : ℕ) (f : Fragment) → MayHold session f.session
+    → hits g address f ≡ (admits_block g address session && admits_record g (own_session session f.session) f.index f.stream)
 unfolding hits
-hits_split g address f = go (is_positive f.index)
+hits_split None g address f may = go (is_positive f.index) (admits_session g (Some f.session))
   where
     x : Bool
-    x = admits_block g address f.session
+    x = admits_block g address None
+
+    b : Bool
+    b = admits g.files (address / 2 ^ 32)
+
+    c : Bool
+    c = admits g.blocks (address % 2 ^ 32)
+
+    i : Bool
+    i = admits g.indexes (nat_abs f.index)
+
+    s : Bool
+    s = admits g.streams (nat_abs f.stream)
+
+    go : (p k : Bool) → (p && k && b && c && admits g.addresses address && i && s) ≡ (x && (p && k && i && s))
+    go true true = both x i s
+    go true false = never_both x
+    go false k = never_both x
+hits_split (Some key) g address f may =
+    go (is_positive f.index) ∙ ap (λ (k : SessionKey). admits_block g address (Some k) && admits_record g None f.index f.stream) may
+  where
+    x : Bool
+    x = admits_block g address (Some f.session)
 
     i : Bool
     i = admits g.indexes (nat_abs f.index)
@@ -167,31 +189,34 @@ hits_split g address f = go (is_positive f.index)
 
     go : (p : Bool)
         → (p && admits g.session_ids f.session.id && admits g.session_times f.session.time && admits g.files (address / 2 ^ 32) && admits g.blocks (address % 2 ^ 32) && admits g.addresses address && i && s)
-        ≡ (x && (p && i && s))
+        ≡ (x && (p && true && i && s))
     go true = both x i s
     go false = never_both x
 
-first_near : (ms : List (ℕ × Group)) (address : ℕ) (key : SessionKey) (f : Fragment) → f.session ≡ key
-    → first_admitting f.index f.stream (filter (λ (m : ℕ × Group). admits_block m.1 address key) ms) ≡ first_hitting ms address f
+first_near : (ms : List (ℕ × Group)) (address : ℕ) (session : Option SessionKey) (f : Fragment) → MayHold session f.session
+    → first_for session (filter (λ (m : ℕ × Group). admits_block m.1 address session) ms) f ≡ first_hitting ms address f
 unfolding first_hitting
-first_near [] address key f of = refl
-first_near (m ∷ ms) address key f of =
-    kept (admits_block m.1 address key)
-    ∙ go (admits_block m.1 address key) (admits_record m.1 f.index f.stream) (hits m.1 address f) (hits_split m.1 address f ∙ ap (λ (k : SessionKey). admits_block m.1 address k && admits_record m.1 f.index f.stream) of) (first_near ms address key f of)
+first_near [] address session f may = refl
+first_near (m ∷ ms) address session f may =
+    kept (admits_block m.1 address session)
+    ∙ go (admits_block m.1 address session) (admits_record m.1 own f.index f.stream) (hits m.1 address f) (hits_split session m.1 address f may) (first_near ms address session f may)
   where
+    own : Option SessionKey
+    own = own_session session f.session
+
     near : List (ℕ × Group)
-    near = filter (λ (x : ℕ × Group). admits_block x.1 address key) ms
+    near = filter (λ (x : ℕ × Group). admits_block x.1 address session) ms
 
     number : Option (ℕ × Group) → Option ℕ
     number o = option_map (λ (x : ℕ × Group). x.0) o
 
     rest_near : Option (ℕ × Group)
-    rest_near = find (λ (x : ℕ × Group). admits_record x.1 f.index f.stream) near
+    rest_near = find (λ (x : ℕ × Group). admits_record x.1 own f.index f.stream) near
 
     rest : Option (ℕ × Group)
     rest = find (λ (x : ℕ × Group). hits x.1 address f) ms
 
-    kept : (b : Bool) → first_admitting f.index f.stream (cond b (m ∷ near) near) ≡ number (cond b (cond (admits_record m.1 f.index f.stream) (Some m) rest_near) rest_near)
+    kept : (b : Bool) → first_admitting own f.index f.stream (cond b (m ∷ near) near) ≡ number (cond b (cond (admits_record m.1 own f.index f.stream) (Some m) rest_near) rest_near)
     kept true = refl
     kept false = refl
 
@@ -204,27 +229,19 @@ first_near (m ∷ ms) address key f of =
     go false r false e same = same
 
 -- the groups that admit a block have all its hits
-pub hits_near : (ms near : List (ℕ × Group)) (address : ℕ) (key : SessionKey) (block : List ℕ) (fs : List Fragment) → fs ≡ fragments_of block
-    → near ≡ filter (λ (m : ℕ × Group). admits_block m.1 address key) ms → AllByRecursion (λ (f : Fragment). f.session ≡ key) fs
-    → hits_of_fragments (λ f. first_admitting f.index f.stream near) address 0 fs ≡ hits_in ms (record { address = address; bytes = block })
+pub hits_near : (ms near : List (ℕ × Group)) (address : ℕ) (session : Option SessionKey) (block : List ℕ) (fs : List Fragment) → fs ≡ fragments_of block
+    → near ≡ filter (λ (m : ℕ × Group). admits_block m.1 address session) ms → AllByRecursion (λ (f : Fragment). MayHold session f.session) fs
+    → hits_of_fragments (first_for session near) address 0 fs ≡ hits_in ms (record { address = address; bytes = block })
 unfolding hits_in
-hits_near ms near address key block fs is near_is of =
-    same_hits (λ f. first_admitting f.index f.stream near) (λ f. first_hitting ms address f) address 0 fs
-    (all_weaker (λ (f : Fragment). f.session ≡ key) (λ (f : Fragment). first_admitting f.index f.stream near ≡ first_hitting ms address f)
-    (λ f of_key. ap (first_admitting f.index f.stream) near_is ∙ first_near ms address key f of_key) fs of)
+hits_near ms near address session block fs is near_is may =
+    same_hits (first_for session near) (λ f. first_hitting ms address f) address 0 fs
+    (all_weaker (λ (f : Fragment). MayHold session f.session) (λ (f : Fragment). first_for session near f ≡ first_hitting ms address f)
+    (λ f of_session. ap (λ (gs : List (ℕ × Group)). first_for session gs f) near_is ∙ first_near ms address session f of_session) fs may)
     ∙ ap (hits_of_fragments (λ f. first_hitting ms address f) address 0) is
 
--- the session in a block's header is that of its fragments
-pub session_is : (block : List ℕ) (h : Header) (fs : List Fragment) → read_header block ≡ Ok h → AllByRecursion (IsFragmentOf (session_of block)) fs → AllByRecursion (λ (f : Fragment). f.session ≡ h.session) fs
-unfolding read_header
-session_is block h fs e each =
-    let size = u32_at 4 block in
-    let head : Header = record { checksum = u32_at 0 block; size = size; number = u32_at 8 block; session = session_of block } in
-    let sized : Unit {0} → Result Header ℕ = λ _. Ok head in
-    let lettered : Unit {0} → Result Header ℕ = λ _. refuse_if (ltb size 24 || ltb 4194304 size) 11 >>= sized in
-    let long : Unit {0} → Result Header ℕ = λ _. refuse_if (not (bytes_eq (take 4 (drop 12 block)) letters)) 10 >>= lettered in
-    let a = refuse_ok (ltb (length block) 24) 12 long h e in
-    let b = refuse_ok (not (bytes_eq (take 4 (drop 12 block)) letters)) 10 lettered h a.1 in
-    let c = refuse_ok (ltb size 24 || ltb 4194304 size) 11 sized h b.1 in
-    let same : session_of block ≡ h.session = ap (λ (g : Header). g.session) (ok_is head h c.1) in
-    all_weaker (IsFragmentOf (session_of block)) (λ (f : Fragment). f.session ≡ h.session) (λ f is. is.session_is ∙ same) fs each
+-- the fragments of a block may stand in one with the session of its header, or without one
+pub may_stand : (block : List ℕ) (h : Header) (fs : List Fragment) → read_header block ≡ Ok h → AllByRecursion (IsFragmentOf (session_of block)) fs
+    → AllByRecursion (λ (f : Fragment). MayHold h.session f.session) fs
+may_stand block h fs e each =
+    subst (λ (s : Option SessionKey). AllByRecursion (λ (f : Fragment). MayHold s f.session) fs) (header_reads block h e).session_is
+    (all_weaker (IsFragmentOf (session_of block)) (λ (f : Fragment). MayHold (session_of block) f.session) (λ f is. is.session_is) fs each)

@@ -1,5 +1,5 @@
 -- The groups that have ended before an address, and those that begin after it.
-use Rattle.std.proofs.Common.{◌≡◌, ℕ, suc, zero, ◌+◌, ◌-◌, ◌<◌, ◌≤◌, ◌^◌, ◌/◌, ◌%◌, ◌⊎◌, inl, inr, Bool, false, ◌||◌, ◌&&◌, List, [], ◌∷◌, ◌++◌, length, take, drop, filter, get_or, refl, ap, sym, subst, ◌∙◌, arith}
+use Rattle.std.proofs.Common.{◌≡◌, ℕ, suc, zero, ◌+◌, ◌-◌, ◌<◌, ◌≤◌, ◌^◌, ◌/◌, ◌%◌, ◌⊎◌, inl, inr, Bool, false, Option, ◌||◌, ◌&&◌, List, [], ◌∷◌, ◌++◌, length, take, drop, filter, get_or, refl, ap, sym, subst, ◌∙◌, arith}
 use Rattle.std.proofs.Math.Bool.{or-false, and-false}
 use Rattle.std.proofs.Math.Seq.{get_or-append_seam}
 use Rattle.std.proofs.lemmas.Bool.{cases_lt}
@@ -13,7 +13,7 @@ use Rattle.std.specs.List.Sorted.{IsPartitionPoint}
 use Rattle.br_model.specs.Name.{SessionKey}
 use Rattle.br_model.specs.Bootstrap.{Group, admits}
 use Rattle.br_model.specs.Meaning.{covers}
-use Rattle.br_match.specs.Groups.{admits_block}
+use Rattle.br_match.specs.Groups.{admits_block, admits_session}
 use Rattle.br_match.specs.Near.{AreEnds, AreStarts, BeginsAt, EndsBy, IsAround, IsBounded}
 
 -- ---- as the addresses are found
@@ -151,7 +151,7 @@ filter_none p (g ∷ gs) none =
     rw here (filter_none p gs (λ k d lt. none (suc k) d (omega arith)))
 
 -- all that admit a block there are among them
-pub admitting_around : (address : ℕ) (session : SessionKey) (groups near : List (ℕ × Group)) → IsAround address groups near
+pub admitting_around : (address : ℕ) (session : Option SessionKey) (groups near : List (ℕ × Group)) → IsAround address groups near
     → filter (λ (m : ℕ × Group). admits_block m.1 address session) near ≡ filter (λ (m : ℕ × Group). admits_block m.1 address session) groups
 admitting_around address session groups near a =
     sym (ap (filter p) a.all ∙ filter-append p a.before (near ++ a.after)
@@ -162,4 +162,4 @@ admitting_around address session groups near a =
     p m = admits_block m.1 address session
 
     never : (m : ℕ × Group) → covers m.1 address ≡ false → p m ≡ false
-    never m none = rw none (and-false (admits m.1.session_ids session.id && admits m.1.session_times session.time && admits m.1.files (address / 2 ^ 32) && admits m.1.blocks (address % 2 ^ 32)))
+    never m none = rw none (and-false (admits_session m.1 session && admits m.1.files (address / 2 ^ 32) && admits m.1.blocks (address % 2 ^ 32)))

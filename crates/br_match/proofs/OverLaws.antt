@@ -1,11 +1,12 @@
 -- From what a drive answers over the volumes that it shows to what a step answers over all that it
 -- may be taken to show.
-use Rattle.std.proofs.Common.{◌≡◌, ℕ, ◌+◌, true, false, List, ◌++◌, Option, Some, None, Result, Ok, Err, refl, ap, subst, ◌∙◌, ◌⊎◌, inl, inr}
+use Rattle.std.proofs.Common.{◌≡◌, ℕ, ◌+◌, true, false, List, ◌++◌, Option, Some, None, Result, Ok, Err, refl, sym, ap, subst, ◌∙◌, ◌⊎◌, inl, inr}
+use Rattle.std.proofs.lemmas.Option.{same_Some}
 use Rattle.br_model.specs.Answer.{Answers, IsRefusal, refused_as}
 use Rattle.br_model.specs.Block.{Header, read_header, read_block}
 use Rattle.br_model.specs.Volume.{Volume, Extends, is_above}
 use Rattle.br_model.specs.Meaning.{Piece, PieceFault, Hit, bound_of, is_covered, just_groups, hits_in}
-use Rattle.br_model.proofs.AnswerLaws.{refused_as_ok, err_is}
+use Rattle.br_model.proofs.AnswerLaws.{refused_as_ok, err_is, ok_is}
 use Rattle.br_volume.specs.Drive.{OnlyGrows, bytes_got, bytes_shown}
 use Rattle.br_volume.specs.declared.drive.Got.{Got}
 use Rattle.br_volume.specs.declared.drive.Got.TheVariants.{Block, End}
@@ -14,7 +15,7 @@ use Rattle.br_match.specs.Fault.{cause}
 use Rattle.br_match.specs.Matching.{IsEnclosed}
 use Rattle.br_match.specs.Walk.{unknown, step_on, Over, AfterWalk, AfterHead, Follows, HasHead, IsRefusedFor, ReadsAt, ReadsOver, IsStep}
 use Rattle.br_volume.proofs.ExtendLaws.{extends_more}
-use Rattle.br_match.proofs.SeenLaws.{head_alike, block_alike, head_read, head_refused, head_ends, step_unknown, block_never_ends, block_read, block_refused}
+use Rattle.br_match.proofs.SeenLaws.{ShowSameHead, head_alike, block_alike, head_read, head_refused, head_ends, step_unknown, block_never_ends, block_read, block_refused}
 
 -- what holds over all such volumes, if a weaker fact is asked
 pub over_weaker : (earlier later : Option (List Volume)) (piece : Piece) (P Q : List Volume → Type 0) → ((volumes : List Volume) → P volumes → Q volumes)
@@ -23,17 +24,44 @@ over_weaker None later piece P Q weaker over = tt
 over_weaker (Some earlier) None piece P Q weaker over = tt
 over_weaker (Some earlier) (Some later) piece P Q weaker over = λ volumes stands. weaker volumes (over volumes stands)
 
+-- over such volumes a call for a header reads bytes with the same header
+abbrev pub ReadsHead : List ℕ → ℕ → List ℕ → Result Got code.PieceFault → List Volume → Type 0
+ReadsHead name a buffer result volumes = (bytes : List ℕ) × (read_header bytes ≡ read_header buffer) × ReadsAt name a 24 bytes result volumes
+
+-- what a call gave is what another one gives that shows the same header
+abbrev HeadGiven : List ℕ → Result Got code.PieceFault → Result (Option (List ℕ)) PieceFault → Type 0
+HeadGiven buffer result shown = (bytes : List ℕ) × (read_header bytes ≡ read_header buffer) × Answers (bytes_got bytes) cause result shown
+
+head_given : (xs ys buffer : List ℕ) (result : Result Got code.PieceFault) → read_header xs ≡ read_header ys → Answers (bytes_got buffer) cause result (Ok (Some xs))
+    → HeadGiven buffer result (Ok (Some ys))
+head_given xs ys buffer (Ok (Block n)) same is = let e : xs ≡ buffer = same_Some xs buffer (ok_is (Some xs) (Some buffer) is) in (ys, sym same ∙ ap read_header e, refl)
+head_given xs ys buffer (Ok End) same is = absurd cc
+head_given xs ys buffer (Err e) same is = (buffer, refl, not_refused (cause e) is)
+  where
+    not_refused : (o : Option PieceFault) → IsRefusal o (Ok (Some xs)) → IsRefusal o (Ok (Some ys))
+    not_refused None is = tt
+    not_refused (Some r) is = absurd cc
+
 -- the first call of a step, over all such volumes
 pub over_head : (earlier later : Option (List Volume)) (piece : Piece) (a : ℕ) (buffer : List ℕ) (result : Result Got code.PieceFault)
     → is_above (bound_of (just_groups piece.groups)) a ≡ false → OnlyGrows earlier later
-    → ReadsOver later piece.volume a 24 buffer result → AfterWalk earlier later piece a (ReadsAt piece.volume a 24 buffer result)
+    → ReadsOver later piece.volume a 24 buffer result → AfterWalk earlier later piece a (ReadsHead piece.volume a buffer result)
 over_head None later piece a buffer result near grows reads = tt
 over_head (Some earlier) None piece a buffer result near grows reads = tt
 over_head (Some earlier) (Some later) piece a buffer result near grows reads = λ volumes stands follows.
-    subst (λ (r : Result (Option (List ℕ)) ℕ). reads_of r) (head_alike volumes earlier later piece a near grows stands follows) reads
+    carried (bytes_shown later piece.volume a 24) (bytes_shown volumes piece.volume a 24) (head_alike volumes earlier later piece a near grows stands follows) reads
   where
-    reads_of : Result (Option (List ℕ)) ℕ → Type 0
-    reads_of r = Answers (bytes_got buffer) cause result (refused_as (λ _. unknown piece.volume) r)
+    shown_as : Result (Option (List ℕ)) ℕ → Result (Option (List ℕ)) PieceFault
+    shown_as r = refused_as (λ _. unknown piece.volume) r
+
+    reads_of : List ℕ → Result (Option (List ℕ)) ℕ → Type 0
+    reads_of bytes r = Answers (bytes_got bytes) cause result (shown_as r)
+
+    carried : (r s : Result (Option (List ℕ)) ℕ) → ShowSameHead r s → reads_of buffer r → (bytes : List ℕ) × (read_header bytes ≡ read_header buffer) × reads_of bytes s
+    carried r s (inl e) reads = (buffer, refl, subst (λ (x : Result (Option (List ℕ)) ℕ). reads_of buffer x) e reads)
+    carried r s (inr p) reads =
+        let given = head_given p.0 p.1 buffer result p.4 (subst (λ (x : Result (Option (List ℕ)) ℕ). reads_of buffer x) p.2 reads) in
+        (given.0, given.1, subst (λ (x : Result (Option (List ℕ)) ℕ). reads_of given.0 x) (sym p.3) given.2)
 
 -- the second call of a step, over all such volumes
 pub over_block : (earlier later : Option (List Volume)) (piece : Piece) (a : ℕ) (h : Header) (buffer : List ℕ) (result : Result Got code.PieceFault)
@@ -148,11 +176,12 @@ pub record IsCall (earlier later : Option (List Volume)) (piece : Piece) (volume
 
 -- what follows from the answer of the first call
 pub of_head : {earlier later : Option (List Volume)} {piece : Piece} {volume : List ℕ} {a : ℕ} {buffer : List ℕ} {result answer : Result Got code.PieceFault} (Q : List Volume → Type 0)
-    → IsCall earlier later piece volume a 24 buffer result → result ≡ answer → ((volumes : List Volume) → ReadsAt piece.volume a 24 buffer answer volumes → Q volumes)
+    → IsCall earlier later piece volume a 24 buffer result → result ≡ answer
+    → ((volumes : List Volume) (bytes : List ℕ) → read_header bytes ≡ read_header buffer → ReadsAt piece.volume a 24 bytes answer volumes → Q volumes)
     → AfterWalk earlier later piece a Q
 of_head {earlier} {later} {piece} {volume} {a} {buffer} {result} {answer} Q call is then =
-    over_weaker earlier later piece (λ volumes. Follows volumes piece a → ReadsAt piece.volume a 24 buffer answer volumes) (λ volumes. Follows volumes piece a → Q volumes)
-    (λ volumes reads follows. then volumes (reads follows))
+    over_weaker earlier later piece (λ volumes. Follows volumes piece a → ReadsHead piece.volume a buffer answer volumes) (λ volumes. Follows volumes piece a → Q volumes)
+    (λ volumes reads follows. let r = reads follows in then volumes r.0 r.1 r.2)
     (over_head earlier later piece a buffer answer call.near call.grows
     (subst (λ (v : List ℕ). ReadsOver later v a 24 buffer answer) call.volume_is (subst (λ (r : Result Got code.PieceFault). ReadsOver later volume a 24 buffer r) is call.reads)))
 

@@ -8,14 +8,14 @@ use Rattle.std.specs.Prelude.{fold, nat_lt, max, option_map}
 use Rattle.std.specs.List.{AllByRecursion, list_any}
 use Rattle.br_model.specs.Answer.{◌>>=◌, refuse_if, refused_as, some_or}
 use Rattle.br_model.specs.Text.{is_empty}
-use Rattle.br_model.specs.Block.{Header, read_header, read_block}
+use Rattle.br_model.specs.Block.{Header, header_length, read_header, read_block}
 use Rattle.br_model.specs.Volume.{Volume, volume_bytes, Extends, LaidBlock, BlockFault, is_above, next_block}
 use Rattle.br_model.specs.Bootstrap.{Group}
 use Rattle.br_model.specs.Meaning.{Piece, PieceFault, Hit, last_address, bound_of, is_covered, just_groups, hits_in, hits_on}
 use Rattle.br_model.proofs.AnswerLaws.{bind_ok, ok_is, err_is, chosen}
 use Rattle.br_model.proofs.ListLaws.{long_is_not_empty}
-use Rattle.br_model.proofs.SpanLaws.{read_header_front}
-use Rattle.br_model.proofs.VolumeLaws.{header_has_24, laid_block}
+use Rattle.br_model.proofs.SpanLaws.{read_header_alone, read_header_more, read_header_within}
+use Rattle.br_model.proofs.VolumeLaws.{header_reads, laid_block}
 use Rattle.br_model.proofs.PlanVolumeLaws.{uncovered_has_no_hits}
 use Rattle.br_volume.specs.Drive.{bytes_from, bytes_shown}
 use Rattle.br_volume.proofs.DriveLaws.{shown_end, shown_block, not_shown}
@@ -25,28 +25,15 @@ use Rattle.br_match.proofs.StepLaws.{rest_is_step_on}
 
 -- ---- headers and blocks at the front of some bytes
 
--- a header is read in the first 24 bytes, or in all if there are fewer
-head_alone : (left : List ℕ) → read_header (take 24 left) ≡ read_header left
-head_alone left =
-    elim (cases_lt (length left) 24) [
-      | inl short ↦ ap read_header (take_all left short)
-      | inr long ↦ sym (read_header_front (take 24 left) (drop 24 left) (omega (arith, length-take-le 24 left long))) ∙ ap read_header (take-append-drop 24 left)
-    ]
-  where
-    take_all : (xs : List ℕ) → length xs < 24 → take 24 xs ≡ xs
-    take_all xs short =
-        let none : drop 24 xs ≡ [] = nil_from_length (drop 24 xs) (omega (arith, length-drop 24 xs)) in
-        sym (append-nil (take 24 xs)) ∙ ap (λ (ys : List ℕ). take 24 xs ++ ys) (sym none) ∙ take-append-drop 24 xs
-
 -- in the number of bytes that a header states, the block is whole if they are there
 block_alone : (left : List ℕ) (h : Header) → read_header left ≡ Ok h
     → read_block (take h.size left) ≡ cond (ltb (length left) h.size) (Err 12) (Ok (take h.size left))
 unfolding read_block
 block_alone left h read =
-    let has = header_has_24 left h read in
-    let long : 24 ≤ length (take h.size left) = omega (arith, has.0, has.1, length-take h.size left) in
+    let r = header_reads left h read in
+    let long : header_length h.session ≤ length (take h.size left) = omega (arith, ap header_length r.session_is, r.long, r.size_from, length-take h.size left) in
     let head : read_header (take h.size left) ≡ Ok h =
-    sym (read_header_front (take h.size left) (drop h.size left) long) ∙ ap read_header (take-append-drop h.size left) ∙ read in
+    read_header_within (take h.size left) (drop h.size left) h (ap read_header (take-append-drop h.size left) ∙ read) long in
     ap (λ r. r >>= λ (g : Header). cond (ltb (length (take h.size left)) g.size) (Err 12) (Ok (take g.size (take h.size left)))) head
     ∙ elim (cases_lt (length left) h.size) [
       | inl short ↦ rw (lt-ltb (length left) h.size short, lt-ltb (length (take h.size left)) h.size (omega (arith, length-take h.size left))) refl
@@ -268,19 +255,43 @@ reached_block volumes later piece a near follows s enclosed =
     let step = step_follows volumes piece a enclosed.hits follows enclosed.defined in
     (within, block_of_step volumes piece a s.bytes step.0 near s.found within step.1)
 
+-- what is shown of a volume at an address inside it
+shown_from : (volumes : List Volume) (name : List ℕ) (bytes : List ℕ) (a n : ℕ) → volume_bytes volumes name ≡ Some bytes → a < length bytes
+    → bytes_shown volumes name a n ≡ Ok (Some (take n (drop a bytes)))
+unfolding bytes_shown
+shown_from volumes name bytes a n found within = rw (found, lt-ltb a (length bytes) within) refl
+
+-- two calls for a header gave the same, or bytes with the same header
+abbrev pub ShowSameHead : Result (Option (List ℕ)) ℕ → Result (Option (List ℕ)) ℕ → Type 0
+ShowSameHead one other = (one ≡ other) ⊎ ((xs : List ℕ) × (ys : List ℕ) × (one ≡ Ok (Some xs)) × (other ≡ Ok (Some ys)) × (read_header xs ≡ read_header ys))
+
+-- a header that has come is read of more bytes too
+same_head : (volumes later : List Volume) (piece : Piece) (a : ℕ) → (s : Seen volumes later piece) → a < length s.bytes → IsBlockAt piece a (drop a s.bytes)
+    → ShowSameHead (bytes_shown later piece.volume a 24) (bytes_shown volumes piece.volume a 24)
+same_head volumes later piece a s within b =
+    let left = drop a s.bytes in
+    let longer = drop a (s.bytes ++ s.more) in
+    let front : longer ≡ left ++ s.more = drop-append-le a s.bytes s.more (omega arith) in
+    let read : read_header longer ≡ Ok b.head = ap read_header front ∙ read_header_more left s.more b.head b.read in
+    inr (
+      take 24 longer,
+      take 24 left,
+      shown_from later piece.volume (s.bytes ++ s.more) a 24 s.shown_is (omega (arith, within, length-append s.bytes s.more)),
+      shown_from volumes piece.volume s.bytes a 24 s.found within,
+      read_header_alone longer ∙ read ∙ sym (read_header_alone left ∙ b.read),
+    )
+
 -- the first call of a step
 pub head_alike : (volumes earlier later : List Volume) (piece : Piece) (a : ℕ) → is_above (bound_of (just_groups piece.groups)) a ≡ false
     → Extends later earlier → StandsFor earlier later piece volumes → Follows volumes piece a
-    → bytes_shown later piece.volume a 24 ≡ bytes_shown volumes piece.volume a 24
+    → ShowSameHead (bytes_shown later piece.volume a 24) (bytes_shown volumes piece.volume a 24)
 head_alike volumes earlier later piece a near grows stands follows =
     elim (seen volumes earlier later piece grows stands) [
-      | inl p ↦ none_alike volumes later piece a 24 p.0 p.1
-      | inr s ↦ shown_alike volumes later piece a 24 s (elim s.as_is [
-        | inl none ↦ nothing_more s.bytes s.more a 24 none
-        | inr enclosed ↦
-            let b = reached_block volumes later piece a near follows s enclosed in
-            from_longer s.bytes s.more a 24 b.0 (header_has_24 (drop a s.bytes) b.1.head b.1.read).0
-      ])
+      | inl p ↦ inl (none_alike volumes later piece a 24 p.0 p.1)
+      | inr s ↦ elim s.as_is [
+        | inl none ↦ inl (shown_alike volumes later piece a 24 s (nothing_more s.bytes s.more a 24 none))
+        | inr enclosed ↦ let b = reached_block volumes later piece a near follows s enclosed in same_head volumes later piece a s b.0 b.1
+      ]
     ]
 
 -- the second call of a step
@@ -306,14 +317,14 @@ block_alike volumes earlier later piece a h near covered grows stands follows ha
 pub head_read : (volumes : List Volume) (piece : Piece) (a : ℕ) (got : List ℕ) (h : Header) → bytes_shown volumes piece.volume a 24 ≡ Ok (Some got) → read_header got ≡ Ok h → HasHead volumes piece a h
 head_read volumes piece a got h shown read =
     let p = shown_block volumes piece.volume a 24 got shown in
-    record { bytes = p.0; found = p.1; within = p.2; read = sym (head_alone (drop a p.0)) ∙ ap read_header p.3 ∙ read }
+    record { bytes = p.0; found = p.1; within = p.2; read = sym (read_header_alone (drop a p.0)) ∙ ap read_header p.3 ∙ read }
 
 pub head_refused : (volumes : List Volume) (piece : Piece) (a : ℕ) (got : List ℕ) (number : ℕ) → is_above (bound_of (just_groups piece.groups)) a ≡ false
     → bytes_shown volumes piece.volume a 24 ≡ Ok (Some got) → read_header got ≡ Err number
     → step_on volumes piece a ≡ Err (record { number = number; volume = piece.volume; address = a })
 head_refused volumes piece a got number near shown read =
     let p = shown_block volumes piece.volume a 24 got shown in
-    step_of_bad_head volumes piece a p.0 number near p.1 p.2 (sym (head_alone (drop a p.0)) ∙ ap read_header p.3 ∙ read)
+    step_of_bad_head volumes piece a p.0 number near p.1 p.2 (sym (read_header_alone (drop a p.0)) ∙ ap read_header p.3 ∙ read)
 
 pub head_ends : (volumes : List Volume) (piece : Piece) (a : ℕ) → bytes_shown volumes piece.volume a 24 ≡ Ok None → step_on volumes piece a ≡ Ok None
 head_ends volumes piece a shown =

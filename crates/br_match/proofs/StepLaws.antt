@@ -9,7 +9,7 @@ use Rattle.br_model.specs.Block.{Header, read_header}
 use Rattle.br_model.specs.Volume.{Volume, volume_bytes, LaidBlock, BlockFault, is_above, blocks_from, blocks_of, next_block}
 use Rattle.br_model.specs.Bootstrap.{Group}
 use Rattle.br_model.specs.Meaning.{Piece, PieceFault, Hit, bound_of, is_covered, just_groups, hits_in, hits_among, hits_on}
-use Rattle.br_model.proofs.VolumeLaws.{header_has_24, laid_block}
+use Rattle.br_model.proofs.VolumeLaws.{header_has_16, laid_block}
 use Rattle.br_match.specs.Walk.{on_volume, unknown, step_among, rest_among, step_on, rest_on, in_front, and_rest}
 
 -- ---- enough blocks are all
@@ -19,7 +19,7 @@ abbrev fault_at : ℕ → ℕ → BlockFault
 fault_at address number = record { number = number; address = address }
 
 -- a number of blocks that is large enough gives them all
-enough : (n m address : ℕ) (left : List ℕ) (bound : Option ℕ) (covered : ℕ → Bool) → length left < 24 * n → length left < 24 * m
+enough : (n m address : ℕ) (left : List ℕ) (bound : Option ℕ) (covered : ℕ → Bool) → length left < 16 * n → length left < 16 * m
     → blocks_from n address left bound covered ≡ blocks_from m address left bound covered
 unfolding blocks_from
 enough zero m address left bound covered fits also = absurd (omega arith)
@@ -28,7 +28,7 @@ enough (suc n) (suc m) address left bound covered fits also =
     ends (λ h. enough n m (address + h.size) (drop h.size left) bound covered) (is_empty left || is_above bound address)
   where
     Same : Type 0
-    Same = (h : Header) → length (drop h.size left) < 24 * n → length (drop h.size left) < 24 * m
+    Same = (h : Header) → length (drop h.size left) < 16 * n → length (drop h.size left) < 16 * m
         → blocks_from n (address + h.size) (drop h.size left) bound covered ≡ blocks_from m (address + h.size) (drop h.size left) bound covered
 
     give : Header → List LaidBlock → Result (List LaidBlock) BlockFault
@@ -39,7 +39,7 @@ enough (suc n) (suc m) address left bound covered fits also =
 
     more : Same → (h : Header) → read_header left ≡ Ok h → go n h tt ≡ go m h tt
     more same h read =
-        let size = header_has_24 left h read in
+        let size = header_has_16 left h read in
         let fewer = length-drop h.size left in
         ap (λ r. r >>= give h) (same h (omega (arith, size.0, size.1, fewer)) (omega (arith, size.0, size.1, fewer)))
 
@@ -72,7 +72,7 @@ rest_is_step : (numbered : List (ℕ × Group)) (bytes : List ℕ) (address : �
     → rest_among numbered bytes address ≡ (step_among numbered bytes address >>= and_more (rest_among numbered bytes))
 unfolding rest_among step_among blocks_from next_block
 rest_is_step numbered bytes address =
-    ap (λ n. blocks_from n address left bound covered >>= all) (add-one (length left / 24)) ∙ ends (is_empty left || is_above bound address)
+    ap (λ n. blocks_from n address left bound covered >>= all) (add-one (length left / 16)) ∙ ends (is_empty left || is_above bound address)
   where
     left : List ℕ
     left = drop address bytes
@@ -96,7 +96,7 @@ rest_is_step numbered bytes address =
     give h more = Ok (laid_block address left h ∷ more)
 
     go : Header → Unit {0} → Result (List LaidBlock) BlockFault
-    go h _ = blocks_from (length left / 24) (address + h.size) (drop h.size left) bound covered >>= give h
+    go h _ = blocks_from (length left / 16) (address + h.size) (drop h.size left) bound covered >>= give h
 
     one : Header → Unit {0} → Result (Option (LaidBlock × ℕ)) BlockFault
     one h _ = Ok (Some (laid_block address left h, address + h.size))
@@ -107,14 +107,14 @@ rest_is_step numbered bytes address =
 
     behind : (h : Header) → read_header left ≡ Ok h → (go h tt >>= all) ≡ ((one h tt >>= show) >>= and_more rest)
     behind h read =
-        let size = header_has_24 left h read in
+        let size = header_has_16 left h read in
         let fewer = length-drop h.size left in
         let next : drop h.size left ≡ drop (address + h.size) bytes = drop-drop h.size address bytes in
-        let same : blocks_from (length left / 24) (address + h.size) (drop h.size left) bound covered
-        ≡ blocks_from (length (drop (address + h.size) bytes) / 24 + 1) (address + h.size) (drop (address + h.size) bytes) bound covered
-        = enough (length left / 24) (length (drop h.size left) / 24 + 1) (address + h.size) (drop h.size left) bound covered (omega (arith, size.0, size.1, fewer)) (omega arith)
-        ∙ ap (λ (xs : List ℕ). blocks_from (length xs / 24 + 1) (address + h.size) xs bound covered) next in
-        joined (laid_block address left h) (blocks_from (length left / 24) (address + h.size) (drop h.size left) bound covered)
+        let same : blocks_from (length left / 16) (address + h.size) (drop h.size left) bound covered
+        ≡ blocks_from (length (drop (address + h.size) bytes) / 16 + 1) (address + h.size) (drop (address + h.size) bytes) bound covered
+        = enough (length left / 16) (length (drop h.size left) / 16 + 1) (address + h.size) (drop h.size left) bound covered (omega (arith, size.0, size.1, fewer)) (omega arith)
+        ∙ ap (λ (xs : List ℕ). blocks_from (length xs / 16 + 1) (address + h.size) xs bound covered) next in
+        joined (laid_block address left h) (blocks_from (length left / 16) (address + h.size) (drop h.size left) bound covered)
         ∙ ap (λ r. (r >>= all) >>= λ more. Ok (hits_in numbered (laid_block address left h) ++ more)) same
 
     whole : (b : Bool) (h : Header) → read_header left ≡ Ok h

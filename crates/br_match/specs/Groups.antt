@@ -1,7 +1,7 @@
 -- Groups prepared for many look-ups.
 use Rattle.std.proofs.Math.Bool.{Bool-set}
 use Rattle.std.proofs.Math.Nat.{ℕ_set}
-use Rattle.std.specs.Prelude.{◌≡◌, refl, [], ◌∷◌, filter_map, ℕ, ◌/◌, ◌%◌, ◌^◌, Bool, ◌&&◌, List, Option, option_map, find, ℤ, nat_abs}
+use Rattle.std.specs.Prelude.{◌≡◌, refl, [], ◌∷◌, filter_map, ℕ, ◌/◌, ◌%◌, ◌^◌, Bool, true, ◌&&◌, List, Option, None, Some, option_map, find, ℤ, nat_abs}
 use Rattle.std.specs.Int.{is_positive}
 use Rattle.std.specs.List.{AllZip, enumerate_from}
 use Rattle.std.specs.List.Sorted.{IsNonDecreasingBy}
@@ -26,19 +26,35 @@ pub record AreAlike (g h : ℕ × Group) : Type 0 where
   pub indexes : (n : ℕ) → admits g.1.indexes n ≡ admits h.1.indexes n
   pub streams : (n : ℕ) → admits g.1.streams n ≡ admits h.1.streams n
 
--- what a group asks of a fragment's block
-abbrev pub admits_block : Group → ℕ → SessionKey → Bool
+-- what a group asks of a session, if there is one
+abbrev pub admits_session : Group → Option SessionKey → Bool
+admits_session g None = true
+admits_session g (Some key) = admits g.session_ids key.id && admits g.session_times key.time
+
+-- what a group asks of a fragment's block, whose header has this session or none
+abbrev pub admits_block : Group → ℕ → Option SessionKey → Bool
 admits_block g address session =
-    admits g.session_ids session.id && admits g.session_times session.time
-    && admits g.files (address / 2 ^ 32) && admits g.blocks (address % 2 ^ 32) && admits g.addresses address
+    admits_session g session && admits g.files (address / 2 ^ 32) && admits g.blocks (address % 2 ^ 32) && admits g.addresses address
+
+-- the session of a fragment, if the header of its block has none
+abbrev pub own_session : Option SessionKey → SessionKey → Option SessionKey
+own_session None key = Some key
+own_session (Some session) key = None
 
 -- what a group asks of a fragment's header
-abbrev pub admits_record : Group → ℤ → ℤ → Bool
-admits_record g index stream = is_positive index && admits g.indexes (nat_abs index) && admits g.streams (nat_abs stream)
+abbrev pub admits_record : Group → Option SessionKey → ℤ → ℤ → Bool
+admits_record g own index stream =
+    is_positive index && admits_session g own && admits g.indexes (nat_abs index) && admits g.streams (nat_abs stream)
 
 -- the number of the first group that admits a header
-abbrev pub first_admitting : ℤ → ℤ → List (ℕ × Group) → Option ℕ
-first_admitting index stream numbered = option_map (λ (g : ℕ × Group). g.0) (find (λ (g : ℕ × Group). admits_record g.1 index stream) numbered)
+abbrev pub first_admitting : Option SessionKey → ℤ → ℤ → List (ℕ × Group) → Option ℕ
+first_admitting own index stream numbered =
+    option_map (λ (g : ℕ × Group). g.0) (find (λ (g : ℕ × Group). admits_record g.1 own index stream) numbered)
+
+-- the number of the first group that admits a fragment of a block whose header has this session or
+-- none
+abbrev pub first_for : Option SessionKey → List (ℕ × Group) → Fragment → Option ℕ
+first_for session near f = first_admitting (own_session session f.session) f.index f.stream near
 
 -- the hits among some fragments of a block, numbered from n on, if `first` returns the group that
 -- hits a fragment
@@ -47,12 +63,12 @@ hits_of_fragments first address n fragments =
     filter_map (λ (f : ℕ × Fragment). option_map (hit_at (record { address = address; bytes = [] }) f) (first f.1)) (enumerate_from n fragments)
 
 -- the hit that a numbered fragment of the block at an address is, if one of these groups hits it
-abbrev pub hit_by : List (ℕ × Group) → ℕ → ℕ × Fragment → Option Hit
-hit_by near address f = option_map (hit_at (record { address = address; bytes = [] }) f) (first_admitting f.1.index f.1.stream near)
+abbrev pub hit_by : Option SessionKey → List (ℕ × Group) → ℕ → ℕ × Fragment → Option Hit
+hit_by session near address f = option_map (hit_at (record { address = address; bytes = [] }) f) (first_for session near f.1)
 
 -- the hits of these groups among all fragments of the block at an address
-abbrev pub hits_by : List (ℕ × Group) → ℕ → List Fragment → List Hit
-hits_by near address fragments = hits_of_fragments (λ f. first_admitting f.index f.stream near) address 0 fragments
+abbrev pub hits_by : Option SessionKey → List (ℕ × Group) → ℕ → List Fragment → List Hit
+hits_by session near address fragments = hits_of_fragments (first_for session near) address 0 fragments
 
 -- two groups are alike in one way at most
 alike_once : (g h : ℕ × Group) → IsProp (AreAlike g h)

@@ -32,7 +32,7 @@ step_among numbered bytes address = do
 -- the hits in the blocks from an address on, or the first fault
 unfoldable pub rest_among : List (ℕ × Group) → List ℕ → ℕ → Result (List Hit) BlockFault
 rest_among numbered bytes address = do
-  blocks ← blocks_from (length (drop address bytes) / 24 + 1) address (drop address bytes) (bound_of (just_groups numbered)) (is_covered (just_groups numbered))
+  blocks ← blocks_from (length (drop address bytes) / 16 + 1) address (drop address bytes) (bound_of (just_groups numbered)) (is_covered (just_groups numbered))
   Ok (flat_map (hits_in numbered) blocks)
 
 -- the step of a piece's walk at an address, over some volumes

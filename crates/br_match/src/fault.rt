@@ -12,7 +12,7 @@ use thiserror::Error;
 /// The reason why a volume can't be searched.
 #[derive(Clone, Copy, Debug, PartialEq, Eq, Error)]
 pub enum PieceCause {
-    #[error("not a block: the letters BB02 do not stand at byte 12 of its header")]
+    #[error("not a block: bytes 12 to 15 of its header are neither BB01 nor BB02")]
     BadId,
     #[error("not a block: its header gives a size outside 24 to 4194304 bytes")]
     BadBlockSize,

@@ -1,7 +1,7 @@
 ghost use Rattle.std.specs.Prelude.{◌≡◌, IfOk, map};
 ghost use Rattle.std.specs.List.{AllZip};
 ghost use Rattle.br_model.specs.Meaning.{covers};
-ghost use Rattle.br_match.specs.Groups.{AreAlike, admits_block, admits_record, first_admitting};
+ghost use Rattle.br_match.specs.Groups.{AreAlike, admits_block, admits_record, admits_session, first_admitting};
 ghost use Rattle.br_match.specs.Near.{BeginsAt, EndsBy};
 
 use crate::admitted::Admitted;
@@ -86,24 +86,38 @@ impl Matcher {
         self.addrs.greatest()
     }
 
-    /// Returns whether the group may hit a record in a block of this session at this address.
-    pub(crate) fn admits_block(&self, addr: u64, session: SessionKey) -> bool
+    /// Returns whether the group hits records of the session, if there is one.
+    fn admits_session(&self, session: Option<SessionKey>) -> bool
+        ensures { result ≡ admits_session self.now.1 session }
+    {
+        match session {
+            None => true,
+            Some(key) => {
+                self.session_ids.contains(u64::from(key.id))
+                    && self.session_times.contains(u64::from(key.time))
+            }
+        }
+    }
+
+    /// Returns whether the group may hit a record in a block at this address, whose header has this
+    /// session or none.
+    pub(crate) fn admits_block(&self, addr: u64, session: Option<SessionKey>) -> bool
         ensures { result ≡ admits_block self.now.1 addr session }
     {
         // If a volume has many groups, the address excludes most of them.
         self.addrs.contains(addr)
-            && self.session_ids.contains(u64::from(session.id))
-            && self.session_times.contains(u64::from(session.time))
+            && self.admits_session(session)
             && self.files.contains(addr / FILE_BYTES)
             && self.blocks.contains(addr % FILE_BYTES)
     }
 
     /// Returns whether the group hits a record of this index and stream, in a block whose records
-    /// it may hit.
-    fn admits_record(&self, index: i32, stream: i32) -> bool
-        ensures { result ≡ admits_record self.now.1 index stream }
+    /// it may hit. `own` is the session of the record, if the header of its block has none.
+    fn admits_record(&self, own: Option<SessionKey>, index: i32, stream: i32) -> bool
+        ensures { result ≡ admits_record self.now.1 own index stream }
     {
         index > 0
+            && self.admits_session(own)
             && self.indexes.contains(u64::from(index.unsigned_abs()))
             && self.streams.contains(u64::from(stream.unsigned_abs()))
     }
@@ -124,11 +138,17 @@ pub(crate) fn matchers_for(
 }
 
 /// Returns the number of the first of these groups that hits a record of this index and stream.
-pub(crate) fn first_admitting(near: &[&Matcher], index: i32, stream: i32) -> Option<u32>
-    ensures { result ≡ first_admitting index stream (map (λ m. m.now) near.now) }
+/// `own` is the session of the record, if the header of its block has none.
+pub(crate) fn first_admitting(
+    near: &[&Matcher],
+    own: Option<SessionKey>,
+    index: i32,
+    stream: i32,
+) -> Option<u32>
+    ensures { result ≡ first_admitting own index stream (map (λ m. m.now) near.now) }
 {
     for matcher in near {
-        if matcher.admits_record(index, stream) {
+        if matcher.admits_record(own, index, stream) {
             return Some(matcher.number);
         }
     }

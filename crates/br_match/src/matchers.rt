@@ -127,12 +127,13 @@ pub(crate) fn covers_any(matchers: &Matchers, addr: u64) -> bool
     any_covers(matchers.around(addr), addr)
 }
 
-/// Returns the groups that may hit a record in a block of this session at this address.
+/// Returns the groups that may hit a record in a block at this address, whose header has this session
+/// or none.
 pub(crate) fn near<'m>(
     alloc: Global,
     matchers: &'m Matchers,
     addr: u64,
-    session: SessionKey,
+    session: Option<SessionKey>,
 ) -> Result<Vec<&'m Matcher>, AllocError>
     ensures { IfOk result (λ v. map (λ m. m.now) v.items ≡ filter (λ m. admits_block m.1 addr session) matchers.now) }
 {

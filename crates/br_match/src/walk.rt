@@ -21,7 +21,7 @@ use br_types::VolName;
 use br_volume::{Drive, DriveFault, Got};
 use std::alloc::{AllocError, Global};
 
-/// The length of a block's header in bytes.
+/// The greatest length of a block's header in bytes.
 const HEADER_LEN: u32 = 24;
 
 /// Returns the refusal of the block at this address for this cause, or `Memory`.
@@ -87,7 +87,7 @@ fn head_at<D: Drive>(
 ) -> Result<Option<BlockHead>, PieceFault>
     requires near { is_above (bound_of (just_groups piece.now.groups)) addr ≡ false }
     ensures head { AfterWalk (D.shows drive.old) (D.shows drive.new) piece.now addr (HeadAnswers piece.now addr result) }
-    ensures least { IfOk result (λ head. IfSome head (λ h. 24 ≤ h.size)) }
+    ensures least { IfOk result (λ head. IfSome head (λ h. 16 ≤ h.size)) }
     ensures most { IfOk result (λ head. IfSome head (λ h. h.size ≤ 4194304)) }
     ensures sized { IfOk result (λ head. IfSome head (λ h. addr < 2 ^ 63)) }
     ensures grows { OnlyGrows (D.shows drive.old) (D.shows drive.new) }

@@ -37,7 +37,7 @@ number_is_on groups volume address f k e =
 -- of blocks in order two at one address are one
 pub one_at_address : (bs : List LaidBlock) (b c : LaidBlock) → AreAscending bs → Contains bs b → Contains bs c → b.address ≡ c.address → b ≡ c
 one_at_address bs b c up b_in c_in same =
-    one_if_unrelated (λ (x : LaidBlock). IsBehind (x.address + 24)) bs b c up b_in c_in (λ behind. omega (arith, behind, same)) (λ behind. omega (arith, behind, same))
+    one_if_unrelated (λ (x : LaidBlock). IsBehind (x.address + 16)) bs b c up b_in c_in (λ behind. omega (arith, behind, same)) (λ behind. omega (arith, behind, same))
 
 -- the blocks that a walk finds are in order
 pub found_ascend : (groups : List Group) (volumes : List Volume) (volume : List ℕ) → AreAscending (blocks_found groups volumes volume)

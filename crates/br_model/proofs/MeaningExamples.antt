@@ -19,7 +19,7 @@ hit : ℕ → ℕ → ℕ → ℕ → Fragment → Hit
 hit index group address ordinal f = record { key = record { session = key; index = index }; spot = record { group = group; address = address; ordinal = ordinal }; fragment = f }
 
 header : ℕ → Header
-header size = record { checksum = 0; size = size; number = 0; session = key }
+header size = record { checksum = 0; size = size; number = 0; session = Some key }
 
 -- a block of 51 bytes with parts of the files 1 and 2
 block : List ℕ

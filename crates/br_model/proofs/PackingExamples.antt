@@ -1,5 +1,5 @@
 -- Files, records, blocks and spans of a session, by example.
-use Rattle.std.proofs.Common.{◌≡◌, ℕ, ◌-◌, ◌^◌, ◌<◌, ◌≤◌, List, [], ◌∷◌, ◌++◌, map, length, replicate, Result, Ok, Err, true, false, refl, arith, lit≤, flat_map}
+use Rattle.std.proofs.Common.{◌≡◌, ℕ, ◌-◌, ◌^◌, ◌<◌, ◌≤◌, List, [], ◌∷◌, ◌++◌, map, length, replicate, Result, Ok, Err, true, false, refl, arith, lit≤, flat_map, Some}
 use Rattle.std.proofs.lemmas.Bool.{lt-ltb}
 use Rattle.std.specs.Prelude.{codes, pos, negsuc, ℤ}
 use Rattle.std.specs.Result.{result_map_both}
@@ -320,7 +320,7 @@ and_go_on_from_0 : written_block key (4294967297, []) ≡ written_block key (1, 
 unfolding packing
 and_go_on_from_0 = refl
 
-the_greatest_block_number : written_block key (4294967295, []) ≡ header_bytes (record { checksum = 0; size = 24; number = 4294967295; session = key })
+the_greatest_block_number : written_block key (4294967295, []) ≡ header_bytes (record { checksum = 0; size = 24; number = 4294967295; session = Some key })
 unfolding packing
 the_greatest_block_number = refl
 

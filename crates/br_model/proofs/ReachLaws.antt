@@ -15,10 +15,10 @@ use Rattle.br_model.specs.Volume.{Volume, volume_bytes, LaidBlock, BlockFault, i
 use Rattle.br_model.specs.Bootstrap.{Range, Group, hits}
 use Rattle.br_model.specs.Meaning.{Hit, Hits, PieceFault, IsHit, IsReached, covers, last_address, bound_of, is_covered, groups_on, just_groups, first_hitting, volumes_of, pieces_of, blocks_for, hits_in, hits_among, hits_on, hits_on_each, hits_of, meaning, ReachedAreHits, ReachedStays}
 use Rattle.br_model.proofs.AnswerLaws.{bind_ok, refused_as_ok, ok_is}
-use Rattle.br_model.proofs.VolumeLaws.{header_has_24, walk_is_exact_lem, laid_block}
+use Rattle.br_model.proofs.VolumeLaws.{header_has_16, walk_is_exact_lem, laid_block}
 use Rattle.br_model.proofs.PieceLaws.{on_from, piece_of}
 use Rattle.br_model.proofs.ListLaws.{at_least, first_in, first_or_later, in_without_repeats, later_in, of_each, to_each}
-use Rattle.br_model.proofs.SpanLaws.{read_header_front, some_left}
+use Rattle.br_model.proofs.SpanLaws.{read_header_more, some_left}
 
 -- ---- walks that end at one block
 
@@ -37,7 +37,7 @@ reaches : (address : ℕ) (left : List ℕ) (bound : Option ℕ) (covered : ℕ 
 reaches address left bound covered [] b laid among c = absurd (omega (arith, among.1))
 reaches address left bound covered (x ∷ xs) b laid among c =
     let h = laid.2 in
-    let size : 24 ≤ h.size = (header_has_24 left h laid.3).1 in
+    let size : 16 ≤ h.size = (header_has_16 left h laid.3).1 in
     elim (first_or_later x xs b among) [
       | inl e ↦
           let at : b.address ≡ address = ap (λ (y : LaidBlock). y.address) (sym e ∙ laid.5) in
@@ -280,9 +280,9 @@ reaches_later : (address : ℕ) (left more : List ℕ) (bs : List LaidBlock) (b 
 reaches_later address left more [] b laid among = absurd (omega (arith, among.1))
 reaches_later address left more (x ∷ xs) b laid among =
     let h = laid.2 in
-    let size : 24 ≤ h.size = (header_has_24 left h laid.3).1 in
+    let size : 16 ≤ h.size = (header_has_16 left h laid.3).1 in
     let longer = length-append left more in
-    let read = read_header_front left more (header_has_24 left h laid.3).0 ∙ laid.3 in
+    let read = read_header_more left more h laid.3 in
     elim (first_or_later x xs b among) [
       | inl e ↦
           let at : b.address ≡ address = ap (λ (y : LaidBlock). y.address) (sym e ∙ laid.5) in

@@ -217,7 +217,7 @@ pub laid_rise : (address : ℕ) (left : List ℕ) (bound : Option ℕ) (covered 
     → AllByRecursion (λ (b : LaidBlock). address ≤ b.address) bs × AddressesRise bs
 laid_rise address left bound covered bs laid = (
   laid_behind address left bound covered bs laid,
-  pairs_weaker (λ (b : LaidBlock). IsBehind (b.address + 24)) (λ (b c : LaidBlock). b.address < c.address) (λ b c le. omega (arith, le)) bs (laid_ascend address left bound covered bs laid),
+  pairs_weaker (λ (b : LaidBlock). IsBehind (b.address + 16)) (λ (b c : LaidBlock). b.address < c.address) (λ b c le. omega (arith, le)) bs (laid_ascend address left bound covered bs laid),
 )
 
 -- the addresses of a laid span's blocks rise

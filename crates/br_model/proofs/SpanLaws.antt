@@ -2,28 +2,83 @@
 use Rattle.std.proofs.Common.{◌≡◌, ℕ, suc, ◌+◌, ◌<◌, ◌≤◌, Bool, true, false, not, ◌||◌, cond, ltb, List, [], ◌∷◌, length, ◌++◌, filter, Option, Some, None, Result, Ok, Err, refl, sym, ap, subst, ◌∙◌, inl, inr, arith}
 use Rattle.std.proofs.lemmas.Bool.{cases_lt, leb-true, ltb-true, ltb-false, le-ltb, lt-ltb, and_parts, both_ways, false_from_ne_true, or_cases}
 use Rattle.std.proofs.lemmas.Option.{same_Some}
-use Rattle.std.proofs.lemmas.List.{length-append, length-drop, length-take-le, take-append-drop, take-append-le, drop-append-le}
+use Rattle.std.proofs.lemmas.List.{length-append, length-drop, length-take-le, take_all, take-append-drop, take-append-le, drop-append-le}
 use Rattle.std.specs.Prelude.{nat_le, Contains, drop, take, flat_map, fold, max}
 use Rattle.std.specs.List.{AllByRecursion, AllZip, list_any}
-use Rattle.br_model.specs.Block.{Header, read_header, read_block}
+use Rattle.br_model.specs.Name.{SessionKey}
+use Rattle.br_model.specs.Block.{Header, u32_at, older_letters, header_length, has_letters, session_of, read_header, read_block}
 use Rattle.br_model.specs.Volume.{Volume, volume_bytes, Extends, LaidBlock, is_above, AreLaidFrom, AreLaid}
 use Rattle.br_model.specs.Job.{Span, Job}
 use Rattle.br_model.specs.Stored.{is_in_span, IsSpanLaid, Holds}
 use Rattle.br_model.proofs.AnswerLaws.{bind_ok, chosen, ok_is, err_is_not_ok}
-use Rattle.br_model.proofs.VolumeLaws.{header_has_24, laid_is_found}
+use Rattle.br_model.proofs.VolumeLaws.{at_least_16, at_most_24, header_reads, header_has_16, laid_is_found}
 use Rattle.br_model.proofs.ListLaws.{all_any, all_filter, all_weaker, at_least, filter_within, first_or_later, keeps_none, kept_passes}
 use Rattle.br_model.proofs.PairLaws.{EachPair}
 
 -- ---- the front of a volume
 
--- a header is read from the first 24 bytes alone
-pub read_header_front : (p m : List ℕ) → 24 ≤ length p → read_header (p ++ m) ≡ read_header p
+-- four bytes of the front
+front_at : (p m : List ℕ) (i : ℕ) → i + 4 ≤ length p → take 4 (drop i (p ++ m)) ≡ take 4 (drop i p)
+front_at p m i fits = ap (take 4) (drop-append-le i p m (omega arith)) ∙ take-append-le 4 (drop i p) m (omega (arith, length-drop i p))
+
+-- the key behind the letters
+abbrev key_in : List ℕ → SessionKey
+key_in bytes = record { id = u32_at 16 bytes; time = u32_at 20 bytes }
+
+-- the letters stand in the first 16 bytes, and say how long the header is
+length_front : (p m : List ℕ) → 16 ≤ length p → header_length (session_of (p ++ m)) ≡ header_length (session_of p)
+length_front p m long = rw (front_at p m 12 (omega arith)) (same (has_letters older_letters p))
+  where
+    same : (b : Bool) → header_length (cond b None (Some (key_in (p ++ m)))) ≡ header_length (cond b None (Some (key_in p)))
+    same true = refl
+    same false = refl
+
+-- the session stands in the header
+session_front : (p m : List ℕ) → 16 ≤ length p → header_length (session_of p) ≤ length p → session_of (p ++ m) ≡ session_of p
+session_front p m long whole = rw (front_at p m 12 (omega arith)) (same (has_letters older_letters p) whole)
+  where
+    same : (b : Bool) → header_length (cond b None (Some (key_in p))) ≤ length p → cond b None (Some (key_in (p ++ m))) ≡ cond b None (Some (key_in p))
+    same true le = refl
+    same false le = rw (front_at p m 16 (omega arith), front_at p m 20 (omega arith)) refl
+
+-- a header is read from its own bytes alone
+pub read_header_front : (p m : List ℕ) → 16 ≤ length p → header_length (session_of p) ≤ length p → read_header (p ++ m) ≡ read_header p
 unfolding read_header
-read_header_front p m long =
-    let at : (i : ℕ) → i + 4 ≤ 24 → take 4 (drop i (p ++ m)) ≡ take 4 (drop i p) = λ i fits.
-    ap (take 4) (drop-append-le i p m (omega arith)) ∙ take-append-le 4 (drop i p) m (omega (arith, length-drop i p)) in
-    let short : ltb (length (p ++ m)) 24 ≡ ltb (length p) 24 = le-ltb (length (p ++ m)) 24 (omega (arith, length-append p m)) ∙ sym (le-ltb (length p) 24 long) in
-    rw (short, at 0 (omega arith), at 4 (omega arith), at 8 (omega arith), at 12 (omega arith), at 16 (omega arith), at 20 (omega arith)) refl
+read_header_front p m long whole =
+    let longer = length-append p m in
+    let short : ltb (length (p ++ m)) 16 ≡ ltb (length p) 16 = le-ltb (length (p ++ m)) 16 (omega (arith, longer)) ∙ sym (le-ltb (length p) 16 long) in
+    let held : ltb (length (p ++ m)) (header_length (session_of p)) ≡ ltb (length p) (header_length (session_of p)) =
+    le-ltb (length (p ++ m)) (header_length (session_of p)) (omega (arith, longer, whole)) ∙ sym (le-ltb (length p) (header_length (session_of p)) whole) in
+    rw (short, session_front p m long whole, held, front_at p m 12 (omega arith), front_at p m 0 (omega arith), front_at p m 4 (omega arith), front_at p m 8 (omega arith)) refl
+
+-- a header is read whatever comes behind it
+pub read_header_more : (p m : List ℕ) (h : Header) → read_header p ≡ Ok h → read_header (p ++ m) ≡ Ok h
+read_header_more p m h e = let r = header_reads p h e in read_header_front p m r.lettered r.long ∙ e
+
+-- a header is read from as many bytes as it has
+pub read_header_within : (p m : List ℕ) (h : Header) → read_header (p ++ m) ≡ Ok h → header_length h.session ≤ length p → read_header p ≡ Ok h
+read_header_within p m h e le =
+    let r = header_reads (p ++ m) h e in
+    let same = ap header_length r.session_is in
+    let long : 16 ≤ length p = omega (arith, at_least_16 h.session, le) in
+    let whole : header_length (session_of p) ≤ length p = omega (arith, length_front p m long, same, le) in
+    sym (read_header_front p m long whole) ∙ e
+
+-- and from as many as it says
+pub read_header_fewer : (p m : List ℕ) (h : Header) → read_header (p ++ m) ≡ Ok h → h.size ≤ length p → read_header p ≡ Ok h
+read_header_fewer p m h e le =
+    let r = header_reads (p ++ m) h e in
+    read_header_within p m h e (omega (arith, ap header_length r.session_is, r.size_from, le))
+
+-- a header is read in the first 24 bytes, or in all if there are fewer
+pub read_header_alone : (left : List ℕ) → read_header (take 24 left) ≡ read_header left
+read_header_alone left =
+    elim (cases_lt (length left) 24) [
+      | inl short ↦ ap read_header (take_all 24 left (omega (arith, short)))
+      | inr long ↦
+          let size = length-take-le 24 left long in
+          sym (read_header_front (take 24 left) (drop 24 left) (omega (arith, size)) (omega (arith, size, at_most_24 (session_of (take 24 left))))) ∙ ap read_header (take-append-drop 24 left)
+    ]
 
 -- a whole block at the front is read whatever comes behind it
 pub read_block_front : (p m block : List ℕ) → read_block p ≡ Ok block → read_block (p ++ m) ≡ Ok block
@@ -32,8 +87,7 @@ read_block_front p m block e =
     let give : Header → Result (List ℕ) ℕ = λ h. cond (ltb (length p) h.size) (Err 12) (Ok (take h.size p)) in
     let r = bind_ok (read_header p) give block e in
     let h = r.0 in
-    let long : 24 ≤ length p = (header_has_24 p h r.1).0 in
-    let read : read_header (p ++ m) ≡ Ok h = read_header_front p m long ∙ r.1 in
+    let read : read_header (p ++ m) ≡ Ok h = read_header_more p m h r.1 in
     elim (chosen (ltb (length p) h.size) (Err 12) (Ok (take h.size p)) (Ok block) r.2) [
       | inl q ↦ absurd (err_is_not_ok 12 block q.1)
       | inr q ↦
@@ -89,14 +143,14 @@ whole_stays address left more end [] laid within =
     ]
 whole_stays address left more end (b ∷ bs) laid within =
     let h = laid.2 in
-    let long : 24 ≤ length left = (header_has_24 left h laid.3).0 in
+    let long : 16 ≤ length left = (header_has_16 left h laid.3).0 in
     let whole : h.size ≤ length left = laid.4 refl in
     let longer = length-append left more in
     let same : ◌≡◌ {A = LaidBlock} (record { address = address; bytes = take h.size left }) (record { address = address; bytes = take h.size (left ++ more) }) =
     ap (λ (xs : List ℕ). record { address = address; bytes = xs }) (sym (take-append-le h.size left more whole)) in
     let rest = whole_stays (address + h.size) (drop h.size left) more end bs laid.6 (omega (arith, length-drop h.size left)) in
     let behind = subst (λ (xs : List ℕ). AreLaidFrom (address + h.size) xs (Some end) everywhere bs) (sym (drop-append-le h.size left more whole)) rest in
-    (omega arith, laid.1, h, read_header_front left more long ∙ laid.3, (λ q. omega arith), laid.5 ∙ same, behind)
+    (omega arith, laid.1, h, read_header_more left more h laid.3, (λ q. omega arith), laid.5 ∙ same, behind)
 
 -- the same of a volume
 pub whole_later : (bytes more : List ℕ) (end : ℕ) (all : List LaidBlock) → IsWholeTo bytes end all → IsWholeTo (bytes ++ more) end all
@@ -336,9 +390,9 @@ spans_are_laid volumes volume bytes (s ∷ ss) found some on =
 abbrev pub IsBehind : ℕ → LaidBlock → Type 0
 IsBehind address b = address ≤ b.address
 
--- the addresses rise, by 24 at least
+-- the addresses rise, by 16 at least
 abbrev pub AreAscending : List LaidBlock → Type 0
-AreAscending bs = EachPair (λ (b : LaidBlock). IsBehind (b.address + 24)) bs
+AreAscending bs = EachPair (λ (b : LaidBlock). IsBehind (b.address + 16)) bs
 
 -- blocks that are laid stand at the address where the bytes begin, or behind it
 pub laid_behind : (address : ℕ) (left : List ℕ) (bound : Option ℕ) (covered : ℕ → Bool) (bs : List LaidBlock) → AreLaidFrom address left bound covered bs → AllByRecursion (IsBehind address) bs
@@ -354,9 +408,9 @@ laid_ascend address left bound covered [] laid = tt
 laid_ascend address left bound covered (b ∷ bs) laid =
     let h = laid.2 in
     let at : b.address ≡ address = ap (λ (y : LaidBlock). y.address) laid.5 in
-    let size : 24 ≤ h.size = (header_has_24 left h laid.3).1 in
+    let size : 16 ≤ h.size = (header_has_16 left h laid.3).1 in
     let rest = laid_behind (address + h.size) (drop h.size left) bound covered bs laid.6 in
-    (all_weaker (IsBehind (address + h.size)) (IsBehind (b.address + 24)) (λ x behind. omega arith) bs rest, laid_ascend (address + h.size) (drop h.size left) bound covered bs laid.6)
+    (all_weaker (IsBehind (address + h.size)) (IsBehind (b.address + 16)) (λ x behind. omega arith) bs rest, laid_ascend (address + h.size) (drop h.size left) bound covered bs laid.6)
 
 -- ---- spans that are apart
 
@@ -413,7 +467,7 @@ filter_in_turn first second end below above (b ∷ bs) up =
     go true false e f rest = ap (λ (xs : List LaidBlock). b ∷ xs) rest
     go false true e f rest =
         let k = above b.address f in
-        let none : one ≡ [] = none_passes first end (b.address + 24) bs below (omega (arith, k)) up.0 in
+        let none : one ≡ [] = none_passes first end (b.address + 16) bs below (omega (arith, k)) up.0 in
         ap (λ (xs : List LaidBlock). b ∷ xs) (rest ∙ ap (λ (xs : List LaidBlock). xs ++ other) none) ∙ ap (λ (xs : List LaidBlock). xs ++ b ∷ other) (sym none)
     go false false e f rest = rest
 
@@ -448,21 +502,18 @@ pub record IsWholeBlock (b : LaidBlock) : Type 0 where
   pub header : Header
   pub read : read_header b.bytes ≡ Ok header
   pub size_is : length b.bytes ≡ header.size
-  pub long : 24 ≤ length b.bytes
 
 -- each block that is laid and covered is whole
 pub laid_are_whole : (address : ℕ) (left : List ℕ) (bound : Option ℕ) (bs : List LaidBlock) → AreLaidFrom address left bound everywhere bs → AllByRecursion IsWholeBlock bs
 laid_are_whole address left bound [] laid = tt
 laid_are_whole address left bound (b ∷ bs) laid =
     let h = laid.2 in
-    let size : 24 ≤ h.size = (header_has_24 left h laid.3).1 in
     let fits : length (take h.size left) ≡ h.size = length-take-le h.size left (laid.4 refl) in
     let joined : take h.size left ++ drop h.size left ≡ left = take-append-drop h.size left in
-    let read : read_header (take h.size left) ≡ Ok h =
-    sym (read_header_front (take h.size left) (drop h.size left) (omega (arith, fits))) ∙ ap read_header joined ∙ laid.3 in
+    let read : read_header (take h.size left) ≡ Ok h = read_header_fewer (take h.size left) (drop h.size left) h (ap read_header joined ∙ laid.3) (omega (arith, fits)) in
     let bytes_are : take h.size left ≡ b.bytes = ap (λ (y : LaidBlock). y.bytes) (sym laid.5) in
     let same : length (take h.size left) ≡ length b.bytes = ap length bytes_are in (
-      record { header = h; read = ap read_header (sym bytes_are) ∙ read; size_is = sym same ∙ fits; long = omega (arith, same, fits) },
+      record { header = h; read = ap read_header (sym bytes_are) ∙ read; size_is = sym same ∙ fits },
       laid_are_whole (address + h.size) (drop h.size left) bound bs laid.6,
     )
 

@@ -1,5 +1,5 @@
 -- What a job's spans hold, by example.
-use Rattle.std.proofs.Common.{◌≡◌, ℕ, ◌+◌, List, [], ◌∷◌, ◌++◌, true, false, refl, inr, lit≤}
+use Rattle.std.proofs.Common.{◌≡◌, ℕ, ◌+◌, List, [], ◌∷◌, ◌++◌, true, false, refl, inr, lit≤, Some}
 use Rattle.std.specs.Prelude.{codes, pos, negsuc, ℤ}
 use Rattle.std.specs.List.{AllZip}
 use Rattle.br_model.specs.Name.{SessionKey}
@@ -18,7 +18,7 @@ part : SessionKey → ℤ → Fragment
 part session index = record { session = session; index = index; stream = pos 2; size = 1; bytes = 7 ∷ [] }
 
 header : ℕ → Header
-header size = record { checksum = 0; size = size; number = 0; session = key }
+header size = record { checksum = 0; size = size; number = 0; session = Some key }
 
 -- a block of 37 bytes with a part of the file of this index
 block : ℤ → List ℕ

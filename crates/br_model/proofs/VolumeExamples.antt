@@ -1,5 +1,5 @@
 -- Volumes and the walk over their blocks, by example.
-use Rattle.std.proofs.Common.{◌≡◌, ℕ, Bool, List, [], ◌∷◌, ◌++◌, replicate, cond, ◌⊎◌, Some, None, option_map, Result, Ok, Err, true, false, refl, ap, inl, inr, arith, lit≤, append-nil}
+use Rattle.std.proofs.Common.{◌≡◌, ℕ, Bool, List, [], ◌∷◌, ◌++◌, replicate, take, cond, ◌⊎◌, Some, None, option_map, Result, Ok, Err, true, false, refl, ap, inl, inr, arith, lit≤, append-nil}
 use Rattle.std.specs.Prelude.{codes, bytes_eq, ◌==◌}
 use Rattle.br_model.specs.Name.{SessionKey}
 use Rattle.br_model.specs.Block.{Header, header_bytes}
@@ -57,7 +57,7 @@ key : SessionKey
 key = record { id = 1; time = 100 }
 
 header : ℕ → ℕ → Header
-header number size = record { checksum = 0; size = size; number = number; session = key }
+header number size = record { checksum = 0; size = size; number = number; session = Some key }
 
 -- a block of a header alone
 block : ℕ → List ℕ
@@ -123,7 +123,39 @@ none_as_asked : blocks_from 0 100 (block 0 ++ block 1) None everywhere ≡ Ok []
 unfolding key header block laid refused everywhere nowhere walking
 none_as_asked = refl
 
+-- a block of the older level, a header alone
+older : ℕ → List ℕ
+older number = header_bytes (record { checksum = 0; size = 16; number = number; session = None })
+
+finds_blocks_of_both_levels : blocks_of (older 0 ++ block 1 ++ older 2) None everywhere ≡ Ok (laid 0 (older 0) ∷ laid 16 (block 1) ∷ laid 40 (older 2) ∷ [])
+unfolding key header block older laid refused everywhere nowhere walking
+finds_blocks_of_both_levels = refl
+
+finds_as_many_as_16_bytes_each : blocks_of (older 0 ++ older 1 ++ older 2) None everywhere ≡ Ok (laid 0 (older 0) ∷ laid 16 (older 1) ∷ laid 32 (older 2) ∷ [])
+unfolding key header block older laid refused everywhere nowhere walking
+finds_as_many_as_16_bytes_each = refl
+
+refuses_15_bytes_at_the_end : blocks_of (older 0 ++ take 15 (older 1)) None nowhere ≡ Err (refused 12 16)
+unfolding key header block older laid refused everywhere nowhere walking
+refuses_15_bytes_at_the_end = refl
+
+refuses_other_letters_in_16_bytes : blocks_of (older 0 ++ replicate 16 0) None nowhere ≡ Err (refused 10 16)
+unfolding key header block older laid refused everywhere nowhere walking
+refuses_other_letters_in_16_bytes = refl
+
+refuses_a_header_with_a_session_in_23_bytes : blocks_of (older 0 ++ take 23 (block 1)) None nowhere ≡ Err (refused 12 16)
+unfolding key header block older laid refused everywhere nowhere walking
+refuses_a_header_with_a_session_in_23_bytes = refl
+
 -- ---- steps
+
+steps_over_an_older_block : next_block (older 0 ++ block 1) None everywhere 0 ≡ Ok (Some (laid 0 (older 0), 16))
+unfolding key header block older laid refused everywhere nowhere walking
+steps_over_an_older_block = refl
+
+steps_to_the_last_16_bytes : next_block (block 0 ++ older 1) None everywhere 24 ≡ Ok (Some (laid 24 (older 1), 40))
+unfolding key header block older laid refused everywhere nowhere walking
+steps_to_the_last_16_bytes = refl
 
 steps_from_the_front : next_block (block 0 ++ block 1) None everywhere 0 ≡ Ok (Some (laid 0 (block 0), 24))
 unfolding key header block laid refused everywhere nowhere walking
@@ -182,6 +214,11 @@ no_steps = refl
 are_laid : AreLaid (block 0 ++ header_bytes (header 1 25)) None (λ address. address == 0) (laid 0 (block 0) ∷ laid 24 (header_bytes (header 1 25)) ∷ [])
 unfolding key header block laid walking
 are_laid = (lit≤ tt, refl, header 0 24, refl, (λ _. lit≤ tt), refl, (lit≤ tt, refl, header 1 25, refl, (λ e. absurd cc), refl, inl refl))
+
+both_levels_are_laid : AreLaid (older 0 ++ block 1) None everywhere (laid 0 (older 0) ∷ laid 16 (block 1) ∷ [])
+unfolding key header block older laid everywhere walking
+both_levels_are_laid =
+    (lit≤ tt, refl, record { checksum = 0; size = 16; number = 0; session = None }, refl, (λ _. lit≤ tt), refl, (lit≤ tt, refl, header 1 24, refl, (λ _. lit≤ tt), refl, inl refl))
 
 is_laid_to_its_last_byte : AreLaid (block 0) None everywhere (laid 0 (block 0) ∷ [])
 unfolding key header block laid everywhere walking

@@ -1,18 +1,20 @@
 -- A block that was written has a valid header of its size, and its fragments are those that it was written of.
-use Rattle.std.proofs.Common.{◌≡◌, ℕ, zero, suc, ◌+◌, ◌%◌, ◌^◌, ◌<◌, ◌≤◌, true, false, ltb, List, [], ◌∷◌, ◌++◌, length, take, drop, Ok, refl, sym, ap, subst, ◌∙◌, inl, inr, arith}
+use Rattle.std.proofs.Common.{◌≡◌, ℕ, zero, suc, ◌+◌, ◌%◌, ◌^◌, ◌<◌, ◌≤◌, true, false, ltb, List, [], ◌∷◌, ◌++◌, length, drop, Option, None, Some, Ok, refl, sym, ap, subst, ◌∙◌, inl, inr, arith}
 use Rattle.std.proofs.lemmas.Bool.{cases_lt, le-ltb, lt-ltb}
+use Rattle.std.proofs.lemmas.Option.{same_Some}
 use Rattle.std.proofs.lemmas.List.{append-nil, length-append}
 use Rattle.std.proofs.lemmas.List.Sums.{sum_by-cons}
 use Rattle.std.proofs.lemmas.Nat.{from_be_bytes-to_be_bytes_4, mod_below}
 use Rattle.std.proofs.lemmas.Int.{fits_signed_from_abs}
-use Rattle.std.specs.Prelude.{ℤ, pos, negsuc, neg_ℤ, FitsSigned, flat_map, sum_by, bytes_eq}
+use Rattle.std.specs.Prelude.{ℤ, pos, negsuc, neg_ℤ, FitsSigned, flat_map, sum_by, ◌||◌}
 use Rattle.std.specs.Int.{w32, is_positive}
 use Rattle.std.specs.List.{AllByRecursion}
 use Rattle.br_model.specs.Name.{SessionKey}
-use Rattle.br_model.specs.Block.{Header, header_bytes, letters, u32_at, session_of, read_header, Fragment, fragment_bytes, IsFragmentOf, AreFilled, fragments_of}
+use Rattle.br_model.specs.Block.{Header, header_length, header_bytes, letters, older_letters, has_letters, u32_at, session_of, read_header, Fragment, fragment_bytes, spelling, IsFragmentOf, AreFilled, fragments_of}
 use Rattle.br_model.specs.Record.{Record, GoOn, AreParts, IsCut}
 use Rattle.br_model.specs.Session.{block_size, AreWritten, written_block}
-use Rattle.br_model.proofs.BlockLaws.{length-fragment_bytes, fragments_are_read}
+use Rattle.br_model.proofs.BlockLaws.{at_least_12, length-fragment_bytes, fragments_read_as}
+use Rattle.br_model.proofs.VolumeLaws.{at_least_16}
 use Rattle.br_model.proofs.ListLaws.{all_append}
 
 -- ---- fragments of records that can be written
@@ -78,59 +80,86 @@ cut_is_sound (r ∷ rs) fs can cut =
 
 -- ---- the header
 
+-- the numbers of the session have four bytes each
+pub record IsKey (key : SessionKey) : Type 0 where
+  pub id_to : key.id < 2 ^ 32
+  pub time_to : key.time < 2 ^ 32
+
 -- a header of a valid size, whose numbers have four bytes each
 pub record IsHeader (h : Header) : Type 0 where
   pub checksum_to : h.checksum < 2 ^ 32
-  pub size_from : 24 ≤ h.size
+  pub size_from : header_length h.session ≤ h.size
   pub size_to : h.size ≤ 4194304
   pub number_to : h.number < 2 ^ 32
-  pub id_to : h.session.id < 2 ^ 32
-  pub time_to : h.session.time < 2 ^ 32
+  pub session_is : (key : SessionKey) → h.session ≡ Some key → IsKey key
 
--- a header is known by its five numbers
-same_header : (h : Header) (a b c d e : ℕ) → a ≡ h.checksum → b ≡ h.size → c ≡ h.number → d ≡ h.session.id → e ≡ h.session.time
-    → ◌≡◌ {A = Header} (record { checksum = a; size = b; number = c; session = record { id = d; time = e } }) h
-same_header h a b c d e p q r s t = rw (p, q, r, s, t) refl
+-- a header is known by its three numbers and its session
+same_header : (h : Header) (a b c : ℕ) (session : Option SessionKey) → a ≡ h.checksum → b ≡ h.size → c ≡ h.number → session ≡ h.session
+    → ◌≡◌ {A = Header} (record { checksum = a; size = b; number = c; session = session }) h
+same_header h a b c session p q r s = rw (p, q, r, s) refl
 
--- the numbers of a header are read from its bytes, whatever stands behind them
-session_is_read : (h : Header) (more : List ℕ) → IsHeader h → (u32_at 16 (header_bytes h ++ more) ≡ h.session.id) × (u32_at 20 (header_bytes h ++ more) ≡ h.session.time)
+-- a key is known by its two numbers
+key_is : (key other : SessionKey) → other.id ≡ key.id → other.time ≡ key.time → key ≡ other
+key_is key other p q = rw (← p, ← q) refl
+
+-- a header with a session or without one
+abbrev header_under : Header → Option SessionKey → Header
+header_under h session = record { checksum = h.checksum; size = h.size; number = h.number; session = session }
+
+-- the session is read from a header's bytes, whatever stands behind them
+session_under : (h : Header) (session : Option SessionKey) (more : List ℕ) → ((key : SessionKey) → session ≡ Some key → IsKey key) → session_of (header_bytes (header_under h session) ++ more) ≡ session
 unfolding header_bytes
-session_is_read h more is = (from_be_bytes-to_be_bytes_4 h.session.id is.id_to, from_be_bytes-to_be_bytes_4 h.session.time is.time_to)
+session_under h None more is = refl
+session_under h (Some key) more is =
+    let fits = is key refl in
+    rw (from_be_bytes-to_be_bytes_4 key.id fits.id_to, from_be_bytes-to_be_bytes_4 key.time fits.time_to) refl
 
+pub session_is_read : (h : Header) (more : List ℕ) → IsHeader h → session_of (header_bytes h ++ more) ≡ h.session
+session_is_read h more is = session_under h h.session more is.session_is
+
+-- the numbers of a header are read from its bytes
 numbers_are_read : (h : Header) (more : List ℕ) → IsHeader h
     → (u32_at 0 (header_bytes h ++ more) ≡ h.checksum) × (u32_at 4 (header_bytes h ++ more) ≡ h.size) × (u32_at 8 (header_bytes h ++ more) ≡ h.number)
 unfolding header_bytes
 numbers_are_read h more is =
     (from_be_bytes-to_be_bytes_4 h.checksum is.checksum_to, from_be_bytes-to_be_bytes_4 h.size (omega (arith, is.size_to)), from_be_bytes-to_be_bytes_4 h.number is.number_to)
 
--- a header has 24 bytes, with the letters among them
-pub length-header_bytes : (h : Header) (more : List ℕ) → length (header_bytes h ++ more) ≡ 24 + length more
+-- a header has as many bytes as one with its session, or without one, has
+length_under : (h : Header) (session : Option SessionKey) (more : List ℕ) → length (header_bytes (header_under h session) ++ more) ≡ header_length session + length more
 unfolding header_bytes
-length-header_bytes h more = omega arith
+length_under h None more = omega arith
+length_under h (Some key) more = omega arith
 
-letters_are_there : (h : Header) (more : List ℕ) → bytes_eq (take 4 (drop 12 (header_bytes h ++ more))) letters ≡ true
+pub length-header_bytes : (h : Header) (more : List ℕ) → length (header_bytes h ++ more) ≡ header_length h.session + length more
+length-header_bytes h more = length_under h h.session more
+
+letters_under : (h : Header) (session : Option SessionKey) (more : List ℕ)
+    → (has_letters older_letters (header_bytes (header_under h session) ++ more) || has_letters letters (header_bytes (header_under h session) ++ more)) ≡ true
 unfolding header_bytes
-letters_are_there h more = refl
+letters_under h None more = refl
+letters_under h (Some key) more = refl
+
+letters_are_there : (h : Header) (more : List ℕ) → (has_letters older_letters (header_bytes h ++ more) || has_letters letters (header_bytes h ++ more)) ≡ true
+letters_are_there h more = letters_under h h.session more
 
 -- a header that is valid is read, whatever stands behind it
 pub header_is_read : (h : Header) (more : List ℕ) → IsHeader h → read_header (header_bytes h ++ more) ≡ Ok h
 unfolding read_header
 header_is_read h more is =
+    let bytes = header_bytes h ++ more in
+    let least = header_length h.session in
     let n = numbers_are_read h more is in
-    let s = session_is_read h more is in
-    let long : ltb (length (header_bytes h ++ more)) 24 ≡ false = le-ltb (length (header_bytes h ++ more)) 24 (omega (arith, length-header_bytes h more)) in
-    let low : ltb (u32_at 4 (header_bytes h ++ more)) 24 ≡ false = le-ltb (u32_at 4 (header_bytes h ++ more)) 24 (omega (arith, n.1, is.size_from)) in
-    let high : ltb 4194304 (u32_at 4 (header_bytes h ++ more)) ≡ false = le-ltb 4194304 (u32_at 4 (header_bytes h ++ more)) (omega (arith, n.1, is.size_to)) in
-    rw (long, letters_are_there h more, low, high) (ap (λ (g : Header). Ok g) (same_header h _ _ _ _ _ n.0 n.1 n.2 s.0 s.1))
+    let session = session_is_read h more is in
+    let size = length-header_bytes h more in
+    let lettered : ltb (length bytes) 16 ≡ false = le-ltb (length bytes) 16 (omega (arith, size, at_least_16 h.session)) in
+    let long : ltb (length bytes) least ≡ false = le-ltb (length bytes) least (omega (arith, size)) in
+    let low : ltb (u32_at 4 bytes) least ≡ false = le-ltb (u32_at 4 bytes) least (omega (arith, n.1, is.size_from)) in
+    let high : ltb 4194304 (u32_at 4 bytes) ≡ false = le-ltb 4194304 (u32_at 4 bytes) (omega (arith, n.1, is.size_to)) in
+    rw (lettered, letters_are_there h more, session, long, low, high) (ap (λ (g : Header). Ok g) (same_header h _ _ _ _ n.0 n.1 n.2 refl))
 
 -- the header of a written block
 abbrev pub header_of : SessionKey → ℕ × List Fragment → Header
-header_of key block = record { checksum = 0; size = block_size block.1; number = block.0 % 2 ^ 32; session = key }
-
--- the numbers of the session have four bytes each
-pub record IsKey (key : SessionKey) : Type 0 where
-  pub id_to : key.id < 2 ^ 32
-  pub time_to : key.time < 2 ^ 32
+header_of key block = record { checksum = 0; size = block_size block.1; number = block.0 % 2 ^ 32; session = Some key }
 
 -- the header of a written block is valid
 written_is_header : (key : SessionKey) (block : ℕ × List Fragment) → IsKey key → block_size block.1 ≤ 4194304 → IsHeader (header_of key block)
@@ -139,8 +168,7 @@ written_is_header key block is to = record {
   size_from = omega arith;
   size_to = to;
   number_to = mod_below block.0 (2 ^ 32) (omega arith);
-  id_to = is.id_to;
-  time_to = is.time_to;
+  session_is = λ other e. subst IsKey (same_Some key other e) is;
 }
 
 -- the block is read with its header
@@ -162,13 +190,13 @@ length-written_block key block =
 -- ---- the fragments
 
 -- what is behind the header of a block
-pub behind_header : (h : Header) (more : List ℕ) → drop 24 (header_bytes h ++ more) ≡ more
+behind_under : (h : Header) (session : Option SessionKey) (more : List ℕ) → drop (header_length session) (header_bytes (header_under h session) ++ more) ≡ more
 unfolding header_bytes
-behind_header h more = refl
+behind_under h None more = refl
+behind_under h (Some key) more = refl
 
--- a key is known by its two numbers
-key_is : (key other : SessionKey) → other.id ≡ key.id → other.time ≡ key.time → key ≡ other
-key_is key other p q = rw (← p, ← q) refl
+pub behind_header : (h : Header) (more : List ℕ) → drop (header_length h.session) (header_bytes h ++ more) ≡ more
+behind_header h more = behind_under h h.session more
 
 -- each fragment but the last has all its data, and nothing stands behind the last
 written_are_filled : (fs : List Fragment) → AreWritten fs → AreFilled fs []
@@ -180,26 +208,24 @@ written_are_filled (f ∷ []) written =
     ]
 written_are_filled (f ∷ g ∷ more) written = (written.0, written_are_filled (g ∷ more) written.1)
 
--- sound fragments of a session, under any key that equals it
-each_of_session : (key other : SessionKey) (fs : List Fragment) → key ≡ other → AllByRecursion (λ (f : Fragment). f.session ≡ key) fs → AllByRecursion IsSound fs
-    → AllByRecursion (IsFragmentOf other) fs
-each_of_session key other [] e of_session sound = tt
-each_of_session key other (f ∷ fs) e of_session sound = (
-  record { session_is = of_session.0 ∙ e; index_fits = sound.0.index_fits; stream_fits = sound.0.stream_fits; size_fits = sound.0.size_fits },
-  each_of_session key other fs e of_session.1 sound.1,
+-- sound fragments of a session may stand in its blocks
+each_of_session : (key : SessionKey) (fs : List Fragment) → AllByRecursion (λ (f : Fragment). f.session ≡ key) fs → AllByRecursion IsSound fs → AllByRecursion (IsFragmentOf (Some key)) fs
+each_of_session key [] of_session sound = tt
+each_of_session key (f ∷ fs) of_session sound = (
+  record { session_is = of_session.0; index_fits = sound.0.index_fits; stream_fits = sound.0.stream_fits; size_fits = sound.0.size_fits },
+  each_of_session key fs of_session.1 sound.1,
 )
+
+-- a block with a valid header is read as the fragments that follow it
+pub fragments_behind : (h : Header) (fs : List Fragment) → IsHeader h → AreFilled fs [] → AllByRecursion (IsFragmentOf h.session) fs
+    → fragments_of (header_bytes h ++ flat_map (spelling h.session) fs) ≡ fs
+fragments_behind h fs is filled each =
+    let body = flat_map (spelling h.session) fs in
+    let session = session_is_read h body is in
+    fragments_read_as (header_bytes h ++ body) h.session fs [] session (behind_header h body ∙ sym (append-nil body)) (omega (arith, at_least_12 h.session)) filled each
 
 -- the fragments of a written block are those that it was written of
 pub written_fragments : (key : SessionKey) (block : ℕ × List Fragment) → IsKey key → block_size block.1 ≤ 4194304 → AreWritten block.1
     → AllByRecursion (λ (f : Fragment). f.session ≡ key) block.1 → AllByRecursion IsSound block.1 → fragments_of (written_block key block) ≡ block.1
 written_fragments key block is to written of_session sound =
-    let h = header_of key block in
-    let body = flat_map fragment_bytes block.1 in
-    let read = session_is_read h body (written_is_header key block is to) in
-    fragments_are_read (written_block key block) block.1 (omega (arith, length-header_bytes h body)) (record {
-      rest = [];
-      joined = behind_header h body ∙ sym (append-nil body);
-      rest_is_short = omega arith;
-      filled = written_are_filled block.1 written;
-      each = each_of_session key (session_of (written_block key block)) block.1 (key_is key (session_of (written_block key block)) read.0 read.1) of_session sound;
-    })
+    fragments_behind (header_of key block) block.1 (written_is_header key block is to) (written_are_filled block.1 written) (each_of_session key block.1 of_session sound)

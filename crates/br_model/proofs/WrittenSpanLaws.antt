@@ -14,7 +14,7 @@ use Rattle.br_model.specs.Job.{Span}
 use Rattle.br_model.specs.Stored.{IsSpanLaid, file_fragments, AreInSpan}
 use Rattle.br_model.specs.Session.{Visit, length_of, least_of, greatest_of, visit_indexes, visit_length, spans_from}
 use Rattle.br_model.specs.SessionHolds.{bytes_of_volume}
-use Rattle.br_model.proofs.VolumeLaws.{header_has_24}
+use Rattle.br_model.proofs.VolumeLaws.{header_has_16}
 use Rattle.br_model.proofs.SpanLaws.{everywhere}
 use Rattle.br_model.proofs.WrittenVolumeLaws.{IsWholeBlock, joined, laid_at, whole_appended, in_range, appended_are_laid}
 use Rattle.br_model.proofs.ListLaws.{all_filter, all_weaker, keeps_all}
@@ -84,7 +84,7 @@ visit_is_laid : (volumes : List Volume) (s : Span) (old more : List ℕ) (before
 visit_is_laid volumes s old more before [] some whole laid has start end = absurd (omega arith)
 visit_is_laid volumes s old more before (b ∷ bs) some whole laid has start end =
     let new = joined (b ∷ bs) in
-    let long : 24 ≤ length b = (header_has_24 b whole.0.header whole.0.read).0 in
+    let long : 16 ≤ length b = (header_has_16 b whole.0.header whole.0.read).0 in
     let some_new : 0 < length new = omega (arith, long, length-append b (joined bs)) in
     let found : volume_bytes volumes s.volume ≡ Some ((old ++ new) ++ more) =
     some_of (volume_bytes volumes s.volume) ((old ++ new) ++ more) has (omega (arith, some_new, length-append old new, length-append (old ++ new) more)) in

@@ -10,8 +10,8 @@ use Rattle.br_model.specs.Block.{Header, read_header}
 use Rattle.br_model.specs.Volume.{Volume, volume_bytes, LaidBlock, is_above, AreLaidFrom, AreLaid}
 use Rattle.br_model.specs.Job.{Span}
 use Rattle.br_model.specs.Stored.{is_in_span, IsSpanLaid}
-use Rattle.br_model.proofs.VolumeLaws.{header_has_24}
-use Rattle.br_model.proofs.SpanLaws.{everywhere, read_header_front, less_covered}
+use Rattle.br_model.proofs.VolumeLaws.{header_has_16}
+use Rattle.br_model.proofs.SpanLaws.{everywhere, read_header_more, less_covered}
 use Rattle.br_model.proofs.ListLaws.{all_weaker, keeps_all, keeps_none}
 
 -- a block that is as long as its header says
@@ -41,14 +41,14 @@ blocks_are_laid address (b ∷ bs) whole =
     let w = whole.0 in
     let h = w.header in
     let behind = joined bs in
-    let long : 24 ≤ length b = (header_has_24 b h w.read).0 in
+    let long : 16 ≤ length b = (header_has_16 b h w.read).0 in
     let taken : take h.size (b ++ behind) ≡ b = take_at b behind h.size (sym w.size_is) in
     let dropped : drop h.size (b ++ behind) ≡ behind = drop_at b behind h.size (sym w.size_is) in
     let rest = blocks_are_laid (address + length b) bs whole.1 in (
       omega (arith, long, length-append b behind),
       refl,
       h,
-      read_header_front b behind long ∙ w.read,
+      read_header_more b behind h w.read,
       (λ q. omega (arith, w.size_is, length-append b behind)),
       ap (λ (xs : List ℕ). record { address = address; bytes = xs }) (sym taken),
       laid_same (address + length b) (address + h.size) behind (drop h.size (b ++ behind)) None (laid_at (address + length b) bs) (omega (arith, w.size_is)) (sym dropped) rest,
@@ -66,7 +66,7 @@ laid_behind address left more bound [] cs below laid behind =
     ]
 laid_behind address left more bound (b ∷ bs) cs below laid behind =
     let h = laid.2 in
-    let long : 24 ≤ length left = (header_has_24 left h laid.3).0 in
+    let long : 16 ≤ length left = (header_has_16 left h laid.3).0 in
     let whole : h.size ≤ length left = laid.4 refl in
     let left_is = length-drop h.size left in
     let same : ◌≡◌ {A = LaidBlock} (record { address = address; bytes = take h.size left }) (record { address = address; bytes = take h.size (left ++ more) }) =
@@ -77,7 +77,7 @@ laid_behind address left more bound (b ∷ bs) cs below laid behind =
       omega (arith, long, length-append left more),
       below address (omega (arith, long)),
       h,
-      read_header_front left more long ∙ laid.3,
+      read_header_more left more h laid.3,
       (λ q. omega (arith, whole, length-append left more)),
       laid.5 ∙ same,
       laid_same (address + h.size) (address + h.size) (drop h.size left ++ more) (drop h.size (left ++ more)) bound (bs ++ cs) refl (sym (drop-append-le h.size left more whole)) rest,

@@ -16,14 +16,17 @@ fn push_session(case: &mut Case, session: SessionKey) {
     case.number(u64::from(session.time));
 }
 
-/// Prints a header: checksum, size, number and session.
+/// Prints a header: checksum, size, number, and the session or `none`.
 fn push_head(case: &mut Case, head: BlockHead) {
     case.numbers(&[
         i64::from(head.checksum),
         i64::from(head.size),
         i64::from(head.number),
     ]);
-    push_session(case, head.session);
+    match head.session {
+        Some(session) => push_session(case, session),
+        None => case.text("none"),
+    }
 }
 
 /// Prints a fragment: index, stream, size, session and data.
@@ -151,7 +154,7 @@ const WRITTEN: BlockHead = BlockHead {
     checksum: 0x0102_0304,
     size: 91,
     number: 0xffff_fffe,
-    session: SESSION,
+    session: Some(SESSION),
 };
 
 /// Prints `WRITTEN` as it is written.

@@ -13,7 +13,7 @@ use Rattle.br_model.specs.Block.{Header, read_header, read_block}
 use Rattle.br_model.specs.Job.{Span}
 use Rattle.br_model.specs.Session.{Place, Visit, onto_visits, visits, visit_length, length_of, spans_from, checked_spans}
 use Rattle.br_model.proofs.AnswerLaws.{bind_ok, chosen, ok_is, err_is, err_is_not_ok}
-use Rattle.br_model.proofs.VolumeLaws.{header_has_24}
+use Rattle.br_model.proofs.VolumeLaws.{header_has_16}
 use Rattle.br_model.proofs.ListLaws.{long_is_not_empty}
 use Rattle.br_session.specs.Spans.{length_at, AreLengths, AreReadable, share, span_at, checked_span}
 use Rattle.br_session.proofs.DealLaws.{visits_cut, no_visits, images_cut}
@@ -81,12 +81,12 @@ spans_only_42 starts vs n e =
 
 -- ---- blocks that can be read
 
--- a block that can be read has 24 bytes at least
-readable_is_long : (block : List ℕ) → read_block block ≡ Ok block → 24 ≤ length block
+-- a block that can be read has 16 bytes at least
+readable_is_long : (block : List ℕ) → read_block block ≡ Ok block → 16 ≤ length block
 unfolding read_block
 readable_is_long block e =
     let head = bind_ok (read_header block) (λ (h : Header). cond (ltb (length block) h.size) (Err 12) (Ok (take h.size block))) block e in
-    (header_has_24 block head.0 head.1).0
+    (header_has_16 block head.0 head.1).0
 
 pub some_bytes : (blocks : List (List ℕ)) → AreReadable blocks → 0 < length blocks → 1 ≤ sum_by (λ (block : List ℕ). length block) blocks
 some_bytes [] readable some = absurd (omega arith)

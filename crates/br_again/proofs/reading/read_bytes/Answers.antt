@@ -1,8 +1,8 @@
-use Rattle.std.proofs.Common.{◌≡◌, Ok, Err, length, take, subst}
-use Rattle.std.specs.Prelude.{◌≤◌}
+use Rattle.std.proofs.Common.{Ok, Err, subst}
 use Rattle.br_volume.specs.Drive.{AnswersOver}
 use Rattle.br_volume.specs.declared.drive.Got.{Got}
 use Rattle.br_volume.specs.declared.fault.DriveFault.{DriveFault}
+use Rattle.br_again.specs.Reading.{AreFirst}
 use Rattle.br_again.proofs.ReadLaws.{of_earlier, first_read, none_at_end, none_if_unknown, shows_first}
 use Rattle.br_again.proofs.reading.read_bytes.Goals as goal
 
@@ -11,7 +11,7 @@ returns-in-Ok-Block-clause-first g c =
     let earlier = g.D.Drive.shows c.args.drive.now in
     let later = g.D.Drive.shows c.block_at.new.self in
     let buffer = c.block_at.new.buf.items in
-    of_earlier earlier later c.args.vol.now c.args.addr (λ block. c.args.size ≤ length block → buffer ≡ take c.args.size block) c.block_at.ensures.grows
+    of_earlier earlier later c.args.vol.now c.args.addr (AreFirst buffer c.args.size) c.block_at.ensures.grows
     (first_read later c.args.vol.now c.args.addr c.args.size c.in-Ok-Block.field-0-0 buffer
     (subst (λ (got : Got). AnswersOver later c.args.vol.now c.args.addr c.args.size buffer (Ok got)) c.in-Ok-Block.field-0-is c.in-Ok-Block.ensures.answers))
 

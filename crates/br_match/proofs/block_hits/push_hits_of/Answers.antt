@@ -2,7 +2,7 @@ use Rattle.std.proofs.Common.{◌≡◌, ℕ, map, ◌++◌, ◌∷◌, [], List
 use Rattle.std.proofs.lemmas.List.{append-nil}
 use Rattle.br_model.specs.Block.{Fragment}
 use Rattle.br_model.specs.Meaning.{Hit}
-use Rattle.br_match.specs.Groups.{first_admitting, hits_of_fragments}
+use Rattle.br_match.specs.Groups.{first_for, hits_of_fragments}
 use Rattle.br_match.proofs.GroupLaws.{listed, pushed_more}
 use Rattle.br_match.proofs.block_hits.push_hits_of.Goals as goal
 use Rattle.br_match.proofs.block_hits.push_hits_of.Goals.{in-Some-2+in_ok-push, in_default}
@@ -13,7 +13,7 @@ loop-fragment-preserved c =
     let f = c.in-Some.fragment in
     let i = l.invariant in
     let found = l.hits.items in
-    let first : Fragment → Option ℕ = λ (g : Fragment). first_admitting g.index g.stream (map (λ m. m.now) c.args.near.now) in
+    let first : Fragment → Option ℕ = first_for c.args.session (map (λ m. m.now) c.args.near.now) in
     let pushed : c.match-branch-2.hits.items ≡ found ++ listed c.in_ok-hit.field-0 =
     elim c.match-branch-2.branch [
       | in-Some-2+in_ok-push w ↦ ap (λ v. v.items) w.hits-is ∙ w.in_ok-push.ensures.items ∙ ap (λ (o : Option Hit). found ++ listed o) (sym w.in-Some-2.is)
@@ -30,4 +30,4 @@ returns c =
     let i = l.invariant in
     let all : l.yielded ≡ c.args.fragments =
     sym (append-nil l.yielded) ∙ ap (λ (fs : List Fragment). l.yielded ++ fs) (sym c.in-None.ensures.steps.0) ∙ i.2 in
-    i.0 ∙ ap (λ (fs : List Fragment). c.args.hits.now.items ++ hits_of_fragments (λ (f : Fragment). first_admitting f.index f.stream (map (λ m. m.now) c.args.near.now)) c.args.addr 0 fs) all
+    i.0 ∙ ap (λ (fs : List Fragment). c.args.hits.now.items ++ hits_of_fragments (first_for c.args.session (map (λ m. m.now) c.args.near.now)) c.args.addr 0 fs) all

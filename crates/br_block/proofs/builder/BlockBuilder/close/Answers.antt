@@ -1,4 +1,4 @@
-use Rattle.std.proofs.Common.{◌≡◌, ◌++◌, length, drop, take, Ok, ap, ◌∙◌, arith}
+use Rattle.std.proofs.Common.{◌≡◌, ◌++◌, length, drop, take, Some, Ok, refl, ap, ◌∙◌, arith}
 use Rattle.br_model.specs.Session.{written_block}
 use Rattle.br_block.proofs.BuildingLaws.{written_back, closed_is, closed_is_whole, closed_reads_back}
 use Rattle.br_model.specs.Block.{Header, header_bytes, read_header, fragment_bytes}
@@ -18,14 +18,14 @@ closed : (c : goal.After-bytes-3-1) → c.put_header.new.bytes ≡ written_block
 closed c =
     let b = c.self.inside in
     let len : c.len.result ≡ length b.bytes.items = omega (arith, b.bytes.ok) in
-    let said : c.put_header.new.bytes ≡ header_bytes (record { checksum = 0; size = c.len.result; number = b.number; session = b.session }) ++ drop 24 c.deref_mut.result.now = c.put_header.ensures.text in
+    let said : c.put_header.new.bytes ≡ header_bytes (record { checksum = 0; size = c.len.result; number = b.number; session = Some b.session }) ++ drop 24 c.deref_mut.result.now = c.put_header.ensures.text in
     said ∙ rw (len, c.deref_mut.ensures.value) (closed_is b.session b.limit b.number b.bytes.items c.self.invariant)
 
 pub returns-clause-block : goal.returns-clause-block
 returns-clause-block c = back c ∙ closed c ∙ ap (λ (b : Building). written_block b.session (b.number, b.fragments)) c.self.view_is
 
 abbrev header : (c : goal.After-bytes-3-1) → Header
-header c = record { checksum = 0; size = c.len.result; number = c.self.inside.number; session = c.self.inside.session }
+header c = record { checksum = 0; size = c.len.result; number = c.self.inside.number; session = Some c.self.inside.session }
 
 read : (c : goal.After-bytes-3-1) → read_header c.put_header.new.bytes ≡ Ok (header c)
 read c =
@@ -42,5 +42,5 @@ returns-clause-reads_back c =
     let i = c.self.invariant in
     let fs = fragments_after b.session b.bytes.items in
     let behind : drop 24 c.put_header.new.bytes ≡ flat_map fragment_bytes fs =
-    ap (drop 24) c.put_header.ensures.text ∙ behind_header _ (drop 24 c.deref_mut.result.now) ∙ ap (drop 24) c.deref_mut.ensures.value ∙ i.joined in
-    rw (back c) (closed_reads_back c.put_header.new.bytes (header c) fs (read c) behind i.filled i.each ∙ ap (λ (x : Building). x.fragments) c.self.view_is)
+    ap (drop 24) c.put_header.ensures.text ∙ behind_header (header c) (drop 24 c.deref_mut.result.now) ∙ ap (drop 24) c.deref_mut.ensures.value ∙ i.joined in
+    rw (back c) (closed_reads_back c.put_header.new.bytes (header c) b.session fs (read c) refl behind i.filled i.each ∙ ap (λ (x : Building). x.fragments) c.self.view_is)
