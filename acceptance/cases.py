@@ -5,8 +5,9 @@
 
 Without an executable it is crates/brestore/out/brestore, which tools/prove_all makes. Each case is run once for its
 manifest alone, once by sixteen drives, and once with `--into` and a new folder. The folder is then compared with the expected
-manifest: each file's length and digest, and each folder. A last run, into the same folder, has to be refused and to change
-nothing. The status is 0 if each case has the expected exit status, standard output and standard error, byte for byte, and the
+manifest: each file's length and digest, and each folder. A run into the same folder has to be refused and to change nothing.
+A last run, with `--newest` and `--complete`, has to leave the newest copies in a second folder, and to report nothing. Then a
+volume is cut before a session that the bootstrap asks for: `--complete` has to report it. The status is 0 if each case has the expected exit status, standard output and standard error, byte for byte, and the
 folder has what it should and nothing else. README.md lists the cases.
 """
 import lzma
@@ -21,7 +22,7 @@ from pathlib import Path
 sys.dont_write_bytecode = True
 sys.path.insert(0, os.path.join(os.path.dirname(os.path.dirname(os.path.abspath(__file__))), "tools"))
 from common import CASES, PROGRAM, SETS
-from delivered import delivery, tree_of
+from delivered import delivery, newest_copies, tree_of
 
 
 def unpack(volumes, folder):
@@ -45,6 +46,32 @@ def differences(words, status, manifest, refusals):
     return [name for name, (answer, expected) in answers.items() if answer != expected]
 
 
+def newest_faults(words, into, expected):
+    """Returns what of a run by `--newest` and `--complete` differs, whose status, manifest and refusals are given."""
+    status, manifest, refusals = expected
+    tree, stop = delivery(newest_copies(manifest))
+    if stop is not None:
+        status, refusals = 1, refusals + b"refused %d\n" % stop
+    into.mkdir()
+    wrong = differences([*words, "--newest", "--complete", "--into", into], status, manifest, refusals)
+    wrong = [f"{name} of the newest copies" for name in wrong]
+    return wrong if tree_of(into) == tree else wrong + ["the newest copies"]
+
+
+def cut_faults(executable, folder):
+    """Returns what differs after the volume of two sessions and a third is cut before the third, which the bootstrap asks for."""
+    case, volumes = Path(CASES) / "order-written", folder / "cut"
+    unpack(Path(SETS) / "order", volumes)
+    volume = volumes / "Vol-0001"
+    volume.write_bytes(volume.read_bytes()[:1656])
+    lines = (case / "expected").read_bytes().splitlines(keepends=True)
+    kept = [line for line in lines if line.startswith(b"F ") and not line.startswith(b"F 1 1795302940 ")]
+    manifest = b"".join(kept) + b"total %d 0 0\n" % len(kept)
+    words = [executable, "extract", "--bsr", case / "x.bsr", "--volumes", volumes]
+    wrong = differences(words, 0, manifest, b"")
+    return wrong + differences([*words, "--complete"], 1, manifest, b"missing 1 1795302940 1 Vol-0001\n")
+
+
 def faults(executable, case, folder):
     """Returns what of the runs of a case differs from what is expected."""
     volumes = folder / case.name / (case / "set").read_text().strip()
@@ -58,6 +85,7 @@ def faults(executable, case, folder):
         (case / "stderr").read_bytes(),
     )
     wrong = differences(words, status, manifest, refusals)
+    wrong += newest_faults(words, folder / case.name / "newest", (status, manifest, refusals))
     many = differences([*words, "--drives", "16"], status, manifest, refusals)
     wrong += [f"{name} with 16 drives" for name in many]
     tree, stop = delivery(manifest)
@@ -80,8 +108,10 @@ def main(arguments):
             wrong = faults(executable, Path(CASES) / name, Path(folder))
             failed += bool(wrong)
             print(f"{name}: {'differs in ' + ', '.join(wrong) if wrong else 'as expected'}")
+        cut = cut_faults(executable, Path(folder))
+        print(f"a cut volume: {'differs in ' + ', '.join(cut) if cut else 'as expected'}")
     print(f"{len(names) - failed} as expected, {failed} not")
-    return 1 if failed else 0
+    return 1 if failed or cut else 0
 
 
 if __name__ == "__main__":

@@ -51,6 +51,19 @@ def delivery(manifest):
     return tree, None
 
 
+def newest_copies(manifest):
+    """Returns a manifest without the files of whose path there is one of a later session, or a later one of the same session."""
+    files = {}
+    lines = manifest.splitlines(keepends=True)
+    for line in lines:
+        fields = line.split(b" ")
+        if fields[0] == b"F":
+            session, time, index = (int(field) for field in fields[1:4])
+            files.setdefault(fields[5], []).append(((time, session, index), line))
+    newest = {max(copies)[1] for copies in files.values()}
+    return b"".join(line for line in lines if not line.startswith(b"F ") or line in newest)
+
+
 def tree_of(folder):
     """Returns what is below a folder, as `delivery` does."""
     tree, top = {}, os.fsencode(folder)

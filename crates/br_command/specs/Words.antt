@@ -6,12 +6,17 @@ use Rattle.clap.specs.Simple.{App, new_app, new_rule, on_top, subcommand_of, wit
 use Rattle.clap.specs.ValueTests.{is_unsigned_in}
 use Rattle.clap.specs.Walk.{Row, Rule, Text, first_of, one_of}
 use Rattle.clap.specs.Faults.{fault_of}
-use Rattle.clap.specs.declared.builder.action.ArgAction.TheVariants.{Set}
+use Rattle.clap.specs.declared.builder.action.ArgAction.TheVariants.{Set, SetTrue}
 use Rattle.clap.specs.declared.builder.value_parser.ValueParser.TheVariants.{NonEmptyString, Unsigned}
 use Rattle.clap.specs.declared.error.kind.ErrorKind.{ErrorKind}
 use Rattle.clap.specs.declared.error.kind.ErrorKind.TheVariants.{ArgumentConflict, MissingRequiredArgument}
 use Rattle.clap.specs.Simple.{subcommand_rows_of}
 use Rattle.clap.specs.declared.parser.matches.ArgMatches.{ArgMatches}
+use Rattle.br_options.specs.declared.options.Copies.{Copies}
+use Rattle.br_options.specs.declared.options.Copies.TheVariants as copies
+use Rattle.br_options.specs.declared.options.Gaps.{Gaps}
+use Rattle.br_options.specs.declared.options.Gaps.TheVariants as gaps
+use Rattle.br_options.specs.declared.options.Wanted.{Wanted}
 use Rattle.br_options.specs.declared.options.Invocation.{Invocation}
 use Rattle.br_options.specs.declared.options.Invocation.TheVariants as commands
 use Rattle.br_options.specs.declared.options.Target.{Target}
@@ -25,12 +30,12 @@ pub data Goal : Type 0 where
   TarOutput : Goal
 
 -- a command of the program: a script; a script, a catalogue's file and the folder of the volumes; a bootstrap's file, the folder of the
--- volumes, where the files go, and the number of drives; a catalogue's file, the folder of the volumes, client, file set and moment, and
--- the same two; a number; all numbers
+-- volumes, where the files go, the number of drives, and what else is done; a catalogue's file, the folder of the volumes, client, file
+-- set and moment, where the files go and the number of drives; a number; all numbers
 pub data Asked : Type 0 where
   Serve : Asked
   ServeFiles : Text → Text → Asked
-  Extract : Text → Text → Goal → ℕ → Asked
+  Extract : Text → Text → Goal → ℕ → Wanted → Asked
   Console : Text → Text → Text → Text → Text → Goal → ℕ → Asked
   Explain : ℕ → Asked
   ExplainAll : Asked
@@ -46,7 +51,7 @@ target targets.TarOutput = TarOutput
 abbrev pub asked : Invocation → Asked
 asked commands.Serve = Serve
 asked (commands.ServeFiles o) = ServeFiles o.db.now o.volumes.now
-asked (commands.Extract o) = Extract o.bsr.now o.volumes.now (target o.target) o.drives
+asked (commands.Extract o) = Extract o.bsr.now o.volumes.now (target o.target) o.drives o.wanted
 asked (commands.Console o) =
     Console o.db.now o.volumes.now o.client.now o.fileset.now o.before.now (target o.target) o.drives
 asked (commands.Explain number) = Explain number
@@ -62,6 +67,10 @@ value_rule name is_required = record (new_rule name) {
   required = is_required;
 }
 
+-- an option `--name` without a value
+abbrev pub flag_rule : Text → Rule
+flag_rule name = record (new_rule name) { long = Some name; action = Some SetTrue }
+
 -- `--drives N`, a number from 1 to 16, which is 1 if the option is left out
 abbrev pub drives_rule : Rule
 drives_rule = record (value_rule (codes "drives") false) { parser = Some (Unsigned 1 16); defaults = codes "1" ∷ [] }
@@ -74,10 +83,15 @@ with_target_rules app = with_rule (with_rule app (value_rule (codes "into") fals
 abbrev pub with_run_rules : App → App
 with_run_rules app = with_rule (with_target_rules app) drives_rule
 
+-- a command with `--newest` and `--complete`, which may be left out
+abbrev pub with_wanted_rules : App → App
+with_wanted_rules app = with_rule (with_rule app (flag_rule (codes "newest"))) (flag_rule (codes "complete"))
+
 -- `extract --bsr FILE --volumes DIR`, and the options that may be left out
 unfoldable pub extract_app : App
 extract_app =
-    with_run_rules (with_rule (with_rule (new_app (codes "extract")) (value_rule (codes "bsr") true)) (value_rule (codes "volumes") true))
+    with_wanted_rules
+    (with_run_rules (with_rule (with_rule (new_app (codes "extract")) (value_rule (codes "bsr") true)) (value_rule (codes "volumes") true)))
 
 -- `console --db FILE --volumes DIR`, which is not all of it
 unfoldable pub console_start_app : App
@@ -144,6 +158,35 @@ target_by (Some folder) (Some file) = None
 unfoldable pub target_asked : List Row → Option Goal
 target_asked rows = target_by (first_of (codes "into") rows) (first_of (codes "tar") rows)
 
+-- whether a value is that of an option that was given
+abbrev pub is_true : Option Text → Bool
+is_true None = false
+is_true (Some value) = bytes_eq value (codes "true")
+
+-- whether an option without a value was given
+abbrev pub is_given : Text → List Row → Bool
+is_given name rows = is_true (first_of name rows)
+
+-- which files are delivered: with `--newest` the newest copies
+abbrev pub copies_by : Bool → Copies
+copies_by is_newest = if is_newest then copies.Newest else copies.All
+
+-- the same by the values that were found for the options
+unfoldable pub copies_asked : List Row → Copies
+copies_asked rows = copies_by (is_given (codes "newest") rows)
+
+-- whether missing indexes are reported: with `--complete`
+abbrev pub gaps_by : Bool → Gaps
+gaps_by is_complete = if is_complete then gaps.Reported else gaps.Unreported
+
+-- the same by the values that were found for the options
+unfoldable pub gaps_asked : List Row → Gaps
+gaps_asked rows = gaps_by (is_given (codes "complete") rows)
+
+-- what else `extract` does
+abbrev pub wanted_asked : List Row → Wanted
+wanted_asked rows = record { copies = copies_asked rows; gaps = gaps_asked rows }
+
 -- the command `explain` by the value that was found, if any
 unfoldable pub explain_asked : List Row → Option Asked
 explain_asked rows =
@@ -155,7 +198,7 @@ unfoldable pub extract_asked : List Row → Option Asked
 extract_asked rows =
     option_and_then (λ bsr.
     option_and_then (λ volumes.
-    option_and_then (λ goal. option_map (Extract bsr volumes goal) (drives_asked rows))
+    option_and_then (λ goal. option_map (λ drives. Extract bsr volumes goal drives (wanted_asked rows)) (drives_asked rows))
     (target_asked rows))
     (first_of (codes "volumes") rows))
     (first_of (codes "bsr") rows)

@@ -4,13 +4,17 @@ ghost use Rattle.clap.specs.Walk.{first_of};
 ghost use Rattle.clap.specs.Words.{FailsBy, app_of, fault_of, found_of, rows_of, rule_of, subcommand_rows_of};
 ghost use Rattle.clap.specs.declared.builder.command.Command.TheViews.{out-Command as fields_of};
 ghost use Rattle.br_options.specs.Options.{AreFew, HasDrives};
+ghost use Rattle.br_command.specs.Words.{copies_asked, copies_by, gaps_asked, gaps_by, is_given, wanted_asked};
+ghost use Rattle.br_command.specs.Words.{flag_rule, with_wanted_rules};
 ghost use Rattle.br_command.specs.Words.{AsksFor, MissesBy, asked, asked_by, words_asked, words_fault, words_kind, with_run_rules};
 ghost use Rattle.br_command.specs.Words.{console_asked, drives_asked, explain_asked, extract_asked, number_asked, serve_asked, serve_by, target_asked};
 ghost use Rattle.br_command.specs.Words.{kind_by, kind_in, tar_target, target, target_by, with_target_rules};
 ghost use Rattle.br_command.specs.Words.{console_app, console_jobs_app, console_start_app, explain_app, extract_app};
 ghost use Rattle.br_command.specs.Words.{drives_rule, extracting_app, number_rule, program_app, restoring_app, serve_app, value_rule};
 
-use br_options::{ConsoleOptions, ExtractOptions, Invocation, ServeOptions, Target};
+use br_options::{
+    ConsoleOptions, Copies, ExtractOptions, Gaps, Invocation, ServeOptions, Target, Wanted,
+};
 use clap::builder::ValueParser;
 use clap::error::ErrorKind;
 use clap::{Arg, ArgAction, ArgMatches, Command, Error};
@@ -37,6 +41,41 @@ fn value_option<'a>(
         .action(ArgAction::Set)
         .required(is_required)
         .help(help)
+}
+
+/// Returns an option `--name` without a value.
+fn flag_option<'a>(alloc: Global, name: &'a str, help: &'a str) -> Arg<'a>
+    ensures rule { rule_of result ≡ flag_rule name.entry.now }
+    ensures local { result.global ≡ false }
+{
+    Arg::new(alloc, name)
+        .long(name)
+        .action(ArgAction::SetTrue)
+        .help(help)
+}
+
+/// Returns the option for the newest copies.
+fn newest_option<'a>(alloc: Global) -> Arg<'a>
+    ensures rule { rule_of result ≡ flag_rule (codes "newest") }
+    ensures local { result.global ≡ false }
+{
+    flag_option(
+        alloc,
+        "newest",
+        "Writes the newest copy alone of a path that comes several times",
+    )
+}
+
+/// Returns the option for the indexes that are missing.
+fn complete_option<'a>(alloc: Global) -> Arg<'a>
+    ensures rule { rule_of result ≡ flag_rule (codes "complete") }
+    ensures local { result.global ≡ false }
+{
+    flag_option(
+        alloc,
+        "complete",
+        "Reports the files that the bootstrap asks for and that are not there",
+    )
 }
 
 /// Returns the option for the folder to write into, which may be left out.
@@ -99,6 +138,17 @@ fn with_run_options<'a>(alloc: Global, command: Command<'a>) -> Result<Command<'
     with_target_options(alloc, command)?.arg(drives_option(alloc))
 }
 
+/// Returns the command with the options for what else a restore does, `--newest` and `--complete`.
+fn with_wanted_options<'a>(alloc: Global, command: Command<'a>) -> Result<Command<'a>, AllocError>
+    requires { (fields_of command).has_globals ≡ false }
+    ensures app { IfOk result (λ r. app_of r ≡ with_wanted_rules (app_of command.entry)) }
+    ensures local { IfOk result (λ r. (fields_of r).has_globals ≡ false) }
+{
+    command
+        .arg(newest_option(alloc))?
+        .arg(complete_option(alloc))
+}
+
 /// Returns `extract` with its options.
 fn extract_command<'a>(alloc: Global) -> Result<Command<'a>, AllocError>
     ensures app { IfOk result (λ command. app_of command ≡ extract_app) }
@@ -108,7 +158,7 @@ fn extract_command<'a>(alloc: Global) -> Result<Command<'a>, AllocError>
         .about("Restores the files of a bootstrap from a folder of volumes")
         .arg(value_option(alloc, "bsr", "FILE", true, "The file of the bootstrap"))?
         .arg(value_option(alloc, "volumes", "DIR", true, "The folder of the volumes"))?;
-    with_run_options(alloc, command)
+    with_wanted_options(alloc, with_run_options(alloc, command)?)
 }
 
 /// Returns an option of the console that is required.
@@ -271,6 +321,64 @@ fn drives_of(found: &ArgMatches<'_>) -> Option<usize>
     }
 }
 
+/// Returns if an option without a value was found.
+fn is_found(found: &ArgMatches<'_>, name: &str) -> bool
+    ensures { result ≡ is_given name.now (rows_of (found_of found.now)) }
+{
+    match value_of(found, name) {
+        Some(value) => value == "true",
+        None => false,
+    }
+}
+
+/// Returns which files are to be delivered, by whether `--newest` was given.
+fn copies_by(is_newest: bool) -> Copies
+    ensures { result ≡ copies_by is_newest }
+{
+    if is_newest {
+        Copies::Newest
+    } else {
+        Copies::All
+    }
+}
+
+/// Returns which files are to be delivered.
+#[tactic(auto, unfolding(crate::specs::Words::copies_asked))]
+fn copies_of(found: &ArgMatches<'_>) -> Copies
+    ensures { result ≡ copies_asked (rows_of (found_of found.now)) }
+{
+    copies_by(is_found(found, "newest"))
+}
+
+/// Returns if missing indexes are to be reported, by whether `--complete` was given.
+fn gaps_by(is_complete: bool) -> Gaps
+    ensures { result ≡ gaps_by is_complete }
+{
+    if is_complete {
+        Gaps::Reported
+    } else {
+        Gaps::Unreported
+    }
+}
+
+/// Returns if missing indexes are to be reported.
+#[tactic(auto, unfolding(crate::specs::Words::gaps_asked))]
+fn gaps_of(found: &ArgMatches<'_>) -> Gaps
+    ensures { result ≡ gaps_asked (rows_of (found_of found.now)) }
+{
+    gaps_by(is_found(found, "complete"))
+}
+
+/// Returns what else the restore is to do.
+fn wanted_of(found: &ArgMatches<'_>) -> Wanted
+    ensures { result ≡ wanted_asked (rows_of (found_of found.now)) }
+{
+    Wanted {
+        copies: copies_of(found),
+        gaps: gaps_of(found),
+    }
+}
+
 /// Returns the number to explain that was found.
 fn number_of(found: &ArgMatches<'_>) -> Option<u32>
     ensures { result ≡ number_asked (rows_of (found_of found.now)) }
@@ -293,6 +401,7 @@ fn extract_found<'a>(found: &ArgMatches<'a>) -> Option<Invocation<'a>>
         volumes: value_of(found, "volumes")?,
         target: target_of(found)?,
         drives: drives_of(found)?,
+        wanted: wanted_of(found),
     }))
 }
 
@@ -436,8 +545,8 @@ fn read_by<'a>(command: &mut Command<'a>, words: &'a [String]) -> Result<Invocat
 /// Reads the words of a command line, of which the first is the program's name.
 ///
 /// The commands are `extract --bsr FILE --volumes DIR`, `console --db FILE --volumes DIR --client NAME --fileset NAME
-/// --before MOMENT`, `explain [N]` and `serve`. The first two also take `--into DIR` or `--tar FILE`, and `--drives N`; the last takes
-/// `--db FILE` and `--volumes DIR`, both or neither. No command is the same as `serve`.
+/// --before MOMENT`, `explain [N]` and `serve`. The first two also take `--into DIR` or `--tar FILE`, and `--drives N`; the first takes
+/// `--newest` and `--complete`; the last takes `--db FILE` and `--volumes DIR`, both or neither. No command is the same as `serve`.
 ///
 /// # Errors
 ///

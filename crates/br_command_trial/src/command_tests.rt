@@ -1,5 +1,7 @@
 use br_command::read_words;
-use br_options::{ConsoleOptions, ExtractOptions, Invocation, ServeOptions, Target};
+use br_options::{
+    ConsoleOptions, Copies, ExtractOptions, Gaps, Invocation, ServeOptions, Target, Wanted,
+};
 use clap::error::ErrorKind;
 use std::alloc::Global;
 use std::test::Fail;
@@ -91,6 +93,35 @@ const EXTRACT: ExtractOptions<'static> = ExtractOptions {
     volumes: "sets/V",
     target: Target::Nowhere,
     drives: 1,
+    wanted: Wanted {
+        copies: Copies::All,
+        gaps: Gaps::Unreported,
+    },
+};
+
+const EXTRACT_NEWEST: ExtractOptions<'static> = ExtractOptions {
+    wanted: Wanted {
+        copies: Copies::Newest,
+        gaps: Gaps::Unreported,
+    },
+    ..EXTRACT
+};
+
+const EXTRACT_COMPLETE: ExtractOptions<'static> = ExtractOptions {
+    wanted: Wanted {
+        copies: Copies::All,
+        gaps: Gaps::Reported,
+    },
+    ..EXTRACT
+};
+
+const EXTRACT_BOTH: ExtractOptions<'static> = ExtractOptions {
+    target: Target::Folder("e"),
+    wanted: Wanted {
+        copies: Copies::Newest,
+        gaps: Gaps::Reported,
+    },
+    ..EXTRACT
 };
 
 const EXTRACT_INTO: ExtractOptions<'static> = ExtractOptions {
@@ -126,6 +157,21 @@ const CONSOLE_TAR: ConsoleOptions<'static> = ConsoleOptions {
 const EXTRACT_LINES: [&str; 2] = [
     "brestore extract --bsr x.bsr --volumes sets/V",
     "brestore extract --volumes=sets/V --bsr=x.bsr",
+];
+
+const EXTRACT_NEWEST_LINES: [&str; 2] = [
+    "brestore extract --bsr x.bsr --volumes sets/V --newest",
+    "brestore extract --newest --volumes=sets/V --bsr=x.bsr",
+];
+
+const EXTRACT_COMPLETE_LINES: [&str; 2] = [
+    "brestore extract --bsr x.bsr --volumes sets/V --complete",
+    "brestore extract --volumes=sets/V --complete --bsr=x.bsr",
+];
+
+const EXTRACT_BOTH_LINES: [&str; 2] = [
+    "brestore extract --bsr x.bsr --volumes sets/V --into e --newest --complete",
+    "brestore extract --complete --newest --into=e --volumes=sets/V --bsr=x.bsr",
 ];
 
 const EXTRACT_INTO_LINES: [&str; 2] = [
@@ -245,6 +291,29 @@ fn restores_are_asked_for(rt: HostRuntime) -> Result<(), Fail> {
 }
 
 #[test]
+fn newest_copies_and_reports_are_asked_for(rt: HostRuntime) -> Result<(), Fail> {
+    let newest = first_other(
+        rt.alloc(),
+        &EXTRACT_NEWEST_LINES,
+        &Invocation::Extract(EXTRACT_NEWEST),
+    )?;
+    let complete = first_other(
+        rt.alloc(),
+        &EXTRACT_COMPLETE_LINES,
+        &Invocation::Extract(EXTRACT_COMPLETE),
+    )?;
+    let both = first_other(
+        rt.alloc(),
+        &EXTRACT_BOTH_LINES,
+        &Invocation::Extract(EXTRACT_BOTH),
+    )?;
+    assert_eq!(rt; newest, None);
+    assert_eq!(rt; complete, None);
+    assert_eq!(rt; both, None);
+    Ok(())
+}
+
+#[test]
 fn tar_streams_are_asked_for(rt: HostRuntime) -> Result<(), Fail> {
     let extract = first_other(
         rt.alloc(),
@@ -346,7 +415,7 @@ fn drives_are_named_once_and_if_volumes_are_read(rt: HostRuntime) -> Result<(), 
     Ok(())
 }
 
-const REFUSED: [&str; 26] = [
+const REFUSED: [&str; 31] = [
     "brestore x",
     "brestore --bsr x",
     "brestore serve x",
@@ -361,6 +430,11 @@ const REFUSED: [&str; 26] = [
     "brestore extract --bsr x --volumes d --into e --into f",
     "brestore extract --bsr x --volumes d --tar=",
     "brestore extract --bsr x --tar f",
+    "brestore extract --bsr x --volumes d --newest=true",
+    "brestore extract --bsr x --volumes d --newest true",
+    "brestore extract --bsr x --volumes d --newest --newest",
+    "brestore extract --bsr x --volumes d --complete --complete",
+    "brestore console --db j --volumes d --client c --fileset f --before b --newest",
     "brestore console",
     "brestore console --db j.db --volumes d --client mars --fileset home",
     "brestore console --db j.db --volumes d --client mars --before 2026-11-22",

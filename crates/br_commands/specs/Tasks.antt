@@ -2,11 +2,13 @@
 use Rattle.std.specs.Prelude.{ℕ, List, map, Option, Some, option_map, Result}
 use Rattle.br_model.specs.Volume.{Volume}
 use Rattle.br_model.specs.File.{Item}
-use Rattle.br_engine.specs.Delivering.{Delivers as DeliversFiles, DeliversText, in_sink}
+use Rattle.br_engine.specs.Delivering.{in_sink}
 use Rattle.br_engine.specs.Extracting.{OverText}
 use Rattle.br_engine.specs.Outputs.{InSink}
-use Rattle.br_engine.specs.declared.outputs.RestoreEnd.{RestoreEnd}
 use Rattle.br_engine.specs.declared.fault.ExtractFault.{ExtractFault}
+use Rattle.br_extract.specs.Extracting.{Extracts, ExtractsText}
+use Rattle.br_extract.specs.Wanted.{IsReport}
+use Rattle.br_extract.specs.declared.extracting.Extracted.{Extracted}
 use Rattle.br_console.specs.Delivering.{Delivers}
 use Rattle.br_console.specs.declared.ending.ConsoleRun.{ConsoleRun}
 use Rattle.br_console.specs.declared.console_fault.ConsoleFault.{ConsoleFault}
@@ -19,20 +21,22 @@ use Rattle.br_commands.specs.declared.extract.ExtractTask.{ExtractTask}
 use Rattle.br_commands.specs.declared.console.ConsoleStream.{ConsoleStream}
 use Rattle.br_commands.specs.declared.console.ConsoleTask.{ConsoleTask}
 
--- the manifest of the files that the bootstrap gives over the drives, and what became of these files in the sink; or why there is none
+-- the manifest of the files that the bootstrap gives over the drives, what became of those of them that are wanted in the sink, and what is
+-- reported as missing; or why there is none
 abbrev pub ExtractsTask : {D W S : Type 0} → (D → Option (List Volume)) → (W → Option (List ℕ)) → (S → Option (List Item))
-    → ExtractTask D W S → ExtractTask D W S → Result RestoreEnd ExtractFault → Type 0
+    → ExtractTask D W S → ExtractTask D W S → Result Extracted ExtractFault → Type 0
 ExtractsTask shows contents has before after result =
-    DeliversText shows contents has before.drives.items after.drives.items before.out after.out (Some before.text.items) result
+    ExtractsText shows contents has before.drives.items after.drives.items before.out after.out before.text.items before.wanted result
 
--- The manifest of the files that the bootstrap gives over the drives, and what the sink was told of them; or why there is no manifest.
--- The stream of the sink is that of what it was told, and has an end if all files were put and it could be written.
+-- The manifest of the files that the bootstrap gives over the drives, what the sink was told of those of them that are wanted, and what is
+-- reported as missing; or why there is no manifest. The stream of the sink is that of what it was told, and has an end if all files were
+-- put and it could be written.
 abbrev pub StreamsTask : {D W T : Type 0} → (D → Option (List Volume)) → (W → Option (List ℕ)) → (T → Option (List ℕ))
     → ExtractTask D W InTar → ExtractTask D W InTar → ExtractStream T → Type 0
 StreamsTask shows contents holds before after s =
     (now : InSink)
-    × DeliversFiles (λ given. OverText (Some before.text.items) (map shows before.drives.items) (map shows after.drives.items) given)
-    (contents before.out.writer) (contents after.out.writer) (in_sink told before.out) now s.run
+    × Extracts before.wanted (λ given. OverText (Some before.text.items) (map shows before.drives.items) (map shows after.drives.items) given)
+    (IsReport before.wanted.gaps before.text.items) (contents before.out.writer) (contents after.out.writer) (in_sink told before.out) now s.run
     × StreamHolds (extract_extent s.run) now s.end (option_map holds s.writer)
 
 -- the session of the lines over the history and the request, and what became of the planned files in the sink

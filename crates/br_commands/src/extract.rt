@@ -4,16 +4,17 @@ ghost use Rattle.br_options.specs.Options.{AreFew};
 ghost use Rattle.br_pool.specs.Pool.{AreDrives};
 ghost use Rattle.br_setup.specs.Setup.{AreOver};
 ghost use Rattle.br_commands.specs.Asked.{folder_asked, stream_asked};
-ghost use Rattle.br_commands.specs.Ending.{extent, run_refusal, run_status};
+ghost use Rattle.br_commands.specs.Ending.{done_status, extent, run_refusal, run_status};
 ghost use Rattle.br_commands.specs.TarEnding.{IsShown};
 ghost use Rattle.br_commands.specs.Tasks.{ExtractsTask, StreamsTask};
 
 use crate::folders::{HostSink, folder_of, sink_over};
 use crate::status::{BAD_STREAM, Ending};
 use crate::tar::{Channel, Extent, TarEnd, TarFault, add_tar_end, end_stream, tar_into, tar_onto};
-use br_engine::{ExtractFault, Flush, Outputs, RestoreEnd, extract_text, read_text};
+use br_engine::{ExtractFault, Flush, Outputs, RestoreEnd, read_text};
+use br_extract::{Extracted, extract_wanted};
 use br_folder_sink::FolderFault;
-use br_options::{ExtractOptions, Target};
+use br_options::{ExtractOptions, Target, Wanted};
 use br_setup::{CLEAN, HostDrive, REFUSED, drives_over};
 use br_sink::Sink;
 use br_tar::TarSink;
@@ -26,20 +27,29 @@ use std::sync::Wait;
 use std::thread::Threads;
 use thiserror::Error;
 
-/// Returns the exit status and the refusal line for this result.
+/// Returns the exit status of a restore that wrote its manifest.
+fn status_of(done: &Extracted) -> u8
+    ensures { result ≡ done_status done.now }
+{
+    match done.end {
+        RestoreEnd::AllFiles if done.missing.is_empty() => CLEAN,
+        _ => REFUSED,
+    }
+}
+
+/// Returns the exit status and the lines of what is missing or was refused for this result.
 pub fn extract_ending(
     alloc: Global,
-    run: &Result<RestoreEnd, ExtractFault>,
+    run: &Result<Extracted, ExtractFault>,
 ) -> Result<Ending, AllocError>
     ensures status { IfOk result (λ ending. ending.status ≡ run_status run.now) }
     ensures refusal { IfOk result (λ ending. ending.refusal.items ≡ run_refusal run.now) }
 {
     let mut refusal = Vec::new(alloc);
     let status = match run {
-        Ok(RestoreEnd::AllFiles) => CLEAN,
-        Ok(end) => {
-            end.push_line(&mut refusal)?;
-            REFUSED
+        Ok(done) => {
+            done.push_lines(&mut refusal)?;
+            status_of(done)
         }
         Err(ExtractFault::Io(_) | ExtractFault::NoEnd(_)) => BAD_STREAM,
         Err(fault) => {
@@ -63,10 +73,7 @@ fn report_stream<R: Eprint>(rt: &R, fault: &ExtractFault) -> io::Result<()> {
 }
 
 /// Prints how a run ended to standard error. Returns the exit status.
-fn report<R: Eprint + AllocGlobal>(
-    rt: &R,
-    run: Result<RestoreEnd, ExtractFault>,
-) -> io::Result<u8> {
+fn report<R: Eprint + AllocGlobal>(rt: &R, run: Result<Extracted, ExtractFault>) -> io::Result<u8> {
     let ending = extract_ending(rt.alloc(), &run)?;
     if let Err(fault) = &run {
         report_stream(rt, fault)?;
@@ -144,6 +151,7 @@ impl From<AllocError> for ExtractStartFault {
 #[derive(Drop)]
 pub struct ExtractSetup<'r, 'p, S> {
     bootstrap: BootstrapFile<'p>,
+    wanted: Wanted,
     drives: Vec<HostDrive<'r>>,
     sink: Option<S>,
 }
@@ -155,6 +163,7 @@ pub fn set_up_extract<'r, 'p>(
     given: &ExtractOptions<'p>,
 ) -> Result<ExtractSetup<'r, 'p, HostSink<'r>>, ExtractStartFault>
     ensures bootstrap { IfOk result (λ setup. setup.bootstrap.path.now ≡ given.now.bsr.now) }
+    ensures wanted { IfOk result (λ setup. setup.wanted ≡ given.now.wanted) }
     ensures into { IfOk result (λ setup. option_map (λ s. s.path) setup.sink ≡ folder_asked given.now.target) }
     ensures drives { IfOk result (λ setup. length setup.drives.items ≡ given.now.drives) }
     ensures volumes { IfOk result (λ setup. AreOver given.now.volumes.now setup.drives.items) }
@@ -170,6 +179,7 @@ fn set_up_over<'r, 'p, S: Drop>(
     sink: Option<S>,
 ) -> Result<ExtractSetup<'r, 'p, S>, ExtractStartFault>
     ensures bootstrap { IfOk result (λ setup. setup.bootstrap.path.now ≡ given.now.bsr.now) }
+    ensures wanted { IfOk result (λ setup. setup.wanted ≡ given.now.wanted) }
     ensures sink { IfOk result (λ setup. setup.sink ≡ sink) }
     ensures drives { IfOk result (λ setup. length setup.drives.items ≡ given.now.drives) }
     ensures volumes { IfOk result (λ setup. AreOver given.now.volumes.now setup.drives.items) }
@@ -178,6 +188,7 @@ fn set_up_over<'r, 'p, S: Drop>(
     let drives = drives_over(rt, given.volumes, given.drives)?;
     Ok(ExtractSetup {
         bootstrap,
+        wanted: given.wanted,
         drives,
         sink,
     })
@@ -207,10 +218,11 @@ fn refuse<R: Eprint>(rt: &R, bsr: &str, fault: ExtractStartFault) -> io::Result<
     }
 }
 
-/// The text of a bootstrap, the drives to read by, and what to write to.
+/// The text of a bootstrap, what else is wanted, the drives to read by, and what to write to.
 #[derive(Drop)]
 pub struct ExtractTask<D, W, S> {
     text: Vec<u8>,
+    wanted: Wanted,
     drives: Vec<D>,
     out: Outputs<W, S>,
 }
@@ -219,50 +231,65 @@ impl<'r, S> ExtractSetup<'r, '_, S> {
     /// Returns the task to restore by what was set up, with the manifest to this writer.
     pub fn onto<W>(self, writer: W) -> ExtractTask<HostDrive<'r>, W, S>
         ensures text { result.text ≡ self.entry.bootstrap.text }
+        ensures wanted { result.wanted ≡ self.entry.wanted }
         ensures drives { result.drives ≡ self.entry.drives }
         ensures out { result.out ≡ record { writer = writer; sink = self.entry.sink } }
     {
         let ExtractSetup {
             bootstrap,
+            wanted,
             drives,
             sink,
         } = self;
         ExtractTask {
             text: bootstrap.text,
+            wanted,
             drives,
             out: Outputs { writer, sink },
         }
     }
 }
 
-/// Carries out a task. The manifest goes to its writer, and then the files into its sink, if there is
-/// one.
+/// Carries out a task. The manifest goes to its writer, and then the files that are wanted into its sink,
+/// if there is one.
 pub fn extract_over<D: Drive + Send, W: Flush, S: Sink>(
     threads: &(impl Threads + Wait + Sync),
     alloc: Global,
     task: &mut ExtractTask<D, W, S>,
-) -> Result<RestoreEnd, ExtractFault>
+) -> Result<Extracted, ExtractFault>
     requires drives { AreDrives task.old.drives.items }
     ensures delivers { ExtractsTask D.shows W.contents S.has task.old task.new result }
     ensures flushed { IfOk result (λ _. W.is_flushed task.new.out.writer) }
 {
-    extract_text(threads, alloc, &task.text, &mut task.drives, &mut task.out)
+    extract_wanted(
+        threads,
+        alloc,
+        &task.text,
+        task.wanted,
+        &mut task.drives,
+        &mut task.out,
+    )
 }
 
-/// Returns how many of the restored files a run put into its sink.
-fn extent_of(run: &Result<RestoreEnd, ExtractFault>) -> Extent
+/// Returns how many of the wanted files a run put into its sink.
+fn extent_of(run: &Result<Extracted, ExtractFault>) -> Extent
     ensures { result ≡ extent run.now }
 {
     match run {
-        Ok(RestoreEnd::AllFiles | RestoreEnd::SomeFaults) => Extent::All,
-        Ok(RestoreEnd::Stopped(_)) | Err(_) => Extent::Part,
+        Ok(
+            Extracted {
+                end: RestoreEnd::AllFiles | RestoreEnd::SomeFaults,
+                ..
+            },
+        ) => Extent::All,
+        _ => Extent::Part,
     }
 }
 
 /// What came of a run whose files go into a tar stream.
 #[derive(Drop)]
 pub(crate) struct ExtractStream<W> {
-    run: Result<RestoreEnd, ExtractFault>,
+    run: Result<Extracted, ExtractFault>,
     /// What became of the stream.
     end: TarEnd,
     /// What it was written to, if the task has a sink.
@@ -290,7 +317,7 @@ fn extract_stream<D: Drive + Send, W: Flush, T: Flush + Drop>(
 /// Prints how a run with a tar stream ended to standard error. Returns the exit status.
 fn report_tar<R: Eprint + AllocGlobal>(
     rt: &R,
-    run: Result<RestoreEnd, ExtractFault>,
+    run: Result<Extracted, ExtractFault>,
     end: TarEnd,
 ) -> io::Result<u8> {
     let mut ending = extract_ending(rt.alloc(), &run)?;
@@ -352,7 +379,7 @@ fn extract_onto<T: Channel + Drop, W: Channel + Drop>(
 /// anything is read. The manifest is printed before any file is put.
 ///
 /// Returns the exit status: 0 if nothing was refused and each outcome is a file; 1 if something was
-/// refused or some outcome is not a file; 3 if the bootstrap could not be read or the manifest could not
+/// refused or is reported as missing, or some outcome is not a file; 3 if the bootstrap could not be read or the manifest could not
 /// be written.
 ///
 /// # Errors

@@ -1,6 +1,8 @@
 //! Volumes and bootstraps that Bacula wrote: the small cases of acceptance/, whose README.md tells where they come from.
+use crate::extract::PLAIN;
 use br_commands::{Ending, extract_ending};
-use br_engine::{Outputs, extract_text};
+use br_engine::Outputs;
+use br_extract::extract_wanted;
 use br_sink::MemSink;
 use br_types::VolName;
 use br_volume::MemDrive;
@@ -40,7 +42,7 @@ fn ended(
         writer: manifest,
         sink: None::<MemSink>,
     };
-    let run = extract_text(threads, alloc, case.bootstrap, &mut drives, &mut out);
+    let run = extract_wanted(threads, alloc, case.bootstrap, PLAIN, &mut drives, &mut out);
     Ok(extract_ending(alloc, &run)?)
 }
 

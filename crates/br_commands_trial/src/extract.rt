@@ -5,7 +5,7 @@ use br_commands::{
     Ending, ExtractStartFault, extract_ending, extract_over, run_command, set_up_extract,
 };
 use br_history::History;
-use br_options::{ExtractOptions, Invocation, Target};
+use br_options::{Copies, ExtractOptions, Gaps, Invocation, Target, Wanted};
 use br_script::Forgetful;
 use br_setup::{Catalogue, CatalogueFault};
 use std::alloc::Global;
@@ -15,6 +15,12 @@ use std::sync::Wait;
 use std::test::Fail;
 use std::thread::Threads;
 
+/// What each restore does, and nothing else.
+pub(crate) const PLAIN: Wanted = Wanted {
+    copies: Copies::All,
+    gaps: Gaps::Unreported,
+};
+
 /// A delivery, and what comes of it.
 #[derive(Clone, Copy)]
 struct Case {
@@ -22,6 +28,7 @@ struct Case {
     name: &'static str,
     volumes: &'static [Volume],
     bootstrap: &'static [u8],
+    wanted: Wanted,
     status: u8,
     refusal: &'static [u8],
     manifest: &'static [u8],
@@ -33,6 +40,7 @@ const FOLDERS: Case = Case {
     name: "files",
     volumes: &[("V", [FRONT, b"/d/b", BACK])],
     bootstrap: b"Volume=V\n",
+    wanted: PLAIN,
     status: 0,
     refusal: b"",
     manifest: b"F 1 100 1 3 /a 0,0,33188,1,0,0,0,5,0,0,0,0,0,0 = 5 5d41402abc4b2a76b9719d911017c592\n\
@@ -44,6 +52,7 @@ const CONFLICT: Case = Case {
     name: "way",
     volumes: &[("V", [FRONT, b"/a/b", BACK])],
     bootstrap: b"Volume=V\n",
+    wanted: PLAIN,
     status: 1,
     refusal: b"refused 81\n",
     manifest: b"F 1 100 1 3 /a 0,0,33188,1,0,0,0,5,0,0,0,0,0,0 = 5 5d41402abc4b2a76b9719d911017c592\n\
@@ -56,6 +65,7 @@ const NO_TEXT: Case = Case {
     name: "text",
     volumes: &[("V", [FRONT, b"/b\xff\xfe", BACK])],
     bootstrap: b"Volume=V\n",
+    wanted: PLAIN,
     status: 1,
     refusal: b"refused 80\n",
     manifest: b"F 1 100 1 3 /a 0,0,33188,1,0,0,0,5,0,0,0,0,0,0 = 5 5d41402abc4b2a76b9719d911017c592\n\
@@ -93,11 +103,73 @@ const TWO_VOLUMES: Case = Case {
     Volume=B\nVolSessionId=1\nVolSessionTime=100\nVolAddr=0-107\nFileIndex=1\n\
     Volume=B\nVolSessionId=2\nVolSessionTime=200\nVolAddr=108-171\nFileIndex=1\n\
     Volume=A\nVolSessionId=2\nVolSessionTime=200\nVolAddr=64-171\nFileIndex=1\n",
+    wanted: PLAIN,
     status: 0,
     refusal: b"",
     manifest: b"F 1 100 1 3 /a 0,0,33188,1,0,0,0,14,0,0,0,0,0,0 = 14 f96b697d7cb7938d525a2f31aaf161d0\n\
         F 2 200 1 3 /b 0,0,33188,1,0,0,0,14,0,0,0,0,0,0 = 14 f96b697d7cb7938d525a2f31aaf161d0\ntotal 2 0 0\n",
     files: &[("into/a", b"message digest"), ("into/b", b"message digest")],
+};
+
+/// A block of session 2 at 50, which is older than session 1: the file `/a` with the bytes `older`.
+const OLDER: &[u8] = b"\0\0\0\0\0\0\0\x5b\0\0\0\0BB02\0\0\0\x02\0\0\0\x32\
+    \0\0\0\x01\0\0\0\x01\0\0\0\x261 3 /a\0A A IGk B A A A F A A A A A A\0\0\
+    \0\0\0\x01\0\0\0\x02\0\0\0\x05older";
+
+/// Two copies of `/a`. The older one comes last, and stays.
+const ALL_COPIES: Case = Case {
+    name: "copies",
+    volumes: &[("V", [FRONT, b"/d/b", BACK]), ("W", [OLDER, b"", b""])],
+    bootstrap: b"Volume=V\nVolume=W\n",
+    wanted: PLAIN,
+    status: 0,
+    refusal: b"",
+    manifest: b"F 1 100 1 3 /a 0,0,33188,1,0,0,0,5,0,0,0,0,0,0 = 5 5d41402abc4b2a76b9719d911017c592\n\
+        F 1 100 2 3 /d/b 0,0,33188,1,0,0,0,5,0,0,0,0,0,0 = 5 7d793037a0760186574b0282f2f435e7\n\
+        F 2 50 1 3 /a 0,0,33188,1,0,0,0,5,0,0,0,0,0,0 = 5 6a3a6f6e33217afa6373df9d6b2e8a00\ntotal 3 0 0\n",
+    files: &[("into/a", b"older"), ("into/d/b", b"world")],
+};
+
+/// The newest of them alone.
+const NEWEST_COPY: Case = Case {
+    name: "newest",
+    wanted: Wanted {
+        copies: Copies::Newest,
+        gaps: Gaps::Unreported,
+    },
+    files: &[("into/a", b"hello"), ("into/d/b", b"world")],
+    ..ALL_COPIES
+};
+
+/// A bootstrap that asks for two files more than there are.
+const TOO_FEW: Case = Case {
+    name: "few",
+    bootstrap: b"Volume=V\nVolSessionId=1\nVolSessionTime=100\nFileIndex=1-4\n",
+    wanted: Wanted {
+        copies: Copies::All,
+        gaps: Gaps::Reported,
+    },
+    status: 1,
+    refusal: b"missing 1 100 3-4 V\n",
+    ..FOLDERS
+};
+
+/// The same without a report.
+const UNREPORTED: Case = Case {
+    name: "unreported",
+    wanted: PLAIN,
+    status: 0,
+    refusal: b"",
+    ..TOO_FEW
+};
+
+/// A bootstrap that asks for all files there are.
+const COMPLETE: Case = Case {
+    name: "complete",
+    bootstrap: b"Volume=V\nFileIndex=1-2\nFileIndex=2-2147483647\n",
+    status: 0,
+    refusal: b"",
+    ..TOO_FEW
 };
 
 /// Delivers by a bootstrap from the volumes into the folder of a place. Returns how it ended, and writes the manifest.
@@ -106,6 +178,7 @@ fn delivered<W: Write>(
     threads: &(impl Threads + Wait + Sync),
     place: &str,
     bootstrap: &[u8],
+    wanted: Wanted,
     manifest: &mut W,
 ) -> Result<Ending, Fail> {
     let bsr = path_in(rt, place, "one.bsr")?;
@@ -117,6 +190,7 @@ fn delivered<W: Write>(
         volumes: volumes.as_str(),
         target: Target::Folder(into.as_str()),
         drives: 3,
+        wanted,
     };
     let mut task = set_up_extract(rt, &given)?.onto(manifest);
     let run = extract_over(threads, rt.alloc(), &mut task);
@@ -132,7 +206,7 @@ fn ends(
     case: &Case,
 ) -> Result<bool, Fail> {
     let mut manifest = Vec::new(rt.alloc());
-    let ending = delivered(rt, threads, place, bootstrap, &mut manifest)?;
+    let ending = delivered(rt, threads, place, bootstrap, case.wanted, &mut manifest)?;
     Ok(
         ending.status == case.status
             && ending.refusal.as_slice() == case.refusal
@@ -161,6 +235,21 @@ fn restored_files_are_delivered(rt: HostRuntime) -> Result<(), Fail> {
 }
 
 #[test]
+fn the_newest_copy_is_delivered(rt: HostRuntime) -> Result<(), Fail> {
+    assert!(rt; holds(&rt, &rt, &ALL_COPIES)?);
+    assert!(rt; holds(&rt, &rt, &NEWEST_COPY)?);
+    Ok(())
+}
+
+#[test]
+fn missing_files_are_reported(rt: HostRuntime) -> Result<(), Fail> {
+    assert!(rt; holds(&rt, &rt, &TOO_FEW)?);
+    assert!(rt; holds(&rt, &rt, &UNREPORTED)?);
+    assert!(rt; holds(&rt, &rt, &COMPLETE)?);
+    Ok(())
+}
+
+#[test]
 fn a_path_that_conflicts_or_is_no_text_stops_after_the_manifest(
     rt: HostRuntime,
 ) -> Result<(), Fail> {
@@ -172,7 +261,7 @@ fn a_path_that_conflicts_or_is_no_text_stops_after_the_manifest(
 #[test]
 fn nothing_is_delivered_if_the_manifest_is_not_flushed(rt: HostRuntime) -> Result<(), Fail> {
     let place = new_place(&rt, "clogged", FOLDERS.volumes)?;
-    let ending = delivered(&rt, &rt, place.as_str(), b"Volume=V\n", &mut Clogged)?;
+    let ending = delivered(&rt, &rt, place.as_str(), b"Volume=V\n", PLAIN, &mut Clogged)?;
     assert_eq!(rt; ending.status, 3);
     assert_eq!(rt; entries_in(&rt, place.as_str(), "into")?, 0);
     fs::remove_dir_all(&rt, place.as_str())?;
@@ -238,6 +327,7 @@ pub(crate) fn status_in(
         volumes: volumes.as_str(),
         target,
         drives: 2,
+        wanted: PLAIN,
     });
     Ok(run_command(rt, threads, &NoCatalogue, &command)?)
 }
@@ -289,6 +379,7 @@ fn is_refused(rt: &HostRuntime, folder: &str) -> bool {
         volumes: folder,
         target: Target::Folder(folder),
         drives: 1,
+        wanted: PLAIN,
     };
     matches!(set_up_extract(rt, &given), Err(ExtractStartFault::Folder(fault)) if fault.number() == 81)
 }

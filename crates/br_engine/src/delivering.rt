@@ -50,8 +50,9 @@ fn deliver_to<S: Sink>(
     }
 }
 
-/// Delivers the files among the outcomes, if there is a sink. Returns the end of the restore.
-fn finish<S: Sink>(
+/// Delivers the files among the outcomes in their order, if there is a sink. Returns the end of the
+/// restore.
+pub fn deliver_files<S: Sink>(
     rt: &(impl Threads + Sync),
     alloc: Global,
     outcomes: &[(FileKey, Outcome)],
@@ -99,7 +100,7 @@ pub fn restore_into<D: Drive + Send, W: Flush, S: Sink>(
 {
     let outcomes = restore(rt, alloc, bootstrap, names, drives)?;
     write_manifest(alloc, &outcomes, &mut out.writer)?;
-    Ok(finish(rt, alloc, &outcomes, &mut out.sink))
+    Ok(deliver_files(rt, alloc, &outcomes, &mut out.sink))
 }
 
 /// Restores as `restore_into`, without a sink.

@@ -34,7 +34,12 @@ pub(crate) fn all_files(outcomes: &[(FileKey, Outcome)]) -> bool
 }
 
 /// Writes the manifest of the outcomes and flushes it.
-pub(crate) fn write_manifest<W: Flush>(
+///
+/// # Errors
+///
+/// - `Memory` if memory ran out for the manifest; then nothing is written.
+/// - `Io` if the writer failed, which may have taken a part of the manifest.
+pub fn write_manifest<W: Flush>(
     alloc: Global,
     outcomes: &[(FileKey, Outcome)],
     writer: &mut W,

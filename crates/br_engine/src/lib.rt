@@ -11,7 +11,8 @@ mod reading;
 mod restoring;
 mod turns;
 
-pub use delivering::{extract, extract_text, restore_into, restore_to, run_extract};
+pub use delivering::{deliver_files, extract, extract_text, restore_into, restore_to, run_extract};
+pub use extracting::write_manifest;
 pub use fault::{ExtractFault, push_pool_line, push_refused_line};
 pub use flushing::{Flush, show};
 pub use outputs::{Outputs, RestoreEnd};

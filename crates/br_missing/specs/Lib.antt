@@ -1,3 +1,4 @@
 pub mod Missing
 pub mod Gaps
 pub mod Near
+pub mod Lines

@@ -1,8 +1,10 @@
-//! The files that a bootstrap asks for by their indexes and that are not there.
+//! The files that a bootstrap asks for by their indexes and that are not there, and a report of them.
 #![tactic(auto)]
 
 mod gaps;
 mod lacking;
+mod lines;
 mod near;
 
 pub use lacking::{Gap, missing};
+pub use lines::report;

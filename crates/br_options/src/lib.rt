@@ -3,4 +3,6 @@
 
 mod options;
 
-pub use options::{ConsoleOptions, ExtractOptions, Invocation, ServeOptions, Target};
+pub use options::{
+    ConsoleOptions, Copies, ExtractOptions, Gaps, Invocation, ServeOptions, Target, Wanted,
+};

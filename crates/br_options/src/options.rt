@@ -11,6 +11,31 @@ pub enum Target<'a> {
     TarOutput,
 }
 
+/// Which files are delivered, if a bootstrap selects several copies of a path.
+#[derive(Clone, Copy, Debug, PartialEq, Eq)]
+pub enum Copies {
+    /// All copies, in the order of the manifest.
+    All,
+    /// The newest copy of each path.
+    Newest,
+}
+
+/// What is printed of the indexes that a bootstrap asks for and that gave no outcome.
+#[derive(Clone, Copy, Debug, PartialEq, Eq)]
+pub enum Gaps {
+    /// Nothing.
+    Unreported,
+    /// A line for each run of them.
+    Reported,
+}
+
+/// What `extract` does beside what each restore does.
+#[derive(Clone, Copy, Debug, PartialEq, Eq)]
+pub struct Wanted {
+    pub copies: Copies,
+    pub gaps: Gaps,
+}
+
 /// The options of `extract`.
 #[derive(Clone, Copy, Debug, PartialEq, Eq)]
 pub struct ExtractOptions<'a> {
@@ -21,6 +46,7 @@ pub struct ExtractOptions<'a> {
     pub target: Target<'a>,
     /// The number of drives that read the volumes at once, from 1 to 16.
     pub drives: usize,
+    pub wanted: Wanted,
 }
 
 /// The options of `console`.

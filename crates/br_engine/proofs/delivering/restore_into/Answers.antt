@@ -62,8 +62,8 @@ returns-clause-delivers g c =
     let before = g.W.Write.contents c.args.out.now.writer in
     let after = g.W.Write.contents c.write_manifest.new.writer in
     let had = in_sink g.S.Sink.has c.args.out.now in
-    let has = option_map g.S.Sink.has c.finish.new.sink in
+    let has = option_map g.S.Sink.has c.deliver_files.new.sink in
     let outcomes = c.in_ok-outcomes.outcomes in
-    delivers_files earlier later groups names before after had has outcomes c.finish.result (gives_files earlier later groups names outcomes c.in_ok-outcomes.ensures.files)
+    delivers_files earlier later groups names before after had has outcomes c.deliver_files.result (gives_files earlier later groups names outcomes c.in_ok-outcomes.ensures.files)
     (subst (λ os. Appends before after (manifest (map restored os))) c.deref.ensures.value c.in_ok-write_manifest.ensures.written)
-    (subst (λ os. EndsWith had has (map restored os) c.finish.result) c.deref-2.ensures.value c.finish.ensures.ends)
+    (subst (λ os. EndsWith had has (map restored os) c.deliver_files.result) c.deref-2.ensures.value c.deliver_files.ensures.ends)

@@ -1,0 +1,85 @@
+-- What is delivered of the outcomes of a restore, and what came of it.
+use Rattle.std.proofs.Common.{◌≡◌, ℕ, Bool, true, false, cond, List, [], ◌∷◌, ◌&&◌, map, Option, Some, None, Result, Ok, Err, refl, sym, ap, subst, ◌∙◌}
+use Rattle.std.specs.Prelude.{is_ok, filter, not}
+use Rattle.std.specs.List.{list_all}
+use Rattle.std.specs.Io.KnownBytes.{Appends}
+use Rattle.br_model.specs.Answer.{IsRefusal}
+use Rattle.br_model.specs.Bootstrap.{Group}
+use Rattle.br_model.specs.BootstrapText.{read_bootstrap}
+use Rattle.br_model.specs.File.{Outcome}
+use Rattle.br_model.specs.Manifest.{manifest}
+use Rattle.br_model.specs.Name.{FileKey}
+use Rattle.br_model.specs.Restored.{Restored}
+use Rattle.br_newest.specs.Newest.{Copy, copies_of, copy_of, is_current, is_newest, newest}
+use Rattle.br_engine.specs.Delivering.{Delivers, EndsWith, IsPut}
+use Rattle.br_engine.specs.Extracting.{OverText, OverVolumes, Said}
+use Rattle.br_engine.specs.Fault.{cause}
+use Rattle.br_engine.specs.Outputs.{EndTells, InSink, are_files}
+use Rattle.br_engine.specs.Restoring.{Told}
+use Rattle.br_engine.specs.declared.outputs.RestoreEnd.{RestoreEnd}
+use Rattle.br_engine.specs.declared.outputs.RestoreEnd.TheVariants.{AllFiles, SomeFaults, Stopped}
+use Rattle.br_engine.specs.declared.fault.ExtractFault.{ExtractFault}
+use Rattle.br_engine.proofs.ExtractLaws.{over_text}
+use Rattle.br_options.specs.declared.options.Copies.{Copies}
+use Rattle.br_options.specs.declared.options.Copies.TheVariants.{All, Newest}
+use Rattle.br_options.specs.declared.options.Wanted.{Wanted}
+use Rattle.br_extract.specs.Wanted.{IsReport, delivered, reported}
+use Rattle.br_extract.specs.Extracting.{Extracts}
+use Rattle.br_extract.specs.declared.extracting.Extracted.{Extracted}
+
+-- ---- the newest copies
+
+-- what is left out of a list passes the test
+all_of_filtered : {A : Type 0} → (passes stays : A → Bool) (xs : List A) → ((x : A) → stays x ≡ false → passes x ≡ true)
+    → list_all passes (filter stays xs) ≡ list_all passes xs
+all_of_filtered passes stays [] out = refl
+all_of_filtered passes stays (x ∷ xs) out = go (stays x) refl (all_of_filtered passes stays xs out)
+  where
+    go : (b : Bool) → stays x ≡ b → list_all passes (filter stays xs) ≡ list_all passes xs
+        → list_all passes (cond b (x ∷ filter stays xs) (filter stays xs)) ≡ (passes x && list_all passes xs)
+    go true e rest = ap (λ b. passes x && b) rest
+    go false e rest = rest ∙ sym (ap (λ b. b && list_all passes xs) (out x e))
+
+-- only files are left out
+outdated_is_file : (copies : List Copy) (k : FileKey) (o : Outcome) → is_current copies (copy_of (record { key = k; outcome = o })) ≡ false → is_ok o ≡ true
+outdated_is_file copies k (Ok item) e = refl
+outdated_is_file copies k (Err f) e = absurd cc
+
+-- so of what is delivered each outcome is a file if it is so of all
+delivered_are_files : (copies : Copies) (rs : List Restored) → are_files (delivered copies rs) ≡ are_files rs
+unfolding newest
+delivered_are_files All rs = refl
+delivered_are_files Newest rs = all_of_filtered (λ (r : Restored). is_ok r.outcome) (is_newest rs) rs (λ r e. outdated_is_file (copies_of rs) r.key r.outcome e)
+
+-- ---- what came of a restore
+
+-- what the end says of what is delivered, it says of all
+end_of_all : (end : RestoreEnd) (kept rs : List Restored) → are_files kept ≡ are_files rs → EndTells end kept → EndTells end rs
+end_of_all AllFiles kept rs same h = sym same ∙ h
+end_of_all SomeFaults kept rs same h = sym same ∙ h
+end_of_all (Stopped stop) kept rs same h = tt
+
+-- the manifest of all outcomes is written, and those that are wanted are delivered
+pub extracts_files : (wanted : Wanted) (over : Said → Type 0) (reports : List Restored → List ℕ → Type 0) (before after : Option (List ℕ)) (had has : InSink)
+    (rs kept : List Restored) (done : Extracted) → over (λ expected. expected ≡ Ok rs) → Appends before after (manifest rs)
+    → kept ≡ delivered wanted.copies rs → EndsWith had has kept done.end → reports rs done.missing.items
+    → Extracts wanted over reports before after had has (Ok done)
+extracts_files wanted over reports before after had has rs kept done given written is ends told =
+    let same : are_files kept ≡ are_files rs = ap are_files is ∙ delivered_are_files wanted.copies rs in
+    (rs, (given, written), end_of_all done.end kept rs same ends.0, subst (λ xs. IsPut had has done.end xs) is ends.1, told)
+
+-- a refusal is as that of any restore
+pub extracts_refused : (wanted : Wanted) (over : Said → Type 0) (reports : List Restored → List ℕ → Type 0) (before after : Option (List ℕ)) (had has : InSink)
+    (fault : ExtractFault) → Delivers over before after had has (Err fault) → Extracts wanted over reports before after had has (Err fault)
+extracts_refused wanted over reports before after had has fault refused = refused
+
+-- ---- over what the bootstrap of a text gives
+
+pub text_extracts : (wanted : Wanted) (earlier later : Told) (before after : Option (List ℕ)) (had has : InSink) (text : List ℕ) (groups : List Group)
+    (result : Result Extracted ExtractFault) → read_bootstrap text ≡ Ok groups
+    → Extracts wanted (λ holds. OverVolumes earlier later groups None holds) (λ rs lines. lines ≡ reported wanted.gaps groups rs) before after had has result
+    → Extracts wanted (λ holds. OverText (Some text) earlier later holds) (IsReport wanted.gaps text) before after had has result
+text_extracts wanted earlier later before after had has text groups (Ok done) read h =
+    (h.0, (over_text (Some text) earlier later text groups (λ expected. expected ≡ Ok h.0) refl read h.1.0, h.1.1), h.2, h.3, (groups, read, h.4))
+text_extracts wanted earlier later before after had has text groups (Err fault) read h =
+    (over_text (Some text) earlier later text groups (λ expected. IsRefusal (cause fault) expected) refl read h.0, h.1, h.2)

@@ -1,0 +1,13 @@
+use Rattle.std.proofs.Common.{subst, sym, map, ap, ◌∙◌}
+use mathlib.Core.List.{map-map}
+use Rattle.std.proofs.lemmas.Result.{IfOk-weaker}
+use Rattle.br_join.specs.Outcome.{restored}
+use Rattle.br_model.specs.Restored.{Restored}
+use Rattle.br_missing.specs.Lines.{report}
+use Rattle.br_extract.proofs.preparing.missing_of.Goals as goal
+
+pub returns : goal.returns
+returns c =
+    IfOk-weaker c.report.result _ _
+    (λ lines is. is ∙ ap (report c.args.groups.now) (c.in_ok-keys.ensures ∙ sym (map-map (λ (r : Restored). r.key) restored c.args.outcomes.now)))
+    c.report.ensures

@@ -1,0 +1,122 @@
+ghost use Rattle.std.specs.Prelude.{◌≡◌, ◌++◌, map, option_map, IfErr, IfOk, OnOk};
+ghost use Rattle.br_join.specs.Outcome.{restored};
+ghost use Rattle.br_pool.specs.Pool.{AreDrives, OnlyIfAllFail, StayInPlace};
+ghost use Rattle.br_engine.specs.Delivering.{CountsFailures, EndsWith};
+ghost use Rattle.br_engine.specs.Fault.{IsNoDriveLeft, IsNoLine};
+ghost use Rattle.br_engine.specs.Outputs.{SinkCounts, StopsByFailure};
+ghost use Rattle.br_extract.specs.Extracting.{ExtractsOver, ExtractsText, done_lines};
+ghost use Rattle.br_extract.specs.Wanted.{left_by};
+
+use crate::preparing::{keep_delivered, prepare};
+use br_bsr::{Bootstrap, read_bootstrap};
+use br_engine::{ExtractFault, Flush, Outputs, RestoreEnd, deliver_files, restore, write_manifest};
+use br_join::Outcome;
+use br_options::Wanted;
+use br_sink::Sink;
+use br_types::FileKey;
+use br_volume::Drive;
+use std::alloc::{AllocError, Global};
+use std::sync::Wait;
+use std::thread::Threads;
+
+/// What came of a restore that wrote its manifest.
+#[derive(Debug, Drop)]
+pub struct Extracted {
+    /// How it ended.
+    pub end: RestoreEnd,
+    /// The lines of the indexes that the bootstrap asks for and that gave no outcome, if they are reported.
+    pub missing: Vec<u8>,
+}
+
+impl Extracted {
+    /// Appends the lines of what is missing, and the line `refused N` of a delivery that stopped.
+    ///
+    /// If memory runs out, a part of them may have been appended.
+    pub fn push_lines(&self, text: &mut Vec<u8>) -> Result<(), AllocError>
+        ensures { OnOk result (text.new.items ≡ text.old.items ++ done_lines self.now) }
+    {
+        text.extend_from_slice(&self.missing)?;
+        self.end.push_line(text)
+    }
+}
+
+/// Delivers the files among the outcomes that are to be delivered, if there is a sink.
+fn deliver_flagged<S: Sink>(
+    rt: &(impl Threads + Sync),
+    alloc: Global,
+    mut outcomes: Vec<(FileKey, Outcome)>,
+    flags: &Option<Vec<bool>>,
+    sink: &mut Option<S>,
+) -> RestoreEnd
+    ensures ends { EndsWith (option_map S.has sink.old) (option_map S.has sink.new) (map restored (left_by flags.now outcomes.items)) result }
+    ensures counted { SinkCounts (option_map S.failures sink.old) (option_map S.failures sink.new) }
+    ensures failed { StopsByFailure (option_map S.failures sink.old) (option_map S.failures sink.new) result }
+{
+    keep_delivered(&mut outcomes, flags);
+    deliver_files(rt, alloc, &outcomes, sink)
+}
+
+/// Restores by a bootstrap, writes the manifest and flushes it, and then delivers the files into the sink
+/// in the order of the manifest, if there is a sink.
+///
+/// The manifest has all outcomes. If only the newest copies are wanted, then of several files with one path
+/// that of the newest session is delivered: by time, then by number, then by index.
+///
+/// If the delivery stopped, the manifest is written, and the sink has the files before the stop.
+///
+/// # Errors
+///
+/// - `Piece` for a volume that can't be read, or if no drive is left; then nothing is written.
+/// - `Memory` if memory ran out before the manifest; then nothing is written.
+/// - `Io` if the writer failed, which may have taken a part of the manifest.
+///
+/// After an error nothing is put into the sink.
+pub fn restore_wanted<D: Drive + Send, W: Flush, S: Sink>(
+    rt: &(impl Threads + Wait + Sync),
+    alloc: Global,
+    bootstrap: &Bootstrap,
+    wanted: Wanted,
+    drives: &mut Vec<D>,
+    out: &mut Outputs<W, S>,
+) -> Result<Extracted, ExtractFault>
+    requires drives { AreDrives drives.old.items }
+    ensures extracts { ExtractsOver D.shows W.contents S.has drives.old.items drives.new.items out.old out.new bootstrap.now wanted result }
+    ensures flushed { IfOk result (λ _. W.is_flushed out.new.writer) }
+    ensures driven { IfErr result IsNoLine }
+    ensures places { StayInPlace D.shows D.failures drives.old.items drives.new.items }
+    ensures failed { OnlyIfAllFail D.failures drives.old.items drives.new.items IsNoDriveLeft result }
+    ensures sink_counted { CountsFailures S.failures out.old out.new }
+{
+    let outcomes = restore(rt, alloc, bootstrap, None, drives)?;
+    let prepared = prepare(alloc, wanted, bootstrap, &outcomes)?;
+    write_manifest(alloc, &outcomes, &mut out.writer)?;
+    let end = deliver_flagged(rt, alloc, outcomes, &prepared.flags, &mut out.sink);
+    Ok(Extracted {
+        end,
+        missing: prepared.missing,
+    })
+}
+
+/// Reads the text of a bootstrap and restores by it, as `restore_wanted`.
+///
+/// # Errors
+///
+/// `Bootstrap` for a line that is refused, and then as `restore_wanted`.
+pub fn extract_wanted<D: Drive + Send, W: Flush, S: Sink>(
+    rt: &(impl Threads + Wait + Sync),
+    alloc: Global,
+    text: &[u8],
+    wanted: Wanted,
+    drives: &mut Vec<D>,
+    out: &mut Outputs<W, S>,
+) -> Result<Extracted, ExtractFault>
+    requires drives { AreDrives drives.old.items }
+    ensures extracts { ExtractsText D.shows W.contents S.has drives.old.items drives.new.items out.old out.new text.now wanted result }
+    ensures flushed { IfOk result (λ _. W.is_flushed out.new.writer) }
+    ensures places { StayInPlace D.shows D.failures drives.old.items drives.new.items }
+    ensures failed { OnlyIfAllFail D.failures drives.old.items drives.new.items IsNoDriveLeft result }
+    ensures sink_counted { CountsFailures S.failures out.old out.new }
+{
+    let bootstrap = read_bootstrap(alloc, text)?;
+    restore_wanted(rt, alloc, &bootstrap, wanted, drives, out)
+}

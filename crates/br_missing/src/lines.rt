@@ -1,0 +1,114 @@
+//! The lines that report what is missing.
+ghost use Rattle.std.specs.Prelude.{◌≡◌, ◌++◌, flat_map, IfOk, OnOk};
+ghost use Rattle.br_model.specs.Bootstrap.{range_text};
+ghost use Rattle.br_missing.specs.Lines as model;
+ghost use Rattle.br_missing.specs.Lines.{gap_line, gap_text, line_of, next_text, ranges_text};
+
+use crate::lacking::{Gap, missing};
+use br_bsr::{Group, Range};
+use br_types::{FileKey, push_escaped, push_number};
+use std::alloc::{AllocError, Global};
+
+/// The greatest index that a file can have.
+const GREATEST_INDEX: u64 = 2_147_483_647;
+
+/// Appends one number, or two with a dash between them.
+fn push_range(text: &mut Vec<u8>, range: Range) -> Result<(), AllocError>
+    ensures { OnOk result (text.new.items ≡ text.old.items ++ range_text range) }
+{
+    push_number(text, range.low)?;
+    if range.low != range.high {
+        text.push(b'-')?;
+        push_number(text, range.high)?;
+    }
+    Ok(())
+}
+
+/// Appends ranges, each after a comma.
+fn push_next(text: &mut Vec<u8>, ranges: &[Range]) -> Result<(), AllocError>
+    ensures { OnOk result (text.new.items ≡ text.old.items ++ flat_map next_text ranges.now) }
+{
+    for range in ranges {
+        text.push(b',')?;
+        push_range(text, *range)?;
+    }
+    Ok(())
+}
+
+/// Appends ranges with commas between them, or `*` if there is none.
+fn push_ranges(text: &mut Vec<u8>, ranges: &[Range]) -> Result<(), AllocError>
+    ensures { OnOk result (text.new.items ≡ text.old.items ++ ranges_text ranges.now) }
+{
+    match ranges {
+        [] => {
+            text.push(b'*')?;
+            Ok(())
+        }
+        [first, more @ ..] => {
+            push_range(text, *first)?;
+            push_next(text, more)
+        }
+    }
+}
+
+/// Appends the line of some indexes that a group asks for.
+fn push_line(text: &mut Vec<u8>, group: &Group, indexes: Range) -> Result<(), AllocError>
+    ensures { OnOk result (text.new.items ≡ text.old.items ++ gap_line group.now indexes) }
+{
+    text.extend_from_slice(b"missing ")?;
+    push_ranges(text, &group.session_ids)?;
+    text.push(b' ')?;
+    push_ranges(text, &group.session_times)?;
+    text.push(b' ')?;
+    push_range(text, indexes)?;
+    text.push(b' ')?;
+    push_escaped(text, group.vol.bytes())?;
+    text.push(b'\n')?;
+    Ok(())
+}
+
+/// Appends the line of a run of indexes, with the group at its place.
+fn push_line_of(text: &mut Vec<u8>, groups: &[Group], gap: Gap) -> Result<(), AllocError>
+    ensures { OnOk result (text.new.items ≡ text.old.items ++ line_of groups.now gap) }
+{
+    match groups.get(gap.group) {
+        Some(group) => push_line(text, group, gap.indexes),
+        None => Ok(()),
+    }
+}
+
+/// Appends the line of a run of indexes, if it does not go up to the greatest index.
+fn push_gap(text: &mut Vec<u8>, groups: &[Group], gap: Gap) -> Result<(), AllocError>
+    ensures { OnOk result (text.new.items ≡ text.old.items ++ gap_text groups.now gap) }
+{
+    if gap.indexes.high < GREATEST_INDEX {
+        push_line_of(text, groups, gap)
+    } else {
+        Ok(())
+    }
+}
+
+/// Returns the lines of some runs of indexes.
+fn lines_of(alloc: Global, groups: &[Group], gaps: &[Gap]) -> Result<Vec<u8>, AllocError>
+    ensures { IfOk result (λ text. text.items ≡ flat_map (gap_text groups.now) gaps.now) }
+{
+    let mut text = Vec::new(alloc);
+    for gap in gaps {
+        push_gap(&mut text, groups, *gap)?;
+    }
+    Ok(text)
+}
+
+/// Returns a line for each run of indexes that is `missing`: `missing ID TIME INDEXES VOLUME`. ID and TIME are
+/// the numbers and times of sessions that the group admits, INDEXES is one index or `FIRST-LAST`, and the
+/// volume is escaped. Several ranges have commas between them, and `*` means that the group does not say.
+///
+/// A run up to the greatest index, 2,147,483,647, has no line: a range that ends there asks for all files
+/// from its first on, however many there are.
+#[tactic(auto, unfolding(crate::specs::Lines::report))]
+pub fn report(alloc: Global, groups: &[Group], keys: Vec<FileKey>) -> Result<Vec<u8>, AllocError>
+    ensures { IfOk result (λ text. text.items ≡ model.report groups.now keys.items) }
+{
+    let gaps = missing(alloc, groups, keys)?;
+    lines_of(alloc, groups, &gaps)
+}
