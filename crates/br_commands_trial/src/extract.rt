@@ -16,7 +16,7 @@ use std::test::Fail;
 use std::thread::Threads;
 
 /// What each restore does, and nothing else.
-pub(crate) const PLAIN: Wanted = Wanted {
+const PLAIN: Wanted = Wanted {
     copies: Copies::All,
     gaps: Gaps::Unreported,
 };

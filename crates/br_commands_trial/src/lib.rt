@@ -2,8 +2,6 @@
 #![tactic(auto)]
 
 #[cfg(test)]
-mod bacula;
-#[cfg(test)]
 mod catalogue;
 #[cfg(test)]
 mod console;
