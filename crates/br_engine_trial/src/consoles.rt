@@ -63,6 +63,17 @@ fn request_of(case: &mut Case) -> Option<Request> {
     })
 }
 
+/// Makes a drive over a volume, which fails from its `k`-th call on.
+fn failing_drive(case: &mut Case, vol: &str, k: u64, bytes: Vec<u8>) -> Vec<MemDrive> {
+    let (mut volumes, mut drives) = (Vec::new(case.alloc()), Vec::new(case.alloc()));
+    if let Some(vol) = case.vol_of(vol) {
+        case.done(volumes.push((vol, bytes)).map_err(AllocError::from));
+    }
+    let drive = MemDrive::failing_from(volumes, k);
+    case.done(drives.push(drive).map_err(AllocError::from));
+    drives
+}
+
 /// Prints what came of a run.
 fn push_run(case: &mut Case, run: Result<ConsoleRun, ConsoleFault>) {
     match run {
@@ -77,7 +88,7 @@ fn push_run(case: &mut Case, run: Result<ConsoleRun, ConsoleFault>) {
     }
 }
 
-/// Runs lines over drives.
+/// Runs lines over drives. Prints what came of that, and the lines that stay unread.
 fn run_over<W: Write + Drop>(
     case: &mut Case,
     threads: &(impl Threads + Wait + Sync),
@@ -91,6 +102,7 @@ fn run_over<W: Write + Drop>(
     let mut left = lines;
     let run = run_console(threads, case.alloc(), asked, &mut left, drives, out);
     push_run(case, run);
+    case.lines(left);
 }
 
 /// Runs lines for a job over two drives with its volume.
@@ -121,6 +133,46 @@ fn run_into<W: Write + Drop>(
     let history = history_of(case, files, bytes);
     if let Some(request) = request_of(case) {
         run_for(case, threads, &history, &request, [bytes, &lines], out);
+    }
+}
+
+/// Runs lines for a job over drives, into no sink.
+fn run_unsunk(
+    case: &mut Case,
+    threads: &(impl Threads + Wait + Sync),
+    history: &History,
+    drives: &mut Vec<MemDrive>,
+    lines: &[u8],
+) -> Option<Vec<u8>> {
+    let request = request_of(case)?;
+    let asked = JobSelection {
+        history,
+        request: &request,
+    };
+    let mut out = Outputs {
+        writer: Vec::new(case.alloc()),
+        sink: None::<MemSink>,
+    };
+    if are_drives(drives) {
+        run_over(case, threads, &asked, drives, lines, &mut out);
+    }
+    Some(out.writer)
+}
+
+/// Runs lines over a Full of these files on a volume V, without a sink. The drive has this block as a
+/// volume of a name, and fails from its `k`-th call on. Prints what comes of that, and what is written.
+fn over(
+    case: &mut Case,
+    threads: &(impl Threads + Wait + Sync),
+    [vol, k]: [&str; 2],
+    [files, block, lines]: [&str; 3],
+) {
+    let (bytes, lines) = (text_of(case, block), text_of(case, lines));
+    let history = history_of(case, files, &bytes);
+    let k = case.u64_of(k);
+    let mut drives = failing_drive(case, vol, k, bytes);
+    if let Some(text) = run_unsunk(case, threads, &history, &mut drives, &lines) {
+        case.lines(&text);
     }
 }
 
@@ -164,6 +216,9 @@ pub(crate) fn run(case: &mut Case, threads: &(impl Threads + Wait + Sync), call:
     match call {
         ["into", files, block, lines, fails_at] => {
             console(case, threads, [*files, *block, *lines], fails_at);
+        }
+        ["over", vol, k, files, block, lines] => {
+            over(case, threads, [*vol, *k], [*files, *block, *lines]);
         }
         ["clogging", files, block, lines, flushes] => {
             clogging(case, threads, [*files, *block, *lines], flushes);
