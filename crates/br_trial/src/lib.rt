@@ -1,20 +1,23 @@
-//! Tests of whole restores, from saved files and a history by a console session to the manifest,
-//! and of the catalogue. A crate with tests is proved twice; this one has nothing else to prove.
+//! Tests of the catalogue: what is stored, refused, loaded and migrated, and what is left of it, and of the
+//! volumes beside it, if its disk stops. A crate with tests is proved twice; this one has nothing else to
+//! prove.
 #![tactic(auto)]
 
 #[cfg(test)]
-mod drawn;
+mod disk;
 #[cfg(test)]
-mod generated_tests;
+mod drafts;
+#[cfg(test)]
+mod jobs;
+#[cfg(test)]
+mod left;
 #[cfg(test)]
 mod migration_tests;
 #[cfg(test)]
-mod restore_tests;
-#[cfg(test)]
 mod rows_tests;
 #[cfg(test)]
+mod stop_tests;
+#[cfg(test)]
+mod stopped_migration_tests;
+#[cfg(test)]
 mod store_tests;
-#[cfg(test)]
-mod stored_tests;
-#[cfg(test)]
-mod test_data;

@@ -1,16 +1,13 @@
 //! Catalogues of version 1 that are made catalogues of version 2.
-use br_history::{FileRow, JobRow, JobRows};
-use br_session::Span;
+use crate::jobs::{both_shown, job, loaded};
 use br_store::{Store, reopened};
-use br_types::{JobId, Letter, Name, Path, SessionKey, VolName};
 use sqlite::{Alter, Connection, MemStore};
 use std::alloc::Global;
 use std::test::Fail;
 
-const LSTAT: &str = "1 2 33188 1 0 0 0 5 4096 1 3 4 5";
-
-/// The tables of version 1, with two jobs. Each has a file that was saved and a folder that was deleted.
-const OLD: &str = "\
+/// The tables of version 1, with the two jobs that `both_shown` shows, in one transaction.
+pub(crate) const OLD: &str = "\
+BEGIN;\
 CREATE TABLE Version(VersionId INTEGER NOT NULL);\
 CREATE TABLE Client(ClientId INTEGER PRIMARY KEY, Name TEXT NOT NULL UNIQUE);\
 CREATE TABLE FileSet(FileSetId INTEGER PRIMARY KEY, FileSet TEXT NOT NULL UNIQUE);\
@@ -24,6 +21,7 @@ INSERT INTO Version VALUES (1);\
 INSERT INTO Client VALUES (1, 'web');\
 INSERT INTO FileSet VALUES (1, 'all');\
 INSERT INTO Media VALUES (1, 'V1', 'File');\
+INSERT INTO Media VALUES (2, 'V2', 'File');\
 INSERT INTO Path VALUES (1, x'2f612f');\
 INSERT INTO Path VALUES (2, x'2f612f676f6e652f');\
 INSERT INTO Filename VALUES (1, x'74776f');\
@@ -33,92 +31,15 @@ INSERT INTO Job VALUES (2, 'B', 'F', 1, 'T', 4999999998, 1, 1, 9);\
 INSERT INTO Job VALUES (1, 'B', 'F', 1, 'T', 4999999999, 1, 2, 9);\
 INSERT INTO JobMedia VALUES (1, 2, 1, 1, 1, 1, 2, 1, 7, 1);\
 INSERT INTO JobMedia VALUES (2, 1, 1, 1, 1, 1, 2, 1, 7, 1);\
+INSERT INTO JobMedia VALUES (3, 1, 2, 1, 1, 1, 2, 1, 7, 2);\
 INSERT INTO File VALUES (1, 1, 2, 1, 1, '1 2 33188 1 0 0 0 5 4096 1 3 4 5', 'abababababababababababababababab');\
 INSERT INTO File VALUES (2, 0, 2, 2, 2, '', '');\
 INSERT INTO File VALUES (9, 0, 1, 2, 2, '', '');\
-INSERT INTO File VALUES (5, 1, 1, 1, 3, '1 2 33188 1 0 0 0 5 4096 1 3 4 5', 'abababababababababababababababab')";
-
-fn letter(byte: u8) -> Result<Letter, Fail> {
-    Ok(Letter::new(byte).ok_or("a letter")?)
-}
-
-fn job_row(alloc: Global, id: u32, session: u32) -> Result<JobRow, Fail> {
-    Ok(JobRow {
-        id: JobId::new(id).ok_or("a number")?,
-        kind: letter(b'B')?,
-        level: letter(b'F')?,
-        status: letter(b'T')?,
-        start: 5_000_000_000 - u64::from(id),
-        session: SessionKey {
-            id: session,
-            time: 9,
-        },
-        client: Name::new(alloc, b"web")?,
-        fileset: Name::new(alloc, b"all")?,
-    })
-}
-
-fn saved(alloc: Global, path: &[u8]) -> Result<FileRow, Fail> {
-    let path = Path::new(alloc, path)?;
-    Ok(FileRow {
-        path,
-        index: 1,
-        lstat: String::from_str(alloc, LSTAT)?,
-        md5: Some([0xabu8; 16]),
-    })
-}
-
-fn deleted(alloc: Global) -> Result<FileRow, Fail> {
-    Ok(FileRow {
-        path: Path::new(alloc, b"/a/gone/")?,
-        index: 0,
-        lstat: String::new(alloc),
-        md5: None,
-    })
-}
-
-fn files(alloc: Global, path: &[u8]) -> Result<Vec<FileRow>, Fail> {
-    let mut files = Vec::new(alloc);
-    files.push(saved(alloc, path)?)?;
-    files.push(deleted(alloc)?)?;
-    Ok(files)
-}
-
-fn span(alloc: Global) -> Result<Span, Fail> {
-    Ok(Span {
-        vol: VolName::new(alloc, b"V1")?,
-        first: 1,
-        last: 1,
-        start: 4_294_967_297,
-        end: 8_589_934_599,
-        vol_index: 1,
-    })
-}
-
-fn spans(alloc: Global) -> Result<Vec<Span>, Fail> {
-    let mut spans = Vec::new(alloc);
-    spans.push(span(alloc)?)?;
-    Ok(spans)
-}
-
-fn job_of(alloc: Global, row: JobRow, files: Vec<FileRow>) -> Result<JobRows, Fail> {
-    Ok(JobRows::new(row, files, spans(alloc)?)?)
-}
-
-fn job(alloc: Global, id: u32, session: u32, path: &[u8]) -> Result<JobRows, Fail> {
-    job_of(alloc, job_row(alloc, id, session)?, files(alloc, path)?)
-}
-
-/// Shows the two jobs of the tables of version 1, in order of their numbers.
-fn both_shown(alloc: Global) -> Result<String, Fail> {
-    let mut jobs = Vec::new(alloc);
-    jobs.push(job(alloc, 1, 2, b"/a/one")?)?;
-    jobs.push(job(alloc, 2, 1, b"/a/two")?)?;
-    Ok(format!(in alloc; "{jobs:?}")?)
-}
+INSERT INTO File VALUES (5, 1, 1, 1, 3, '1 2 33188 1 0 0 0 5 4096 1 3 4 5', 'abababababababababababababababab');\
+COMMIT";
 
 /// Makes the database of version 1, and changes it.
-fn old_with(alloc: Global, change: &str) -> Result<Connection<MemStore>, Fail> {
+pub(crate) fn old_with(alloc: Global, change: &str) -> Result<Connection<MemStore>, Fail> {
     let mut conn = Connection::open_in_memory(alloc)?;
     conn.execute_batch(OLD)?;
     conn.execute_batch(change)?;
@@ -143,12 +64,6 @@ fn refusal(alloc: Global, conn: Connection<MemStore>) -> u32 {
         Ok(_) => 0,
         Err(fault) => fault.number(),
     }
-}
-
-/// Shows the jobs of a catalogue.
-fn loaded(alloc: Global, store: &mut Store<MemStore>) -> Result<String, Fail> {
-    let history = store.load_history()?;
-    Ok(format!(in alloc; "{:?}", history.jobs())?)
 }
 
 #[test]

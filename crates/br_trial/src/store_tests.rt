@@ -1,92 +1,12 @@
 //! The catalogue: jobs that are stored, refused and loaded, and what a crash leaves.
-use br_history::{FileRow, JobRow, JobRows};
-use br_session::Span;
+use crate::disk::{Disk, Stopping, history_after, open_stopping};
+use crate::jobs::{both_shown, job, loaded};
+use crate::migration_tests::old_with;
+use br_history::JobRows;
 use br_store::Store;
-use br_types::{JobId, Letter, Name, Path, SessionKey, VolName};
-use sqlite::{Alter, Connection, Error, FileStore, Files, MemStore, Options};
-use sqlite_disk::{Fuse, Memory};
-use sqlite_trees::store::Reopen;
+use sqlite::{Alter, Connection, MemStore};
 use std::alloc::Global;
 use std::test::Fail;
-
-const LSTAT: &str = "1 2 33188 1 0 0 0 5 4096 1 3 4 5";
-
-fn a_letter(byte: u8) -> Result<Letter, Fail> {
-    Ok(Letter::new(byte).ok_or("a letter")?)
-}
-
-fn a_row(alloc: Global, id: u32, session: u32) -> Result<JobRow, Fail> {
-    Ok(JobRow {
-        id: JobId::new(id).ok_or("a number")?,
-        kind: a_letter(b'B')?,
-        level: a_letter(b'F')?,
-        status: a_letter(b'T')?,
-        start: 5_000_000_000 - u64::from(id),
-        session: SessionKey {
-            id: session,
-            time: 9,
-        },
-        client: Name::new(alloc, b"web")?,
-        fileset: Name::new(alloc, b"all")?,
-    })
-}
-
-/// Makes the row of a file that was saved.
-fn saved(alloc: Global, path: &[u8]) -> Result<FileRow, Fail> {
-    let path = Path::new(alloc, path)?;
-    Ok(FileRow {
-        path,
-        index: 1,
-        lstat: String::from_str(alloc, LSTAT)?,
-        md5: Some([0xabu8; 16]),
-    })
-}
-
-/// Makes the row of a directory that was deleted.
-fn gone(alloc: Global) -> Result<FileRow, Fail> {
-    Ok(FileRow {
-        path: Path::new(alloc, b"/a/gone/")?,
-        index: 0,
-        lstat: String::new(alloc),
-        md5: None,
-    })
-}
-
-fn files(alloc: Global, path: &[u8]) -> Result<Vec<FileRow>, Fail> {
-    let mut files = Vec::new(alloc);
-    files.push(saved(alloc, path)?)?;
-    files.push(gone(alloc)?)?;
-    Ok(files)
-}
-
-fn a_span(alloc: Global) -> Result<Span, Fail> {
-    Ok(Span {
-        vol: VolName::new(alloc, b"V1")?,
-        first: 1,
-        last: 1,
-        start: 4_294_967_297,
-        end: 8_589_934_599,
-        vol_index: 1,
-    })
-}
-
-fn spans(alloc: Global) -> Result<Vec<Span>, Fail> {
-    let mut spans = Vec::new(alloc);
-    spans.push(a_span(alloc)?)?;
-    Ok(spans)
-}
-
-fn with_files(alloc: Global, row: JobRow, files: Vec<FileRow>) -> Result<JobRows, Fail> {
-    Ok(JobRows::new(row, files, spans(alloc)?)?)
-}
-
-fn with_row(alloc: Global, row: JobRow, path: &[u8]) -> Result<JobRows, Fail> {
-    with_files(alloc, row, files(alloc, path)?)
-}
-
-fn a_job(alloc: Global, id: u32, session: u32, path: &[u8]) -> Result<JobRows, Fail> {
-    with_row(alloc, a_row(alloc, id, session)?, path)
-}
 
 fn empty(alloc: Global) -> Result<Store<MemStore>, Fail> {
     Ok(Store::open(alloc, Connection::open_in_memory(alloc)?)?)
@@ -107,7 +27,7 @@ fn insert<S: Alter>(
     session: u32,
     path: &[u8],
 ) -> Result<u32, Fail> {
-    let job = a_job(alloc, id, session, path)?;
+    let job = job(alloc, id, session, path)?;
     Ok(put(store, &job))
 }
 
@@ -130,30 +50,15 @@ fn insert_four(alloc: Global, store: &mut Store<MemStore>) -> Result<[u32; 4], F
     ])
 }
 
-/// Shows all of some jobs.
-fn shown(alloc: Global, jobs: &[JobRows]) -> Result<String, Fail> {
-    Ok(format!(in alloc; "{jobs:?}")?)
-}
-
-/// Shows the jobs that a store loads.
-fn loaded(alloc: Global, store: &mut Store<MemStore>) -> Result<String, Fail> {
-    shown(alloc, store.load_history()?.jobs())
-}
-
-/// Shows the two jobs that are taken, in order of their numbers.
-fn taken(alloc: Global) -> Result<String, Fail> {
-    let mut jobs = Vec::new(alloc);
-    jobs.push(a_job(alloc, 1, 2, b"/a/one")?)?;
-    jobs.push(a_job(alloc, 2, 1, b"/a/two")?)?;
-    shown(alloc, &jobs)
-}
-
 #[test]
 fn jobs_are_loaded_as_they_were_inserted(rt: HostRuntime) -> Result<(), Fail> {
     let alloc = rt.alloc();
     let mut store = empty(alloc)?;
     assert_eq!(rt; insert_four(alloc, &mut store)?, [0, 45, 45, 0]);
-    assert_eq!(rt; loaded(alloc, &mut store)?.as_str(), taken(alloc)?.as_str());
+    assert_eq!(rt;
+        loaded(alloc, &mut store)?.as_str(),
+        both_shown(alloc)?.as_str()
+    );
     Ok(())
 }
 
@@ -265,33 +170,9 @@ fn changed_catalogues_are_refused(rt: HostRuntime) -> Result<(), Fail> {
     Ok(())
 }
 
-/// The tables of version 1, with one job of one file.
-const OLD: &str = "\
-CREATE TABLE Version(VersionId INTEGER NOT NULL);\
-CREATE TABLE Client(ClientId INTEGER PRIMARY KEY, Name TEXT NOT NULL UNIQUE);\
-CREATE TABLE FileSet(FileSetId INTEGER PRIMARY KEY, FileSet TEXT NOT NULL UNIQUE);\
-CREATE TABLE Media(MediaId INTEGER PRIMARY KEY, VolumeName TEXT NOT NULL UNIQUE, MediaType TEXT NOT NULL);\
-CREATE TABLE Path(PathId INTEGER PRIMARY KEY, Path BLOB NOT NULL UNIQUE);\
-CREATE TABLE Filename(FilenameId INTEGER PRIMARY KEY, Name BLOB NOT NULL UNIQUE);\
-CREATE TABLE Job(JobId INTEGER PRIMARY KEY, Type TEXT NOT NULL, Level TEXT NOT NULL, ClientId INTEGER NOT NULL REFERENCES Client(ClientId), JobStatus TEXT NOT NULL, StartTime INTEGER NOT NULL, FileSetId INTEGER NOT NULL REFERENCES FileSet(FileSetId), VolSessionId INTEGER NOT NULL, VolSessionTime INTEGER NOT NULL, UNIQUE(VolSessionId, VolSessionTime));\
-CREATE TABLE JobMedia(JobMediaId INTEGER PRIMARY KEY, JobId INTEGER NOT NULL REFERENCES Job(JobId), MediaId INTEGER NOT NULL REFERENCES Media(MediaId), FirstIndex INTEGER NOT NULL, LastIndex INTEGER NOT NULL, StartFile INTEGER NOT NULL, EndFile INTEGER NOT NULL, StartBlock INTEGER NOT NULL, EndBlock INTEGER NOT NULL, VolIndex INTEGER NOT NULL, UNIQUE(JobId, VolIndex));\
-CREATE TABLE File(FileId INTEGER PRIMARY KEY, FileIndex INTEGER NOT NULL, JobId INTEGER NOT NULL REFERENCES Job(JobId), PathId INTEGER NOT NULL REFERENCES Path(PathId), FilenameId INTEGER NOT NULL REFERENCES Filename(FilenameId), LStat TEXT NOT NULL, MD5 TEXT NOT NULL);\
-INSERT INTO Version VALUES (1);\
-INSERT INTO Client VALUES (1, 'web');\
-INSERT INTO FileSet VALUES (1, 'all');\
-INSERT INTO Media VALUES (1, 'V1', 'File');\
-INSERT INTO Path VALUES (1, x'2f612f');\
-INSERT INTO Filename VALUES (1, x'74776f');\
-INSERT INTO Job VALUES (2, 'B', 'F', 1, 'T', 4999999998, 1, 1, 9);\
-INSERT INTO JobMedia VALUES (1, 2, 1, 1, 1, 1, 2, 1, 7, 1);\
-INSERT INTO File VALUES (1, 1, 2, 1, 1, '1 2 33188 1 0 0 0 5 4096 1 3 4 5', 'abababababababababababababababab')";
-
 /// Returns the number with which a catalogue of version 1 is refused after this change.
 fn old_refusal(alloc: Global, change: &str) -> Result<u32, Fail> {
-    let mut conn = Connection::open_in_memory(alloc)?;
-    conn.execute_batch(OLD)?;
-    conn.execute_batch(change)?;
-    Ok(refusal(alloc, conn))
+    Ok(refusal(alloc, old_with(alloc, change)?))
 }
 
 #[test]
@@ -303,56 +184,20 @@ fn catalogues_of_version_1_are_refused(rt: HostRuntime) -> Result<(), Fail> {
     Ok(())
 }
 
-/// Returns the number of jobs in a database.
-fn count<S: Alter + Drop>(
-    alloc: Global,
-    opened: Result<Connection<S>, (Error, S)>,
-) -> Result<usize, Fail> {
-    match opened {
-        Ok(conn) => {
-            let mut store = Store::open(alloc, conn)?;
-            Ok(store.load_history()?.len())
-        }
-        Err(_) => Err(Fail::from("the database was not opened")),
-    }
-}
-
-/// Returns the number of jobs after a crash.
-fn after_crash<S: Alter + Reopen + Drop>(alloc: Global, store: Store<S>) -> Result<usize, Fail> {
-    let mut files = store.into_connection().into_store();
-    match files.crash_and_reopen() {
-        Ok(()) => count(alloc, Connection::over(alloc, files)),
-        Err(_) => Err(Fail::from("the files were not opened again")),
-    }
-}
-
 /// Inserts a job and crashes. Returns the number of jobs afterwards, or none if there was no
 /// catalogue.
-fn insert_and_crash<S: Alter + Reopen + Drop>(
-    alloc: Global,
-    conn: Connection<S>,
-) -> Result<Option<usize>, Fail> {
+fn insert_and_crash(alloc: Global, conn: Connection<Disk>) -> Result<Option<usize>, Fail> {
     let Ok(mut store) = Store::open(alloc, conn) else {
         return Ok(None);
     };
     let _ = insert(alloc, &mut store, 2, 7, b"/a/two")?;
-    Ok(Some(after_crash(alloc, store)?))
-}
-
-/// Opens a database on a disk whose log fails from this call on, or returns none if it does not
-/// open.
-fn failing(alloc: Global, calls: u64) -> Option<Connection<FileStore<Fuse<Memory>>>> {
-    let files = Files {
-        log: Fuse::new(Memory::new(alloc), calls),
-        db: Fuse::new(Memory::new(alloc), u64::MAX),
-    };
-    Connection::open_files(alloc, files, Options::new(1)).ok()
+    Ok(Some(history_after(alloc, store.into_connection())?.len()))
 }
 
 /// Inserts a job and crashes on a disk whose log fails from this call on. Returns the number of
 /// jobs afterwards, or none if there was no catalogue.
 fn left(alloc: Global, calls: u64) -> Result<Option<usize>, Fail> {
-    match failing(alloc, calls) {
+    match open_stopping(alloc, Stopping::Log, calls) {
         Some(conn) => insert_and_crash(alloc, conn),
         None => Ok(None),
     }

@@ -2,7 +2,7 @@
 ghost use Rattle.std.specs.Prelude.{◌≡◌, false};
 
 use crate::disk::{Disk, Stopping, history_after, open_stopping, reopened};
-use crate::jobs::{Job, saved_job};
+use crate::drafts::{Job, saved_job};
 use crate::left::shown;
 use br_history::SavedJob;
 use br_keeper::Keeper;
