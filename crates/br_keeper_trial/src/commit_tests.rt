@@ -3,6 +3,7 @@ ghost use Rattle.std.specs.Prelude.{◌≡◌};
 
 use crate::jobs::{Job, history_to_the_end, saved_job};
 use crate::mem_jobs::MemJobs;
+use crate::publish_tests::{Seen, see};
 use br_history::{History, JobRows};
 use br_keeper::{JobStoreFault, Keeper, KeeperFault, Receipt, Session};
 use br_types::VolName;
@@ -215,7 +216,7 @@ fn given<R: Wait>(rt: &R, alloc: Global, case: &Case) -> Result<String, Fail> {
 }
 
 /// Adds a line if a case gave something else than is wanted.
-fn compare(wrong: &mut String, given: &str, wanted: &str) -> Result<(), AllocError> {
+pub(crate) fn compare(wrong: &mut String, given: &str, wanted: &str) -> Result<(), AllocError> {
     if given == wanted {
         return Ok(());
     }
@@ -255,23 +256,6 @@ fn no_span_ends_after_the_greatest_address(rt: HostRuntime) -> Result<(), Fail> 
         9 Z5-9223372036854775806;1 A0-63 B0-171;";
     assert_eq!(rt; given.as_str(), wanted);
     Ok(())
-}
-
-/// How many jobs a history has, and the number of the last.
-type Seen = (usize, u32);
-
-/// Takes a snapshot, and returns what is seen in it. Without a snapshot nothing is.
-fn see(session: Session) -> Seen {
-    match session.snapshot() {
-        Ok(snapshot) => {
-            let history = snapshot.history();
-            let last = history.jobs().last().map_or(0, |rows| rows.row().id.get());
-            let seen = (history.len(), last);
-            snapshot.release();
-            seen
-        }
-        Err(_) => (0, 0),
-    }
 }
 
 /// Commits a job, and returns what a session sees that learned its receipt.

@@ -13,7 +13,7 @@ use std::test::Fail;
 /// it saves, the volume of its first block and the volume of all others.
 pub(crate) type Job = (u32, u32, &'static [u8], &'static [u8], &'static [u8]);
 
-fn letter(byte: u8) -> Result<Letter, Fail> {
+pub(crate) fn letter(byte: u8) -> Result<Letter, Fail> {
     Ok(Letter::new(byte).ok_or("a letter")?)
 }
 

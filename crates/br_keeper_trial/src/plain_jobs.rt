@@ -1,12 +1,9 @@
 //! Jobs without files, and histories of them.
+use crate::jobs::letter;
 use br_history::{History, JobRow, JobRows};
-use br_types::{JobId, Letter, Name, SessionKey};
+use br_types::{JobId, Name, SessionKey};
 use std::alloc::Global;
 use std::test::Fail;
-
-fn letter(byte: u8) -> Result<Letter, Fail> {
-    Ok(Letter::new(byte).ok_or("a letter")?)
-}
 
 /// Returns the row of a full job of this number, with a session of its own.
 fn job_row(alloc: Global, id: u32) -> Result<JobRow, Fail> {

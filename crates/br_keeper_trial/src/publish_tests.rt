@@ -1,7 +1,7 @@
 //! What sessions see of a history while jobs are published.
 ghost use Rattle.std.specs.Prelude.{◌≡◌};
 
-use crate::jobs::{history_to, job};
+use crate::plain_jobs::{history_to, job};
 use br_history::History;
 use br_publish::{Publisher, Receipt, Session};
 use std::alloc::Global;
@@ -9,7 +9,7 @@ use std::sync::Wait;
 use std::test::Fail;
 
 /// How many jobs a history has, and the number of the last.
-type Seen = (usize, u32);
+pub(crate) type Seen = (usize, u32);
 
 fn seen_in(history: &History) -> Seen {
     match history.jobs().last() {
@@ -19,7 +19,7 @@ fn seen_in(history: &History) -> Seen {
 }
 
 /// Takes a snapshot, and returns what is seen in it. Without a snapshot nothing is.
-fn see(session: Session) -> Seen {
+pub(crate) fn see(session: Session) -> Seen {
     match session.snapshot() {
         Ok(snapshot) => {
             let seen = seen_in(snapshot.history());

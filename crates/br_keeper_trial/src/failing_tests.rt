@@ -1,7 +1,8 @@
 //! A store over memory of which one append fails.
+use crate::commit_tests::compare;
 use br_types::VolName;
 use br_volume::{MemStore, VolumeStore};
-use std::alloc::{AllocError, Global};
+use std::alloc::Global;
 use std::fmt::Write;
 use std::test::Fail;
 
@@ -63,14 +64,6 @@ fn appended(alloc: Global, store: &mut MemStore) -> Result<String, Fail> {
 fn outcome(alloc: Global, k: u64, kept: usize) -> Result<String, Fail> {
     let mut store = MemStore::failing_at(alloc, k, kept);
     appended(alloc, &mut store)
-}
-
-/// Adds a line if a case gave something else than is wanted.
-fn compare(wrong: &mut String, given: &str, wanted: &str) -> Result<(), AllocError> {
-    if given == wanted {
-        return Ok(());
-    }
-    writeln!(wrong, "{given:?}, not {wanted:?}")
 }
 
 /// Returns a line for each case that gives something else.
