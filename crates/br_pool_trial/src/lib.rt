@@ -1,5 +1,5 @@
-//! Tests of pools of drives, of which some fail or grow, and of restores by them. There are only
-//! tests here.
+//! Tests of pools of drives, of which some fail or grow, of restores by them, and of the stream of tar.
+//! There are only tests here.
 #![tactic(auto)]
 
 #[cfg(test)]
@@ -16,3 +16,5 @@ mod pool_tests;
 mod streaming_gate_tests;
 #[cfg(test)]
 mod streaming_tests;
+#[cfg(test)]
+mod tar_tests;
