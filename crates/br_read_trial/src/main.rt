@@ -1,14 +1,16 @@
 //! Runs rows over the formats that a restore reads, what a bootstrap asks for and is missing, the
-//! sessions that write them, drives and stores over memory, bytes that are read again, and the table
-//! of refusals. It prints the rows that gave something else than wanted.
+//! sessions that write them, drives and stores over memory, bytes that are read again, for their digest
+//! and when they are written, and the table of refusals. It prints the rows that gave something else than wanted.
 #![tactic(auto)]
 
 mod again;
 mod attributes;
 mod blocks;
+mod bodies;
 mod bootstraps;
 mod lacking;
 mod names;
+mod parts;
 mod sessions;
 mod volumes;
 
@@ -25,6 +27,9 @@ fn run(case: &mut Case, fields: &[&str]) {
         ["missing", call @ ..] => lacking::run(case, call),
         ["volume", call @ ..] => volumes::run(case, call),
         ["again", call @ ..] => again::run(case, call),
+        ["body", names, kind, volumes, later, changed, parts @ ..] => {
+            bodies::run(case, names, [kind, volumes], [later, changed], parts)
+        }
         ["session", call @ ..] => sessions::run(case, call),
         _ => case.fail("there is no such call"),
     }

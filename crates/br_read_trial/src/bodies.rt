@@ -1,6 +1,6 @@
 //! The bytes of a file that are read again for their digest, and when they are written.
 
-use crate::fields::{bootstrap_of, drive_of, push_part};
+use crate::parts::{bootstrap_of, drive_of, push_part};
 use br_again::AgainFault;
 use br_body::{Body, Part, WriteFault};
 use br_bsr::Bootstrap;
