@@ -1,6 +1,6 @@
 //! Runs rows over the engine, the console and scripts over memory: the claims of a pool, restores by
 //! a bootstrap, sessions, deliveries and scripts. It prints the rows that gave something else than
-//! wanted.
+//! wanted. After the rows it runs whole scripts, and prints what they write.
 #![tactic(auto)]
 
 mod claims;
@@ -12,10 +12,11 @@ mod scripts;
 mod sessions;
 mod streams;
 mod texts;
+mod whole;
 
 use br_trial_rows::{Case, Rows, fields_of};
 use std::fs::File;
-use std::io::{self, BufRead, BufReader};
+use std::io::{self, BufRead, BufReader, BufWriter, Read, Write};
 use std::rt::Files;
 use std::sync::Wait;
 use std::thread::Threads;
@@ -56,10 +57,36 @@ fn run_line(
     rows.compare(rt, row, &case)
 }
 
-fn main(rt: HostRuntime) -> io::Result<()> {
+/// Runs the rows of a text, and prints those that do not hold.
+fn run_rows(rt: &HostRuntime, text: &[u8]) -> io::Result<()> {
     let mut rows = Rows::new(rt.alloc());
-    for line in BufReader::new(rt.alloc(), rt.reader())?.lines(rt.alloc()) {
-        run_line(&rt, &rt, &mut rows, line?.as_str())?;
+    for line in text.lines(rt.alloc()) {
+        run_line(rt, rt, &mut rows, line?.as_str())?;
     }
-    rows.end(&rt)
+    rows.end(rt)
+}
+
+/// Runs the scripts of a text, in as many threads as `threads` starts.
+fn run_scripts(
+    rt: &HostRuntime,
+    threads: &(impl Threads + Wait + Sync),
+    text: &[u8],
+) -> io::Result<()> {
+    let mut writer = BufWriter::new(rt.alloc(), io::writer(rt))?;
+    whole::run_all(threads, rt.alloc(), text, &mut writer)?;
+    writer.flush()
+}
+
+/// Reads standard input to its end.
+fn input_of(rt: &HostRuntime) -> io::Result<Vec<u8>> {
+    let mut text = Vec::new(rt.alloc());
+    BufReader::new(rt.alloc(), rt.reader())?.read_to_end(&mut text)?;
+    Ok(text)
+}
+
+fn main(rt: HostRuntime) -> io::Result<()> {
+    let text = input_of(&rt)?;
+    let (rows, scripts) = whole::parts_of(&text);
+    run_rows(&rt, rows)?;
+    run_scripts(&rt, &rt, scripts)
 }

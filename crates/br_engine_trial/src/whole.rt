@@ -1,13 +1,9 @@
-//! Runs scripts over memory, each from an empty catalogue and without volumes.
-//!
-//! Standard input has the scripts one after another. Each comes after a line that begins with `@` and says
-//! what it tries; what comes before the first is for the reader. Standard output has for each script this
-//! line, what the script wrote, and its end.
-#![tactic(auto)]
+//! Whole scripts over memory, each from an empty catalogue and without volumes. They are written one
+//! after another, each after a line that begins with `@` and says what it tries.
 
 use br_script::{ScriptEnd, run_script};
 use std::alloc::Global;
-use std::io::{self, BufReader, BufWriter, Read, Write};
+use std::io::{self, Write};
 use std::sync::Wait;
 use std::thread::Threads;
 
@@ -44,8 +40,16 @@ fn run_one<W: Write>(
     writeln!(writer, "end: {word}")
 }
 
+/// Returns the rows of a text, and the scripts after them.
+pub(crate) fn parts_of(text: &[u8]) -> (&[u8], &[u8]) {
+    match text.iter().position(|byte| *byte == b'@') {
+        Some(at) => (&text[..at], &text[at..]),
+        None => (text, &[]),
+    }
+}
+
 /// Runs all scripts of a text.
-fn run_all<W: Write>(
+pub(crate) fn run_all<W: Write>(
     rt: &(impl Threads + Wait + Sync),
     alloc: Global,
     text: &[u8],
@@ -55,17 +59,4 @@ fn run_all<W: Write>(
         run_one(rt, alloc, part, writer)?;
     }
     Ok(())
-}
-
-/// Runs the scripts of standard input in as many threads as `threads` starts.
-fn run(rt: &HostRuntime, threads: &(impl Threads + Wait + Sync)) -> io::Result<()> {
-    let mut text = Vec::new(rt.alloc());
-    BufReader::new(rt.alloc(), rt.reader())?.read_to_end(&mut text)?;
-    let mut writer = BufWriter::new(rt.alloc(), io::writer(rt))?;
-    run_all(threads, rt.alloc(), &text, &mut writer)?;
-    writer.flush()
-}
-
-fn main(rt: HostRuntime) -> io::Result<()> {
-    run(&rt, &rt)
 }
