@@ -60,7 +60,10 @@ pub(crate) fn reopened<S: Alter + Reopen + Drop>(
 }
 
 /// Loads the jobs that a stop leaves in a catalogue.
-pub(crate) fn history_after(alloc: Global, conn: Connection<Disk>) -> Result<History, Fail> {
+pub(crate) fn history_after<S: Alter + Reopen + Drop>(
+    alloc: Global,
+    conn: Connection<S>,
+) -> Result<History, Fail> {
     let mut store = Store::open(alloc, reopened(alloc, conn)?)?;
     Ok(store.load_history()?)
 }

@@ -1,22 +1,20 @@
 //! Two jobs are committed to a catalogue whose disk stops at each call in turn.
 ghost use Rattle.std.specs.Prelude.{◌≡◌, false};
 
-use crate::disk::{Disk, Stopping, history_after, open_stopping, reopened};
+use crate::disk::{Stopping, history_after, open_stopping, reopened};
 use crate::drafts::{Job, saved_job};
 use crate::left::shown;
-use br_history::SavedJob;
 use br_keeper::Keeper;
 use br_kept::StoredJobs;
 use br_schema::is_empty;
 use br_store::{Store, create};
 use br_volume::MemStore;
-use sqlite::Connection;
+use sqlite::{Alter, Connection};
+use sqlite_trees::store::Reopen;
 use std::alloc::Global;
 use std::fmt::Write;
 use std::sync::Wait;
 use std::test::Fail;
-
-type DiskKeeper = Keeper<StoredJobs<Disk>, MemStore>;
 
 // Each job saves one file, `message digest`, in blocks of 64, 64 and 44 bytes. They go to two
 // volumes: the first block of the first job to A, that of the second to B.
@@ -59,36 +57,50 @@ struct Run {
     left: String,
 }
 
-/// Commits both jobs. Returns for each whether its commit is acknowledged.
-fn commit_both<R: Wait>(
+/// Commits a job. Returns whether that is acknowledged.
+fn is_committed<R: Wait, S: Alter>(
     rt: &R,
-    keeper: &mut DiskKeeper,
-    first: SavedJob,
-    second: SavedJob,
+    alloc: Global,
+    keeper: &mut Keeper<StoredJobs<S>, MemStore>,
+    job: &Job,
+) -> bool {
+    match saved_job(alloc, job) {
+        Ok(job) => keeper.commit(rt, job).is_ok(),
+        Err(_) => false,
+    }
+}
+
+/// Commits both jobs. Returns for each whether its commit is acknowledged.
+fn commit_both<R: Wait, S: Alter>(
+    rt: &R,
+    alloc: Global,
+    keeper: &mut Keeper<StoredJobs<S>, MemStore>,
 ) -> (bool, bool) {
-    let is_first_told = keeper.commit(rt, first).is_ok();
-    let is_second_told = keeper.commit(rt, second).is_ok();
+    let is_first_told = is_committed(rt, alloc, keeper, &FIRST);
+    let is_second_told = is_committed(rt, alloc, keeper, &SECOND);
     (is_first_told, is_second_told)
 }
 
 /// Returns what is left of a catalogue and volumes after a stop.
-fn left_of(alloc: Global, jobs: StoredJobs<Disk>, volumes: &MemStore) -> Result<String, Fail> {
+fn left_of<S: Alter + Reopen + Drop>(
+    alloc: Global,
+    jobs: StoredJobs<S>,
+    volumes: &MemStore,
+) -> Result<String, Fail> {
     let conn = jobs.into_store().into_connection();
     shown(alloc, &history_after(alloc, conn)?, volumes)
 }
 
 /// Commits both jobs by a keeper over this catalogue. Returns which commits are acknowledged, and the
 /// catalogue and the volumes as the keeper leaves them; none if there is no keeper.
-fn committed<R: Wait>(
+fn committed<R: Wait, S: Alter + Drop>(
     rt: &R,
     alloc: Global,
-    jobs: StoredJobs<Disk>,
-    first: SavedJob,
-    second: SavedJob,
-) -> Option<((bool, bool), StoredJobs<Disk>, MemStore)> {
+    jobs: StoredJobs<S>,
+) -> Option<((bool, bool), StoredJobs<S>, MemStore)> {
     match Keeper::new(rt, alloc, jobs, MemStore::new(alloc), 1) {
         Ok((mut keeper, _sessions)) => {
-            let is_told = commit_both(rt, &mut keeper, first, second);
+            let is_told = commit_both(rt, alloc, &mut keeper);
             let (jobs, volumes) = keeper.close(rt);
             Some((is_told, jobs, volumes))
         }
@@ -98,14 +110,18 @@ fn committed<R: Wait>(
 
 /// Commits both jobs to this catalogue, and returns what is left after a stop. Without a keeper no
 /// commit is acknowledged, and nothing is left.
-fn run_over<R: Wait>(rt: &R, alloc: Global, jobs: StoredJobs<Disk>) -> Result<Run, Fail> {
-    let first = saved_job(alloc, &FIRST)?;
-    let second = saved_job(alloc, &SECOND)?;
-    let Some((is_told, jobs, volumes)) = committed(rt, alloc, jobs, first, second) else {
-        return Ok(stopped_early(alloc));
-    };
-    let left = left_of(alloc, jobs, &volumes)?;
-    Ok(Run { is_told, left })
+fn run_over<R: Wait, S: Alter + Reopen + Drop>(
+    rt: &R,
+    alloc: Global,
+    jobs: StoredJobs<S>,
+) -> Result<Run, Fail> {
+    match committed(rt, alloc, jobs) {
+        Some((is_told, jobs, volumes)) => {
+            let left = left_of(alloc, jobs, &volumes)?;
+            Ok(Run { is_told, left })
+        }
+        None => Ok(stopped_early(alloc)),
+    }
 }
 
 /// Returns what a run gives that stops before there is a keeper.
@@ -185,7 +201,7 @@ fn a_database_that_stops_leaves_no_job_or_both(rt: HostRuntime) -> Result<(), Fa
 }
 
 /// Makes the tables in an empty database. Returns whether that is acknowledged.
-fn is_made(conn: &mut Connection<Disk>) -> Result<bool, Fail>
+fn is_made<S: Alter>(conn: &mut Connection<S>) -> Result<bool, Fail>
     requires { conn.old.in_transaction ≡ false }
 {
     if is_empty(conn.schema()) {
@@ -197,7 +213,10 @@ fn is_made(conn: &mut Connection<Disk>) -> Result<bool, Fail>
 
 /// Opens what a stop left of a database, and returns whether it has tables, and how many jobs. It is
 /// opened twice, and the second time as a catalogue, which makes the tables that are missing.
-fn found_after(alloc: Global, conn: Connection<Disk>) -> Result<(bool, usize), Fail> {
+fn found_after<S: Alter + Reopen + Drop>(
+    alloc: Global,
+    conn: Connection<S>,
+) -> Result<(bool, usize), Fail> {
     let conn = reopened(alloc, conn)?;
     let has_tables = !is_empty(conn.schema());
     Ok((has_tables, history_after(alloc, conn)?.len()))

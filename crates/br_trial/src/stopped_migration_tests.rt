@@ -4,7 +4,8 @@ use crate::migration_tests::OLD;
 use br_history::{History, JobRows};
 use br_schema::is_old;
 use br_store::{Store, reopened};
-use sqlite::Connection;
+use sqlite::{Alter, Connection};
+use sqlite_trees::store::Reopen;
 use std::alloc::Global;
 use std::fmt::Write;
 use std::test::Fail;
@@ -62,7 +63,10 @@ struct Run {
 }
 
 /// Returns the version that a stop left, and the catalogue, migrated if it is of version 1.
-fn found_after(alloc: Global, conn: Connection<Disk>) -> Result<(u8, Store<Disk>), Fail> {
+fn found_after<S: Alter + Reopen + Drop>(
+    alloc: Global,
+    conn: Connection<S>,
+) -> Result<(u8, Store<S>), Fail> {
     if is_old(conn.schema()) {
         let mut conn = reopened(alloc, conn)?;
         let _ = Store::migrate(alloc, &mut conn)?;
@@ -72,12 +76,26 @@ fn found_after(alloc: Global, conn: Connection<Disk>) -> Result<(u8, Store<Disk>
     }
 }
 
-/// Migrates a database of version 1 whose disk may stop, and looks at what is left.
-fn run_over(alloc: Global, conn: Connection<Disk>) -> Result<Run, Fail> {
+/// Migrates a database whose disk may stop. Returns whether the migration is acknowledged, and what is left.
+fn stopped<S: Alter + Reopen + Drop>(
+    alloc: Global,
+    conn: Connection<S>,
+) -> Result<(bool, Connection<S>), Fail> {
     let mut conn = reopened(alloc, conn)?;
     let is_told = Store::migrate(alloc, &mut conn).is_ok();
-    let (version, mut store) = found_after(alloc, reopened_after(alloc, conn)?)?;
-    let jobs = shown(alloc, &store.load_history()?)?;
+    Ok((is_told, reopened_after(alloc, conn)?))
+}
+
+/// Returns the jobs of a catalogue as text.
+fn loaded<S: Alter>(alloc: Global, store: &mut Store<S>) -> Result<String, Fail> {
+    shown(alloc, &store.load_history()?)
+}
+
+/// Migrates a database of version 1 whose disk may stop, and looks at what is left.
+fn run_over<S: Alter + Reopen + Drop>(alloc: Global, conn: Connection<S>) -> Result<Run, Fail> {
+    let (is_told, conn) = stopped(alloc, conn)?;
+    let (version, mut store) = found_after(alloc, conn)?;
+    let jobs = loaded(alloc, &mut store)?;
     Ok(Run {
         is_told,
         version,
