@@ -1,14 +1,18 @@
-//! What is tried of the keeper: a store over memory that fails, a history that is published while
-//! sessions read it, commits over memory, callers of a served keeper, and what sessions see meanwhile.
-//! There are only tests here.
+//! What is tried of files, of volumes in folders and of the keeper: disks that fail or are full, drives and
+//! stores over them, a history that is published while sessions read it, commits over memory, callers of a
+//! served keeper, and what sessions see meanwhile. There are only tests here.
 #![tactic(auto)]
 
 #[cfg(test)]
 mod commit_tests;
 #[cfg(test)]
+mod disk_tests;
+#[cfg(test)]
 mod failing_tests;
 #[cfg(test)]
 mod jobs;
+#[cfg(test)]
+mod maker_tests;
 #[cfg(test)]
 mod mem_jobs;
 #[cfg(test)]
@@ -17,5 +21,7 @@ mod plain_jobs;
 mod publish_tests;
 #[cfg(test)]
 mod serve_tests;
+#[cfg(test)]
+mod volume_tests;
 #[cfg(test)]
 mod watch_tests;
