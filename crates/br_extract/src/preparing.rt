@@ -25,7 +25,11 @@ pub(crate) struct Prepared {
 fn keys_of(alloc: Global, outcomes: &[(FileKey, Outcome)]) -> Result<Vec<FileKey>, AllocError>
     ensures { IfOk result (λ keys. keys.items ≡ map (λ o. (restored o).key) outcomes.now) }
 {
-    outcomes.iter().map(|outcome| outcome.0).collect(alloc)
+    let mut keys = Vec::with_capacity(alloc, outcomes.len())?;
+    for outcome in outcomes {
+        keys.push(outcome.0)?;
+    }
+    Ok(keys)
 }
 
 /// Returns the lines of the indexes of which there is no outcome.
