@@ -65,8 +65,8 @@ fn is_committed<R: Wait, S: Alter>(
     job: &Job,
 ) -> bool {
     match saved_job(alloc, job) {
-        Ok(job) => keeper.commit(rt, job).is_ok(),
-        Err(_) => false,
+        Some(job) => keeper.commit(rt, job).is_ok(),
+        None => false,
     }
 }
 
