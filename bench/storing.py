@@ -17,7 +17,6 @@ is more than that of version 1.
 
 import argparse
 import contextlib
-import glob
 import hashlib
 import os
 import shutil
@@ -117,7 +116,8 @@ class Program:
 
     def __init__(self, file, version):
         self.file, self.version = file, version
-        self.inserting, self.loading, self.peaks, self.size, self.rows, self.is_right = [], [], [0, 0], None, None, True
+        self.inserting, self.loading, self.peaks, self.is_right = [], [], [0, 0], True
+        self.size = self.rows = self.spans = None
 
     def run(self, script, folder, options):
         """Fills a catalogue and loads it."""
@@ -133,10 +133,10 @@ class Program:
         self.loading.append(seconds)
         self.peaks = [max(self.peaks[0], most), max(self.peaks[1], peak)]
         self.is_right = self.is_right and printed == also == stored and refused == (1, "refused 53\n")
-        self.size = sum(os.path.getsize(it) for it in glob.glob(glob.escape(catalogue) + "*"))
         if self.rows is None:
-            self.rows = rows_in(catalogue, self.version)
-            self.spans = jobs_in(catalogue)
+            # SQLite copies what is in a log into the file, as the last one to close it.
+            self.rows, self.spans = rows_in(catalogue, self.version), jobs_in(catalogue)
+            self.size = os.path.getsize(catalogue)
         shutil.rmtree(place)
 
 
