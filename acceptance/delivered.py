@@ -46,8 +46,11 @@ def delivery(manifest):
         if any(len(name) > LONGEST_NAME for name in names):
             return tree, 80
         for end in range(1, len(names) + 1):
-            is_file = kind != b"5" and end == len(names)
-            tree[b"/".join(names[:end])] = content if is_file else None
+            is_file, name = kind != b"5" and end == len(names), b"/".join(names[:end])
+            # What is there stays a file, or a folder.
+            if name in tree and (tree[name] is None) == is_file:
+                return tree, 80
+            tree[name] = content if is_file else None
     return tree, None
 
 

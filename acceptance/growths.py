@@ -8,6 +8,7 @@ The program must end by itself. It prints and leaves what it does with all its m
 
 - A script answers for each line. If the line that asked is refused by 1 (44 for the bytes of a volume), the later lines answer by
   what then holds. The second reading of scripts (here, over reading.py) says so for each line.
+- A migration leaves version 1, or version 2 once it printed its jobs, and either of them after `refused 45`.
 - A script that commits jobs to files leaves in the catalogue and on the volumes what its answers say, and a later run goes on from that.
 - `extract` and `console` end with the status 1 and `refused 1`, or `refused 45` if the catalogue was read, after whole lines of what
   they print with all their memory. If files are delivered, the number may be 80 once all is printed.
@@ -36,7 +37,7 @@ sys.dont_write_bytecode = True
 sys.path.insert(0, os.path.join(os.path.dirname(os.path.dirname(os.path.abspath(__file__))), "tools"))
 from cases import unpack
 from choosing import consoled
-from common import CASES, ORDER_SQL, PROGRAM, ROOT, SETS, unescaped
+from common import CASES, ORDER_SQL, PROGRAM, ROOT, SETS, VERSION_1_SQL, unescaped
 from drawing import cut_into_blocks, store_job
 from hostile import attributes, block, sparse
 from preloaded import compiled
@@ -44,7 +45,7 @@ from reading import Fault, Refused, file_of, groups_of, manifest_of, match
 from refusing import answers_of as answers_with_jobs
 from refusing import fronts_of, printed_after
 from scripting import put_line
-from stored import differences, has_tables, rows_by, served, volumes_of
+from stored import differences, has_tables, opened_copy, rows_by, served, volumes_of
 from stored import rows_of as named_rows_of
 
 # A restore to which the system refuses a thread gives up after ten.
@@ -339,6 +340,32 @@ class Kept(Case):
         return [f"left the jobs {sorted(stored)} and volumes of {[(name, len(data)) for name, data in sorted(volumes.items())]} bytes"]
 
 
+class Migrated(Case):
+    """A catalogue of version 1 that is migrated."""
+
+    def __init__(self, given, folder):
+        self.kept = catalogue_of(os.path.join(folder, "kept"), VERSION_1_SQL)
+        super().__init__(given, folder, ["migrate", "--db", os.path.join(folder, "old")])
+        self.old, self.new = rows_of(self.kept), named_rows_of(catalogue_of(os.path.join(folder, "new"), ORDER_SQL))
+        self.stated = 0, b"migrated 3\n", b""
+
+    def renew(self):
+        for file in Path(self.folder).glob("old*"):
+            file.unlink()
+        shutil.copy(self.kept, self.path("old"))
+
+    def is_expected(self, found, left, own, whole, later):
+        return found in (own, (1, b"", b"refused 1\n"), (1, b"", b"refused 45\n"))
+
+    def faults_left(self, found, _later):
+        """Returns what is wrong of the catalogue: it is of version 2 after a migration, else of version 1; after 45 of either."""
+        with opened_copy(self.path("old")) as connection:
+            is_old = list(connection.iterdump()) == self.old
+        is_new = not is_old and not differences(named_rows_of(self.path("old")), self.new)
+        may_be = {self.stated: is_new, (1, b"", b"refused 45\n"): is_old or is_new}
+        return [] if may_be.get(found, is_old) else [f"left {'version 2' if is_new else 'version 1' if is_old else 'other rows'}"]
+
+
 # ---- cases
 
 
@@ -447,6 +474,18 @@ def conflict(given, folder):
     return own_restore(given, folder, block(records), "--into")
 
 
+def catalogue_of(file, text):
+    """Makes a catalogue of the statements in a file, and returns its own file."""
+    with contextlib.closing(sqlite3.connect(file)) as connection:
+        connection.executescript(Path(text).read_text())
+    return file
+
+
+def migration(given, folder):
+    """A migration of three jobs."""
+    return Migrated(given, folder)
+
+
 def filled_catalogue(folder, jobs=None):
     """Returns the file of a catalogue of these jobs, or of those in catalogues/order.sql."""
     catalogue, text = os.path.join(folder, "catalogue"), Path(ORDER_SQL).read_text()
@@ -514,7 +553,7 @@ def whole_restore(given, folder):
 
 
 EACH = (first_script, two_volumes, empty_bootstrap, two_jobs, refused_jobs, kept_jobs, restored, restored_by_drives, with_sparse_files)
-EACH += (into_a_folder, into_a_stream, sparse_file, conflict, whole_restore, marks, marks_delivered, no_restore)
+EACH += (into_a_folder, into_a_stream, sparse_file, conflict, whole_restore, marks, marks_delivered, no_restore, migration)
 
 
 def main():

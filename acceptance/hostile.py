@@ -23,7 +23,7 @@ from pathlib import Path
 sys.dont_write_bytecode = True
 sys.path.insert(0, os.path.join(os.path.dirname(os.path.dirname(os.path.abspath(__file__))), "tools"))
 from choosing import consoled
-from common import MIB, ORDER_SQL, PROGRAM, SETS, run_measured
+from common import MIB, ORDER_SQL, PROGRAM, SETS, VERSION_1_SQL, run_measured
 from drawing import store_job
 from printed import CONSOLE_LINES, REFUSAL_LINES
 from reading import extracted
@@ -359,7 +359,14 @@ def odd_rows(runs):
     """Each column of a catalogue with values of other types, negative, huge and repeated ones: lines in the formats, by 0 or 1."""
     lines = runs.write("lines", b"ls\nmark *\nfind *\nestimate\ndone\n")
     words = ["console", "--volumes", os.path.join(SETS, "order"), "--client", "peer-fd", "--fileset", "Peer", "--before", "2026-11-21 23:15:46"]
-    whole = new_catalogue(runs, "whole.db", Path(ORDER_SQL).read_text())
+    for label, catalogue in odd_catalogues(runs, ORDER_SQL):
+        compare_lines(runs, label, runs.run([*words, "--db", catalogue], lines))
+    return 1, 64
+
+
+def odd_catalogues(runs, text):
+    """Gives each catalogue with an odd value in a column of one row or of all, and what was changed."""
+    whole = new_catalogue(runs, "whole.db", Path(text).read_text())
     with contextlib.closing(sqlite3.connect(whole)) as connection:
         tables = [row[0] for row in connection.execute("SELECT name FROM sqlite_schema WHERE type = 'table'")]
         columns = [(table, row[1]) for table in tables for row in connection.execute(f"PRAGMA table_info({table})")]
@@ -367,10 +374,16 @@ def odd_rows(runs):
     for table, column in columns:
         for value in ODD_VALUES:
             for place in ("1", "rowid"):
-                catalogue = runs.write("x.db", data)
+                catalogue = written_alone(runs, data)
                 if is_changed(catalogue, f"UPDATE OR IGNORE {table} SET {column} = {value} WHERE rowid = {place}"):
-                    compare_lines(runs, f"{table}.{column} = {value} in {place}", runs.run([*words, "--db", catalogue], lines))
-    return 1, 64
+                    yield f"{table}.{column} = {value} in {place}", catalogue
+
+
+def written_alone(runs, data):
+    """Writes the file of a catalogue, without a log beside it."""
+    for left in Path(runs.folder).glob("x.db-*"):
+        left.unlink()
+    return runs.write("x.db", data)
 
 
 def is_changed(catalogue, change):
@@ -416,15 +429,52 @@ def circles(runs):
     return 1, 64
 
 
-def cut_catalogues(runs):
-    """A catalogue cut after each page, and each page of it overwritten: refused with 45 or 47, or read as before."""
-    whole = new_catalogue(runs, "whole.db", Path(ORDER_SQL).read_text())
-    data, size = Path(whole).read_bytes(), 4096
-    words = ["--volumes", os.path.join(SETS, "order"), "--client", "peer-fd", "--fileset", "Peer", "--before", "2026-11-21 23:15:46"]
-    lines = runs.write("lines", b"mark *\nfind *\nquit\n")
-    allowed = [runs.run(["console", "--db", whole, *words], lines)] + [(1, b"", b"refused %d\n" % number) for number in (45, 47)]
-    if allowed[0][0] != 0:
-        runs.wrong.append(f"the whole catalogue: {shortened(allowed[0])}")
+def odd_old_rows(runs):
+    """Each column of a catalogue of version 1 with odd values: migrated with the same rows, or refused with 45 or 47 and as it was."""
+    words = ["console", "--volumes", os.path.join(SETS, "order"), "--client", "peer-fd", "--fileset", "Peer", "--before", "2026-11-21 23:15:46"]
+    lines = runs.write("lines", b"ls\nmark *\nfind *\nestimate\ndone\n")
+    for label, catalogue in odd_catalogues(runs, VERSION_1_SQL):
+        if compare_migration(runs, label, catalogue):
+            found = runs.run([*words, "--db", catalogue], lines)
+            compare_lines(runs, label, found)
+            if found[2] in (b"refused 45\n", b"refused 47\n", b"refused 48\n"):
+                runs.wrong.append(f"{label}: migrated, and then {shortened(found)}")
+    return 1, 64
+
+
+# The rows of a catalogue of each version, and what is the same in both.
+ROWS = {
+    1: "SELECT FileId, FileIndex, JobId, PathId, Name, LStat, MD5 FROM File JOIN Filename USING (FilenameId) ORDER BY FileId",
+    2: "SELECT FileId, FileIndex, JobId, PathId, Filename, LStat, MD5 FROM File ORDER BY FileId",
+}
+SAME_TABLES = "Client FileSet Media Path Job JobMedia".split()
+
+
+def rows_of(catalogue, version):
+    with contextlib.closing(sqlite3.connect(catalogue)) as connection:
+        return [connection.execute(text).fetchall() for text in (*(f"SELECT * FROM {table} ORDER BY rowid" for table in SAME_TABLES), ROWS[version])]
+
+
+def compare_migration(runs, label, catalogue):
+    """Migrates a catalogue of version 1, and compares what is left in its file alone. Returns whether it is migrated."""
+    before, data = rows_of(catalogue, 1), Path(catalogue).read_bytes()
+    found = runs.run(["migrate", "--db", catalogue])
+    if found in [(1, b"", b"refused %d\n" % number) for number in (45, 47)]:
+        is_same = Path(catalogue).read_bytes() == data
+        runs.wrong += [] if is_same else [f"{label}: {shortened(found)}, and the file is changed"]
+        return False
+    runs.compare(label, found, (0, b"migrated %d\n" % len(before[SAME_TABLES.index("Job")]), b""))
+    for left in Path(runs.folder).glob("x.db-*"):
+        left.unlink()
+    with contextlib.closing(sqlite3.connect(catalogue)) as connection:
+        sound = connection.execute("PRAGMA integrity_check").fetchall(), connection.execute("SELECT * FROM Version").fetchall()
+    if sound != ([("ok",)], [(2,)]) or rows_of(catalogue, 2) != before:
+        runs.wrong.append(f"{label}: migrated to other rows")
+    return True
+
+
+def spoilt(data, size=4096):
+    """Gives each catalogue that is cut at a page or has one overwritten, and what was done to it."""
     for page in range(len(data) // size):
         front, own, rest = data[: page * size], data[page * size : (page + 1) * size], data[(page + 1) * size :]
         for label, changed in {
@@ -436,16 +486,42 @@ def cut_catalogues(runs):
             "random bytes in": front + os.urandom(size) + rest,
         }.items():
             if changed:
-                found = runs.run(["console", "--db", runs.write("x.db", changed), *words], lines)
-                for left in Path(runs.folder).glob("x.db-*"):
-                    left.unlink()
-                if found not in allowed:
-                    runs.wrong.append(f"{label} page {page}: {shortened(found)}")
+                yield f"{label} page {page}", changed
+
+
+def cut_catalogues(runs):
+    """A catalogue cut after each page, and each page of it overwritten: refused with 45 or 47, or read as before."""
+    data = Path(new_catalogue(runs, "whole.db", Path(ORDER_SQL).read_text())).read_bytes()
+    words = ["--volumes", os.path.join(SETS, "order"), "--client", "peer-fd", "--fileset", "Peer", "--before", "2026-11-21 23:15:46"]
+    lines = runs.write("lines", b"mark *\nfind *\nquit\n")
+    allowed = [runs.run(["console", "--db", runs.write("y.db", data), *words], lines)] + [(1, b"", b"refused %d\n" % number) for number in (45, 47)]
+    if allowed[0][0] != 0:
+        runs.wrong.append(f"the whole catalogue: {shortened(allowed[0])}")
+    for label, changed in spoilt(data):
+        found = runs.run(["console", "--db", written_alone(runs, changed), *words], lines)
+        if found not in allowed:
+            runs.wrong.append(f"{label}: {shortened(found)}")
+    return 1, 64
+
+
+def cut_old_catalogues(runs):
+    """The same of a catalogue of version 1 that is to be migrated: refused with 45 or 47 and as it was, or migrated to the same rows."""
+    whole = new_catalogue(runs, "whole.db", Path(VERSION_1_SQL).read_text())
+    data, rows = Path(whole).read_bytes(), rows_of(whole, 1)
+    for label, changed in spoilt(data):
+        catalogue = written_alone(runs, changed)
+        found = runs.run(["migrate", "--db", catalogue])
+        if found == (0, b"migrated 3\n", b""):
+            is_well = rows_of(catalogue, 2) == rows
+        else:
+            is_well = found in [(1, b"", b"refused %d\n" % number) for number in (45, 47)] and Path(catalogue).read_bytes() == changed
+        if not is_well:
+            runs.wrong.append(f"{label}: {shortened(found)}")
     return 1, 64
 
 
 CASES = (prefixes, sizes, letters, lines_of_4096, endless, in_two_parts, many_groups, many_ranges, small_blocks, jumps, gibibyte, names)
-CASES += (odd_files, odd_places, odd_rows, circles, cut_catalogues)
+CASES += (odd_files, odd_places, odd_rows, circles, cut_catalogues, odd_old_rows, cut_old_catalogues)
 
 
 def main():
