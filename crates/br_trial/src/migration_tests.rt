@@ -46,11 +46,14 @@ pub(crate) fn old_with(alloc: Global, change: &str) -> Result<Connection<MemStor
     Ok(conn)
 }
 
-/// Migrates a database. Returns the number of jobs, or the number with which it is refused, and the database.
+/// How a migration ends: with the number of jobs, or the number with which it is refused.
+type End = Result<u64, u32>;
+
+/// Migrates a database. Returns how that ends, and the database.
 fn migrated<S: Alter + Drop>(
     alloc: Global,
     conn: Connection<S>,
-) -> Result<(Result<u64, u32>, Connection<S>), Fail> {
+) -> Result<(End, Connection<S>), Fail> {
     let mut conn = reopened(alloc, conn)?;
     match Store::migrate(alloc, &mut conn) {
         Ok(jobs) => Ok((Ok(jobs), conn)),
@@ -66,19 +69,27 @@ fn refusal(alloc: Global, conn: Connection<MemStore>) -> u32 {
     }
 }
 
+/// Migrates the database of version 1 twice. Returns both ends, and the database.
+fn migrated_twice(alloc: Global) -> Result<([End; 2], Connection<MemStore>), Fail> {
+    let (first, conn) = migrated(alloc, old_with(alloc, "")?)?;
+    let (again, conn) = migrated(alloc, conn)?;
+    Ok(([first, again], conn))
+}
+
+/// Migrates it twice. Returns both ends, and shows the jobs that are there then.
+fn jobs_of_two(alloc: Global) -> Result<([End; 2], String), Fail> {
+    let (ends, conn) = migrated_twice(alloc)?;
+    let mut store = Store::open(alloc, conn)?;
+    Ok((ends, loaded(alloc, &mut store)?))
+}
+
 #[test]
 fn a_catalogue_of_version_1_is_migrated_once(rt: HostRuntime) -> Result<(), Fail> {
     let alloc = rt.alloc();
     assert_eq!(rt; refusal(alloc, old_with(alloc, "")?), 48);
-    let (first, conn) = migrated(alloc, old_with(alloc, "")?)?;
-    let (again, conn) = migrated(alloc, conn)?;
-    assert_eq!(rt; first, Ok(2));
-    assert_eq!(rt; again, Err(47));
-    let mut store = Store::open(alloc, conn)?;
-    assert_eq!(rt;
-        loaded(alloc, &mut store)?.as_str(),
-        both_shown(alloc)?.as_str()
-    );
+    let (ends, jobs) = jobs_of_two(alloc)?;
+    assert_eq!(rt; ends, [Ok(2), Err(47)]);
+    assert_eq!(rt; jobs.as_str(), both_shown(alloc)?.as_str());
     Ok(())
 }
 
@@ -93,12 +104,16 @@ fn a_migrated_catalogue_takes_jobs(rt: HostRuntime) -> Result<(), Fail> {
     Ok(())
 }
 
+/// Migrates an empty database. Returns how that ends, and the number with which it is not opened as a
+/// catalogue, or 0 if it is.
+fn empty_migrated(alloc: Global) -> Result<(End, u32), Fail> {
+    let (end, conn) = migrated(alloc, Connection::open_in_memory(alloc)?)?;
+    Ok((end, refusal(alloc, conn)))
+}
+
 #[test]
 fn an_empty_database_is_not_migrated(rt: HostRuntime) -> Result<(), Fail> {
-    let alloc = rt.alloc();
-    let (end, conn) = migrated(alloc, Connection::open_in_memory(alloc)?)?;
-    assert_eq!(rt; end, Err(47));
-    assert_eq!(rt; refusal(alloc, conn), 0);
+    assert_eq!(rt; empty_migrated(rt.alloc())?, (Err(47), 0));
     Ok(())
 }
 
@@ -162,15 +177,21 @@ fn rows_shown(alloc: Global, conn: &mut Connection<MemStore>) -> Result<String, 
     Ok(format!(in alloc; "{versions:?} {names:?} {files:?}")?)
 }
 
-/// Rows that form no history are found last, when all rows were written.
-#[test]
-fn a_refused_migration_leaves_all_rows(rt: HostRuntime) -> Result<(), Fail> {
-    let alloc = rt.alloc();
+/// Migrates a database whose rows form no history. Returns how that ends and the number with which the
+/// database is not opened then, and its rows before and after.
+fn refused_migration(alloc: Global) -> Result<((End, u32), (String, String)), Fail> {
     let mut conn = old_with(alloc, "UPDATE File SET LStat = '1 2' WHERE FileIndex = 1")?;
     let before = rows_shown(alloc, &mut conn)?;
     let (end, mut conn) = migrated(alloc, conn)?;
-    assert_eq!(rt; end, Err(47));
-    assert_eq!(rt; rows_shown(alloc, &mut conn)?.as_str(), before.as_str());
-    assert_eq!(rt; refusal(alloc, conn), 48);
+    let after = rows_shown(alloc, &mut conn)?;
+    Ok(((end, refusal(alloc, conn)), (before, after)))
+}
+
+/// Rows that form no history are found last, when all rows were written.
+#[test]
+fn a_refused_migration_leaves_all_rows(rt: HostRuntime) -> Result<(), Fail> {
+    let (numbers, (before, after)) = refused_migration(rt.alloc())?;
+    assert_eq!(rt; numbers, (Err(47), 48));
+    assert_eq!(rt; after.as_str(), before.as_str());
     Ok(())
 }
