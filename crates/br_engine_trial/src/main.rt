@@ -58,10 +58,14 @@ fn run_line(
 }
 
 /// Runs the rows of a text, and prints those that do not hold.
-fn run_rows(rt: &HostRuntime, text: &[u8]) -> io::Result<()> {
+fn run_rows(
+    rt: &HostRuntime,
+    threads: &(impl Files<File = File> + AllocGlobal + Threads + Wait + Sync),
+    text: &[u8],
+) -> io::Result<()> {
     let mut rows = Rows::new(rt.alloc());
     for line in text.lines(rt.alloc()) {
-        run_line(rt, rt, &mut rows, line?.as_str())?;
+        run_line(rt, threads, &mut rows, line?.as_str())?;
     }
     rows.end(rt)
 }
@@ -87,6 +91,6 @@ fn input_of(rt: &HostRuntime) -> io::Result<Vec<u8>> {
 fn main(rt: HostRuntime) -> io::Result<()> {
     let text = input_of(&rt)?;
     let (rows, scripts) = whole::parts_of(&text);
-    run_rows(&rt, rows)?;
+    run_rows(&rt, &rt, rows)?;
     run_scripts(&rt, &rt, scripts)
 }
