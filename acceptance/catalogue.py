@@ -210,13 +210,16 @@ def migrates(checks, folder):
 
 def makes(checks, folder):
     """Checks a catalogue that the program makes of an empty file."""
-    db = os.path.join(folder, "empty.db")
+    db, volumes = os.path.join(folder, "empty.db"), os.path.join(folder, "no volumes")
     open(db, "w").close()
-    checks.check("an empty file", checks.console(db), (1, "", "refused 53\n"))
+    os.mkdir(volumes)
+    ran = subprocess.run([checks.program, "serve", "--db", db, "--volumes", volumes], input="", capture_output=True, text=True)
+    checks.check("an empty script over an empty file", (ran.returncode, ran.stdout, ran.stderr), (0, "", ""))
     checks.check("PRAGMA integrity_check", sqlite3(db, "PRAGMA integrity_check;"), "ok\n")
     names = sqlite3(db, "SELECT name FROM sqlite_master WHERE type = 'table' ORDER BY name;").split()
     checks.check("its tables", names, TABLES)
     checks.check("its version", sqlite3(db, "SELECT * FROM Version;"), "2\n")
+    checks.check("has no job", checks.console(db), (1, "", "refused 53\n"))
 
 
 def main():

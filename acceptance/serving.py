@@ -267,12 +267,23 @@ def after_kill(given, place, whole, lines):
     found, jobs = volumes_of(place.volumes), whole.jobs[:count]
     vouched = vouched_by(jobs)
     wrong += [f"volume {name}" for name in wrong_volumes(found, whole.volumes, vouched)]
+    wrong += empty_run(given, place, jobs)
     for job in jobs:
         answer = place.console(given.program, job["start"] + 1)
         if answer != consoled(jobs, found, (CLIENT, FILE_SET, job["start"] + 1), ALL) or answer[0] or answer[2]:
             wrong.append(f"console over job {job['id']}")
     retired = [name for name, data in found.items() if len(data) != vouched.get(name, 0)]
     return count, len(retired), wrong + next_run(given, place, jobs, found)
+
+
+def empty_run(given, place, jobs):
+    """Runs an empty script after a kill, which puts all into the file of the catalogue. Returns what is wrong."""
+    wrong = [] if place.serve(given.program, b"") == (0, b"", b"") else ["an empty run"]
+    if os.path.getsize(place.catalogue + "-wal"):
+        wrong.append("the log has bytes")
+    with tempfile.TemporaryDirectory() as room:
+        alone = shutil.copy(place.catalogue, room)
+        return wrong + [f"the file alone: {it}" for it in differences(rows_of(alone), rows_by(jobs))]
 
 
 def next_run(given, place, jobs, found):

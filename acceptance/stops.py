@@ -5,9 +5,10 @@
 
 `stopping_calls.c`, which is compiled by `cc` and preloaded, ends the process before a call or within a write, or lets the call and each
 later one fail. The program makes a catalogue of an empty file, or opens the catalogue of three jobs that `sqlite3` made, or one that
-it made itself. After each stop the file is opened again, without a stop: the program finds a catalogue without a job, or the one that was
-there, and SQLite's own library finds the file sound. If the calls fail, the program is refused with 45, or the same as without a stop if
-its answer did not need them.
+it made itself, and restores from it by a script. After each stop the same script runs again, without a stop: it finds a catalogue
+without a job, or the one that was there, and SQLite's own library finds the file sound. If the calls fail, the program is refused with
+45 at its start or its end, or the same as without a stop if its answer did not need them. `console` over the same catalogues makes no
+call that changes a file.
 
 A catalogue of version 1 is migrated, and stopped in the same ways. Afterwards it is of version 1 or of version 2, with the same jobs, and
 another migration goes on from there. After an answer without a refusal it is of version 2.
@@ -40,6 +41,10 @@ REFUSED = (1, b"", b"refused 45\n")
 STOPPED = (137, b"", b"")
 # What `console` says of a catalogue of version 1, and `migrate` of one of version 2.
 OLD, NOT_OLD = (1, b"", b"refused 48\n"), (1, b"", b"refused 47\n")
+ORDER = os.path.join(SETS, "order")
+LOOK = [b"restore peer-fd Peer 2026-11-21 23:15:46", b"mark *", b"done"]
+# A shorter log has no room for a commit.
+LOG_ROOM = 56
 
 
 def run(given, words, lines, call, way, log):
@@ -51,9 +56,23 @@ def run(given, words, lines, call, way, log):
 
 def console(given, catalogue, call=None, way="before", log=os.devnull):
     """Runs a session over a catalogue, with a stop if a call is named."""
-    words = ["console", "--db", catalogue, "--volumes", os.path.join(SETS, "order"), "--client", "peer-fd"]
+    words = ["console", "--db", catalogue, "--volumes", ORDER, "--client", "peer-fd"]
     words += ["--fileset", "Peer", "--before", "2026-11-21 23:15:46"]
     return run(given, words, b"mark *\ndone\n", call, way, log)
+
+
+def said(given, catalogue):
+    """Returns what `console` says, or None if the log has what is not in the file yet: that is refused after five seconds."""
+    log = Path(catalogue + "-wal")
+    return None if log.exists() and log.stat().st_size >= LOG_ROOM else console(given, catalogue)
+
+
+def is_traceless(given, folder, kept):
+    """Returns whether a session over this catalogue makes no call that changes a file."""
+    log = os.path.join(folder, "log")
+    Path(log).write_bytes(b"")
+    found = console(given, copied(folder, kept), 1, "before", log)
+    return found[0] in (0, 1) and not os.path.getsize(log)
 
 
 def migrate(given, catalogue, call=None, way="before", log=os.devnull):
@@ -76,24 +95,30 @@ def copied(folder, kept):
     return os.path.join(folder, "catalogue")
 
 
+def allowed_after(own, way):
+    """Returns what a stopped run may give. What is written before a stop is nothing, or all that a run without a stop gives."""
+    if way == "failing":
+        return own, REFUSED, (1, own[1], REFUSED[2])
+    return STOPPED, (STOPPED[0], own[1], b"")
+
+
 def stop_in_turn(given, folder, kept):
-    """Stops a session over this catalogue at each call in each way. Returns how many stops there were, and what differed."""
+    """Stops a script over this catalogue at each call in each way. Returns how many stops there were, and what differed."""
     catalogue = copied(folder, kept)
-    own, rows = console(given, catalogue), rows_of(catalogue)
-    stops, wrong = 0, []
+    own, rows = opened(given, catalogue), rows_of(catalogue)
+    stops, wrong = 0, [] if is_traceless(given, folder, kept) else ["console changes a file"]
     for way in WAYS:
         call, was_stopped = 0, True
         while was_stopped:
             call, log = call + 1, os.path.join(folder, "log")
             Path(log).write_bytes(b"")
             catalogue = copied(folder, kept)
-            found = console(given, catalogue, call, way, log)
+            found = opened(given, catalogue, call, way, log)
             was_stopped = os.path.getsize(log) > 0
             stops += was_stopped
-            allowed = (own, REFUSED) if way == "failing" else (STOPPED,)
-            if found not in (allowed if was_stopped else (own,)):
+            if found not in (allowed_after(own, way) if was_stopped else (own,)):
                 wrong.append(f"{way} call {call}: {found}")
-            if (again := console(given, catalogue)) != own:
+            if (again := opened(given, catalogue)) != own:
                 wrong.append(f"after a stop {way} call {call}: {again}")
             if (left := rows_of(catalogue)) != rows:
                 wrong.append(f"after a stop {way} call {call}: {left}")
@@ -111,11 +136,12 @@ class Versions:
 
     def fault(self, given, catalogue, is_done):
         """Returns what is wrong of a catalogue after a stop. It has to be of version 2 if that was said."""
-        found = found_in(catalogue), console(given, catalogue)
-        if found != self.new and (is_done or found != self.old):
+        found = found_in(catalogue), said(given, catalogue)
+        is_new, is_old = (found[0] == it[0] and found[1] in (None, it[1]) for it in (self.new, self.old))
+        if not is_new and (is_done or not is_old):
             return f"left {found}"
         again = migrate(given, catalogue), (found_in(catalogue), console(given, catalogue))
-        return None if again == (self.migrated if found == self.old else NOT_OLD, self.new) else f"and then {again}"
+        return None if again == (NOT_OLD if is_new else self.migrated, self.new) else f"and then {again}"
 
 
 def found_in(catalogue):
@@ -169,6 +195,11 @@ def serve(given, places, lines, call=None, way="before", log=os.devnull):
     """Runs a script over a catalogue and a folder of volumes, with a stop if a call is named."""
     catalogue, volumes = places
     return run(given, ["serve", "--db", catalogue, "--volumes", volumes], text_of(lines), call, way, log)
+
+
+def opened(given, catalogue, call=None, way="before", log=os.devnull):
+    """Opens a catalogue by a script that restores from it, with a stop if a call is named."""
+    return serve(given, (catalogue, ORDER), LOOK, call, way, log)
 
 
 def new_places(folder):
@@ -227,7 +258,7 @@ def catalogues(given, folder):
     for kept, text in ((filled, ORDER_SQL), (old, VERSION_1_SQL)):
         with contextlib.closing(sqlite3.connect(os.path.join(kept, "catalogue"))) as connection:
             connection.executescript(Path(text).read_text())
-    console(given, os.path.join(made, "catalogue"))
+    opened(given, os.path.join(made, "catalogue"))
     return empty, filled, made, old
 
 
@@ -244,8 +275,8 @@ def main():
     with tempfile.TemporaryDirectory() as folder:
         given.library = compiled(folder, "stopping_calls")
         os.mkdir(os.path.join(folder, "run"))
-        *opened, old = catalogues(given, folder)
-        for kept in opened:
+        *current, old = catalogues(given, folder)
+        for kept in current:
             failed += told(os.path.basename(kept), *stop_in_turn(given, os.path.join(folder, "run"), kept))
         failed += told(os.path.basename(old), *stop_migrations(given, os.path.join(folder, "run"), old))
         os.mkdir(os.path.join(folder, "commits"))

@@ -77,6 +77,8 @@ pub(crate) struct OneCatalogue<'c> {
     pub(crate) db: &'c str,
     /// The path of the second file of the job.
     pub(crate) second: &'c [u8],
+    /// What closing the catalogue returns.
+    pub(crate) closing: Result<(), CatalogueFault>,
 }
 
 /// The catalogue with the job, open. It counts the jobs that are added to it, and keeps none.
@@ -115,6 +117,8 @@ impl<'c> Catalogue for OneCatalogue<'c> {
 
     ghost opens = { λ _ _ _. ⊤ };
 
+    ghost closes = { λ _ _. ⊤ };
+
     ghost migrates = { λ _ _ _. ⊤ };
 
     fn open(&self, db: &str) -> Result<OneJob<'c>, CatalogueFault> {
@@ -126,6 +130,10 @@ impl<'c> Catalogue for OneCatalogue<'c> {
             second: self.second,
             added: 0,
         })
+    }
+
+    fn close(&self, _jobs: OneJob<'c>) -> Result<(), CatalogueFault> {
+        self.closing
     }
 
     fn load(&self, db: &str) -> Result<History, CatalogueFault> {

@@ -142,6 +142,7 @@ fn ended<W: Write + Drop>(
         alloc: rt.alloc(),
         db: db.as_str(),
         second: case.second,
+        closing: Ok(()),
     };
     let given = given_of(db.as_str(), volumes.as_str(), into.as_str());
     let mut task = set_up_console(rt, &catalogue, &given)?.onto(text);
@@ -223,6 +224,7 @@ fn status_in(
         alloc: rt.alloc(),
         db: db.as_str(),
         second: b"/d/b",
+        closing: Ok(()),
     };
     let given = given_of(db.as_str(), volumes.as_str(), into);
     let mut lines = lines;
@@ -264,6 +266,7 @@ fn status_of_refused(
         alloc: rt.alloc(),
         db: db.as_str(),
         second: b"/d/b",
+        closing: Ok(()),
     };
     let command = command_of(db.as_str(), filled.as_str(), filled.as_str());
     Ok(run_command(rt, threads, &catalogue, &command)?)
@@ -293,10 +296,16 @@ impl Catalogue for NewCatalogues<'_> {
 
     ghost opens = { λ _ _ _. ⊤ };
 
+    ghost closes = { λ _ _. ⊤ };
+
     ghost migrates = { λ _ _ _. ⊤ };
 
     fn open(&self, _db: &str) -> Result<Forgetful, CatalogueFault> {
         Err(CatalogueFault::Unreadable)
+    }
+
+    fn close(&self, _jobs: Forgetful) -> Result<(), CatalogueFault> {
+        Ok(())
     }
 
     fn load(&self, db: &str) -> Result<History, CatalogueFault> {

@@ -302,10 +302,16 @@ impl Catalogue for NoCatalogue {
 
     ghost opens = { λ _ _ _. ⊤ };
 
+    ghost closes = { λ _ _. ⊤ };
+
     ghost migrates = { λ _ _ _. ⊤ };
 
     fn open(&self, _db: &str) -> Result<Forgetful, CatalogueFault> {
         Err(CatalogueFault::Unreadable)
+    }
+
+    fn close(&self, _jobs: Forgetful) -> Result<(), CatalogueFault> {
+        Ok(())
     }
 
     fn load(&self, _db: &str) -> Result<History, CatalogueFault> {

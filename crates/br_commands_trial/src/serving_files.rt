@@ -3,7 +3,8 @@ use crate::catalogue::OneCatalogue;
 use crate::places::{BACK, FRONT, are_there, entries_in, new_place, path_in};
 use br_commands::run_command;
 use br_options::{Invocation, ServeOptions};
-use br_serving::{serve_over, set_up_serve};
+use br_serving::{serve_by_lines, serve_over, set_up_serve};
+use br_setup::CatalogueFault;
 use std::alloc::AllocError;
 use std::fmt::Write;
 use std::fs;
@@ -66,6 +67,7 @@ fn tried(
         alloc: rt.alloc(),
         db: "c.db",
         second: case.second,
+        closing: Ok(()),
     };
     let given = ServeOptions {
         db: case.db,
@@ -266,6 +268,7 @@ fn a_bad_catalogue_ends_serve_with_status_1(rt: HostRuntime) -> Result<(), Fail>
         alloc: rt.alloc(),
         db: "c.db",
         second: b"/d/b",
+        closing: Ok(()),
     };
     let command = Invocation::ServeFiles(ServeOptions {
         db: "other.db",
@@ -273,6 +276,38 @@ fn a_bad_catalogue_ends_serve_with_status_1(rt: HostRuntime) -> Result<(), Fail>
     });
     let status = run_command(&rt, &rt, &catalogue, &command)?;
     assert_eq!(rt; status, 1);
+    Ok(())
+}
+
+/// Runs an empty script over a catalogue whose closing returns this. Returns the exit status.
+fn status_after(
+    rt: &HostRuntime,
+    threads: &(impl Threads + Wait + Sync),
+    volumes: &str,
+    closing: Result<(), CatalogueFault>,
+) -> Result<u8, Fail> {
+    let catalogue = OneCatalogue {
+        alloc: rt.alloc(),
+        db: "c.db",
+        second: b"/d/b",
+        closing,
+    };
+    let given = ServeOptions {
+        db: "c.db",
+        volumes,
+    };
+    let mut reader = b"".as_slice();
+    Ok(serve_by_lines(rt, threads, &catalogue, &given, &mut reader)?)
+}
+
+#[test]
+fn a_catalogue_that_is_not_closed_ends_serve_with_status_1(rt: HostRuntime) -> Result<(), Fail> {
+    let place = new_place(&rt, "serve_unclosed", &[])?;
+    let volumes = path_in(&rt, place.as_str(), "volumes")?;
+    let closed = status_after(&rt, &rt, volumes.as_str(), Ok(()))?;
+    let unclosed = status_after(&rt, &rt, volumes.as_str(), Err(CatalogueFault::Unreadable))?;
+    fs::remove_dir_all(&rt, place.as_str())?;
+    assert_eq!(rt; (closed, unclosed), (0, 1));
     Ok(())
 }
 
@@ -284,6 +319,7 @@ fn a_job_for_a_folder_that_is_not_there_is_refused(rt: HostRuntime) -> Result<()
         alloc: rt.alloc(),
         db: "c.db",
         second: b"/d/b",
+        closing: Ok(()),
     };
     let given = ServeOptions {
         db: "c.db",

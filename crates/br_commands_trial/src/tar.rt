@@ -123,6 +123,7 @@ fn console_status(
         alloc: rt.alloc(),
         db: db.as_str(),
         second: b"/d/b",
+        closing: Ok(()),
     };
     let given = given_of(db.as_str(), volumes.as_str(), client, file.as_str());
     let mut lines = lines;

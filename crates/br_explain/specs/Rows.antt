@@ -95,8 +95,8 @@ all_rows =
     (codes "Bytes could not be appended to a volume, or its length could not be read.")
     (codes "In a script, free memory and run it again; in a folder, check space and permissions.") ∷
     row_with 45 (codes "StoreFault")
-    (codes "The catalogue is missing, cannot be opened, or is no sound database with the tables of this program.")
-    (codes "Check `--db` and that its folder can be written, and try another copy, or restore by a bootstrap with `extract`.") ∷
+    (codes "The catalogue is missing, in use, cannot be opened, or is no sound database with the tables of this program.")
+    (codes "Check `--db`. If a `-wal` lies beside the file, let `serve` open it once, in a folder that can be written. Else try another copy, or restore by a bootstrap with `extract`.") ∷
     row_with 46 (codes "StoredNotPublished")
     (codes "The job is in the catalogue, but restores do not see it yet.")
     (codes "In a script, free memory and commit again, which publishes the job first.") ∷

@@ -155,8 +155,8 @@ pub const REFUSALS: [Refusal; 54] = [
     Refusal {
         number: 45,
         name: "StoreFault",
-        meaning: "The catalogue is missing, cannot be opened, or is no sound database with the tables of this program.",
-        next: "Check `--db` and that its folder can be written, and try another copy, or restore by a bootstrap with `extract`.",
+        meaning: "The catalogue is missing, in use, cannot be opened, or is no sound database with the tables of this program.",
+        next: "Check `--db`. If a `-wal` lies beside the file, let `serve` open it once, in a folder that can be written. Else try another copy, or restore by a bootstrap with `extract`.",
     },
     Refusal {
         number: 46,

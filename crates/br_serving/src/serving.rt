@@ -123,9 +123,35 @@ pub fn serve_over<C: JobStore, V: DrivenStore, R: BufRead, W: Flush>(
     (keeper, flushed_end(end, writer))
 }
 
+/// Puts all jobs into the file of the catalogue, after a script that ended with this status. Returns the exit
+/// status of the command, which is that of the script unless the catalogue refuses.
+///
+/// # Errors
+///
+/// That of the script, or if standard error failed.
+fn end_serve<C: Catalogue, R: Eprint>(
+    rt: &R,
+    catalogue: &C,
+    jobs: C::Jobs,
+    status: io::Result<u8>,
+) -> io::Result<u8>
+    requires known { IfOk status IsStatus }
+    ensures known { IfOk result IsStatus }
+    ensures clean { IfOk result (λ code. code ≡ 0 → (status ≡ Ok 0) × C.closes catalogue.now jobs) }
+{
+    match catalogue.close(jobs) {
+        Ok(()) => status,
+        Err(fault) => {
+            let refused = refuse_start(rt, fault.number())?;
+            status.map(|_| refused)
+        }
+    }
+}
+
 /// Runs the lines of a reader as a script over a catalogue in a file and volumes in a folder, and writes
 /// its answers to standard output, each line as soon as it is whole. A catalogue that can't be opened
-/// (45) or loaded (47) is refused on standard error before a line is read.
+/// (45) or loaded (47) is refused on standard error before a line is read. After the last line all jobs
+/// are put into the catalogue's file; if that fails, it is refused on standard error too.
 ///
 /// Returns the exit status: 0 if nothing was refused and each outcome is a file; 1 otherwise.
 ///
@@ -145,8 +171,8 @@ pub fn serve_by_lines<C: Catalogue, R: BufRead + Drop>(
     match set_up_serve(rt, threads, catalogue, given) {
         Ok(setup) => {
             let (keeper, status) = serve_over(threads, rt.alloc(), setup, reader, &mut writer);
-            let _ = keeper.close(threads);
-            refuse_memory(rt, status)
+            let (jobs, _volumes) = keeper.close(threads);
+            end_serve(rt, catalogue, jobs, refuse_memory(rt, status))
         }
         Err(fault) => refuse_start(rt, fault.number()),
     }

@@ -1,5 +1,5 @@
 //! The catalogue of jobs, as `console` and `serve` need it.
-ghost use Rattle.std.specs.Prelude.{◌≡◌, IfOk};
+ghost use Rattle.std.specs.Prelude.{◌≡◌, IfOk, OnOk};
 ghost use Rattle.br_setup.specs.Setup.{AreJobs, catalogue_number};
 
 use br_history::History;
@@ -48,6 +48,9 @@ pub trait Catalogue {
     /// What may be opened at a path.
     ghost opens: { Self → List ℕ → Self.Jobs → Type 0 };
 
+    /// What holds once all jobs of an open catalogue are in its file.
+    ghost closes: { Self → Self.Jobs → Type 0 };
+
     /// The numbers of jobs that a catalogue at a path may have which is migrated.
     ghost migrates: { Self → List ℕ → ℕ → Type 0 };
 
@@ -55,7 +58,11 @@ pub trait Catalogue {
     fn open(&self, db: &str) -> Result<Self::Jobs, CatalogueFault>
         ensures opened { IfOk result (opens self.now db.now) };
 
-    /// Loads all jobs of the catalogue at the path.
+    /// Ends the use of a catalogue. Afterwards its file alone has all its jobs.
+    fn close(&self, jobs: Self::Jobs) -> Result<(), CatalogueFault>
+        ensures closed { OnOk result (closes self.now jobs) };
+
+    /// Loads all jobs of the catalogue at the path. Makes none if there is none, and changes nothing.
     fn load(&self, db: &str) -> Result<History, CatalogueFault>
         ensures loaded { IfOk result (λ history. AreJobs (jobs_at self.now db.now) history) };
 

@@ -11,15 +11,18 @@
 
 ghost use Rattle.std.specs.Prelude.{◌≡◌};
 ghost use Rattle.br_rows.specs.Fault.{fault_number};
+ghost use Rattle.br_look.specs.Look.{look_number};
 ghost use Rattle.br_setup.specs.Setup.{catalogue_number};
 
 use br_command::read_words;
 use br_commands::{BAD_STREAM, run_command};
 use br_history::History;
 use br_kept::StoredJobs;
+use br_look::{HostSight, LookFault, fold, look};
 use br_setup::{CLEAN, Catalogue, CatalogueFault, REFUSED};
 use br_store::{Store, StoreFault, reopened};
-use sqlite::{Connection, File, FileStore};
+use sqlite::{Alter, Connection, File, FileStore};
+use std::alloc::Global;
 use std::io::{self, ErrorKind};
 use std::process::ExitCode;
 use std::rt::Env;
@@ -29,24 +32,16 @@ use std::thread::Threads;
 /// The exit status for a fault of the command line.
 const BAD_COMMAND: u8 = 2;
 
-/// Opens the catalogue in a file, or makes one without jobs in a file that is empty or not there.
-fn open(rt: &HostRuntime, db: &str) -> Result<Store<FileStore<File>>, StoreFault> {
-    let conn = Connection::open(rt, db)?;
-    Store::open(rt.alloc(), conn)
-}
-
-/// Loads the jobs in the file of a catalogue.
-fn load(rt: &HostRuntime, db: &str) -> Result<History, StoreFault> {
-    open(rt, db)?.load_history()
-}
-
-/// Makes the catalogue of version 1 in a file one of version 2. Returns the number of its jobs. Afterwards the file alone is the
-/// catalogue.
-fn migrate(rt: &HostRuntime, db: &str) -> Result<u64, StoreFault> {
-    let mut conn = reopened(rt.alloc(), Connection::open(rt, db)?)?;
-    let jobs = Store::migrate(rt.alloc(), &mut conn)?;
-    conn.close()?;
-    Ok(jobs)
+/// Returns why the file of a catalogue was not shown as a fault of a catalogue.
+fn look_fault(fault: LookFault) -> CatalogueFault
+    ensures { catalogue_number result ≡ look_number fault }
+{
+    match fault {
+        LookFault::Memory => CatalogueFault::Memory,
+        LookFault::InUse | LookFault::Unreadable | LookFault::Database(_) => {
+            CatalogueFault::Unreadable
+        }
+    }
 }
 
 /// Returns the fault of a catalogue's file as one of a catalogue.
@@ -59,6 +54,48 @@ fn catalogue_fault(fault: StoreFault) -> CatalogueFault
         StoreFault::BadCatalogue => CatalogueFault::BadCatalogue,
         StoreFault::OldCatalogue => CatalogueFault::OldCatalogue,
     }
+}
+
+/// Opens the catalogue in a file, or makes one without jobs in a file that is empty or not there.
+fn open(rt: &HostRuntime, db: &str) -> Result<Store<FileStore<File>>, StoreFault> {
+    let conn = Connection::open(rt, db)?;
+    Store::open(rt.alloc(), conn)
+}
+
+/// Loads the jobs of a catalogue.
+fn load_from<S: Alter + Drop>(alloc: Global, conn: Connection<S>) -> Result<History, StoreFault> {
+    Store::open(alloc, conn)?.load_history()
+}
+
+/// Loads the jobs in the file of a catalogue. Only reads the file.
+fn load(rt: &HostRuntime, db: &str) -> Result<History, CatalogueFault> {
+    let mut sight = HostSight::new(rt, db).map_err(look_fault)?;
+    let conn = look(rt.alloc(), &mut sight).map_err(look_fault)?;
+    load_from(rt.alloc(), conn).map_err(catalogue_fault)
+}
+
+/// Puts all that was committed to a catalogue into its file.
+fn close(conn: Connection<FileStore<File>>) -> Result<(), CatalogueFault> {
+    match fold(conn) {
+        Ok(_files) => Ok(()),
+        Err(fault) => Err(look_fault(fault)),
+    }
+}
+
+/// Opens the file of a catalogue to migrate it.
+fn open_old(rt: &HostRuntime, db: &str) -> Result<Connection<FileStore<File>>, StoreFault> {
+    reopened(rt.alloc(), Connection::open(rt, db)?)
+}
+
+/// Makes the catalogue of version 1 in a file one of version 2. Returns the number of its jobs. Afterwards the file alone is the
+/// catalogue, also if it was refused.
+fn migrate(rt: &HostRuntime, db: &str) -> Result<u64, CatalogueFault> {
+    let mut conn = open_old(rt, db).map_err(catalogue_fault)?;
+    let migrated = Store::migrate(rt.alloc(), &mut conn);
+    let closed = close(conn);
+    let jobs = migrated.map_err(catalogue_fault)?;
+    closed?;
+    Ok(jobs)
 }
 
 /// The catalogues in the files of SQLite.
@@ -76,6 +113,8 @@ impl Catalogue for CatalogueFiles<'_> {
 
     ghost opens = { λ _ _ _. ⊤ };
 
+    ghost closes = { λ _ _. ⊤ };
+
     ghost migrates = { λ _ _ _. ⊤ };
 
     fn open(&self, db: &str) -> Result<StoredJobs<FileStore<File>>, CatalogueFault> {
@@ -85,12 +124,16 @@ impl Catalogue for CatalogueFiles<'_> {
         }
     }
 
+    fn close(&self, jobs: StoredJobs<FileStore<File>>) -> Result<(), CatalogueFault> {
+        close(jobs.into_store().into_connection())
+    }
+
     fn load(&self, db: &str) -> Result<History, CatalogueFault> {
-        load(self.rt, db).map_err(catalogue_fault)
+        load(self.rt, db)
     }
 
     fn migrate(&self, db: &str) -> Result<u64, CatalogueFault> {
-        migrate(self.rt, db).map_err(catalogue_fault)
+        migrate(self.rt, db)
     }
 }
 

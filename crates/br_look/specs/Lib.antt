@@ -1,0 +1,3 @@
+pub mod Scene
+pub mod Look
+pub mod Folded
