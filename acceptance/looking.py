@@ -143,7 +143,9 @@ def waits(checks, folder):
     db = new_catalogue(folder)
     for begin in ("BEGIN IMMEDIATE", "BEGIN EXCLUSIVE"):
         with Writer(db, begin + ";") as writer:
-            took = checks.look(f"a catalogue after {begin}", db, REFUSED)
+            checks.look(f"a catalogue after {begin}", db, SHOWN)
+            writer.tell("INSERT INTO Client(Name) VALUES ('venus-fd');")
+            took = checks.look(f"a catalogue after {begin} and a change", db, REFUSED)
             checks.check("and waits for five seconds", LONGEST - 1 <= took <= LONGEST + SLACK, True)
             timer = threading.Timer(1, writer.tell, ["ROLLBACK;"])
             timer.start()

@@ -4,20 +4,12 @@ ghost use Rattle.std.specs.Prelude.{◌≡◌, ◌≤◌, length, IfOk};
 use crate::beside::Beside;
 use crate::fault::LookFault;
 use crate::sight::{Sight, Stamp};
-use os::RangeLock;
 use std::fs::{self, File, Metadata};
 use std::io::{self, ErrorKind, Read};
-use std::os::fd::AsRawFd;
 use std::os::unix::fs::{FileExt, MetadataExt};
 use std::path::PathBuf;
 use std::thread;
 use std::time::Duration;
-
-/// Where SQLite locks a file to read it, and how many bytes. A writer locks them all.
-const SHARED: (u64, u64) = ((1 << 30) + 2, 510);
-
-/// The byte that a program locks before it begins to write.
-const RESERVED: (u64, u64) = ((1 << 30) + 1, 1);
 
 /// The length of the headers of a log and of its first page.
 const LOG_ROOM: u64 = 32 + 24;
@@ -78,31 +70,6 @@ fn has_journal(rt: &HostRuntime, path: &str) -> io::Result<bool> {
     }
 }
 
-/// Locks some bytes of the file for reading, until it is closed.
-fn lock(file: &File, range: (u64, u64)) -> Result<(), LookFault> {
-    if os::try_lock_range(file.as_raw_fd(), RangeLock::Shared, range.0, range.1) == 0 {
-        return Ok(());
-    }
-    let error = io::Error::from_raw_os_error(os::errno());
-    if error.kind() == ErrorKind::WouldBlock {
-        Err(LookFault::InUse)
-    } else {
-        Err(LookFault::Unreadable)
-    }
-}
-
-/// Refuses a file if another program has begun to write. Must not be called where a journal is: while the
-/// byte is locked, other programs take a journal for that of a program at work.
-fn check_reserved(file: &File) -> Result<(), LookFault> {
-    lock(file, RESERVED)?;
-    let unlocked = os::try_lock_range(file.as_raw_fd(), RangeLock::Unlock, RESERVED.0, RESERVED.1);
-    if unlocked == 0 {
-        Ok(())
-    } else {
-        Err(LookFault::Unreadable)
-    }
-}
-
 /// Returns whether this is a regular file with one name. Beside another name there may be another log.
 fn is_plain(found: &Metadata) -> bool {
     found.is_file() && found.nlink() == 1
@@ -141,11 +108,10 @@ impl Sight for HostSight<'_> {
         if !is_plain(&found) || found.dev() != named.dev() || found.ino() != named.ino() {
             return Err(LookFault::InUse);
         }
-        lock(&file, SHARED)?;
         Ok(HostFile { file })
     }
 
-    fn beside(&mut self, file: &HostFile) -> Result<Beside, LookFault> {
+    fn beside(&mut self, _file: &HostFile) -> Result<Beside, LookFault> {
         let (alloc, path) = (self.rt.alloc(), self.path.as_str());
         if has_journal(self.rt, format!(in alloc; "{path}-journal")?.as_str())? {
             return Ok(Beside::Journal);
@@ -153,7 +119,6 @@ impl Sight for HostSight<'_> {
         if has_log(self.rt, format!(in alloc; "{path}-wal")?.as_str())? {
             return Ok(Beside::Log);
         }
-        check_reserved(&file.file)?;
         Ok(Beside::Nothing)
     }
 

@@ -107,7 +107,7 @@ fn read_once<O: Sight>(alloc: Global, sight: &mut O) -> Result<Vec<u8>, LookFaul
     check_beside(sight, &file)?;
     let stamp = sight.stamp(&file)?;
     let bytes = read_all(alloc, sight, &file, stamp.len)?;
-    // A program that does not lock the file may have written to it.
+    // Another program may have written to it meanwhile.
     check_beside(sight, &file)?;
     if sight.stamp(&file)? == stamp {
         Ok(bytes)

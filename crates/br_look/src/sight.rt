@@ -19,8 +19,7 @@ pub struct Stamp {
 /// The file of a catalogue and what lies beside it, to be looked at. No call writes to a file or makes
 /// one.
 pub trait Sight {
-    /// The file, open for reading. While it is open, no program that locks the file as SQLite does
-    /// writes to it.
+    /// The file, open for reading.
     type File: Drop;
 
     /// The file's bytes and what lies beside it, if the sight tells them. One over memory does, that of
