@@ -331,6 +331,7 @@ def odd_places(runs):
     for label, make in makers.items():
         make(odd)
         runs.compare(f"a catalogue: {label}", runs.run(console, before=as_nobody(runs)), (1, b"", b"refused 45\n"))
+        runs.compare(f"a catalogue to migrate: {label}", runs.run(["migrate", "--db", str(odd)], before=as_nobody(runs)), (1, b"", b"refused 45\n"))
         if label not in ("a pipe", "a link to a device"):
             # A bootstrap may come from a pipe or a device (`endless`).
             status, printed, told = runs.run([*extract, str(odd)], before=as_nobody(runs))
