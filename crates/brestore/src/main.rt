@@ -82,20 +82,33 @@ fn close(conn: Connection<FileStore<File>>) -> Result<(), CatalogueFault> {
     }
 }
 
-/// Opens the file of a catalogue to migrate it.
-fn open_old(rt: &HostRuntime, db: &str) -> Result<Connection<FileStore<File>>, StoreFault> {
-    reopened(rt.alloc(), Connection::open(rt, db)?)
+/// Opens the database in a file.
+fn open_file(rt: &HostRuntime, db: &str) -> Result<Connection<FileStore<File>>, StoreFault> {
+    Ok(Connection::open(rt, db)?)
+}
+
+/// Puts all that was committed into the file after a migration that returned this. Returns the same, or why the file refused.
+fn end_migration(
+    conn: Connection<FileStore<File>>,
+    migrated: Result<u64, StoreFault>,
+) -> Result<u64, CatalogueFault> {
+    let closed = close(conn);
+    let jobs = migrated.map_err(catalogue_fault)?;
+    closed?;
+    Ok(jobs)
 }
 
 /// Makes the catalogue of version 1 in a file one of version 2. Returns the number of its jobs. Afterwards the file alone is the
 /// catalogue, also if it was refused.
 fn migrate(rt: &HostRuntime, db: &str) -> Result<u64, CatalogueFault> {
-    let mut conn = open_old(rt, db).map_err(catalogue_fault)?;
-    let migrated = Store::migrate(rt.alloc(), &mut conn);
-    let closed = close(conn);
-    let jobs = migrated.map_err(catalogue_fault)?;
-    closed?;
-    Ok(jobs)
+    let found = open_file(rt, db).map_err(catalogue_fault)?;
+    match reopened(rt.alloc(), found) {
+        Ok(mut conn) => {
+            let migrated = Store::migrate(rt.alloc(), &mut conn);
+            end_migration(conn, migrated)
+        }
+        Err(fault) => Err(catalogue_fault(fault)),
+    }
 }
 
 /// The catalogues in the files of SQLite.
