@@ -138,7 +138,8 @@ impl Catalogue for CatalogueFiles<'_> {
     }
 
     fn close(&self, jobs: StoredJobs<FileStore<File>>) -> Result<(), CatalogueFault> {
-        close(jobs.into_store().into_connection())
+        close(jobs.into_store().into_connection())?;
+        Ok(())
     }
 
     fn load(&self, db: &str) -> Result<History, CatalogueFault> {
