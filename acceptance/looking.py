@@ -138,14 +138,18 @@ def only_reads(checks, folder):
         checks.look(name, other, expected)
 
 
+# More rows than fit into a small cache, so that they are written to the file within the transaction.
+NOTES = "WITH RECURSIVE N(I) AS (SELECT 1 UNION ALL SELECT I + 1 FROM N WHERE I < 100) INSERT INTO Notes SELECT hex(zeroblob(2000)) FROM N;"
+
+
 def waits(checks, folder):
     """Catalogues to which another program writes."""
     db = new_catalogue(folder)
     for begin in ("BEGIN IMMEDIATE", "BEGIN EXCLUSIVE"):
         with Writer(db, begin + ";") as writer:
             checks.look(f"a catalogue after {begin}", db, SHOWN)
-            writer.tell("INSERT INTO Client(Name) VALUES ('venus-fd');")
-            took = checks.look(f"a catalogue after {begin} and a change", db, REFUSED)
+            writer.tell(f"PRAGMA cache_size = 1; CREATE TABLE Notes(Note); {NOTES}")
+            took = checks.look(f"a catalogue after {begin} and changes of its file", db, REFUSED)
             checks.check("and waits for five seconds", LONGEST - 1 <= took <= LONGEST + SLACK, True)
             timer = threading.Timer(1, writer.tell, ["ROLLBACK;"])
             timer.start()
@@ -159,8 +163,7 @@ def waits(checks, folder):
 def journal(checks, folder):
     """A journal that has to be rolled back, and one that has not."""
     db = new_catalogue(folder)
-    rows = "WITH RECURSIVE N(I) AS (SELECT 1 UNION ALL SELECT I + 1 FROM N WHERE I < 100) INSERT INTO Notes SELECT hex(zeroblob(2000)) FROM N;"
-    with Writer(db, f"PRAGMA cache_size = 1; BEGIN; CREATE TABLE Notes(Note); {rows}") as writer:
+    with Writer(db, f"PRAGMA cache_size = 1; BEGIN; CREATE TABLE Notes(Note); {NOTES}") as writer:
         hot = copied(db, "-journal")
         writer.tell("ROLLBACK;")
     checks.check("a journal is there", os.path.getsize(hot + "-journal") > 0, True)
