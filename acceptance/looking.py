@@ -86,8 +86,9 @@ class Writer:
 
 
 class LookChecks(ConsoleChecks):
-    def look(self, name, db, expected, prefix=()):
-        """Looks at a catalogue. What is printed must be this, and nothing may change beside it. Returns the seconds that it took."""
+    def look(self, name, db, expected, prefix=(), is_still=True):
+        """Looks at a catalogue. What is printed must be this, and if nobody else is at work nothing may change beside it. Returns the
+        seconds that it took."""
         before = contents(os.path.dirname(db))
         words = ["console", "--db", db, "--volumes", VOLUMES, "--client", "peer-fd", "--fileset", "Peer"]
         start = time.monotonic()
@@ -96,7 +97,8 @@ class LookChecks(ConsoleChecks):
         )
         took = time.monotonic() - start
         self.check(name, (ran.returncode, ran.stdout, ran.stderr), expected)
-        self.check("and leaves no trace", contents(os.path.dirname(db)) == before, True)
+        if is_still:
+            self.check("and leaves no trace", contents(os.path.dirname(db)) == before, True)
         return took
 
     def serve(self, db, volumes, script):
@@ -153,7 +155,7 @@ def waits(checks, folder):
             checks.check("and waits for five seconds", LONGEST - 1 <= took <= LONGEST + SLACK, True)
             timer = threading.Timer(1, writer.tell, ["ROLLBACK;"])
             timer.start()
-            took = checks.look(f"a catalogue soon after {begin}", db, SHOWN)
+            took = checks.look(f"a catalogue soon after {begin}", db, SHOWN, is_still=False)
             checks.check("and waits until it is free", 0.9 <= took <= LONGEST, True)
             timer.join()
     with Writer(db, "BEGIN; SELECT count(*) FROM Job;"):
