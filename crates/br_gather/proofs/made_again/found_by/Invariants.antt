@@ -1,10 +1,10 @@
 use Rattle.std.proofs.Common.{◌≡◌, ◌++◌, length, map}
 use Rattle.br_model.specs.Restored.{files_found}
 use Rattle.br_body.specs.Parts.{KeepsGiving}
-use Rattle.br_join.specs.Given.{GivesHits}
+use Rattle.br_gather.specs.Given.{GivesHits}
 use Rattle.br_join.specs.Outcome.{restored}
 use Rattle.br_join.specs.Runs.{AreListed, listed}
-use Rattle.br_join.proofs.made_again.found_by.Given as goal
+use Rattle.br_gather.proofs.made_again.found_by.Given as goal
 
 -- the files so far, and those of the hits that are left, which are given if all are
 abbrev pub invariant-loop-first : goal.invariant-loop-first

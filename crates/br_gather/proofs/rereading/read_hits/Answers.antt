@@ -4,9 +4,9 @@ use Rattle.std.proofs.lemmas.List.{take_all, take_more}
 use Rattle.br_model.specs.Meaning.{Hit}
 use Rattle.br_model.proofs.ListLaws.{all_append}
 use Rattle.br_body.proofs.GivenLaws.{keeps_on}
-use Rattle.br_join.specs.Given.{GivesHit}
-use Rattle.br_join.proofs.GivenLaws.{all_from, one_of}
-use Rattle.br_join.proofs.rereading.read_hits.Goals as goal
+use Rattle.br_gather.specs.Given.{GivesHit}
+use Rattle.br_gather.proofs.GivenLaws.{all_from, one_of}
+use Rattle.br_gather.proofs.rereading.read_hits.Goals as goal
 
 pub returns-in_err-one-clause-keeps : goal.returns-in_err-one-clause-keeps
 returns-in_err-one-clause-keeps g c = keeps_on g.F.Fetch.gives _ _ _ c.loop-hit.invariant.keeps c.read_hit.ensures.keeps

@@ -2,8 +2,8 @@ use Rattle.std.proofs.Common.{◌≡◌, take}
 use Rattle.std.specs.List.{AllByRecursion}
 use Rattle.br_model.specs.Meaning.{Hit}
 use Rattle.br_body.specs.Parts.{KeepsGiving}
-use Rattle.br_join.specs.Given.{GivesHits}
-use Rattle.br_join.proofs.rereading.read_hits.Given as goal
+use Rattle.br_gather.specs.Given.{GivesHits}
+use Rattle.br_gather.proofs.rereading.read_hits.Given as goal
 
 -- the hits so far were read; if all are given, they are the same
 abbrev pub invariant-loop-hit : goal.invariant-loop-hit

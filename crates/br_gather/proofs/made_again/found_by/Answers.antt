@@ -6,8 +6,8 @@ use Rattle.br_body.proofs.GivenLaws.{keeps_on}
 use Rattle.br_join.specs.Outcome.{restored}
 use Rattle.br_join.specs.Runs.{listed}
 use Rattle.br_join.proofs.FilesLaws.{found_turn, none_found, none_left, listed_behind, more_files}
-use Rattle.br_join.proofs.GivenLaws.{given_after, given_run, hits_kept}
-use Rattle.br_join.proofs.made_again.found_by.Goals as goal
+use Rattle.br_gather.proofs.GivenLaws.{given_after, given_run, hits_kept}
+use Rattle.br_gather.proofs.made_again.found_by.Goals as goal
 
 pub loop-first-init : goal.loop-first-init
 loop-first-init g c = record {

@@ -1,11 +1,11 @@
 use Rattle.std.proofs.Common.{◌≡◌, ◌++◌, map}
 use Rattle.std.specs.FinMap.{entries}
 use Rattle.br_body.specs.Parts.{KeepsGiving}
-use Rattle.br_join.specs.Given.{GivesHits}
+use Rattle.br_gather.specs.Given.{GivesHits}
 use Rattle.br_join.specs.Outcome.{restored}
 use Rattle.br_join.specs.Runs.{listed}
 use Rattle.br_join.proofs.FilesLaws.{planned_of}
-use Rattle.br_join.proofs.made_again.planned_by.Given as goal
+use Rattle.br_gather.proofs.made_again.planned_by.Given as goal
 
 -- the files so far, and the planned ones that are left, if all hits are given
 abbrev pub invariant-loop-key : goal.invariant-loop-key

@@ -6,7 +6,7 @@ use Rattle.br_model.specs.Meaning.{Hit, Spot}
 use Rattle.br_body.specs.Parts.{KeepsGiving}
 use Rattle.br_model.specs.Block.{Fragment}
 use Rattle.br_model.specs.Name.{FileKey}
-use Rattle.br_join.specs.Given.{GivesHit, GivesHits}
+use Rattle.br_gather.specs.Given.{GivesHit, GivesHits}
 use Rattle.br_join.specs.Runs.{listed}
 
 -- what holds of each, holds of each

@@ -9,8 +9,8 @@ use Rattle.br_body.proofs.GivenLaws.{keeps_on}
 use Rattle.br_join.specs.Outcome.{restored}
 use Rattle.br_join.specs.Runs.{listed}
 use Rattle.br_join.proofs.FilesLaws.{fragments_in_run, planned_of, planned_files_are, more_files}
-use Rattle.br_join.proofs.GivenLaws.{given_run, hits_kept}
-use Rattle.br_join.proofs.made_again.planned_by.Goals as goal
+use Rattle.br_gather.proofs.GivenLaws.{given_run, hits_kept}
+use Rattle.br_gather.proofs.made_again.planned_by.Goals as goal
 
 pub loop-key-init : goal.loop-key-init
 loop-key-init g c = (

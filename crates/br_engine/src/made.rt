@@ -1,0 +1,112 @@
+//! The files of a restore, made within a budget of memory.
+ghost use Rattle.std.specs.Prelude.{◌≡◌, true, map, option_map, IfErr, IfOk};
+ghost use Rattle.br_join.specs.Outcome.{restored};
+
+use crate::again::{Source, deliver_again};
+use crate::budget::Budget;
+use crate::delivering::{deliver_files, end_of};
+use crate::fault::ExtractFault;
+use crate::outputs::RestoreEnd;
+use crate::restoring::{files_of, join_all};
+use br_bsr::{Bootstrap, Group};
+use br_gather::Gathered;
+use br_join::{Joiner, Outcome};
+use br_reread::OverMany;
+use br_sink::Sink;
+use br_types::{FileKey, Names};
+use br_volume::Drive;
+use std::alloc::Global;
+use std::mem;
+use std::sync::Wait;
+use std::thread::Threads;
+
+/// The files of a restore, each with its outcome, in order of their keys.
+#[derive(Drop)]
+pub struct Made {
+    pub outcomes: Vec<(FileKey, Outcome)>,
+    /// What the files are made of once more, if their bytes are not in memory.
+    gathered: Option<Gathered>,
+}
+
+/// Makes the files of what a joiner took and did not hold. The drives read their data again.
+fn made_of<D: Drive>(
+    alloc: Global,
+    joiner: Joiner,
+    groups: &[Group],
+    drives: &mut Vec<D>,
+) -> Result<Made, ExtractFault> {
+    let gathered = Gathered::of(joiner)?;
+    let taken = mem::replace(drives, Vec::new(alloc));
+    let mut many = OverMany::new(alloc, taken, groups);
+    let files = gathered.files(alloc, &mut many);
+    *drives = many.into_drives();
+    Ok(Made {
+        outcomes: files?,
+        gathered: Some(gathered),
+    })
+}
+
+/// Returns the files that a bootstrap selects as `restore` does, but holds no more data than there is
+/// room for. If there is not room for all, the bytes of the files are not in memory: `deliver_made`
+/// reads them again.
+///
+/// # Errors
+///
+/// - `Piece` and `Memory` as `restore`; `NoDriveLeft` also if each drive failed while data were read
+///   again.
+/// - `Io` if a volume was changed while it was read.
+pub fn restore_within<D: Drive + Send>(
+    rt: &(impl Threads + Wait + Sync),
+    budget: Budget,
+    bootstrap: &Bootstrap,
+    names: Option<Names>,
+    drives: &mut Vec<D>,
+) -> Result<Made, ExtractFault> {
+    let mut joiner = join_all(rt, budget, bootstrap, names, drives)?;
+    if joiner.holds_all() {
+        let outcomes = files_of(rt, &mut joiner)?;
+        return Ok(Made {
+            outcomes,
+            gathered: None,
+        });
+    }
+    made_of(budget.alloc, joiner, bootstrap.groups(), drives)
+}
+
+/// Delivers the files among the outcomes into a sink. They are made once more of their source.
+fn deliver_by<D: Drive, S: Sink>(
+    rt: &(impl Threads + Sync),
+    source: &Source<'_>,
+    groups: &[Group],
+    drives: &mut Vec<D>,
+    outcomes: &[(FileKey, Outcome)],
+    sink: &mut S,
+) -> RestoreEnd {
+    let taken = mem::replace(drives, Vec::new(source.alloc));
+    let mut many = OverMany::new(source.alloc, taken, groups);
+    let delivered = deliver_again(rt, source, &mut many, outcomes, sink);
+    *drives = many.into_drives();
+    match delivered {
+        Ok(()) => end_of(outcomes),
+        Err(stop) => RestoreEnd::Stopped(stop),
+    }
+}
+
+/// Delivers the files of a restore in their order, if there is a sink. Those that are not in memory are
+/// made once more, and compared with what was made before. Returns the end of the restore.
+pub fn deliver_made<D: Drive, S: Sink>(
+    rt: &(impl Threads + Sync),
+    alloc: Global,
+    made: &Made,
+    groups: &[Group],
+    drives: &mut Vec<D>,
+    sink: &mut Option<S>,
+) -> RestoreEnd {
+    match (&made.gathered, sink) {
+        (Some(gathered), Some(sink)) => {
+            let source = Source { alloc, gathered };
+            deliver_by(rt, &source, groups, drives, &made.outcomes, sink)
+        }
+        (_, sink) => deliver_files(rt, alloc, &made.outcomes, sink),
+    }
+}
