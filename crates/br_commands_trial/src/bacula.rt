@@ -1,7 +1,7 @@
 //! Volumes and bootstraps that Bacula wrote: the small cases of acceptance/, whose README.md tells where they come from.
 use crate::extract::PLAIN;
 use br_commands::{Ending, extract_ending};
-use br_engine::Outputs;
+use br_engine::{Budget, Outputs};
 use br_extract::extract_wanted;
 use br_sink::MemSink;
 use br_types::VolName;
@@ -42,7 +42,14 @@ fn ended(
         writer: manifest,
         sink: None::<MemSink>,
     };
-    let run = extract_wanted(threads, alloc, case.bootstrap, PLAIN, &mut drives, &mut out);
+    let run = extract_wanted(
+        threads,
+        Budget::unbounded(alloc),
+        case.bootstrap,
+        PLAIN,
+        &mut drives,
+        &mut out,
+    );
     Ok(extract_ending(alloc, &run)?)
 }
 

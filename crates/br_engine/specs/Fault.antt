@@ -76,6 +76,14 @@ OfAgain again.Memory fault = fault ≡ Memory
 OfAgain again.Failed fault = fault ≡ Piece of_pool.NoDriveLeft
 OfAgain again.Changed fault = IsFree fault
 
+-- memory ran out, a volume was changed, or no drive is left that reads again
+abbrev pub IsUnmade : ExtractFault → Type 0
+IsUnmade Memory = ⊤
+IsUnmade (Bootstrap fault) = ⊥
+IsUnmade (Piece fault) = fault ≡ of_pool.NoDriveLeft
+IsUnmade (Io fault) = ⊤
+IsUnmade (NoEnd turns) = ⊥
+
 -- the text of a bootstrap was not read whole: memory ran out, reading failed, or the input has no end
 abbrev pub IsUnread : ExtractFault → Type 0
 IsUnread Memory = ⊤

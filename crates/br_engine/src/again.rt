@@ -1,9 +1,12 @@
 //! Files that are made once more and put into a sink, some at a time.
-ghost use Rattle.std.specs.Prelude.{◌≡◌, ◌<◌, ◌≤◌, length, map, option_map, Some, IfErr};
+ghost use Rattle.std.specs.Prelude.{◌≡◌, ◌<◌, ◌≤◌, length, map, IfErr};
+ghost use Rattle.br_model.specs.Answer.{IsRefusal};
+ghost use Rattle.br_model.specs.Delivery.{delivery};
 ghost use Rattle.br_join.specs.Outcome.{restored};
 ghost use Rattle.br_reread.specs.Many.{GoOn};
-ghost use Rattle.br_sink.specs.Delivery.{items_in};
-ghost use Rattle.br_engine.specs.Again.{CanGive, DeliversAgain, EndsLike, PutsAgain};
+ghost use Rattle.br_sink.specs.Delivery.{AreApart, IsStopIn, items_in, stop_cause};
+ghost use Rattle.br_sink.specs.Fault.{cause_number};
+ghost use Rattle.br_engine.specs.Again.{CanMake, DeliversAll, IsStopAgain, PutsLike, again_number};
 
 use br_again::AgainFault;
 use br_gather::Gathered;
@@ -53,7 +56,9 @@ fn window_len(outcomes: &[(FileKey, Outcome)]) -> usize
 }
 
 /// Returns why a delivery stops if a file is not made once more.
-fn stop_of(fault: AgainFault) -> StopCause {
+fn stop_of(fault: AgainFault) -> StopCause
+    ensures { cause_number result ≡ again_number fault }
+{
     match fault {
         AgainFault::Memory => StopCause::Memory,
         AgainFault::Failed | AgainFault::Changed => StopCause::NoDriveLeft,
@@ -67,7 +72,13 @@ fn put_window<D: Drive, S: Sink>(
     many: &mut OverMany<'_, D>,
     window: &[(FileKey, Outcome)],
     sink: &mut S,
-) -> Result<(), SinkStop> {
+) -> Result<(), SinkStop>
+    ensures put { PutsLike (CanMake many.old source.now.gathered.now (map restored window.now)) (items_in window.now) (S.has sink.old) (S.has sink.new) result }
+    ensures stopped { IfErr result (IsStopAgain (length (items_in window.now))) }
+    ensures on { GoOn many.old many.new }
+    ensures counted { S.failures sink.old ≤ S.failures sink.new }
+    ensures failed { IfErr result (λ stop. stop.number ≡ 80 → S.failures sink.old < S.failures sink.new) }
+{
     match source.gathered.again(source.alloc, many, window) {
         Ok(made) => sink.put_all(rt, &made),
         Err(fault) => Err(SinkStop::new(stop_of(fault), 0)),
@@ -82,7 +93,13 @@ fn put_windows<D: Drive, S: Sink>(
     many: &mut OverMany<'_, D>,
     outcomes: &[(FileKey, Outcome)],
     sink: &mut S,
-) -> Result<(), SinkStop> {
+) -> Result<(), SinkStop>
+    ensures put { PutsLike (CanMake many.old source.now.gathered.now (map restored outcomes.now)) (items_in outcomes.now) (S.has sink.old) (S.has sink.new) result }
+    ensures stopped { IfErr result (IsStopAgain (length (items_in outcomes.now))) }
+    ensures on { GoOn many.old many.new }
+    ensures counted { S.failures sink.old ≤ S.failures sink.new }
+    ensures failed { IfErr result (λ stop. stop.number ≡ 80 → S.failures sink.old < S.failures sink.new) }
+{
     let mut rest = outcomes;
     let mut done = 0;
     while !rest.is_empty() {
@@ -108,7 +125,14 @@ pub(crate) fn deliver_again<D: Drive, S: Sink>(
     many: &mut OverMany<'_, D>,
     outcomes: &[(FileKey, Outcome)],
     sink: &mut S,
-) -> Result<(), SinkStop> {
+) -> Result<(), SinkStop>
+    ensures put { PutsLike (CanMake many.old source.now.gathered.now (map restored outcomes.now)) (items_in outcomes.now) (S.has sink.old) (S.has sink.new) result }
+    ensures all { DeliversAll result (map restored outcomes.now) }
+    ensures stopped { IfErr result (IsStopIn (items_in outcomes.now)) }
+    ensures on { GoOn many.old many.new }
+    ensures counted { S.failures sink.old ≤ S.failures sink.new }
+    ensures failed { IfErr result (λ stop. stop.number ≡ 80 → S.failures sink.old < S.failures sink.new) }
+{
     let Ok((place, files)) = stand_apart(source.alloc, outcomes) else {
         return Err(SinkStop::new(StopCause::Memory, 0));
     };

@@ -1,6 +1,10 @@
 //! The files of a restore, made within a budget of memory.
-ghost use Rattle.std.specs.Prelude.{◌≡◌, true, map, option_map, IfErr, IfOk};
+ghost use Rattle.std.specs.Prelude.{◌≡◌, map, option_map, Some, IfErr, IfOk};
 ghost use Rattle.br_join.specs.Outcome.{restored};
+ghost use Rattle.br_pool.specs.Pool.{AreDrives, OnlyIfAllFail, StayInPlace};
+ghost use Rattle.br_engine.specs.Again.{CanGive, CanReread, EndsLike, GivesAgain, MadeOver, MakesOver};
+ghost use Rattle.br_engine.specs.Fault.{IsNoDriveLeft, IsNoLine, IsUnmade};
+ghost use Rattle.br_engine.specs.Outputs.{SinkCounts, StopsByFailure};
 
 use crate::again::{Source, deliver_again};
 use crate::budget::Budget;
@@ -34,7 +38,14 @@ fn made_of<D: Drive>(
     joiner: Joiner,
     groups: &[Group],
     drives: &mut Vec<D>,
-) -> Result<Made, ExtractFault> {
+) -> Result<Made, ExtractFault>
+    ensures made { IfOk result (λ made. MadeOver (CanReread D.shows D.failures drives.old.items groups.now joiner.hits) joiner made) }
+    ensures again { IfOk result (λ made. CanReread D.shows D.failures drives.old.items groups.now joiner.hits
+        → CanGive D.shows D.failures drives.new.items groups.now made.gathered (map restored made.outcomes.items)) }
+    ensures places { StayInPlace D.shows D.failures drives.old.items drives.new.items }
+    ensures failed { OnlyIfAllFail D.failures drives.old.items drives.new.items IsNoDriveLeft result }
+    ensures free { IfErr result IsUnmade }
+{
     let gathered = Gathered::of(joiner)?;
     let taken = mem::replace(drives, Vec::new(alloc));
     let mut many = OverMany::new(alloc, taken, groups);
@@ -61,7 +72,15 @@ pub fn restore_within<D: Drive + Send>(
     bootstrap: &Bootstrap,
     names: Option<Names>,
     drives: &mut Vec<D>,
-) -> Result<Made, ExtractFault> {
+) -> Result<Made, ExtractFault>
+    requires drives { AreDrives drives.old.items }
+    ensures files { MakesOver D.shows drives.old.items drives.new.items bootstrap.now names result }
+    ensures again { IfOk result (λ made. GivesAgain D.shows D.failures drives.old.items drives.new.items bootstrap.now
+        made.gathered (map restored made.outcomes.items)) }
+    ensures places { StayInPlace D.shows D.failures drives.old.items drives.new.items }
+    ensures driven { IfErr result IsNoLine }
+    ensures failed { OnlyIfAllFail D.failures drives.old.items drives.new.items IsNoDriveLeft result }
+{
     let mut joiner = join_all(rt, budget, bootstrap, names, drives)?;
     if joiner.holds_all() {
         let outcomes = files_of(rt, &mut joiner)?;
@@ -81,7 +100,13 @@ fn deliver_by<D: Drive, S: Sink>(
     drives: &mut Vec<D>,
     outcomes: &[(FileKey, Outcome)],
     sink: &mut S,
-) -> RestoreEnd {
+) -> RestoreEnd
+    ensures ends { EndsLike (CanGive D.shows D.failures drives.old.items groups.now (Some source.now.gathered.now) (map restored outcomes.now))
+        (Some (S.has sink.old)) (Some (S.has sink.new)) (map restored outcomes.now) result }
+    ensures places { StayInPlace D.shows D.failures drives.old.items drives.new.items }
+    ensures counted { SinkCounts (Some (S.failures sink.old)) (Some (S.failures sink.new)) }
+    ensures failed { StopsByFailure (Some (S.failures sink.old)) (Some (S.failures sink.new)) result }
+{
     let taken = mem::replace(drives, Vec::new(source.alloc));
     let mut many = OverMany::new(source.alloc, taken, groups);
     let delivered = deliver_again(rt, source, &mut many, outcomes, sink);
@@ -101,7 +126,13 @@ pub fn deliver_made<D: Drive, S: Sink>(
     groups: &[Group],
     drives: &mut Vec<D>,
     sink: &mut Option<S>,
-) -> RestoreEnd {
+) -> RestoreEnd
+    ensures ends { EndsLike (CanGive D.shows D.failures drives.old.items groups.now made.now.gathered (map restored made.now.outcomes.items))
+        (option_map S.has sink.old) (option_map S.has sink.new) (map restored made.now.outcomes.items) result }
+    ensures places { StayInPlace D.shows D.failures drives.old.items drives.new.items }
+    ensures counted { SinkCounts (option_map S.failures sink.old) (option_map S.failures sink.new) }
+    ensures failed { StopsByFailure (option_map S.failures sink.old) (option_map S.failures sink.new) result }
+{
     match (&made.gathered, sink) {
         (Some(gathered), Some(sink)) => {
             let source = Source { alloc, gathered };

@@ -63,7 +63,7 @@ impl Gathered {
     ) -> Result<Vec<(FileKey, Outcome)>, AgainFault>
         ensures files { IfOk result (λ made. GivesHits many.old self.now.hits → map restored made.items ≡ files_of self.now.hits self.now.names) }
         ensures on { GoOn many.old many.new }
-    ensures failed { result ≡ Err Failed → HaveFailed many.old many.new }
+        ensures failed { result ≡ Err Failed → HaveFailed many.old many.new }
     {
         files_by(alloc, many, &self.hits, self.names.as_ref())
     }
@@ -87,7 +87,7 @@ impl Gathered {
             → items_in made.items ≡ items_in outcomes.now) }
         ensures some { OnErr result (0 < length (items_in outcomes.now)) }
         ensures on { GoOn many.old many.new }
-    ensures failed { result ≡ Err Failed → HaveFailed many.old many.new }
+        ensures failed { result ≡ Err Failed → HaveFailed many.old many.new }
     {
         made_once_more(alloc, many, &self.hits, outcomes)
     }

@@ -21,7 +21,11 @@ use std::alloc::{AllocError, Global};
 /// # Errors
 ///
 /// Those of `many`, and `Memory` if memory runs out.
-fn read_hit<D: Drive>(alloc: Global, many: &mut OverMany<'_, D>, hit: &Hit) -> Result<Hit, AgainFault>
+fn read_hit<D: Drive>(
+    alloc: Global,
+    many: &mut OverMany<'_, D>,
+    hit: &Hit,
+) -> Result<Hit, AgainFault>
     ensures key { IfOk result (λ read. read.key ≡ hit.now.key) }
     ensures same { IfOk result (λ read. GivesHit many.old hit.now → read ≡ hit.now) }
     ensures on { GoOn many.old many.new }

@@ -88,7 +88,14 @@ impl<'b, D: Drive> OverMany<'b, D> {
         place: &Place<'_>,
         found: &Data,
     ) -> Result<Data, AgainFault> {
-        match read_at(alloc, &mut self.drives, self.at, &mut self.again, place, found) {
+        match read_at(
+            alloc,
+            &mut self.drives,
+            self.at,
+            &mut self.again,
+            place,
+            found,
+        ) {
             Err(AgainFault::Failed) => self.read_by_another(alloc, place, found),
             read => read,
         }

@@ -4,7 +4,7 @@ use crate::test_data::{
     store_session, tell,
 };
 use br_console::Lines;
-use br_engine::{ExtractFault, Outputs, RestoreEnd, extract_text};
+use br_engine::{Budget, ExtractFault, Outputs, RestoreEnd, extract_text};
 use br_history::{History, JobRows};
 use br_session::Span;
 use br_sink::MemSink;
@@ -279,7 +279,13 @@ fn refusal_of_a(
     volumes: Vec<(VolName, Vec<u8>)>,
 ) -> Result<u32, Fail> {
     let mut drives = drives_over(alloc, volumes)?;
-    Ok(number_of(extract_text(rt, alloc, b"Volume=A\n", &mut drives, out)))
+    Ok(number_of(extract_text(
+        rt,
+        Budget::unbounded(alloc),
+        b"Volume=A\n",
+        &mut drives,
+        out,
+    )))
 }
 
 /// Returns the number of the refusal of reading a spoilt volume whole.

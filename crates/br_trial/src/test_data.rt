@@ -4,7 +4,7 @@ ghost use Rattle.br_session.specs.Outcome.{ArePlaces};
 
 use br_attr::Stat;
 use br_console::{ConsoleFault, ConsoleRun, End, JobSelection, Lines, run_console};
-use br_engine::{Outputs, RestoreEnd};
+use br_engine::{Budget, Outputs, RestoreEnd};
 use br_history::{FileRow, History, JobRow, JobRows};
 use br_plan::Request;
 use br_session::{Place, SavedFile, Span, Written, write_session};
@@ -350,7 +350,7 @@ fn console_result(
 ) -> Result<Returned, u32>
     requires { (0 < length drives.old.items) × (length drives.old.items ≤ 16) }
 {
-    result_of(run_console(rt, alloc, asked, lines, drives, out))
+    result_of(run_console(rt, Budget::unbounded(alloc), asked, lines, drives, out))
 }
 
 /// Runs the console on these lines for a request.
