@@ -11,7 +11,7 @@ ghost use Rattle.br_gather.specs.Given.{GivesHits};
 
 use crate::likeness::is_like;
 use crate::rereading::outcome_by;
-use br_again::AgainFault;
+use br_again::{AgainFault, standing_stays};
 use br_join::{Item, Outcome, around};
 use br_match::Hit;
 use br_reread::OverMany;
@@ -76,6 +76,7 @@ pub(crate) fn made_once_more<D: Drive>(
     ensures on { GoOn many.old many.new }
     ensures failed { result ≡ Err Failed → HaveFailed many.old many.new }
 {
+    standing_stays();
     let mut files = Vec::new(alloc);
     for (key, outcome) in outcomes {
         if let Outcome::File(item) = outcome {

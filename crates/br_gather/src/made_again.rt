@@ -12,7 +12,7 @@ ghost use Rattle.br_reread.specs.Many.{GoOn, HaveFailed};
 ghost use Rattle.br_join.specs.Runs.{AreListed, file_of_run, files_of, listed};
 
 use crate::rereading::outcome_by;
-use br_again::AgainFault;
+use br_again::{AgainFault, standing_stays};
 use br_join::{Outcome, around, named};
 use br_match::Hit;
 use br_reread::OverMany;
@@ -74,6 +74,7 @@ fn found_by<D: Drive>(
     ensures on { GoOn many.old many.new }
     ensures failed { result ≡ Err Failed → HaveFailed many.old many.new }
 {
+    standing_stays();
     let mut made = Vec::new(alloc);
     let mut rest = hits;
     while let Some(first) = rest.first() {
@@ -99,6 +100,7 @@ fn planned_by<D: Drive>(
     ensures on { GoOn many.old many.new }
     ensures failed { result ≡ Err Failed → HaveFailed many.old many.new }
 {
+    standing_stays();
     let mut made = Vec::new(alloc);
     for (key, path) in names.iter() {
         let (_, run, _) = around(hits, *key);

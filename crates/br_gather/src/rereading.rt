@@ -8,7 +8,7 @@ ghost use Rattle.br_gather.specs.Given.{GivesHit, GivesHits};
 ghost use Rattle.br_join.specs.Outcome.{shown};
 ghost use Rattle.br_reread.specs.Many.{GoOn, HaveFailed};
 
-use br_again::AgainFault;
+use br_again::{AgainFault, standing_stays};
 use br_join::{Outcome, outcome_of};
 use br_match::Hit;
 use br_reread::OverMany;
@@ -66,6 +66,7 @@ fn read_hits<D: Drive>(
     ensures on { GoOn many.old many.new }
     ensures failed { result ≡ Err Failed → HaveFailed many.old many.new }
 {
+    standing_stays();
     let mut read = Vec::with_capacity(alloc, hits.len())?;
     for hit in hits {
         let one = read_hit(alloc, many, hit)?;

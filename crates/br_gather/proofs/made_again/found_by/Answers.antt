@@ -2,7 +2,7 @@ use Rattle.std.proofs.Common.{◌≡◌, ◌++◌, ◌∷◌, [], List, map, sym
 use Rattle.std.specs.Option.{option_copied}
 use Rattle.br_model.specs.Meaning.{Hit}
 use Rattle.br_model.specs.Restored.{Restored, files_found}
-use Rattle.br_body.proofs.GivenLaws.{keeps_on}
+use Rattle.br_reread.proofs.GoOnLaws.{failed_on, go_itself, go_more}
 use Rattle.br_join.specs.Outcome.{restored}
 use Rattle.br_join.specs.Runs.{listed}
 use Rattle.br_join.proofs.FilesLaws.{found_turn, none_found, none_left, listed_behind, more_files}
@@ -11,14 +11,14 @@ use Rattle.br_gather.proofs.made_again.found_by.Goals as goal
 
 pub loop-first-init : goal.loop-first-init
 loop-first-init g c = record {
-  keeps = λ spot bytes given. given;
+  on = go_itself c.args.many.now;
   sorted = c.requires;
   given = λ given. given;
   files = λ given. ap (λ xs. map restored xs ++ files_found (listed c.args.hits.now)) c.new-made.ensures.items;
 }
 
-pub returns-in_err-outcome-clause-keeps : goal.returns-in_err-outcome-clause-keeps
-returns-in_err-outcome-clause-keeps g c = keeps_on g.F.Fetch.gives _ _ _ c.loop-first.invariant.keeps c.file_by.ensures.keeps
+pub returns-in_err-outcome-clause-on : goal.returns-in_err-outcome-clause-on
+returns-in_err-outcome-clause-on g c = go_more _ _ _ c.loop-first.invariant.on c.file_by.ensures.on
 
 pub loop-first-smaller : goal.loop-first-smaller
 loop-first-smaller g c =
@@ -28,7 +28,6 @@ loop-first-smaller g c =
 
 pub loop-first-preserved : goal.loop-first-preserved
 loop-first-preserved g c =
-    let gives = g.F.Fetch.gives in
     let key = c.first-in-Some.inside.key in
     let run = c.around.result.1.now in
     let behind = c.around.result.2.now in
@@ -37,11 +36,11 @@ loop-first-preserved g c =
     let turn = found_turn c.loop-first.rest.now c.around.result.0.now run behind c.in-Some.first.now key
     (sym c.first.ensures.value ∙ ap option_copied c.in-Some.is) (ap (λ (h : Hit). h.key) (sym c.first-in-Some.view_is))
     joined c.around.ensures.before c.around.ensures.of_key c.around.ensures.after in record {
-      keeps = keeps_on gives _ _ _ before.keeps c.file_by.ensures.keeps;
+      on = go_more _ _ _ before.on c.file_by.ensures.on;
       sorted = listed_behind c.loop-first.rest.now c.around.result.0.now run behind joined before.sorted;
-      given = λ given. given_after gives _ c.loop-first.rest.now c.around.result.0.now run behind joined (before.given given);
+      given = λ given. given_after _ c.loop-first.rest.now c.around.result.0.now run behind joined (before.given given);
       files = λ given.
-          let made = c.in_ok-outcome.ensures.made (hits_kept gives _ _ run before.keeps (given_run gives _ c.loop-first.rest.now c.around.result.0.now run behind joined (before.given given))) in
+          let made = c.in_ok-outcome.ensures.made (hits_kept c.standing_stays.ensures _ _ run before.on (given_run _ c.loop-first.rest.now c.around.result.0.now run behind joined (before.given given))) in
           more_files _ _ _ (files_found (listed c.loop-first.rest.now)) (files_found (listed behind)) (files_found (listed c.args.hits.now))
           c.in_ok-push_file.ensures (before.files given) (turn.0 ∙ ap (λ (f : Restored). f ∷ files_found (listed behind)) (sym made));
     }

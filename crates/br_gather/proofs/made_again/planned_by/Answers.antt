@@ -5,7 +5,7 @@ use Rattle.std.proofs.lemmas.Map.Iter.{rest_more}
 use Rattle.br_model.specs.Name.{FileKey}
 use Rattle.br_model.specs.Block.{Fragment}
 use Rattle.br_model.specs.Restored.{Restored, fragments_for, outcome_of, under_name}
-use Rattle.br_body.proofs.GivenLaws.{keeps_on}
+use Rattle.br_reread.proofs.GoOnLaws.{failed_on, go_itself, go_more}
 use Rattle.br_join.specs.Outcome.{restored}
 use Rattle.br_join.specs.Runs.{listed}
 use Rattle.br_join.proofs.FilesLaws.{fragments_in_run, planned_of, planned_files_are, more_files}
@@ -14,16 +14,15 @@ use Rattle.br_gather.proofs.made_again.planned_by.Goals as goal
 
 pub loop-key-init : goal.loop-key-init
 loop-key-init g c = (
-  λ spot bytes given. given,
+  go_itself c.args.many.now,
   λ given i. map restored (c.new-made.ensures.items i) ++ map (planned_of (listed c.args.hits.now)) ((c.into_iter-key-iterator.ensures.into_iter_gives ∙ c.iter-key-items.ensures) i),
 )
 
-pub returns-in_err-outcome-clause-keeps : goal.returns-in_err-outcome-clause-keeps
-returns-in_err-outcome-clause-keeps g c = keeps_on g.F.Fetch.gives _ _ _ c.loop-key.invariant.0 c.file_by.ensures.keeps
+pub returns-in_err-outcome-clause-on : goal.returns-in_err-outcome-clause-on
+returns-in_err-outcome-clause-on g c = go_more _ _ _ c.loop-key.invariant.0 c.file_by.ensures.on
 
 pub loop-key-preserved : goal.loop-key-preserved
 loop-key-preserved g c =
-    let gives = g.F.Fetch.gives in
     let es = listed c.args.hits.now in
     let key = c.in-Some.key.now in
     let path = c.in-Some.path.now in
@@ -33,9 +32,9 @@ loop-key-preserved g c =
     let around = c.around.ensures in
     let run : fragments_for key es ≡ _ =
     fragments_in_run key c.args.hits.now c.around.result.0.now c.around.result.1.now c.around.result.2.now around.joined around.before around.of_key around.after in (
-      keeps_on gives _ _ _ before.0 c.file_by.ensures.keeps,
+      go_more _ _ _ before.0 c.file_by.ensures.on,
       λ given.
-          let made = c.in_ok-outcome.ensures.made (hits_kept gives _ _ c.around.result.1.now before.0 (given_run gives _ c.args.hits.now c.around.result.0.now c.around.result.1.now c.around.result.2.now around.joined given)) in
+          let made = c.in_ok-outcome.ensures.made (hits_kept c.standing_stays.ensures _ _ c.around.result.1.now before.0 (given_run _ c.args.hits.now c.around.result.0.now c.around.result.1.now c.around.result.2.now around.joined given)) in
           let file : restored _ ≡ planned_of es (key, path) =
           made ∙ ap (λ (fs : List Fragment). record { key = key; outcome = under_name path (outcome_of key fs) }) (sym run) in
           let next : map (planned_of es) left ≡ restored _ ∷ map (planned_of es) rest =
