@@ -2,3 +2,6 @@ pub mod JoinLaws
 pub mod ReadLaws
 pub mod ExtractLaws
 pub mod DeliverLaws
+pub mod LikeLaws
+pub mod EndLaws
+pub mod AgainLaws

@@ -27,7 +27,7 @@ file_itself r = (refl, go r.outcome)
     go (Ok item) = like_itself item
     go (Err f) = refl
 
-all_themselves : (rs : List Restored) → AllZip IsFileLike rs rs
+pub all_themselves : (rs : List Restored) → AllZip IsFileLike rs rs
 all_themselves [] = tt
 all_themselves (r ∷ rs) = (file_itself r, all_themselves rs)
 
@@ -131,7 +131,7 @@ like_take (suc n) [] (y ∷ ys) like = absurd like
 like_take (suc n) (x ∷ xs) [] like = absurd like
 like_take (suc n) (x ∷ xs) (y ∷ ys) like = (like.0, like_take n xs ys like.1)
 
-like_length : (xs ys : List Item) → AllZip IsLike xs ys → length xs ≡ length ys
+pub like_length : (xs ys : List Item) → AllZip IsLike xs ys → length xs ≡ length ys
 like_length [] [] like = refl
 like_length [] (y ∷ ys) like = absurd like
 like_length (x ∷ xs) [] like = absurd like

@@ -1,18 +1,10 @@
 -- Files that are made once more.
-use Rattle.std.specs.Prelude.{◌≡◌, ℕ, List, length, map, filter_map, Result, Ok, IfOk}
+use Rattle.std.specs.Prelude.{◌≡◌, ℕ, List, length, Ok, IfOk}
 use Rattle.md5.specs.Md5.{md5}
-use Rattle.br_model.specs.Delivery.{item_of}
 use Rattle.br_model.specs.File.{Item}
 use Rattle.br_model.specs.Meaning.{Hit}
-use Rattle.br_model.specs.Name.{FileKey}
 use Rattle.br_model.specs.Restored.{Restored, fragments_for, outcome_of}
-use Rattle.br_join.specs.Outcome.{restored}
 use Rattle.br_join.specs.Runs.{listed}
-use Rattle.br_join.specs.declared.item.Outcome.{Outcome}
-
--- the files among outcomes, in their order
-abbrev pub items_in : List (FileKey × Outcome) → List Item
-items_in outcomes = filter_map item_of (map restored outcomes)
 
 -- as many bytes, with the same digest
 abbrev pub AreAlike : List ℕ → List ℕ → Type 0

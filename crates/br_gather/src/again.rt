@@ -6,7 +6,8 @@ ghost use Rattle.br_model.specs.Restored as model;
 ghost use Rattle.br_join.specs.Outcome.{restored};
 ghost use Rattle.br_join.specs.Runs.{AreListed, listed};
 ghost use Rattle.br_reread.specs.Many.{GoOn, HaveFailed};
-ghost use Rattle.br_gather.specs.Again.{IsLike, IsMadeOf, items_in};
+ghost use Rattle.br_sink.specs.Delivery.{items_in};
+ghost use Rattle.br_gather.specs.Again.{IsLike, IsMadeOf};
 ghost use Rattle.br_gather.specs.Given.{GivesHits};
 
 use crate::likeness::is_like;

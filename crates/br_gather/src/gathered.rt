@@ -4,7 +4,8 @@ ghost use Rattle.br_model.specs.Meaning.{hits_of};
 ghost use Rattle.br_join.specs.Outcome.{restored};
 ghost use Rattle.br_reread.specs.Many.{GoOn, HaveFailed};
 ghost use Rattle.br_join.specs.Runs.{files_of};
-ghost use Rattle.br_gather.specs.Again.{IsLike, IsMadeOf, items_in};
+ghost use Rattle.br_sink.specs.Delivery.{items_in};
+ghost use Rattle.br_gather.specs.Again.{IsLike, IsMadeOf};
 ghost use Rattle.br_gather.specs.Given.{GivesHits};
 
 use crate::again::made_once_more;
