@@ -18,12 +18,15 @@ import tempfile
 # Nothing is left beside the script.
 sys.dont_write_bytecode = True
 sys.path.insert(0, os.path.join(os.path.dirname(os.path.dirname(os.path.abspath(__file__))), "tools"))
-from common import CASES, ORDER_SQL, PROGRAM, SETS, Checks
+from common import CASES, ORDER_SQL, PROGRAM, SETS, VERSION_1_SQL, Checks
 from delivered import delivery, tree_of
 
 VOLUMES = os.path.join(SETS, "order")
 TABLES = "Client File FileSet Job JobMedia Media Path Version".split()
-VERSION_1_SQL = ORDER_SQL.replace("order.sql", "order_version_1.sql")
+# A console that lists what the three jobs left. Of the sizes 7, 7 and 24 of the files, the last is the Incremental's.
+LISTINGS = "find *\ncd tmp/peerlab/src\nls\nmark sub\nestimate\nlsmark\nquit\n"
+PATHS = [f"/tmp/peerlab/src/{name}" for name in ("", "sub/", "sub/f1", "sub/f2", "sub/f3")]
+LISTED = "".join(f"{line}\n" for line in [*(f" {it}" for it in PATHS), "cwd is: /tmp/peerlab/src/", " sub/", "4 marked", "4 marked, 38 bytes", *PATHS[1:]])
 
 
 def manifest_of(case):
@@ -55,8 +58,8 @@ def answers():
 
 
 class ConsoleChecks(Checks):
-    def console(self, db, client="peer-fd", fileset="Peer", before="2026-11-22 00:00:00", lines="mark *\ndone\n", into=None):
-        words = ["console", "--db", db, "--volumes", VOLUMES, "--client", client, "--fileset", fileset, "--before", before]
+    def console(self, db, client="peer-fd", fileset="Peer", before="2026-11-22 00:00:00", lines="mark *\ndone\n", into=None, volumes=VOLUMES):
+        words = ["console", "--db", db, "--volumes", volumes, "--client", client, "--fileset", fileset, "--before", before]
         words += ["--into", into] if into else []
         ran = subprocess.run([self.program, *words], input=lines, capture_output=True, text=True)
         return ran.returncode, ran.stdout, ran.stderr
@@ -77,6 +80,7 @@ def restores(checks, folder):
         sqlite3(db, text.read())
     for before, text in answers().items():
         checks.check(f"restore of what was before {before}", checks.console(db, before=before), (0, text, ""))
+    checks.check("what it lists", checks.console(db, lines=LISTINGS), (0, LISTED, ""))
     last = answers()["2026-11-21 23:15:46"].split("\n", 5)[-1]
     checks.check("the manifest of Bacula's own bootstrap", last.endswith("".join(manifest_of("order-inc"))), True)
     refusals = [
@@ -158,23 +162,6 @@ def refuses(checks, folder):
         checks.check("and keeps them", file.read(), text)
 
 
-def takes(checks, folder):
-    """Restores from catalogues to which somebody added something of his own."""
-    for name, sql in [
-        ("an index", "CREATE INDEX FilesOfJobs ON File(JobId);"),
-        ("statistics", "ANALYZE;"),
-        ("a view", "CREATE VIEW Paths AS SELECT CAST(Path AS TEXT) || CAST(Filename AS TEXT) FROM File JOIN Path USING (PathId);"),
-        ("a table", "CREATE TABLE Notes(JobId INTEGER, Note TEXT); INSERT INTO Notes VALUES (1, 'x');"),
-    ]:
-        db = os.path.join(folder, "own.db")
-        with open(ORDER_SQL) as text:
-            sqlite3(db, text.read())
-        sqlite3(db, sql)
-        for before, printed in answers().items():
-            checks.check(f"a catalogue with {name}, before {before}", checks.console(db, before=before), (0, printed, ""))
-        os.remove(db)
-
-
 # All that the rows of a catalogue of either version say, as sqlite3 shows it.
 JOBS = """SELECT * FROM Job JOIN Client USING (ClientId) JOIN FileSet USING (FileSetId) ORDER BY JobId;
 SELECT * FROM JobMedia JOIN Media USING (MediaId) ORDER BY JobMediaId;"""
@@ -198,6 +185,7 @@ def migrates(checks, folder):
     checks.check("its integrity", sqlite3(copy, "PRAGMA integrity_check; PRAGMA foreign_key_check;"), "ok\n")
     for before, text in answers().items():
         checks.check(f"a migrated catalogue, before {before}", checks.console(db, before=before), (0, text, ""))
+    checks.check("what it lists", checks.console(db, lines=LISTINGS), (0, LISTED, ""))
     checks.check("a second migration", checks.migrate(db), (1, "", "refused 47\n"))
     checks.check("of a file that is not there", checks.migrate(os.path.join(folder, "missing.db")), (1, "", "refused 45\n"))
     empty = os.path.join(folder, "nothing.db")
@@ -208,7 +196,6 @@ def migrates(checks, folder):
         ("a name that is a text", "UPDATE Filename SET Name = 'f1' WHERE FilenameId = 1;", 47),
         ("a span number that skips", "UPDATE JobMedia SET VolIndex = 2 WHERE JobId = 3;", 47),
         ("a row that points nowhere", "DELETE FROM Filename WHERE FilenameId = 1;", 45),
-        ("an index of somebody's own", "CREATE INDEX FilesOfJobs ON File(JobId);", 45),
     ]:
         other = os.path.join(folder, "refused.db")
         with open(VERSION_1_SQL) as text:
@@ -240,7 +227,6 @@ def main():
         restores(checks, folder)
         delivers(checks, folder)
         refuses(checks, folder)
-        takes(checks, folder)
         migrates(checks, folder)
         makes(checks, folder)
     return 1 if checks.failed else 0

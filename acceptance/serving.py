@@ -25,7 +25,7 @@ from pathlib import Path
 sys.dont_write_bytecode = True
 sys.path.insert(0, os.path.join(os.path.dirname(os.path.dirname(os.path.abspath(__file__))), "tools"))
 from choosing import consoled
-from common import ORDER_SQL, PROGRAM, Checks
+from common import ORDER_SQL, PROGRAM, VERSION_1_SQL, Checks
 from delivered import delivery, tree_of
 from scripting import Script, base64_of
 from stored import differences, has_tables, rows_by, rows_of, served, volumes_of, vouched_by
@@ -178,10 +178,9 @@ def refusals(checks, folder):
         ran = subprocess.run([checks.program, "serve", *words], input=volume, capture_output=True, timeout=60)
         checks.check(f"serve with {words[0]} alone", (ran.returncode, ran.stdout, bool(ran.stderr)), (2, b"", True))
     checks.check("makes no catalogue", os.path.exists(place.catalogue), False)
-    old = ORDER_SQL.replace("order.sql", "order_version_1.sql")
     changes = {
         "a catalogue of version 3": (ORDER_SQL, "UPDATE Version SET VersionId = 3", 47),
-        "a catalogue of version 1": (old, "", 48),
+        "a catalogue of version 1": (VERSION_1_SQL, "", 48),
         "a span number that skips": (ORDER_SQL, "UPDATE JobMedia SET VolIndex = 2 WHERE JobId = 3", 47),
         "a row that points nowhere": (ORDER_SQL, "DELETE FROM Path WHERE PathId = 1", 45),
         "a missing table": (ORDER_SQL, "DROP TABLE JobMedia", 45),

@@ -9,6 +9,9 @@ it made itself. After each stop the file is opened again, without a stop: the pr
 there, and SQLite's own library finds the file sound. If the calls fail, the program is refused with 45, or the same as without a stop if
 its answer did not need them.
 
+A catalogue of version 1 is migrated, and stopped in the same ways. Afterwards it is of version 1 or of version 2, with the same jobs, and
+another migration goes on from there. After an answer without a refusal it is of version 2.
+
 A script that commits two jobs to a catalogue and to a folder of volumes is stopped in the same ways. Afterwards the catalogue has the
 first 0, 1 or 2 of the jobs, each that was acknowledged among them, and a restore gives all that these jobs saved. The status is 1 if
 something differs.
@@ -27,22 +30,35 @@ from pathlib import Path
 # Nothing is left beside the script.
 sys.dont_write_bytecode = True
 sys.path.insert(0, os.path.join(os.path.dirname(os.path.dirname(os.path.abspath(__file__))), "tools"))
-from common import ORDER_SQL, PROGRAM, SETS
+from common import ORDER_SQL, PROGRAM, SETS, VERSION_1_SQL
 from preloaded import compiled
 from scripting import Script, put_line, served
+from stored import opened_copy
 
 WAYS = ("before", "within", "failing")
 REFUSED = (1, b"", b"refused 45\n")
 STOPPED = (137, b"", b"")
+# What `console` says of a catalogue of version 1, and `migrate` of one of version 2.
+OLD, NOT_OLD = (1, b"", b"refused 48\n"), (1, b"", b"refused 47\n")
+
+
+def run(given, words, lines, call, way, log):
+    """Runs the program, with a stop if a call is named."""
+    faults = {"LD_PRELOAD": given.library, "STOPPED_CALL": str(call), "STOPPED_WAY": way, "STOPPED_LOG": log} if call else {}
+    ran = subprocess.run([given.program, *words], input=lines, capture_output=True, env=os.environ | faults, timeout=60)
+    return ran.returncode, ran.stdout, ran.stderr
 
 
 def console(given, catalogue, call=None, way="before", log=os.devnull):
     """Runs a session over a catalogue, with a stop if a call is named."""
-    words = [given.program, "console", "--db", catalogue, "--volumes", os.path.join(SETS, "order"), "--client", "peer-fd"]
+    words = ["console", "--db", catalogue, "--volumes", os.path.join(SETS, "order"), "--client", "peer-fd"]
     words += ["--fileset", "Peer", "--before", "2026-11-21 23:15:46"]
-    faults = {"LD_PRELOAD": given.library, "STOPPED_CALL": str(call), "STOPPED_WAY": way, "STOPPED_LOG": log} if call else {}
-    ran = subprocess.run(words, input=b"mark *\ndone\n", capture_output=True, env=os.environ | faults, timeout=60)
-    return ran.returncode, ran.stdout, ran.stderr
+    return run(given, words, b"mark *\ndone\n", call, way, log)
+
+
+def migrate(given, catalogue, call=None, way="before", log=os.devnull):
+    """Migrates a catalogue, with a stop if a call is named."""
+    return run(given, ["migrate", "--db", catalogue], b"", call, way, log)
 
 
 def rows_of(catalogue):
@@ -84,6 +100,51 @@ def stop_in_turn(given, folder, kept):
     return stops, wrong
 
 
+class Versions:
+    """What a catalogue of version 1 holds, as SQLite's own library finds it, what it holds once it is migrated, and what `console` says."""
+
+    def __init__(self, given, folder, kept):
+        catalogue = copied(folder, kept)
+        self.old = found_in(catalogue), OLD
+        self.migrated = migrate(given, catalogue)
+        self.new = found_in(catalogue), console(given, catalogue)
+
+    def fault(self, given, catalogue, is_done):
+        """Returns what is wrong of a catalogue after a stop. It has to be of version 2 if that was said."""
+        found = found_in(catalogue), console(given, catalogue)
+        if found != self.new and (is_done or found != self.old):
+            return f"left {found}"
+        again = migrate(given, catalogue), (found_in(catalogue), console(given, catalogue))
+        return None if again == (self.migrated if found == self.old else NOT_OLD, self.new) else f"and then {again}"
+
+
+def found_in(catalogue):
+    """Returns what SQLite's own library finds in a copy of a catalogue and of its log."""
+    with opened_copy(catalogue) as connection:
+        return connection.execute("PRAGMA integrity_check").fetchall(), list(connection.iterdump())
+
+
+def stop_migrations(given, folder, kept):
+    """Stops the migration of this catalogue at each call in each way. Returns how many stops there were, and what differed."""
+    versions, log = Versions(given, folder, kept), os.path.join(folder, "log")
+    is_migrated = (versions.migrated, versions.new[1][0]) == ((0, b"migrated 3\n", b""), 0)
+    stops, wrong = 0, [] if is_migrated else [f"without a stop: {versions.migrated} {versions.new}"]
+    for way in WAYS:
+        call, was_stopped = 0, True
+        while was_stopped:
+            call, catalogue = call + 1, copied(folder, kept)
+            Path(log).write_bytes(b"")
+            found = migrate(given, catalogue, call, way, log)
+            was_stopped = os.path.getsize(log) > 0
+            stops += was_stopped
+            allowed = (versions.migrated, REFUSED) if way == "failing" else (STOPPED,)
+            if found not in (allowed if was_stopped else (versions.migrated,)):
+                wrong.append(f"{way} call {call}: {found}")
+            if fault := versions.fault(given, catalogue, found == versions.migrated):
+                wrong.append(f"after a stop {way} call {call}: {fault}")
+    return stops, wrong
+
+
 def job_lines(number, path, first, others):
     head = b"job %d B %s T %d %d %d 64 c f" % (number, b"F" if number == 1 else b"I", 100 * number, number, 100 * number)
     return [head, put_line(path, b"message digest"), b"place %s 1" % first, b"place %s 0" % others, b"end"]
@@ -107,10 +168,7 @@ def restored(count):
 def serve(given, places, lines, call=None, way="before", log=os.devnull):
     """Runs a script over a catalogue and a folder of volumes, with a stop if a call is named."""
     catalogue, volumes = places
-    words = [given.program, "serve", "--db", catalogue, "--volumes", volumes]
-    faults = {"LD_PRELOAD": given.library, "STOPPED_CALL": str(call), "STOPPED_WAY": way, "STOPPED_LOG": log} if call else {}
-    ran = subprocess.run(words, input=text_of(lines), capture_output=True, env=os.environ | faults, timeout=60)
-    return ran.returncode, ran.stdout, ran.stderr
+    return run(given, ["serve", "--db", catalogue, "--volumes", volumes], text_of(lines), call, way, log)
 
 
 def new_places(folder):
@@ -159,15 +217,24 @@ def stop_commits(given, folder):
 
 
 def catalogues(given, folder):
-    """Makes catalogues to open, each in a folder of its own: an empty file, one of sqlite3's, and one that the program made."""
-    empty, filled, made = (os.path.join(folder, name) for name in ("an empty file", "a catalogue of three jobs", "a catalogue that was made"))
-    for kept in (empty, filled, made):
+    """Makes catalogues to open, each in a folder of its own: an empty file, one of sqlite3's, one that the program made, and one of
+    version 1."""
+    names = ("an empty file", "a catalogue of three jobs", "a catalogue that was made", "a migration")
+    empty, filled, made, old = (os.path.join(folder, name) for name in names)
+    for kept in (empty, filled, made, old):
         os.mkdir(kept)
         Path(kept, "catalogue").touch()
-    with contextlib.closing(sqlite3.connect(os.path.join(filled, "catalogue"))) as connection:
-        connection.executescript(Path(ORDER_SQL).read_text())
+    for kept, text in ((filled, ORDER_SQL), (old, VERSION_1_SQL)):
+        with contextlib.closing(sqlite3.connect(os.path.join(kept, "catalogue"))) as connection:
+            connection.executescript(Path(text).read_text())
     console(given, os.path.join(made, "catalogue"))
-    return empty, filled, made
+    return empty, filled, made, old
+
+
+def told(name, stops, wrong):
+    """Prints what was found. Returns whether something differed."""
+    print(f"{name}: {stops} stops: {'as expected' if not wrong else f'{len(wrong)} differ'}", *wrong[:5], sep="\n  ", flush=True)
+    return bool(wrong)
 
 
 def main():
@@ -177,14 +244,12 @@ def main():
     with tempfile.TemporaryDirectory() as folder:
         given.library = compiled(folder, "stopping_calls")
         os.mkdir(os.path.join(folder, "run"))
-        for kept in catalogues(given, folder):
-            stops, wrong = stop_in_turn(given, os.path.join(folder, "run"), kept)
-            print(f"{os.path.basename(kept)}: {stops} stops: {'as expected' if not wrong else f'{len(wrong)} differ'}", *wrong[:5], sep="\n  ")
-            failed += bool(wrong)
+        *opened, old = catalogues(given, folder)
+        for kept in opened:
+            failed += told(os.path.basename(kept), *stop_in_turn(given, os.path.join(folder, "run"), kept))
+        failed += told(os.path.basename(old), *stop_migrations(given, os.path.join(folder, "run"), old))
         os.mkdir(os.path.join(folder, "commits"))
-        stops, wrong = stop_commits(given, os.path.join(folder, "commits"))
-        print(f"two commits: {stops} stops: {'as expected' if not wrong else f'{len(wrong)} differ'}", *wrong[:5], sep="\n  ")
-        failed += bool(wrong)
+        failed += told("two commits", *stop_commits(given, os.path.join(folder, "commits")))
     return 1 if failed else 0
 
 

@@ -20,11 +20,10 @@ import time
 # Nothing is left beside the script.
 sys.dont_write_bytecode = True
 sys.path.insert(0, os.path.join(os.path.dirname(os.path.dirname(os.path.abspath(__file__))), "tools"))
-from common import MIB, ORDER_SQL, PROGRAM, run_measured
+from common import MIB, PROGRAM, VERSION_1_SQL, run_measured
 from loading import DIGEST, NUMBERS, number_at
 from selecting import path_of
 
-VERSION_1_SQL = ORDER_SQL.replace("order.sql", "order_version_1.sql")
 # The same by SQLite itself. It can't change a column's place, so that a new table takes the rows.
 BY_SQLITE = """BEGIN;
 CREATE TABLE NewFile(FileId INTEGER PRIMARY KEY, FileIndex INTEGER NOT NULL, JobId INTEGER NOT NULL REFERENCES Job(JobId),

@@ -8,6 +8,9 @@ import hashlib
 import os
 import struct
 
+# For the letters of each level, how many bytes the headers of a block and of a record have.
+FRONTS = {b"BB01": (16, 20), b"BB02": (24, 12)}
+
 
 def value(word):
     """A number from 0 on in the base 64 of file attributes."""
@@ -52,26 +55,23 @@ def fragments_of(folder, groups):
             data = file.read()
         address = 0
         while address < len(data):
-            _, size, _, letters, session, time = struct.unpack_from(">III4sII", data, address)
-            assert letters == b"BB02" and 24 <= size <= len(data) - address, (volume, address)
-            hit_by = [
-                (number, wanted)
-                for number, criteria, wanted in near
-                if admits(criteria["VolAddr"], address)
-                and admits(criteria["VolSessionId"], session)
-                and admits(criteria["VolSessionTime"], time)
-            ]
-            at, end, ordinal = address + 24, address + size, 0
-            while end - at >= 12:
-                index, stream, stated = struct.unpack_from(">iiI", data, at)
-                there = min(stated, end - at - 12)
-                for number, wanted in hit_by:
-                    if index in wanted:
-                        part = data[at + 12 : at + 12 + there]
-                        key = (session, time, index)
-                        found.setdefault(key, []).append((number, address, ordinal, stream, stated, part))
+            size, _, letters = struct.unpack_from(">II4s", data, address + 4)
+            assert letters in FRONTS, (volume, address)
+            block_front, front = FRONTS[letters]
+            assert block_front <= size <= len(data) - address, (volume, address)
+            here = [group for group in near if admits(group[1]["VolAddr"], address)]
+            at, end, ordinal = address + block_front, address + size, 0
+            while end - at >= front:
+                # The session comes before the record's other numbers, or last in the block's header.
+                key = struct.unpack_from(">II", data, at if front == 20 else address + 16)
+                index, stream, stated = struct.unpack_from(">iiI", data, at + front - 12)
+                there = min(stated, end - at - front)
+                for number, criteria, wanted in here:
+                    if index in wanted and admits(criteria["VolSessionId"], key[0]) and admits(criteria["VolSessionTime"], key[1]):
+                        part = data[at + front : at + front + there]
+                        found.setdefault((*key, index), []).append((number, address, ordinal, stream, stated, part))
                         break
-                at += 12 + there
+                at += front + there
                 ordinal += 1
             address = end
     return found

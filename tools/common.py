@@ -14,6 +14,8 @@ KEEPER_PROGRAM = os.path.join(ROOT, "crates", "br_commit_trial", "out", "br_comm
 CASES = os.path.join(ROOT, "acceptance", "cases")
 SETS = os.path.join(ROOT, "acceptance", "sets")
 ORDER_SQL = os.path.join(ROOT, "acceptance", "catalogues", "order.sql")
+# The same catalogue of version 1.
+VERSION_1_SQL = os.path.join(ROOT, "acceptance", "catalogues", "order_version_1.sql")
 MIB = 1 << 20
 
 

@@ -1,5 +1,5 @@
 //! The command `migrate`.
-ghost use Rattle.std.specs.Prelude.{◌≡◌, ◌++◌, IfOk, OnOk};
+ghost use Rattle.std.specs.Prelude.{[], ◌≡◌, ◌++◌, IfOk, OnOk};
 ghost use Rattle.std.specs.Io.KnownBytes.{Appends};
 ghost use Rattle.br_serving.specs.ScriptEnding.{IsStatus};
 ghost use Rattle.br_commands.specs.Migrating.{migrated_line};
@@ -7,8 +7,11 @@ ghost use Rattle.br_commands.specs.Migrating.{migrated_line};
 use br_engine::{Flush, show};
 use br_setup::{CLEAN, Catalogue, CatalogueFault, refuse_start};
 use br_types::push_number;
-use std::alloc::{AllocError, Global};
+use std::alloc::AllocError;
 use std::{fs, io};
+
+/// The word of the line `migrated N`, a blank, the digits of a number below 2 ^ 64, and the end of the line.
+const MOST_BYTES: usize = 30;
 
 /// Appends the line `migrated N`.
 fn push_migrated(text: &mut Vec<u8>, jobs: u64) -> Result<(), AllocError>
@@ -20,12 +23,12 @@ fn push_migrated(text: &mut Vec<u8>, jobs: u64) -> Result<(), AllocError>
     Ok(())
 }
 
-/// Writes the line `migrated N` and flushes it.
-fn show_migrated<W: Flush>(alloc: Global, writer: &mut W, jobs: u64) -> io::Result<()>
+/// Writes the line `migrated N` and flushes it. The text, which is empty, has room for it.
+fn show_migrated<W: Flush>(mut text: Vec<u8>, writer: &mut W, jobs: u64) -> io::Result<()>
+    requires empty { text.items ≡ [] }
     ensures written { OnOk result (Appends (W.contents writer.old) (W.contents writer.new) (migrated_line jobs)) }
     ensures flushed { OnOk result (W.is_flushed writer.new) }
 {
-    let mut text = Vec::new(alloc);
     push_migrated(&mut text, jobs)?;
     show(writer, &text)
 }
@@ -59,9 +62,11 @@ pub(crate) fn migrate_catalogue<C: Catalogue>(
 ) -> io::Result<u8>
     ensures status { IfOk result IsStatus }
 {
+    // Memory for the line is taken first, so that none is refused once the file is migrated.
+    let text = Vec::with_capacity(rt.alloc(), MOST_BYTES)?;
     match migrate_file(rt, catalogue, db) {
         Ok(jobs) => {
-            show_migrated(rt.alloc(), &mut io::writer(rt), jobs)?;
+            show_migrated(text, &mut io::writer(rt), jobs)?;
             Ok(CLEAN)
         }
         Err(fault) => refuse_start(rt, fault.number()),

@@ -9,7 +9,7 @@ use Rattle.std.specs.Cmp.{eq_by_cmp_equiv}
 use Rattle.std.specs.Ordering.{eq_by_cmp, is_eq, match_ordering}
 use Rattle.std.specs.declared.cmp.Ordering.{Ordering}
 use Rattle.std.specs.declared.cmp.Ordering.TheVariants.{Less, Equal, Greater}
-use Rattle.std.specs.Option.{option_or}
+use Rattle.std.specs.Option.{option_or, unwrap_or}
 use Rattle.std.specs.FinMap.{find}
 use Rattle.std.proofs.lemmas.List.{append-nil, nil_from_length, reverse-append, reverse-reverse}
 use Rattle.br_model.specs.Name.{FileKey}
@@ -119,6 +119,46 @@ pub held_new : (m n : HitTree) (p : FileKey × Spot) (hit : Hit) → p ≡ place
 held_new m n p hit is k there entries put =
     put_one m n hit k (keyed_new m n p hit is k entries) (ap (at_place m.entries) (sym is) ∙ none_at (at_place m.entries p) there)
     (λ q. put q ∙ ap (λ (r : FileKey × Spot). cond (is_at (place_cmp r) q) (Some hit) (at_place m.entries q)) is)
+
+-- the hit at a place is of that place
+found_keyed : (es : List ((FileKey × Spot) × Hit)) (p : FileKey × Spot) (h : Hit) → AreKeyed es → at_place es p ≡ Some h → p ≡ place h
+found_keyed [] p h k found = absurd cc
+found_keyed (e ∷ es) p h k found = go (place_cmp p e.0) refl (found_keyed es p h k.1) found
+  where
+    go : (r : Ordering) → place_cmp p e.0 ≡ r → (at_place es p ≡ Some h → p ≡ place h)
+        → cond (is_eq r) (Some e.1) (at_place es p) ≡ Some h → p ≡ place h
+    go Equal is rest x = hit_cmp-IsAntisymmetric p e.0 (sym (place_cmp_is p e.0) ∙ is) ∙ k.0 ∙ ap place (ap (λ (o : Option Hit). unwrap_or o h) x)
+    go Less is rest x = rest x
+    go Greater is rest x = rest x
+
+-- a hit is put where one was, and then that one is put there again
+pub keyed_back : (m n l : HitTree) (p : FileKey × Spot) (hit first : Hit) → p ≡ place hit → AreKeyed m.entries → at_place m.entries p ≡ Some first
+    → n.entries ≡ insert_entry place_cmp m.entries p hit → l.entries ≡ insert_entry place_cmp n.entries p first → AreKeyed l.entries
+keyed_back m n l p hit first is k found once again =
+    keyed_new n l p first (found_keyed m.entries p first k found) (keyed_new m n p hit is k once) again
+
+-- after it the tree has at each place what it had
+same_places : (m n l : HitTree) (p : FileKey × Spot) (hit first : Hit) → at_place m.entries p ≡ Some first
+    → ((q : FileKey × Spot) → at_place n.entries q ≡ cond (is_at (place_cmp p) q) (Some hit) (at_place m.entries q))
+    → ((q : FileKey × Spot) → at_place l.entries q ≡ cond (is_at (place_cmp p) q) (Some first) (at_place n.entries q))
+    → (q : FileKey × Spot) → at_place l.entries q ≡ at_place m.entries q
+same_places m n l p hit first found once again q = again q ∙ ap (cond (is_at (place_cmp p) q) (Some first)) (once q) ∙ go (place_cmp p q) refl
+  where
+    go : (r : Ordering) → place_cmp p q ≡ r
+        → cond (is_eq r) (Some first) (cond (is_eq r) (Some hit) (at_place m.entries q)) ≡ at_place m.entries q
+    go Equal is = sym found ∙ ap (at_place m.entries) (hit_cmp-IsAntisymmetric p q (sym (place_cmp_is p q) ∙ is))
+    go Less is = refl
+    go Greater is = refl
+
+pub held_back : (m n l : HitTree) (p : FileKey × Spot) (hit first : Hit) → p ≡ place hit → AreKeyed m.entries → at_place m.entries p ≡ Some first
+    → n.entries ≡ insert_entry place_cmp m.entries p hit → l.entries ≡ insert_entry place_cmp n.entries p first
+    → ((q : FileKey × Spot) → at_place n.entries q ≡ cond (is_at (place_cmp p) q) (Some hit) (at_place m.entries q))
+    → ((q : FileKey × Spot) → at_place l.entries q ≡ cond (is_at (place_cmp p) q) (Some first) (at_place n.entries q)) → HasOneMore m l hit
+held_back m n l p hit first is k found once again puts back q =
+    find_placed l.entries q (keyed_back m n l p hit first is k found once again)
+    ∙ ap fragment_of (same_places m n l p hit first found puts back q)
+    ∙ sym (find_placed m.entries q k)
+    ∙ held_already m p hit is k (ap is_some found) q
 
 -- ---- hits that wait
 

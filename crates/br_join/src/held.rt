@@ -42,12 +42,14 @@ fn place(placed: &mut BTreeMap<(FileKey, Spot), Hit>, hit: Hit) -> Result<(), Hi
     ensures err { OnErr result (placed.new.entries ≡ placed.old.entries) }
     ensures back { IfErr result (λ value. value ≡ hit) }
 {
-    let at = (hit.key, hit.spot);
-    if placed.contains_key(&at) {
-        return Ok(());
-    }
-    match placed.insert(at, hit) {
-        Ok(_) => Ok(()),
+    let (key, spot) = (hit.key, hit.spot);
+    match placed.insert((key, spot), hit) {
+        Ok(None) => Ok(()),
+        // The first hit at a place stays. It is rare that there is another one.
+        Ok(Some(first)) => match placed.insert((key, spot), first) {
+            Ok(_) => Ok(()),
+            Err(refused) => Err(refused.value.1),
+        },
         Err(refused) => Err(refused.value.1),
     }
 }

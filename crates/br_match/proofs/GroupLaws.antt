@@ -12,7 +12,7 @@ use Rattle.br_model.specs.Bootstrap.{Group, admits, hits}
 use Rattle.br_model.specs.Meaning.{Hit, last_address, is_covered, covers, just_groups, first_hitting, hit_at, hits_in}
 use Rattle.br_model.proofs.ListLaws.{all_any, all_weaker}
 use Rattle.br_model.proofs.VolumeLaws.{header_reads}
-use Rattle.br_match.specs.Groups.{AreAlike, admits_block, admits_record, admits_session, first_admitting, first_for, hits_of_fragments, own_session}
+use Rattle.br_match.specs.Groups.{AreAlike, admits_block, admits_record, first_admitting, first_for, hits_of_fragments, own_session}
 
 -- the end of the walk for some groups, if it is no earlier than an address
 abbrev pub bound_from : ℕ → List Group → Option ℕ
@@ -154,7 +154,7 @@ never_both false = refl
 hits_split : (session : Option SessionKey) (g : Group) (address : ℕ) (f : Fragment) → MayHold session f.session
     → hits g address f ≡ (admits_block g address session && admits_record g (own_session session f.session) f.index f.stream)
 unfolding hits
-hits_split None g address f may = go (is_positive f.index) (admits_session g (Some f.session))
+hits_split None g address f may = go (is_positive f.index) (admits g.session_ids f.session.id) (admits g.session_times f.session.time)
   where
     x : Bool
     x = admits_block g address None
@@ -171,10 +171,11 @@ hits_split None g address f may = go (is_positive f.index) (admits_session g (So
     s : Bool
     s = admits g.streams (nat_abs f.stream)
 
-    go : (p k : Bool) → (p && k && b && c && admits g.addresses address && i && s) ≡ (x && (p && k && i && s))
-    go true true = both x i s
-    go true false = never_both x
-    go false k = never_both x
+    go : (p k t : Bool) → (p && k && t && b && c && admits g.addresses address && i && s) ≡ (x && (p && (k && t) && i && s))
+    go true true true = both x i s
+    go true true false = never_both x
+    go true false t = never_both x
+    go false k t = never_both x
 hits_split (Some key) g address f may =
     go (is_positive f.index) ∙ ap (λ (k : SessionKey). admits_block g address (Some k) && admits_record g None f.index f.stream) may
   where

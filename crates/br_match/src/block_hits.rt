@@ -24,8 +24,8 @@ fn file_index(fragment: &Fragment<'_>) -> Option<FileIndex>
 }
 
 /// Returns the session of a record, if the header of its block has none.
-fn own_session(session: Option<SessionKey>, key: SessionKey) -> Option<SessionKey>
-    ensures { result ≡ own_session session key }
+fn own_session(session: &Option<SessionKey>, key: SessionKey) -> Option<SessionKey>
+    ensures { result ≡ own_session session.now key }
 {
     match session {
         None => Some(key),
@@ -38,18 +38,18 @@ fn own_session(session: Option<SessionKey>, key: SessionKey) -> Option<SessionKe
 fn hit_of(
     alloc: Global,
     near: &[&Matcher],
-    session: Option<SessionKey>,
+    session: &Option<SessionKey>,
     addr: u64,
     ordinal: u32,
     fragment: &Fragment<'_>,
 ) -> Result<Option<Hit>, AllocError>
-    ensures { IfOk result (λ hit. hit ≡ hit_by session (map (λ m. m.now) near.now) addr (ordinal, fragment.now)) }
+    ensures { IfOk result (λ hit. hit ≡ hit_by session.now (map (λ m. m.now) near.now) addr (ordinal, fragment.now)) }
 {
     let Some(index) = file_index(fragment) else {
         return Ok(None);
     };
     let own = own_session(session, fragment.session);
-    let Some(group) = first_admitting(near, own, fragment.index, fragment.stream) else {
+    let Some(group) = first_admitting(near, &own, fragment.index, fragment.stream) else {
         return Ok(None);
     };
     Ok(Some(Hit {
@@ -73,13 +73,13 @@ fn hit_of(
 fn push_hits_of(
     alloc: Global,
     near: &[&Matcher],
-    session: Option<SessionKey>,
+    session: &Option<SessionKey>,
     addr: u64,
     fragments: Fragments<'_>,
     hits: &mut Vec<Hit>,
 ) -> Result<(), AllocError>
     requires few { length fragments < 2 ^ 32 }
-    ensures { OnOk result (hits.new.items ≡ hits.old.items ++ hits_by session (map (λ m. m.now) near.now) addr fragments.entry) }
+    ensures { OnOk result (hits.new.items ≡ hits.old.items ++ hits_by session.now (map (λ m. m.now) near.now) addr fragments.entry) }
 {
     let mut ordinal: u32 = 0;
     for fragment in fragments {
@@ -102,6 +102,6 @@ pub(crate) fn push_hits(
     ensures { OnOk result (hits.new.items ≡ hits.old.items ++ hits_in matchers.now (record { address = addr; bytes = block.now })) }
 {
     let head = block.head();
-    let near = near(alloc, matchers, addr, head.session)?;
-    push_hits_of(alloc, &near, head.session, addr, block.fragments(), hits)
+    let near = near(alloc, matchers, addr, &head.session)?;
+    push_hits_of(alloc, &near, &head.session, addr, block.fragments(), hits)
 }

@@ -14,7 +14,7 @@ use thiserror::Error;
 pub enum PieceCause {
     #[error("not a block: bytes 12 to 15 of its header are neither BB01 nor BB02")]
     BadId,
-    #[error("not a block: its header gives a size outside 24 to 4194304 bytes")]
+    #[error("not a block: its header gives a size below that of the header or above 4194304 bytes")]
     BadBlockSize,
     #[error("the block is cut off")]
     Truncated,

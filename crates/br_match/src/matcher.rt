@@ -87,8 +87,8 @@ impl Matcher {
     }
 
     /// Returns whether the group hits records of the session, if there is one.
-    fn admits_session(&self, session: Option<SessionKey>) -> bool
-        ensures { result ≡ admits_session self.now.1 session }
+    fn admits_session(&self, session: &Option<SessionKey>) -> bool
+        ensures { result ≡ admits_session self.now.1 session.now }
     {
         match session {
             None => true,
@@ -101,8 +101,8 @@ impl Matcher {
 
     /// Returns whether the group may hit a record in a block at this address, whose header has this
     /// session or none.
-    pub(crate) fn admits_block(&self, addr: u64, session: Option<SessionKey>) -> bool
-        ensures { result ≡ admits_block self.now.1 addr session }
+    pub(crate) fn admits_block(&self, addr: u64, session: &Option<SessionKey>) -> bool
+        ensures { result ≡ admits_block self.now.1 addr session.now }
     {
         // If a volume has many groups, the address excludes most of them.
         self.addrs.contains(addr)
@@ -113,8 +113,8 @@ impl Matcher {
 
     /// Returns whether the group hits a record of this index and stream, in a block whose records
     /// it may hit. `own` is the session of the record, if the header of its block has none.
-    fn admits_record(&self, own: Option<SessionKey>, index: i32, stream: i32) -> bool
-        ensures { result ≡ admits_record self.now.1 own index stream }
+    fn admits_record(&self, own: &Option<SessionKey>, index: i32, stream: i32) -> bool
+        ensures { result ≡ admits_record self.now.1 own.now index stream }
     {
         index > 0
             && self.admits_session(own)
@@ -141,11 +141,11 @@ pub(crate) fn matchers_for(
 /// `own` is the session of the record, if the header of its block has none.
 pub(crate) fn first_admitting(
     near: &[&Matcher],
-    own: Option<SessionKey>,
+    own: &Option<SessionKey>,
     index: i32,
     stream: i32,
 ) -> Option<u32>
-    ensures { result ≡ first_admitting own index stream (map (λ m. m.now) near.now) }
+    ensures { result ≡ first_admitting own.now index stream (map (λ m. m.now) near.now) }
 {
     for matcher in near {
         if matcher.admits_record(own, index, stream) {

@@ -133,9 +133,9 @@ pub(crate) fn near<'m>(
     alloc: Global,
     matchers: &'m Matchers,
     addr: u64,
-    session: Option<SessionKey>,
+    session: &Option<SessionKey>,
 ) -> Result<Vec<&'m Matcher>, AllocError>
-    ensures { IfOk result (λ v. map (λ m. m.now) v.items ≡ filter (λ m. admits_block m.1 addr session) matchers.now) }
+    ensures { IfOk result (λ v. map (λ m. m.now) v.items ≡ filter (λ m. admits_block m.1 addr session.now) matchers.now) }
 {
     let around = matchers.around(addr);
     let mut near = Vec::new(alloc);

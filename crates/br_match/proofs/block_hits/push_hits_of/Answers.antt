@@ -13,7 +13,7 @@ loop-fragment-preserved c =
     let f = c.in-Some.fragment in
     let i = l.invariant in
     let found = l.hits.items in
-    let first : Fragment → Option ℕ = first_for c.args.session (map (λ m. m.now) c.args.near.now) in
+    let first : Fragment → Option ℕ = first_for c.args.session.now (map (λ m. m.now) c.args.near.now) in
     let pushed : c.match-branch-2.hits.items ≡ found ++ listed c.in_ok-hit.field-0 =
     elim c.match-branch-2.branch [
       | in-Some-2+in_ok-push w ↦ ap (λ v. v.items) w.hits-is ∙ w.in_ok-push.ensures.items ∙ ap (λ (o : Option Hit). found ++ listed o) (sym w.in-Some-2.is)
@@ -30,4 +30,4 @@ returns c =
     let i = l.invariant in
     let all : l.yielded ≡ c.args.fragments =
     sym (append-nil l.yielded) ∙ ap (λ (fs : List Fragment). l.yielded ++ fs) (sym c.in-None.ensures.steps.0) ∙ i.2 in
-    i.0 ∙ ap (λ (fs : List Fragment). c.args.hits.now.items ++ hits_of_fragments (first_for c.args.session (map (λ m. m.now) c.args.near.now)) c.args.addr 0 fs) all
+    i.0 ∙ ap (λ (fs : List Fragment). c.args.hits.now.items ++ hits_of_fragments (first_for c.args.session.now (map (λ m. m.now) c.args.near.now)) c.args.addr 0 fs) all

@@ -9,5 +9,5 @@ pub returns : goal.returns
 returns c =
     let l = c.loop-matcher in
     let around = c.around-around.result.now in
-    l.invariant ∙ ap (λ (gs : List (ℕ × Group)). filter (λ (m : ℕ × Group). admits_block m.1 c.args.addr c.args.session) gs) (take_all l.matcher-index around c.loop-matcher-test.false)
-    ∙ admitting_around c.args.addr c.args.session c.args.matchers.now around c.around-around.ensures
+    l.invariant ∙ ap (λ (gs : List (ℕ × Group)). filter (λ (m : ℕ × Group). admits_block m.1 c.args.addr c.args.session.now) gs) (take_all l.matcher-index around c.loop-matcher-test.false)
+    ∙ admitting_around c.args.addr c.args.session.now c.args.matchers.now around c.around-around.ensures

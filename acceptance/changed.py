@@ -1,0 +1,205 @@
+#!/usr/bin/env python3
+"""Restores from catalogues that somebody changed by the real sqlite3, and commits a job to each.
+
+    acceptance/changed.py [--program FILE]     needs sqlite3
+
+Each catalogue is that of catalogues/order.sql with something added to it, or made in another way. Those that are taken give the same
+restores. `serve` commits a job to each: sqlite3 then finds the catalogue sound, with what was added to it as it was, and the job is
+restored. Those that are not taken are refused with 45 by `console`, `serve` and `migrate`, and their files stay as they are. The status
+is 1 if something is not as expected.
+"""
+
+import argparse
+import os
+import shutil
+import sys
+import tempfile
+from pathlib import Path
+
+# Nothing is left beside the script.
+sys.dont_write_bytecode = True
+sys.path.insert(0, os.path.join(os.path.dirname(os.path.dirname(os.path.abspath(__file__))), "tools"))
+from catalogue import TABLES, ConsoleChecks, answers, sqlite3
+from common import ORDER_SQL, PROGRAM, VERSION_1_SQL
+from stored import served
+
+TAKEN = {
+    "an index": "CREATE INDEX FilesOfJobs ON File(JobId);",
+    "an index of unique rows": "CREATE UNIQUE INDEX MomentsOfJobs ON Job(StartTime, ClientId);",
+    "an index that falls": "CREATE INDEX FilesOfJobs ON File(JobId DESC, FileIndex);",
+    "an index that knows no case": "CREATE INDEX Volumes ON Media(VolumeName COLLATE NOCASE);",
+    "statistics": "ANALYZE;",
+    "statistics of an index": "CREATE INDEX FilesOfJobs ON File(JobId); ANALYZE;",
+    "a view": "CREATE VIEW Names AS SELECT Path, Filename FROM File JOIN Path USING (PathId);",
+    "a table": "CREATE TABLE Notes(JobId INTEGER, Note TEXT); INSERT INTO Notes VALUES (1, 'x');",
+    "a table that points to jobs": "CREATE TABLE Notes(JobId INTEGER REFERENCES Job(JobId)); INSERT INTO Notes VALUES (1);",
+    "a table without row numbers": "CREATE TABLE Notes(Note TEXT PRIMARY KEY) WITHOUT ROWID; INSERT INTO Notes VALUES ('x');",
+    "a table that counts": "CREATE TABLE Notes(Id INTEGER PRIMARY KEY AUTOINCREMENT, Note TEXT); INSERT INTO Notes VALUES (NULL, 'x');",
+    "a table with a trigger": "CREATE TABLE Notes(Note TEXT); CREATE TRIGGER Cleared AFTER INSERT ON Notes BEGIN DELETE FROM Notes WHERE Note = ''; END;",
+    "a table with an index of some rows": "CREATE TABLE Notes(Note TEXT); CREATE INDEX Filled ON Notes(Note) WHERE Note > '';",
+    "a table with a later column": "CREATE TABLE Notes(Note TEXT); INSERT INTO Notes VALUES ('x'); ALTER TABLE Notes ADD COLUMN Place TEXT;",
+    "a table with a value of many pages": "CREATE TABLE Notes(Note BLOB); INSERT INTO Notes VALUES (zeroblob(100000));",
+    "a table that is gone": "CREATE TABLE Notes(Note BLOB); INSERT INTO Notes VALUES (zeroblob(100000)); DROP TABLE Notes;",
+    "pages of 1,024 bytes": "PRAGMA page_size = 1024; VACUUM;",
+    "pages of 65,536 bytes": "PRAGMA page_size = 65536; VACUUM;",
+    "journal_mode WAL": "PRAGMA journal_mode = WAL;",
+    "its user's own numbers": "PRAGMA user_version = 5; PRAGMA application_id = 77;",
+    "an index and a VACUUM": "CREATE INDEX FilesOfJobs ON File(JobId); VACUUM;",
+}
+REFUSED = {
+    "a column": "ALTER TABLE Job ADD COLUMN Note TEXT;",
+    "a column with a default": "ALTER TABLE Media ADD COLUMN Slot INTEGER NOT NULL DEFAULT 7;",
+    "auto_vacuum": "PRAGMA auto_vacuum = FULL; VACUUM;",
+    "auto_vacuum in steps": "PRAGMA auto_vacuum = INCREMENTAL; VACUUM;",
+    "a trigger": "CREATE TRIGGER Cleared AFTER INSERT ON Job BEGIN DELETE FROM Client WHERE ClientId = 0; END;",
+    "a trigger on a view": "CREATE VIEW One AS SELECT 1; CREATE TRIGGER Cleared INSTEAD OF INSERT ON One BEGIN DELETE FROM Client WHERE ClientId = 0; END;",
+    "an index of some rows": "CREATE INDEX FilesOfJobs ON File(JobId) WHERE FileIndex > 0;",
+    "an index of an expression": "CREATE INDEX LengthsOfNames ON File(length(Filename));",
+    "a view that numbers rows": "CREATE VIEW Numbers AS SELECT row_number() OVER (ORDER BY JobId) FROM Job;",
+    "a default for rows that were there": "CREATE TABLE Notes(Note TEXT); INSERT INTO Notes VALUES ('x'); ALTER TABLE Notes ADD COLUMN Place TEXT DEFAULT 'y';",
+    "a row that points to no job": "CREATE TABLE Notes(JobId INTEGER REFERENCES Job(JobId)); INSERT INTO Notes VALUES (99);",
+    "a virtual table": "CREATE VIRTUAL TABLE Words USING fts5(Word);",
+}
+# What somebody added to a catalogue of version 1, and how it goes again.
+OLD_ADDITIONS = {
+    "an index": ("CREATE INDEX FilesOfJobs ON File(JobId);", "DROP INDEX FilesOfJobs;"),
+    "statistics": ("ANALYZE;", "DROP TABLE sqlite_stat1;"),
+    "a view": ("CREATE VIEW Names AS SELECT Name FROM Filename;", "DROP VIEW Names;"),
+    "a table": ("CREATE TABLE Notes(JobId INTEGER, Note TEXT);", "DROP TABLE Notes;"),
+    "a column": ("ALTER TABLE Job ADD COLUMN Note TEXT;", "ALTER TABLE Job DROP COLUMN Note;"),
+}
+# What makes version 2 of version 1 by sqlite3 alone.
+BY_HAND = """CREATE TABLE NewFile(FileId INTEGER PRIMARY KEY, FileIndex INTEGER NOT NULL, JobId INTEGER NOT NULL REFERENCES Job(JobId),
+  PathId INTEGER NOT NULL REFERENCES Path(PathId), Filename BLOB NOT NULL, LStat TEXT NOT NULL, MD5 TEXT NOT NULL);
+INSERT INTO NewFile SELECT FileId, FileIndex, JobId, PathId, Name, LStat, MD5 FROM File JOIN Filename USING (FilenameId) ORDER BY FileId;
+DROP TABLE File; DROP TABLE Filename; ALTER TABLE NewFile RENAME TO File; UPDATE Version SET VersionId = 2;"""
+
+JOB = b"""job 4 B I T 1795302950 4 1795302950 64512 peer-fd Peer
+putd 3 /tmp/peerlab/src/own 61 - A A IGk B A A A B A A A A A A
+place Own-1 0
+end
+"""
+# A block header, two record headers, the attributes, one byte and its digest.
+JOB_BYTES = 24 + 3 * 12 + len("1 3 /tmp/peerlab/src/own.A A IGk B A A A B A A A A A A..") + 1 + 16
+JOB_PRINTED = f"""cwd is: /tmp/peerlab/src/
+1 marked
+Volume="Own-1"
+VolSessionId=4
+VolSessionTime=1795302950
+VolAddr=0-{JOB_BYTES - 1}
+FileIndex=1
+F 4 1795302950 1 3 /tmp/peerlab/src/own 0,0,33188,1,0,0,0,1,0,0,0,0,0,0 = 1 0cc175b9c0f1b6a831c399e269772661
+total 1 0 0
+"""
+
+
+def tables_and_rows():
+    """Returns the statements of order.sql that make its tables, and the text of its rows."""
+    tables, rows = Path(ORDER_SQL).read_text().split("INSERT", 1)
+    return tables.split(";")[:-1], ";INSERT" + rows
+
+
+def taken():
+    """Returns the texts of the catalogues that are taken."""
+    text, (tables, rows) = Path(ORDER_SQL).read_text(), tables_and_rows()
+    texts = {name: text + more for name, more in TAKEN.items()}
+    between = [*tables[:4], "CREATE INDEX TypesOfMedia ON Media(MediaType)", *tables[4:]]
+    texts["an index between the tables, after a VACUUM"] = ";".join(between) + rows + "VACUUM;"
+    texts["files that sqlite3 migrated, after a VACUUM"] = Path(VERSION_1_SQL).read_text() + BY_HAND + "VACUUM;"
+    return texts
+
+
+def refused():
+    """Returns the texts of the catalogues that are refused."""
+    text, (tables, rows) = Path(ORDER_SQL).read_text(), tables_and_rows()
+    texts = {name: text + more for name, more in REFUSED.items()}
+    texts["its tables the other way round"] = ";".join(reversed(tables)) + rows
+    texts["its first table last"] = ";".join([*tables[1:], tables[0]]) + rows
+    texts["a table before its own"] = "CREATE TABLE Notes(Note TEXT);" + text
+    texts["a table between its own"] = ";".join([*tables[:4], "CREATE TABLE Notes(Note TEXT)", *tables[4:]]) + rows
+    texts["an index between its tables"] = ";".join([*tables[:4], "CREATE INDEX TypesOfMedia ON Media(MediaType)", *tables[4:]]) + rows
+    texts["files that sqlite3 migrated"] = Path(VERSION_1_SQL).read_text() + BY_HAND
+    texts["a table's name in other letters"] = text.replace("TABLE Client(", "TABLE CLIENT(")
+    texts["texts of two bytes a letter"] = 'PRAGMA encoding = "UTF-16le";' + text
+    return texts
+
+
+class Place:
+    """A catalogue in a folder of its own, with volumes beside it."""
+
+    def __init__(self, folder, text):
+        shutil.rmtree(folder, ignore_errors=True)
+        self.db, self.volumes = os.path.join(folder, "own.db"), os.path.join(folder, "volumes")
+        os.makedirs(self.volumes)
+        sqlite3(self.db, text)
+
+    def own(self):
+        """Returns what is not the catalogue's: other tables with their rows, indexes, views and numbers."""
+        names = ", ".join(f"'{name}'" for name in [*TABLES, "sqlite_sequence"])
+        others = sqlite3(self.db, f"SELECT name FROM sqlite_schema WHERE type = 'table' AND name NOT IN ({names}) ORDER BY name;").split()
+        rows = "".join(f"SELECT * FROM {name};" for name in others)
+        return sqlite3(self.db, f"SELECT type, name, sql FROM sqlite_schema ORDER BY name; PRAGMA user_version; PRAGMA application_id; {rows}")
+
+
+def takes(checks, folder, name, text):
+    """Restores from a catalogue, commits a job to it and restores that."""
+    place = Place(folder, text)
+    own = place.own()
+    for before, printed in answers().items():
+        checks.check(f"{name}, before {before}", checks.console(place.db, before=before), (0, printed, ""))
+    checks.check("a job is committed", served(checks.program, place.db, place.volumes, JOB), (0, b"stored 4\n", b""))
+    sound = sqlite3(place.db, "PRAGMA integrity_check; PRAGMA foreign_key_check; SELECT count(*) FROM Job; SELECT count(*) FROM File;")
+    checks.check("and sqlite3 finds it", sound, "ok\n4\n8\n")
+    checks.check("beside what was there", place.own(), own)
+    lines = "cd tmp/peerlab/src\nmark own\ndone\n"
+    checks.check("and it is restored", checks.console(place.db, lines=lines, volumes=place.volumes), (0, JOB_PRINTED, ""))
+
+
+def refuses(checks, folder, name, text):
+    """Hands a catalogue that is not taken to all that take one."""
+    place = Place(folder, text)
+    data = Path(place.db).read_bytes()
+    checks.check(f"{name}: console", checks.console(place.db), (1, "", "refused 45\n"))
+    checks.check("serve", served(checks.program, place.db, place.volumes, JOB), (1, b"", b"refused 45\n"))
+    checks.check("migrate", checks.migrate(place.db), (1, "", "refused 45\n"))
+    checks.check("and it stays as it was", (Path(place.db).read_bytes() == data, os.listdir(place.volumes)), (True, []))
+
+
+def takes_old(checks, folder, name, added, dropped):
+    """Hands a catalogue of version 1 to which something was added to all that take one, and migrates it once that is gone."""
+    text = Path(VERSION_1_SQL).read_text()
+    refuses(checks, folder, f"version 1 with {name}", text + added)
+    place = Place(folder, text + added + dropped)
+    checks.check(f"version 1 without {name} again", checks.migrate(place.db), (0, "migrated 3\n", ""))
+    before, printed = list(answers().items())[-1]
+    checks.check("is restored", checks.console(place.db, before=before), (0, printed, ""))
+
+
+def cannot_insert(checks, folder):
+    """Commits a job to a catalogue whose added index allows no more."""
+    place = Place(folder, Path(ORDER_SQL).read_text() + "DELETE FROM File; DELETE FROM JobMedia; DELETE FROM Job; CREATE UNIQUE INDEX OneJob ON Job(ClientId);")
+    first = JOB.replace(b"job 4 B I T 1795302950 4", b"job 5 B F T 1795302950 5").replace(b"Own-1", b"Own-2")
+    checks.check("an index that allows one job", served(checks.program, place.db, place.volumes, first), (0, b"stored 5\n", b""))
+    dump = sqlite3(place.db, ".dump")
+    checks.check("refuses a second one", served(checks.program, place.db, place.volumes, JOB), (1, b"refused 45\n", b""))
+    checks.check("and nothing changes", sqlite3(place.db, "PRAGMA integrity_check; .dump".replace("; ", ";\n")), "ok\n" + dump)
+
+
+def main():
+    parser = argparse.ArgumentParser(description="Restores from catalogues that somebody changed.")
+    parser.add_argument("--program", default=PROGRAM, help="the program (default: %(default)s)")
+    checks = ConsoleChecks(parser.parse_args().program)
+    with tempfile.TemporaryDirectory() as top:
+        folder = os.path.join(top, "catalogue")
+        for name, text in taken().items():
+            takes(checks, folder, name, text)
+        for name, text in refused().items():
+            refuses(checks, folder, name, text)
+        for name, (added, dropped) in OLD_ADDITIONS.items():
+            takes_old(checks, folder, name, added, dropped)
+        cannot_insert(checks, folder)
+    return 1 if checks.failed else 0
+
+
+if __name__ == "__main__":
+    sys.exit(main())
