@@ -11,7 +11,7 @@ use Rattle.br_model.specs.Volume.{Volume, Extends}
 use Rattle.br_model.proofs.MeaningLaws.{meaning_has_hits_lem}
 use Rattle.br_volume.specs.Drive.{OnlyGrows}
 use Rattle.br_volume.proofs.ExtendLaws.{extends_more}
-use Rattle.br_again.proofs.StandLaws.{hits_stand_lem, standing_stays_lem}
+use Rattle.br_again.specs.Stands.{HitsStand, StandingStays}
 use Rattle.br_join.specs.Runs.{AreListed}
 use Rattle.br_pool.specs.Pool.{StandsTold}
 use Rattle.br_reread.specs.Many.{Driven, RereadingMany, driven_by}
@@ -76,12 +76,12 @@ module _ {D : Type 0} (shows : D → Option (List Volume)) (failures : D → ℕ
       (shows_one pieces volumes (failures y) (shows x) (shows y) stands.0 grown.0, show_them pieces volumes xs ys stands.1 grown.1)
 
   -- so the hits of a bootstrap are read again
-  pub reread : (groups : List Group) (volumes : List Volume) (xs ys : List D) (hs : List Hit) → AllStand (map shows xs) (map shows ys) (pieces_of groups) volumes
+  pub reread : HitsStand → StandingStays → (groups : List Group) (volumes : List Volume) (xs ys : List D) (hs : List Hit) → AllStand (map shows xs) (map shows ys) (pieces_of groups) volumes
       → AllZip (λ (x y : D). OnlyGrows (shows x) (shows y) × (failures x ≤ failures y)) xs ys → meaning groups volumes ≡ Ok (hits_of hs) → AreListed hs
       → GivesHits (record { drives = driven_by shows failures ys; groups = groups }) hs
-  reread groups volumes xs ys hs stand grown means sorted =
-      meant_given hits_stand_lem standing_stays_lem meaning_has_hits_lem groups volumes (record { drives = driven_by shows failures ys; groups = groups }) hs sorted
-      means refl (show_them (pieces_of groups) volumes xs ys stand (only_grow xs ys grown))
+  reread stand stays groups volumes xs ys hs all grown means sorted =
+      meant_given stand stays meaning_has_hits_lem groups volumes (record { drives = driven_by shows failures ys; groups = groups }) hs sorted
+      means refl (show_them (pieces_of groups) volumes xs ys all (only_grow xs ys grown))
 
 -- ---- what is delivered
 

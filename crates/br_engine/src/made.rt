@@ -12,6 +12,7 @@ use crate::delivering::{deliver_files, end_of};
 use crate::fault::ExtractFault;
 use crate::outputs::RestoreEnd;
 use crate::restoring::{files_of, join_all};
+use br_again::{hits_stand, standing_stays};
 use br_bsr::{Bootstrap, Group};
 use br_gather::Gathered;
 use br_join::{Joiner, Outcome};
@@ -46,6 +47,8 @@ fn made_of<D: Drive>(
     ensures failed { OnlyIfAllFail D.failures drives.old.items drives.new.items IsNoDriveLeft result }
     ensures free { IfErr result IsUnmade }
 {
+    hits_stand();
+    standing_stays();
     let gathered = Gathered::of(joiner)?;
     let taken = mem::replace(drives, Vec::new(alloc));
     let mut many = OverMany::new(alloc, taken, groups);
