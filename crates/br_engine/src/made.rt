@@ -53,7 +53,8 @@ fn made_of<D: Drive>(
     let taken = mem::replace(drives, Vec::new(alloc));
     let mut many = OverMany::new(alloc, taken, groups);
     let files = gathered.files(alloc, &mut many);
-    *drives = many.into_drives();
+    let none = mem::replace(drives, many.into_drives());
+    none.destroy_empty();
     Ok(Made {
         outcomes: files?,
         gathered: Some(gathered),
@@ -113,7 +114,8 @@ fn deliver_by<D: Drive, S: Sink>(
     let taken = mem::replace(drives, Vec::new(source.alloc));
     let mut many = OverMany::new(source.alloc, taken, groups);
     let delivered = deliver_again(rt, source, &mut many, outcomes, sink);
-    *drives = many.into_drives();
+    let none = mem::replace(drives, many.into_drives());
+    none.destroy_empty();
     match delivered {
         Ok(()) => end_of(outcomes),
         Err(stop) => RestoreEnd::Stopped(stop),

@@ -3,13 +3,16 @@ use Rattle.std.proofs.Common.{◌≡◌, ◌<◌, ◌≤◌, ℕ, zero, suc, Lis
 use Rattle.std.proofs.lemmas.Option.{same_Some}
 use Rattle.std.specs.Prelude.{slice_get, ⊤}
 use Rattle.std.specs.List.{AllByRecursion, AllZip}
+use Rattle.br_model.specs.Bootstrap.{Group}
+use Rattle.br_model.specs.Meaning.{Spot}
 use Rattle.br_model.specs.Volume.{Volume}
 use Rattle.br_volume.specs.Drive.{OnlyGrows}
 use Rattle.br_volume.proofs.ExtendLaws.{extends_itself, grows_itself, grows_more}
 use Rattle.br_again.specs.Kept.{Kept}
 use Rattle.br_again.specs.Known.{IsKnown, IsReady, KnownBlock, bytes_of}
-use Rattle.br_again.specs.Stands.{Place, StandingStays}
-use Rattle.br_reread.specs.Many.{FailsAt, HasBytes, HaveBytes, IsKnownAt}
+use Rattle.br_again.specs.Stands.{Place, StandingStays, Stands, place_on}
+use Rattle.br_reread.specs.Over.{GivesOver}
+use Rattle.br_reread.specs.Many.{Driven, FailsAt, GoesOn, HasBytes, HaveBytes, IsKnownAt, driven_by}
 
 -- a block that is ready for what the drive has at the place gives these bytes
 pub has_ready : (shown : Option (List Volume)) (place : Place) (kept : Kept) (known : Option KnownBlock) → IsReady shown place kept known
@@ -23,6 +26,17 @@ has_still : StandingStays → (earlier later : Option (List Volume)) (place : Pl
 has_still stays None later place bytes grown has = absurd has
 has_still stays (Some e) None place bytes grown has = absurd grown
 has_still stays (Some e) (Some l) place bytes grown has = (has.0, stays e l place has.0 grown has.1, has.2)
+
+-- what is given at the place of a group is there
+given_has : (shown : Option (List Volume)) (groups : List Group) (spot : Spot) (bytes : List ℕ) (group : Group) (place : Place) → slice_get groups spot.group ≡ Some group
+    → place ≡ place_on group.volume spot → GivesOver shown groups spot bytes → HasBytes shown place bytes
+given_has None groups spot bytes group place of is given = absurd given
+given_has (Some shown) groups spot bytes group place of is given =
+    let same : given.group ≡ group = same_Some given.group group (sym given.of ∙ of) in (
+      given.fragment,
+      subst (λ (p : Place). Stands shown p given.fragment) (sym is) (subst (λ (g : Group). Stands shown (place_on g.volume spot) given.fragment) same given.stands),
+      given.same,
+    )
 
 module _ {D : Type 0} (shows : D → Option (List Volume)) (failures : D → ℕ) where
   -- its volumes only grew, and the number of its failures did not fall
@@ -55,6 +69,36 @@ module _ {D : Type 0} (shows : D → Option (List Volume)) (failures : D → ℕ
   have_still stays (x ∷ xs) [] place bytes z has = absurd z
   have_still stays (x ∷ xs) (y ∷ ys) place bytes z has =
       (has_still stays (shows x) (shows y) place bytes z.0.0 has.0, have_still stays xs ys place bytes z.1 has.1)
+
+  pub fail_after : (xs ys zs : List D) → AllZip Goes xs ys → AllZip (λ (x y : D). failures x < failures y) ys zs → AllZip (λ (x y : D). failures x < failures y) xs zs
+  fail_after [] [] [] p q = tt
+  fail_after [] [] (z ∷ zs) p q = absurd q
+  fail_after [] (y ∷ ys) zs p q = absurd p
+  fail_after (x ∷ xs) [] zs p q = absurd p
+  fail_after (x ∷ xs) (y ∷ ys) [] p q = absurd q
+  fail_after (x ∷ xs) (y ∷ ys) (z ∷ zs) p q = (omega (arith, p.0.1, q.0), fail_after xs ys zs p.1 q.1)
+
+  -- ---- as what they show and the number of their failures
+
+  pub on_driven : (xs ys : List D) → AllZip Goes xs ys → AllZip GoesOn (driven_by shows failures xs) (driven_by shows failures ys)
+  on_driven [] [] z = tt
+  on_driven [] (y ∷ ys) z = absurd z
+  on_driven (x ∷ xs) [] z = absurd z
+  on_driven (x ∷ xs) (y ∷ ys) z = (z.0, on_driven xs ys z.1)
+
+  pub failed_driven : (xs ys : List D) → AllZip (λ (x y : D). failures x < failures y) xs ys
+      → AllZip (λ (x y : Driven). x.failures < y.failures) (driven_by shows failures xs) (driven_by shows failures ys)
+  failed_driven [] [] z = tt
+  failed_driven [] (y ∷ ys) z = absurd z
+  failed_driven (x ∷ xs) [] z = absurd z
+  failed_driven (x ∷ xs) (y ∷ ys) z = (z.0, failed_driven xs ys z.1)
+
+  pub given_have : (groups : List Group) (spot : Spot) (bytes : List ℕ) (group : Group) (place : Place) (xs : List D) → slice_get groups spot.group ≡ Some group
+      → place ≡ place_on group.volume spot → AllByRecursion (λ (d : Driven). GivesOver d.shown groups spot bytes) (driven_by shows failures xs)
+      → HaveBytes shows xs place bytes
+  given_have groups spot bytes group place [] of is given = tt
+  given_have groups spot bytes group place (x ∷ xs) of is given =
+      (given_has (shows x) groups spot bytes group place of is given.0, given_have groups spot bytes group place xs of is given.1)
 
   -- ---- one of them
 

@@ -2,7 +2,7 @@ ghost use Rattle.std.specs.Prelude.{◌≡◌, Err, IfOk};
 ghost use Rattle.br_again.specs.declared.fault.AgainFault.TheVariants.{Failed};
 ghost use Rattle.br_reread.specs.Many.{GivesMany, GoOn, HaveFailed, driven_by};
 
-use crate::reading::{read_any, read_at};
+use crate::reading::read_again;
 use br_again::{Again, AgainFault, Data, Place, Spot};
 use br_bsr::Group;
 use br_volume::Drive;
@@ -76,49 +76,14 @@ impl<'b, D: Drive> OverMany<'b, D> {
                     addr: spot.addr,
                     ordinal: spot.ordinal,
                 };
-                self.read_place(alloc, &place, found)
-            }
-        }
-    }
-
-    /// Returns the data in memory, read again from the place.
-    fn read_place(
-        &mut self,
-        alloc: Global,
-        place: &Place<'_>,
-        found: &Data,
-    ) -> Result<Data, AgainFault> {
-        match read_at(
-            alloc,
-            &mut self.drives,
-            self.at,
-            &mut self.again,
-            place,
-            found,
-        ) {
-            Err(AgainFault::Failed) => self.read_by_another(alloc, place, found),
-            read => read,
-        }
-    }
-
-    /// Returns the data in memory, read again from the place by the first drive that does not fail,
-    /// which reads from now on.
-    fn read_by_another(
-        &mut self,
-        alloc: Global,
-        place: &Place<'_>,
-        found: &Data,
-    ) -> Result<Data, AgainFault> {
-        let mut next = Again::new(alloc);
-        match read_any(alloc, &mut self.drives, &mut next, place, found) {
-            Ok((at, read)) => {
-                self.at = at;
-                self.again = next;
-                Ok(read)
-            }
-            Err(fault) => {
-                self.again = Again::new(alloc);
-                Err(fault)
+                read_again(
+                    alloc,
+                    &mut self.drives,
+                    &mut self.at,
+                    &mut self.again,
+                    &place,
+                    found,
+                )
             }
         }
     }

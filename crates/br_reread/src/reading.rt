@@ -42,7 +42,7 @@ fn read_by<D: Drive>(
 /// # Errors
 ///
 /// As `read_by`, and `Failed` if there is no such drive.
-pub(crate) fn read_at<D: Drive>(
+fn read_at<D: Drive>(
     alloc: Global,
     drives: &mut Vec<D>,
     at: usize,
@@ -68,7 +68,7 @@ pub(crate) fn read_at<D: Drive>(
 /// # Errors
 ///
 /// As `read_by`; `Failed` if each drive failed.
-pub(crate) fn read_any<D: Drive>(
+fn read_any<D: Drive>(
     alloc: Global,
     drives: &mut Vec<D>,
     again: &mut Again,
@@ -86,8 +86,69 @@ pub(crate) fn read_any<D: Drive>(
         match read_at(alloc, drives, at, again, place, found) {
             Ok(read) => return Ok((at, read)),
             Err(AgainFault::Failed) => {}
-            Err(fault) => return Err(fault),
+            Err(AgainFault::Memory) => return Err(AgainFault::Memory),
+            Err(AgainFault::Changed) => return Err(AgainFault::Changed),
         }
     }
     Err(AgainFault::Failed)
+}
+
+/// Returns the data in memory, read by the first of the drives that does not fail. It is the one that
+/// reads from now on: the one with the number `at`, of which the block is that was read last.
+///
+/// # Errors
+///
+/// As `read_any`.
+fn read_by_another<D: Drive>(
+    alloc: Global,
+    drives: &mut Vec<D>,
+    at: &mut usize,
+    again: &mut Again,
+    place: &Place<'_>,
+    found: &Data,
+) -> Result<Data, AgainFault>
+    ensures known { IsKnownAt D.shows drives.new.items at.new again.new }
+    ensures same { IfOk result (λ read. HaveBytes D.shows drives.old.items place.now found.now.bytes → read.bytes ≡ found.now.bytes) }
+    ensures stay { StayOn D.shows D.failures drives.old.items drives.new.items }
+    ensures failed { result ≡ Err Failed → AllZip (λ x y. D.failures x < D.failures y) drives.old.items drives.new.items }
+{
+    match read_any(alloc, drives, again, place, found) {
+        Ok((first, read)) => {
+            *at = first;
+            Ok(read)
+        }
+        Err(fault) => {
+            *again = Again::new(alloc);
+            Err(fault)
+        }
+    }
+}
+
+/// Returns the data in memory, read by the drive with the number `at`, or if it failed by the first that
+/// does not, which reads from now on. The block that was read last is of the drive that reads.
+///
+/// # Errors
+///
+/// As `read_by`; `Failed` if each drive failed.
+pub(crate) fn read_again<D: Drive>(
+    alloc: Global,
+    drives: &mut Vec<D>,
+    at: &mut usize,
+    again: &mut Again,
+    place: &Place<'_>,
+    found: &Data,
+) -> Result<Data, AgainFault>
+    requires known { IsKnownAt D.shows drives.old.items at.old again.old }
+    ensures known { IsKnownAt D.shows drives.new.items at.new again.new }
+    ensures same { IfOk result (λ read. HaveBytes D.shows drives.old.items place.now found.now.bytes → read.bytes ≡ found.now.bytes) }
+    ensures stay { StayOn D.shows D.failures drives.old.items drives.new.items }
+    ensures failed { result ≡ Err Failed → AllZip (λ x y. D.failures x < D.failures y) drives.old.items drives.new.items }
+{
+    standing_stays();
+    match read_at(alloc, drives, *at, again, place, found) {
+        Ok(read) => Ok(read),
+        Err(AgainFault::Failed) => read_by_another(alloc, drives, at, again, place, found),
+        Err(AgainFault::Memory) => Err(AgainFault::Memory),
+        Err(AgainFault::Changed) => Err(AgainFault::Changed),
+    }
 }
