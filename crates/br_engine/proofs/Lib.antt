@@ -5,3 +5,4 @@ pub mod DeliverLaws
 pub mod LikeLaws
 pub mod EndLaws
 pub mod AgainLaws
+pub mod StopLaws

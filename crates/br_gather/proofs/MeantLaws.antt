@@ -40,7 +40,7 @@ found_each (x ∷ xs) sorted = (
     later [] less found = tt
     later (y ∷ ys) less found = (
       ap (λ (o : Ordering). cond (is_eq o) (Some x.fragment) (find hit_cmp (place y) (listed xs))) (hit_cmp_total.antisymm (place y) (place x) ∙ ap ordering_reverse less.0)
-      ∙ found.0,
+          ∙ found.0,
       later ys less.1 found.1,
     )
 

@@ -63,6 +63,7 @@ fn push_item(
 /// # Errors
 ///
 /// As `item_once_more`.
+#[tactic(auto, using(br_reread::proofs::GoOnLaws::go_itself, br_reread::proofs::GoOnLaws::go_more, br_reread::proofs::GoOnLaws::failed_on))]
 pub(crate) fn made_once_more<D: Drive>(
     alloc: Global,
     many: &mut OverMany<'_, D>,

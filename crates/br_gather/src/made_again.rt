@@ -64,6 +64,7 @@ fn file_by<D: Drive>(
 }
 
 /// Makes the files that were hit, in order of key.
+#[tactic(auto, using(br_reread::proofs::GoOnLaws::go_itself, br_reread::proofs::GoOnLaws::go_more, br_reread::proofs::GoOnLaws::failed_on))]
 fn found_by<D: Drive>(
     alloc: Global,
     many: &mut OverMany<'_, D>,
@@ -88,6 +89,7 @@ fn found_by<D: Drive>(
 }
 
 /// Makes the planned files, in order of key.
+#[tactic(auto, using(br_reread::proofs::GoOnLaws::go_itself, br_reread::proofs::GoOnLaws::go_more, br_reread::proofs::GoOnLaws::failed_on))]
 fn planned_by<D: Drive>(
     alloc: Global,
     many: &mut OverMany<'_, D>,

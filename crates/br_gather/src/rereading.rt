@@ -54,6 +54,7 @@ fn push_hit(hits: &mut Vec<Hit>, hit: Hit) -> Result<(), AllocError>
 /// # Errors
 ///
 /// Those of `many`, and `Memory` if memory runs out.
+#[tactic(auto, using(br_reread::proofs::GoOnLaws::go_itself, br_reread::proofs::GoOnLaws::go_more, br_reread::proofs::GoOnLaws::failed_on))]
 fn read_hits<D: Drive>(
     alloc: Global,
     many: &mut OverMany<'_, D>,
