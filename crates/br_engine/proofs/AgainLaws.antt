@@ -1,6 +1,7 @@
 -- What drives read again over all volumes that they may be taken to show.
-use Rattle.std.proofs.Common.{◌≡◌, ◌<◌, ◌≤◌, ℕ, List, [], ◌∷◌, map, Option, Some, None, Result, Ok, Err, refl, ap, sym, subst, ◌∙◌, inl, inr}
+use Rattle.std.proofs.Common.{◌≡◌, ◌<◌, ◌≤◌, ℕ, List, [], ◌∷◌, map, Option, Some, None, Result, Ok, Err, refl, ap, sym, subst, ◌∙◌, inl, inr, arith}
 use Rattle.std.specs.Io.KnownBytes.{Appends}
+use Rattle.std.proofs.KnownBytes.{Keeps-refl}
 use Rattle.std.specs.List.{AllByRecursion, AllZip}
 use Rattle.br_model.specs.Answer.{refused_as}
 use Rattle.br_model.specs.Bootstrap.{Group}
@@ -10,19 +11,22 @@ use Rattle.br_model.specs.Restored.{Planned, Restored}
 use Rattle.br_model.specs.Volume.{Volume, Extends}
 use Rattle.br_model.proofs.MeaningLaws.{meaning_has_hits_lem}
 use Rattle.br_volume.specs.Drive.{OnlyGrows}
-use Rattle.br_volume.proofs.ExtendLaws.{extends_more}
+use Rattle.br_volume.proofs.ExtendLaws.{extends_more, grows_more}
 use Rattle.br_again.specs.Stands.{HitsStand, StandingStays}
 use Rattle.br_join.specs.Runs.{AreListed}
 use Rattle.br_pool.specs.Pool.{StandsTold}
+use Rattle.br_pool.proofs.ListLaws.{zip_trans}
 use Rattle.br_reread.specs.Many.{Driven, RereadingMany, driven_by}
 use Rattle.br_gather.specs.Given.{GivesHits}
 use Rattle.br_gather.proofs.MeantLaws.{ShowsThem, meant_given}
 use Rattle.br_engine.specs.Again.{EndsLike}
 use Rattle.br_engine.specs.Delivering.{Delivers}
-use Rattle.br_engine.specs.Extracting.{OverVolumes}
+use Rattle.br_engine.specs.Extracting.{OverVolumes, WritesNothing}
 use Rattle.br_engine.specs.Fault.{OfPiece}
 use Rattle.br_engine.specs.Outputs.{InSink}
 use Rattle.br_engine.specs.Restoring.{AllStand, Told, restored_files}
+use Rattle.br_engine.specs.declared.fault.ExtractFault.{ExtractFault}
+use Rattle.br_engine.specs.declared.fault.ExtractFault.TheVariants.{Memory, Bootstrap, Piece, Io, NoEnd}
 use Rattle.br_engine.specs.declared.outputs.RestoreEnd.{RestoreEnd}
 use Rattle.br_engine.proofs.LikeLaws.{same_manifest}
 
@@ -97,3 +101,19 @@ delivers_like earlier later groups names before after had has os end given made 
   ),
   like.ends,
 )
+
+-- each drive stays in its place from one call to the next
+pub stay_on : {D : Type 0} (shows : D → Option (List Volume)) (failures : D → ℕ) (xs ys zs : List D)
+    → AllZip (λ (x y : D). OnlyGrows (shows x) (shows y) × (failures x ≤ failures y)) xs ys
+    → AllZip (λ (x y : D). OnlyGrows (shows x) (shows y) × (failures x ≤ failures y)) ys zs
+    → AllZip (λ (x y : D). OnlyGrows (shows x) (shows y) × (failures x ≤ failures y)) xs zs
+stay_on shows failures xs ys zs p q =
+    zip_trans _ _ _ (λ a b c first next. (grows_more (shows a) (shows b) (shows c) first.0 next.0, omega (arith, first.1, next.1))) xs ys zs p q
+
+-- a writer that was not asked has what it had
+pub nothing_written : (before : Option (List ℕ)) (fault : ExtractFault) → WritesNothing before before fault
+nothing_written before Memory = Keeps-refl before
+nothing_written before (Bootstrap fault) = Keeps-refl before
+nothing_written before (Piece fault) = Keeps-refl before
+nothing_written before (Io fault) = tt
+nothing_written before (NoEnd turns) = Keeps-refl before
