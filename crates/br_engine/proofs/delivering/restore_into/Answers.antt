@@ -73,7 +73,7 @@ returns-clause-delivers g c =
     (λ volumes stands. c.in_ok-made.ensures.files volumes (midst volumes stands))
     (λ volumes stands. c.in_ok-made.ensures.again volumes (midst volumes stands))
     (subst (λ os. Appends before after (manifest (map restored os))) c.deref.ensures.value c.in_ok-write_manifest.ensures.written)
-    (subst (λ (gs : List Group). EndsLike (CanGive shows failures second gs made.gathered os) had has os c.deliver_made.result) c.groups.ensures c.deliver_made.ensures.ends)
+    (subst (λ (gs : List Group). EndsLike (CanGive shows failures second gs made.gathered os) had has os c.deliver_made.result) c.groups.ensures.same c.deliver_made.ensures.ends)
 
 pub returns-clause-places : goal.returns-clause-places
 returns-clause-places g c =
