@@ -1,5 +1,5 @@
 -- What drives in their places show, and how often they failed.
-use Rattle.std.proofs.Common.{◌≡◌, ◌<◌, ◌≤◌, ℕ, zero, suc, List, [], ◌∷◌, length, Option, Some, None, Result, Ok, Err, refl, sym, subst, arith, ◌∙◌, slice_set}
+use Rattle.std.proofs.Common.{◌≡◌, ◌+◌, ◌<◌, ◌≤◌, ℕ, zero, suc, List, [], ◌∷◌, length, Option, Some, None, Result, Ok, Err, refl, sym, subst, arith, ◌∙◌, slice_set}
 use Rattle.std.proofs.lemmas.Option.{same_Some}
 use Rattle.std.specs.Prelude.{slice_get, ⊤}
 use Rattle.std.specs.List.{AllByRecursion, AllZip}
@@ -155,11 +155,15 @@ module _ {D : Type 0} (shows : D → Option (List Volume)) (failures : D → ℕ
   )
 
   -- one drive more failed
-  pub fail_more : (n : ℕ) (xs ys zs : List D) → AllZip Goes xs ys → AllZip Goes ys zs → FailBelow n xs ys → FailsAt failures ys zs n → FailBelow (suc n) xs zs
-  fail_more n xs ys zs first next h at_it = (
+  fail_next : (n : ℕ) (xs ys zs : List D) → AllZip Goes xs ys → AllZip Goes ys zs → FailBelow n xs ys → FailsAt failures ys zs n → FailBelow (suc n) xs zs
+  fail_next n xs ys zs first next h at_it = (
     fail_still n xs ys zs next h,
     λ x z at behind. let y = after_it xs ys n x first at in omega (arith, at_it y.0 z y.1 behind, y.2.1),
   )
+
+  pub fail_more : (n : ℕ) (xs ys zs : List D) → AllZip Goes xs ys → AllZip Goes ys zs → FailBelow n xs ys → FailsAt failures ys zs n → FailBelow (n + 1) xs zs
+  fail_more n xs ys zs first next h at_it =
+      let one : suc n ≡ n + 1 = omega arith in subst (λ (m : ℕ). FailBelow m xs zs) one (fail_next n xs ys zs first next h at_it)
 
   fail_behind : (n : ℕ) (x y : D) (xs ys : List D) → FailBelow (suc n) (x ∷ xs) (y ∷ ys) → (failures x < failures y) × FailBelow n xs ys
   fail_behind zero x y xs ys h = (h.1 x y refl refl, tt)
