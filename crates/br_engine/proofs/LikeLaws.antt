@@ -124,7 +124,7 @@ same_putting paths (x ∷ xs) (y ∷ ys) like =
     put_one : List ℕ → Result (Unit {0}) Stop → Result (Unit {0}) Stop
     put_one path rest = cond (list_any (in_the_way path) paths) (Err (record { number = 81; done = length paths })) rest
 
-like_take : (n : ℕ) (xs ys : List Item) → AllZip IsLike xs ys → AllZip IsLike (take n xs) (take n ys)
+pub like_take : (n : ℕ) (xs ys : List Item) → AllZip IsLike xs ys → AllZip IsLike (take n xs) (take n ys)
 like_take zero xs ys like = tt
 like_take (suc n) [] [] like = tt
 like_take (suc n) [] (y ∷ ys) like = absurd like

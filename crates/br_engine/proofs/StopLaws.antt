@@ -8,10 +8,13 @@ use Rattle.br_model.specs.Name.{FileKey}
 use Rattle.br_model.specs.Restored.{Restored}
 use Rattle.br_join.specs.declared.item.Outcome.{Outcome}
 use Rattle.br_gather.specs.Again.{IsLike}
-use Rattle.br_sink.specs.Delivery.{AreApart, IsStopIn, StandApart, items_in, items_put, stop_cause}
+use Rattle.br_sink.specs.Delivery.{AreApart, IsStopBelow, IsStopIn, StandApart, items_in, items_put, stop_cause}
 use Rattle.br_sink.specs.Sink.{HasMore}
 use Rattle.br_sink.proofs.DeliveryLaws.{apart_taken, fewer_items, more_behind, none_more, taken_items}
-use Rattle.br_engine.specs.Again.{IsStopAgain, PutsLike}
+use Rattle.br_again.specs.declared.fault.AgainFault.{AgainFault}
+use Rattle.br_again.specs.declared.fault.AgainFault.TheVariants as again
+use Rattle.br_engine.specs.Again.{IsStopAgain, PutsLike, again_number}
+use Rattle.br_engine.proofs.LikeLaws.{like_length, like_take}
 
 -- ---- the stop
 
@@ -81,3 +84,35 @@ puts_stop given xs ys zs had mid has number done p q few =
     take_within xs ys zero few = refl
     take_within [] ys (suc n) few = absurd (omega (arith, few))
     take_within (x ∷ xs) ys (suc n) few = ap (λ (is : List Item). x ∷ is) (take_within xs ys n (omega (arith, few)))
+
+-- ---- files that were made once more together
+
+like_put : {A : Type 0} (r : Result A Stop) (xs ys : List Item) → AllZip IsLike xs ys → AllZip IsLike (items_put r xs) (items_put r ys)
+like_put (Ok a) xs ys like = like
+like_put (Err stop) xs ys like = like_take stop.done xs ys like
+
+-- what a sink took of the files that were made is like what it was to take
+pub put_of : {A : Type 0} (given : Type 0) (made items : List Item) (had has : Option (List Item)) (r : Result A Stop) → AllZip IsLike made items → (given → made ≡ items)
+    → HasMore (items_put r made) had has → PutsLike given items had has r
+put_of given made items had has r like same more = record {
+  put = items_put r made;
+  like = like_put r made items like;
+  same = λ g. ap (items_put r) (same g);
+  more = more;
+}
+
+-- a stop of the sink among them is one among those
+pub stop_of_sink : (made items : List Item) (stop : Stop) → AllZip IsLike made items → IsStopBelow (length made) stop → IsStopAgain (length items) stop
+stop_of_sink made items stop like below = record {
+  number = elim below.number [ inl one ↦ inl one | inr eighty ↦ inr (inl eighty) ];
+  within = subst (λ (n : ℕ). stop.done < n) (like_length made items like) below.within;
+}
+
+-- no file was made once more
+pub stop_of_again : (items : List Item) (fault : AgainFault) → 0 < length items → IsStopAgain (length items) (record { number = again_number fault; done = 0 })
+stop_of_again items again.Memory some = record { number = inl refl; within = some }
+stop_of_again items again.Failed some = record { number = inr (inr refl); within = some }
+stop_of_again items again.Changed some = record { number = inr (inr refl); within = some }
+
+pub put_none : {A : Type 0} (given : Type 0) (items : List Item) (has : Option (List Item)) (number : ℕ) → PutsLike {A = A} given items has has (Err (record { number = number; done = 0 }))
+put_none given items has number = record { put = []; like = tt; same = λ _. refl; more = none_more has }

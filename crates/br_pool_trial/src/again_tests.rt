@@ -48,7 +48,7 @@ fn files_in(alloc: Global, out: &Outputs<Vec<u8>, MemSink>) -> Result<Option<usi
         return Ok(None);
     };
     for item in sink.items() {
-        if item.bytes.to_vec(alloc)?.as_slice() != b"message digest" {
+        if item.bytes.to_vec(alloc)?.as_slice() != b"message digest".as_slice() {
             return Ok(None);
         }
     }
