@@ -18,7 +18,7 @@ use std::thread::Threads;
 type Run = (Result<RestoreEnd, ExtractFault>, Outputs<Vec<u8>, MemSink>);
 
 /// Restores both files by these drives, with room for no data.
-fn run_by<D: Drive + Send>(
+fn run_by<D: Drive + Send + Drop>(
     rt: &(impl Threads + Wait + Sync),
     alloc: Global,
     mut drives: Vec<D>,
