@@ -1,5 +1,5 @@
 -- The parts of a file, one after another, and zeros, block by block.
-use Rattle.std.proofs.Common.{◌≡◌, ℕ, ◌+◌, ◌-◌, ◌<◌, ◌≤◌, List, [], ◌∷◌, ◌++◌, length, get_or, take, drop, min, replicate, sym, ap, ◌∙◌, arith, append_assoc}
+use Rattle.std.proofs.Common.{◌≡◌, ℕ, zero, suc, ◌+◌, ◌-◌, ◌<◌, ◌≤◌, List, [], ◌∷◌, ◌++◌, length, get_or, slice_set, take, drop, min, replicate, sym, ap, ◌∙◌, arith, append_assoc}
 use Rattle.std.proofs.lemmas.Grind.{flat_map-append}
 use Rattle.std.proofs.lemmas.List.{append-nil, take_more, take-replicate, replicate-append-replicate, take-append-drop}
 use Rattle.br_body.specs.declared.part.Part.{Part}
@@ -54,3 +54,9 @@ none_left count left past = let all : count - left ≡ count = omega (arith, pas
 
 pub none_done : (count : ℕ) → zeros (count - count) ≡ []
 none_done count = let none : count - count ≡ 0 = omega arith in ap zeros none
+
+-- a part in the place of one with the same bytes
+pub joined_set : (parts : List Part) (i : ℕ) (x y : Part) → i < length parts → x ≡ get_or parts i x → part_bytes y ≡ part_bytes x → joined (slice_set parts i y) ≡ joined parts
+joined_set [] i x y within is same = absurd (omega (arith, within))
+joined_set (p ∷ ps) zero x y within is same = ap (λ (bytes : List ℕ). bytes ++ joined ps) (same ∙ ap part_bytes is)
+joined_set (p ∷ ps) (suc i) x y within is same = ap (λ (bytes : List ℕ). part_bytes p ++ bytes) (joined_set ps i x y (omega (arith, within)) is same)

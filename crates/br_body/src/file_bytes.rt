@@ -141,6 +141,15 @@ fn shared(alloc: Global, parts: &[Part]) -> Result<Vec<Part>, AllocError>
     Ok(copies)
 }
 
+/// Leaves the bytes of fragments on their volumes.
+fn let_go_all(parts: &mut [Part])
+    ensures { joined parts.new ≡ joined parts.old }
+{
+    for i in 0..parts.len() {
+        parts[i].let_go();
+    }
+}
+
 impl FileBytes {
     /// Returns these bytes, and computes their digest.
     pub fn new(alloc: Global, bytes: Vec<u8>) -> Result<FileBytes, AllocError>
@@ -213,5 +222,13 @@ impl FileBytes {
             len: self.len,
             digest: self.digest,
         })
+    }
+
+    /// Leaves the bytes on their volumes, except those that were made. They are no longer in memory,
+    /// so that `write_to` and `to_vec` fail. For contracts they are the same.
+    pub fn let_go(&mut self)
+        ensures { self.new ≡ self.old }
+    {
+        let_go_all(&mut self.parts);
     }
 }

@@ -212,6 +212,15 @@ impl Part {
         }
     }
 
+    /// Leaves the bytes of a fragment on their volume: they are no longer in memory.
+    pub(crate) fn let_go(&mut self)
+        ensures { part_bytes self.new ≡ part_bytes self.old }
+    {
+        if let Part::Found { kept, .. } = self {
+            kept.let_go();
+        }
+    }
+
     /// Returns a part that shares the bytes of this one.
     pub(crate) fn share(&self) -> Result<Part, AllocError>
         ensures { IfOk result (λ part. part_bytes part ≡ part_bytes self.now) }

@@ -1,5 +1,5 @@
 -- What the words of a command line ask for, by the definitions of clap.
-use Rattle.std.specs.Prelude.{◌≡◌, if◌then◌else◌, ℕ, List, [], ◌∷◌, Bool, bytes_eq, codes, is_some, Option, Some, None, option_and_then, option_map, false, true}
+use Rattle.std.specs.Prelude.{◌≡◌, if◌then◌else◌, ℕ, ◌^◌, not, List, [], ◌∷◌, Bool, bytes_eq, codes, is_some, Option, Some, None, option_and_then, option_map, false, true}
 use Rattle.std.specs.Str.Parse.{digits_value, without_leading_plus}
 use Rattle.clap.specs.Kinds.{Kinds, or_else}
 use Rattle.clap.specs.Simple.{App, new_app, new_rule, on_top, subcommand_of, with_rule, with_subcommand}
@@ -9,9 +9,10 @@ use Rattle.clap.specs.Faults.{fault_of}
 use Rattle.clap.specs.declared.builder.action.ArgAction.TheVariants.{Set, SetTrue}
 use Rattle.clap.specs.declared.builder.value_parser.ValueParser.TheVariants.{NonEmptyString, Unsigned}
 use Rattle.clap.specs.declared.error.kind.ErrorKind.{ErrorKind}
-use Rattle.clap.specs.declared.error.kind.ErrorKind.TheVariants.{ArgumentConflict, MissingRequiredArgument}
+use Rattle.clap.specs.declared.error.kind.ErrorKind.TheVariants.{ArgumentConflict, MissingRequiredArgument, ValueValidation}
 use Rattle.clap.specs.Simple.{subcommand_rows_of}
 use Rattle.clap.specs.declared.parser.matches.ArgMatches.{ArgMatches}
+use Rattle.br_command.specs.Size.{size_spelled}
 use Rattle.br_options.specs.declared.options.Copies.{Copies}
 use Rattle.br_options.specs.declared.options.Copies.TheVariants as copies
 use Rattle.br_options.specs.declared.options.Gaps.{Gaps}
@@ -29,14 +30,15 @@ pub data Goal : Type 0 where
   TarFile : Text → Goal
   TarOutput : Goal
 
--- a command of the program: a script; a script, a catalogue's file and the folder of the volumes; a bootstrap's file, the folder of the
--- volumes, where the files go, the number of drives, and what else is done; a catalogue's file, the folder of the volumes, client, file
--- set and moment, where the files go and the number of drives; a catalogue's file; a number; all numbers
+-- a command of the program: a script, and the memory for data; a script, a catalogue's file, the folder of the volumes and the memory; a
+-- bootstrap's file, the folder of the volumes, where the files go, the number of drives, the memory, and what else is done; a catalogue's
+-- file, the folder of the volumes, client, file set and moment, where the files go, the number of drives and the memory; a catalogue's
+-- file; a number; all numbers
 pub data Asked : Type 0 where
-  Serve : Asked
-  ServeFiles : Text → Text → Asked
-  Extract : Text → Text → Goal → ℕ → Wanted → Asked
-  Console : Text → Text → Text → Text → Text → Goal → ℕ → Asked
+  Serve : ℕ → Asked
+  ServeFiles : Text → Text → ℕ → Asked
+  Extract : Text → Text → Goal → ℕ → ℕ → Wanted → Asked
+  Console : Text → Text → Text → Text → Text → Goal → ℕ → ℕ → Asked
   Migrate : Text → Asked
   Explain : ℕ → Asked
   ExplainAll : Asked
@@ -50,11 +52,11 @@ target targets.TarOutput = TarOutput
 
 -- what the program holds of a command line
 abbrev pub asked : Invocation → Asked
-asked commands.Serve = Serve
-asked (commands.ServeFiles o) = ServeFiles o.db.now o.volumes.now
-asked (commands.Extract o) = Extract o.bsr.now o.volumes.now (target o.target) o.drives o.wanted
+asked (commands.Serve memory) = Serve memory
+asked (commands.ServeFiles o) = ServeFiles o.db.now o.volumes.now o.memory
+asked (commands.Extract o) = Extract o.bsr.now o.volumes.now (target o.target) o.drives o.memory o.wanted
 asked (commands.Console o) =
-    Console o.db.now o.volumes.now o.client.now o.fileset.now o.before.now (target o.target) o.drives
+    Console o.db.now o.volumes.now o.client.now o.fileset.now o.before.now (target o.target) o.drives o.memory
 asked (commands.Migrate db) = Migrate db.now
 asked (commands.Explain number) = Explain number
 asked commands.ExplainAll = ExplainAll
@@ -77,13 +79,21 @@ flag_rule name = record (new_rule name) { long = Some name; action = Some SetTru
 abbrev pub drives_rule : Rule
 drives_rule = record (value_rule (codes "drives") false) { parser = Some (Unsigned 1 16); defaults = codes "1" ∷ [] }
 
+-- `--memory SIZE`, which is 1 GiB if the option is left out
+abbrev pub memory_rule : Rule
+memory_rule = record (value_rule (codes "memory") false) { defaults = codes "1G" ∷ [] }
+
 -- a command with `--into DIR` and `--tar FILE`, which may be left out
 abbrev pub with_target_rules : App → App
 with_target_rules app = with_rule (with_rule app (value_rule (codes "into") false)) (value_rule (codes "tar") false)
 
--- a command with `--into DIR`, `--tar FILE` and `--drives N`, which may be left out
+-- a command with `--drives N` and `--memory SIZE`, which may be left out
+abbrev pub with_reading_rules : App → App
+with_reading_rules app = with_rule (with_rule app drives_rule) memory_rule
+
+-- a command with `--into DIR`, `--tar FILE`, `--drives N` and `--memory SIZE`, which may be left out
 abbrev pub with_run_rules : App → App
-with_run_rules app = with_rule (with_target_rules app) drives_rule
+with_run_rules app = with_reading_rules (with_target_rules app)
 
 -- a command with `--newest` and `--complete`, which may be left out
 abbrev pub with_wanted_rules : App → App
@@ -117,9 +127,9 @@ number_rule = record (new_rule (codes "number")) { action = Some Set; value_name
 unfoldable pub explain_app : App
 explain_app = with_rule (new_app (codes "explain")) number_rule
 
--- `serve` with `--db FILE` and `--volumes DIR`, which may be left out
+-- `serve` with `--db FILE`, `--volumes DIR` and `--memory SIZE`, which may be left out
 unfoldable pub serve_app : App
-serve_app = with_rule (with_rule (new_app (codes "serve")) (value_rule (codes "db") false)) (value_rule (codes "volumes") false)
+serve_app = with_rule (with_rule (with_rule (new_app (codes "serve")) (value_rule (codes "db") false)) (value_rule (codes "volumes") false)) memory_rule
 
 -- `migrate --db FILE`
 unfoldable pub migrate_app : App
@@ -148,6 +158,14 @@ number_in low high text = if is_unsigned_in low high text then Some (digits_valu
 -- the number of drives, by the values that were found for the options
 unfoldable pub drives_asked : List Row → Option ℕ
 drives_asked rows = option_and_then (number_in 1 16) (one_of (codes "drives") rows)
+
+-- the memory for data, by the values that were found for the options
+unfoldable pub memory_asked : List Row → Option ℕ
+memory_asked rows = option_and_then size_spelled (first_of (codes "memory") rows)
+
+-- the memory for data, if nothing is asked for
+abbrev pub default_memory : ℕ
+default_memory = 2 ^ 30
 
 -- the number to explain
 unfoldable pub number_asked : List Row → Option ℕ
@@ -208,7 +226,7 @@ unfoldable pub extract_asked : List Row → Option Asked
 extract_asked rows =
     option_and_then (λ bsr.
     option_and_then (λ volumes.
-    option_and_then (λ goal. option_map (λ drives. Extract bsr volumes goal drives (wanted_asked rows)) (drives_asked rows))
+    option_and_then (λ goal. option_and_then (λ drives. option_map (λ memory. Extract bsr volumes goal drives memory (wanted_asked rows)) (memory_asked rows)) (drives_asked rows))
     (target_asked rows))
     (first_of (codes "volumes") rows))
     (first_of (codes "bsr") rows)
@@ -221,7 +239,7 @@ console_asked rows =
     option_and_then (λ client.
     option_and_then (λ fileset.
     option_and_then (λ before.
-    option_and_then (λ goal. option_map (Console db volumes client fileset before goal) (drives_asked rows))
+    option_and_then (λ goal. option_and_then (λ drives. option_map (Console db volumes client fileset before goal drives) (memory_asked rows)) (drives_asked rows))
     (target_asked rows))
     (first_of (codes "before") rows))
     (first_of (codes "fileset") rows))
@@ -229,16 +247,16 @@ console_asked rows =
     (first_of (codes "volumes") rows))
     (first_of (codes "db") rows)
 
--- the command `serve` by the values of `--db` and `--volumes`, which go together
-abbrev pub serve_by : Option Text → Option Text → Option Asked
-serve_by None None = Some Serve
-serve_by (Some db) (Some volumes) = Some (ServeFiles db volumes)
-serve_by (Some db) None = None
-serve_by None (Some volumes) = None
+-- the command `serve` by the values of `--db` and `--volumes`, which go together, and the memory
+abbrev pub serve_by : Option Text → Option Text → ℕ → Option Asked
+serve_by None None memory = Some (Serve memory)
+serve_by (Some db) (Some volumes) memory = Some (ServeFiles db volumes memory)
+serve_by (Some db) None memory = None
+serve_by None (Some volumes) memory = None
 
 -- the same by the values that were found for the options
 unfoldable pub serve_asked : List Row → Option Asked
-serve_asked rows = serve_by (first_of (codes "db") rows) (first_of (codes "volumes") rows)
+serve_asked rows = option_and_then (serve_by (first_of (codes "db") rows) (first_of (codes "volumes") rows)) (memory_asked rows)
 
 -- the command `migrate` by the value that was found for its option
 unfoldable pub migrate_asked : List Row → Option Asked
@@ -246,7 +264,7 @@ migrate_asked rows = option_map Migrate (first_of (codes "db") rows)
 
 -- the command by the name of the subcommand and what was found for its options; with no subcommand it is a script
 unfoldable pub asked_by : Option (Text × List Row) → Option Asked
-asked_by None = Some Serve
+asked_by None = Some (Serve default_memory)
 asked_by (Some (name, rows)) =
     if bytes_eq name (codes "extract") then extract_asked rows
     else if bytes_eq name (codes "console") then console_asked rows
@@ -263,9 +281,17 @@ words_asked words = asked_by (subcommand_of program_app words)
 abbrev pub AsksFor : List Text → ArgMatches → Type 0
 AsksFor words found = words_asked words ≡ asked_by (subcommand_rows_of found)
 
--- the kind of fault of options that ask for no command: two that exclude each other, or a value that is missing
+-- whether a value is no size
+abbrev pub is_no_size : Option Text → Bool
+is_no_size None = false
+is_no_size (Some value) = not (is_some (size_spelled value))
+
+-- the kind of fault of options that ask for no command: two that exclude each other, a value that is no size, or one that is missing
 abbrev pub kind_in : List Row → ErrorKind
-kind_in rows = if is_some (target_asked rows) then MissingRequiredArgument else ArgumentConflict
+kind_in rows =
+    if not (is_some (target_asked rows)) then ArgumentConflict
+    else if is_no_size (first_of (codes "memory") rows) then ValueValidation
+    else MissingRequiredArgument
 
 -- the same by the subcommand that was found, if any
 unfoldable pub kind_by : Option (Text × List Row) → ErrorKind

@@ -1,6 +1,7 @@
 //! The command line of the program, read by clap: its commands and options, and what the words of a command line ask for.
 #![tactic(auto)]
 
+mod size;
 mod words;
 
 pub use words::read_words;

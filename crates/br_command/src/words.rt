@@ -6,6 +6,7 @@ ghost use Rattle.clap.specs.declared.builder.command.Command.TheViews.{out-Comma
 ghost use Rattle.br_options.specs.Options.{AreFew, HasDrives};
 ghost use Rattle.br_command.specs.Words.{copies_asked, copies_by, gaps_asked, gaps_by, is_given, wanted_asked};
 ghost use Rattle.br_command.specs.Words.{flag_rule, with_wanted_rules};
+ghost use Rattle.br_command.specs.Words.{is_no_size, memory_asked, memory_rule, with_reading_rules};
 ghost use Rattle.br_command.specs.Words.{AsksFor, MissesBy, asked, asked_by, words_asked, words_fault, words_kind, with_run_rules};
 ghost use Rattle.br_command.specs.Words.{console_asked, drives_asked, explain_asked, extract_asked, migrate_asked, number_asked, serve_asked, serve_by};
 ghost use Rattle.br_command.specs.Words.{target_asked};
@@ -14,6 +15,7 @@ ghost use Rattle.br_command.specs.Words.{console_app, console_jobs_app, console_
 ghost use Rattle.br_command.specs.Words.{drives_rule, extracting_app, migrate_app, number_rule, program_app, restoring_app, serve_app, serving_app};
 ghost use Rattle.br_command.specs.Words.{value_rule};
 
+use crate::size::read_size;
 use br_options::{
     ConsoleOptions, Copies, ExtractOptions, Gaps, Invocation, ServeOptions, Target, Wanted,
 };
@@ -21,6 +23,9 @@ use clap::builder::ValueParser;
 use clap::error::ErrorKind;
 use clap::{Arg, ArgAction, ArgMatches, Command, Error};
 use std::alloc::{AllocError, Global};
+
+/// The memory for data if nothing is asked for.
+const DEFAULT_MEMORY: u64 = 1 << 30;
 
 /// The greatest number that `explain` takes.
 const GREATEST_NUMBER: u64 = 4_294_967_295;
@@ -122,6 +127,22 @@ fn drives_option<'a>(alloc: Global) -> Arg<'a>
         .help("The number of drives that read the volumes at once, 1 to 16")
 }
 
+/// Returns the option for the memory for data, which is 1 GiB if it is left out.
+fn memory_option<'a>(alloc: Global) -> Arg<'a>
+    ensures rule { rule_of result ≡ memory_rule }
+    ensures local { result.global ≡ false }
+{
+    Arg::new(alloc, "memory")
+        .long("memory")
+        .value_name("SIZE")
+        .value_parser(ValueParser::NonEmptyString)
+        .action(ArgAction::Set)
+        .default_value("1G")
+        .help(
+            "The memory for data: bytes, or a number with K, M or G; what is beyond it is read again",
+        )
+}
+
 /// Returns the command with the two options for where the restored files go, `--into` and `--tar`.
 fn with_target_options<'a>(alloc: Global, command: Command<'a>) -> Result<Command<'a>, AllocError>
     requires { (fields_of command).has_globals ≡ false }
@@ -131,13 +152,23 @@ fn with_target_options<'a>(alloc: Global, command: Command<'a>) -> Result<Comman
     command.arg(into_option(alloc))?.arg(tar_option(alloc))
 }
 
-/// Returns the command with the options of a restore that may be left out, `--into`, `--tar` and `--drives`.
+/// Returns the command with the options for how volumes are read, `--drives` and `--memory`.
+fn with_reading_options<'a>(alloc: Global, command: Command<'a>) -> Result<Command<'a>, AllocError>
+    requires { (fields_of command).has_globals ≡ false }
+    ensures app { IfOk result (λ r. app_of r ≡ with_reading_rules (app_of command.entry)) }
+    ensures local { IfOk result (λ r. (fields_of r).has_globals ≡ false) }
+{
+    command.arg(drives_option(alloc))?.arg(memory_option(alloc))
+}
+
+/// Returns the command with the options of a restore that may be left out, `--into`, `--tar`, `--drives` and
+/// `--memory`.
 fn with_run_options<'a>(alloc: Global, command: Command<'a>) -> Result<Command<'a>, AllocError>
     requires { (fields_of command).has_globals ≡ false }
     ensures app { IfOk result (λ r. app_of r ≡ with_run_rules (app_of command.entry)) }
     ensures local { IfOk result (λ r. (fields_of r).has_globals ≡ false) }
 {
-    with_target_options(alloc, command)?.arg(drives_option(alloc))
+    with_reading_options(alloc, with_target_options(alloc, command)?)
 }
 
 /// Returns the command with the options for what else a restore does, `--newest` and `--complete`.
@@ -240,7 +271,8 @@ fn serve_command<'a>(alloc: Global) -> Result<Command<'a>, AllocError>
     Command::new(alloc, "serve")
         .about("Runs a script from standard input, as with no command")
         .arg(value_option(alloc, "db", "FILE", false, db))?
-        .arg(value_option(alloc, "volumes", "DIR", false, volumes))
+        .arg(value_option(alloc, "volumes", "DIR", false, volumes))?
+        .arg(memory_option(alloc))
 }
 
 /// Returns `migrate` with its option.
@@ -342,6 +374,14 @@ fn drives_of(found: &ArgMatches<'_>) -> Option<usize>
     }
 }
 
+/// Returns the memory for data that was found, if it is a size.
+#[tactic(auto, unfolding(crate::specs::Words::memory_asked))]
+fn memory_of(found: &ArgMatches<'_>) -> Option<u64>
+    ensures { result ≡ memory_asked (rows_of (found_of found.now)) }
+{
+    read_size(value_of(found, "memory")?.as_bytes())
+}
+
 /// Returns if an option without a value was found.
 fn is_found(found: &ArgMatches<'_>, name: &str) -> bool
     ensures { result ≡ is_given name.now (rows_of (found_of found.now)) }
@@ -422,6 +462,7 @@ fn extract_found<'a>(found: &ArgMatches<'a>) -> Option<Invocation<'a>>
         volumes: value_of(found, "volumes")?,
         target: target_of(found)?,
         drives: drives_of(found)?,
+        memory: memory_of(found)?,
         wanted: wanted_of(found),
     }))
 }
@@ -440,6 +481,7 @@ fn console_found<'a>(found: &ArgMatches<'a>) -> Option<Invocation<'a>>
         before: value_of(found, "before")?,
         target: target_of(found)?,
         drives: drives_of(found)?,
+        memory: memory_of(found)?,
     }))
 }
 
@@ -455,14 +497,23 @@ fn explain_found<'a>(found: &ArgMatches<'a>) -> Option<Invocation<'a>>
     }
 }
 
-/// Returns `serve` by the values of `--db` and `--volumes`, unless one was given without the other.
-fn serve_by<'a>(db: Option<&'a str>, volumes: Option<&'a str>) -> Option<Invocation<'a>>
-    ensures asked { option_map asked result ≡ serve_by (option_map (λ s. s.now) db.entry) (option_map (λ s. s.now) volumes.entry) }
+/// Returns `serve` by the values of `--db` and `--volumes`, unless one was given without the other, and by
+/// the memory for data.
+fn serve_by<'a>(
+    db: Option<&'a str>,
+    volumes: Option<&'a str>,
+    memory: u64,
+) -> Option<Invocation<'a>>
+    ensures asked { option_map asked result ≡ serve_by (option_map (λ s. s.now) db.entry) (option_map (λ s. s.now) volumes.entry) memory }
     ensures drives { IfSome result HasDrives }
 {
     match (db, volumes) {
-        (None, None) => Some(Invocation::Serve),
-        (Some(db), Some(volumes)) => Some(Invocation::ServeFiles(ServeOptions { db, volumes })),
+        (None, None) => Some(Invocation::Serve(memory)),
+        (Some(db), Some(volumes)) => Some(Invocation::ServeFiles(ServeOptions {
+            db,
+            volumes,
+            memory,
+        })),
         (Some(_), None) | (None, Some(_)) => None,
     }
 }
@@ -473,7 +524,8 @@ fn serve_found<'a>(found: &ArgMatches<'a>) -> Option<Invocation<'a>>
     ensures asked { option_map asked result ≡ serve_asked (rows_of (found_of found.now)) }
     ensures drives { IfSome result HasDrives }
 {
-    serve_by(value_of(found, "db"), value_of(found, "volumes"))
+    let memory = memory_of(found)?;
+    serve_by(value_of(found, "db"), value_of(found, "volumes"), memory)
 }
 
 /// Returns `migrate` with the file that was found, if it was.
@@ -499,7 +551,7 @@ fn invocation_of<'a>(matches: &ArgMatches<'a>) -> Option<Invocation<'a>>
     ensures drives { IfSome result HasDrives }
 {
     match found_command(matches) {
-        None => Some(Invocation::Serve),
+        None => Some(Invocation::Serve(DEFAULT_MEMORY)),
         Some((name, found)) if name == "extract" => extract_found(found),
         Some((name, found)) if name == "console" => console_found(found),
         Some((name, found)) if name == "explain" => explain_found(found),
@@ -509,14 +561,28 @@ fn invocation_of<'a>(matches: &ArgMatches<'a>) -> Option<Invocation<'a>>
     }
 }
 
-/// Returns the kind of fault of options that ask for no command: two that exclude each other, or a value that is missing.
+/// Returns if a value is no size.
+fn is_no_size(value: Option<&str>) -> bool
+    ensures { result ≡ is_no_size (option_map (λ s. s.now) value.entry) }
+{
+    match value {
+        None => false,
+        Some(value) => read_size(value.as_bytes()).is_none(),
+    }
+}
+
+/// Returns the kind of fault of options that ask for no command: two that exclude each other, a value that is no size, or one
+/// that is missing.
 fn kind_in(found: &ArgMatches<'_>) -> ErrorKind
     ensures { result ≡ kind_in (rows_of (found_of found.now)) }
 {
-    match target_of(found) {
-        None => ErrorKind::ArgumentConflict,
-        Some(_) => ErrorKind::MissingRequiredArgument,
+    if target_of(found).is_none() {
+        return ErrorKind::ArgumentConflict;
     }
+    if is_no_size(value_of(found, "memory")) {
+        return ErrorKind::ValueValidation;
+    }
+    ErrorKind::MissingRequiredArgument
 }
 
 /// Returns the kind of fault of a command line that asks for no command.
@@ -535,6 +601,9 @@ fn text_of_fault(kind: ErrorKind) -> &'static str {
     match kind {
         ErrorKind::ArgumentConflict => {
             "the argument '--into <DIR>' cannot be used with '--tar <FILE>'"
+        }
+        ErrorKind::ValueValidation => {
+            "the value of '--memory <SIZE>' is no number of bytes, nor one with K, M or G"
         }
         _ => "the arguments '--db <FILE>' and '--volumes <DIR>' must be given together",
     }
@@ -577,8 +646,8 @@ fn read_by<'a>(command: &mut Command<'a>, words: &'a [String]) -> Result<Invocat
 ///
 /// The commands are `extract --bsr FILE --volumes DIR`, `console --db FILE --volumes DIR --client NAME --fileset NAME
 /// --before MOMENT`, `migrate --db FILE`, `explain [N]` and `serve`. The first two also take `--into DIR` or `--tar FILE`, and
-/// `--drives N`; the first takes `--newest` and `--complete`; the last takes `--db FILE` and `--volumes DIR`, both or neither. No command
-/// is the same as `serve`.
+/// `--drives N`; the first takes `--newest` and `--complete`; the last takes `--db FILE` and `--volumes DIR`, both or neither. All that
+/// restore take `--memory SIZE`: bytes, or a number with K, M or G. No command is the same as `serve`.
 ///
 /// # Errors
 ///

@@ -93,6 +93,7 @@ const EXTRACT: ExtractOptions<'static> = ExtractOptions {
     volumes: "sets/V",
     target: Target::Nowhere,
     drives: 1,
+    memory: 1_073_741_824,
     wanted: Wanted {
         copies: Copies::All,
         gaps: Gaps::Unreported,
@@ -142,6 +143,7 @@ const CONSOLE: ConsoleOptions<'static> = ConsoleOptions {
     before: "2026-11-22",
     target: Target::Nowhere,
     drives: 1,
+    memory: 1_073_741_824,
 };
 
 const CONSOLE_INTO: ConsoleOptions<'static> = ConsoleOptions {
@@ -204,7 +206,7 @@ fn scripts_and_explanations_are_asked_for(rt: HostRuntime) -> Result<(), Fail> {
     let serve = first_other(
         rt.alloc(),
         &["brestore", "brestore serve"],
-        &Invocation::Serve,
+        &Invocation::Serve(1_073_741_824),
     )?;
     let one = first_other(
         rt.alloc(),
@@ -229,6 +231,7 @@ fn scripts_over_files_are_asked_for(rt: HostRuntime) -> Result<(), Fail> {
     let files = ServeOptions {
         db: "j.db",
         volumes: "sets/V",
+        memory: 1_073_741_824,
     };
     let lines = [
         "brestore serve --db j.db --volumes sets/V",
@@ -483,5 +486,66 @@ fn help_is_given(rt: HostRuntime) -> Result<(), Fail> {
         let answer = fault_of(rt.alloc(), line)?;
         assert_eq!(rt; answer, Some((kind, 0)), "{line}");
     }
+    Ok(())
+}
+
+/// Returns the memory for data that a command line asks for, if it restores.
+fn memory_of(alloc: Global, line: &str) -> Result<Option<u64>, Fail> {
+    let words = words_of(alloc, line)?;
+    match read_words(alloc, &words) {
+        Ok(Invocation::Extract(options)) => Ok(Some(options.memory)),
+        Ok(Invocation::Console(options)) => Ok(Some(options.memory)),
+        Ok(Invocation::ServeFiles(options)) => Ok(Some(options.memory)),
+        Ok(Invocation::Serve(memory)) => Ok(Some(memory)),
+        _ => Ok(None),
+    }
+}
+
+/// Returns the first of the sizes that a command line does not take for this number of bytes.
+fn first_of_another_size<'l>(
+    alloc: Global,
+    sizes: &[(&'l str, u64)],
+) -> Result<Option<&'l str>, Fail> {
+    for (size, bytes) in sizes {
+        let line = format!(in alloc; "brestore extract --bsr x --volumes V --memory {size}")?;
+        if memory_of(alloc, line.as_str())? != Some(*bytes) {
+            return Ok(Some(*size));
+        }
+    }
+    Ok(None)
+}
+
+#[test]
+fn memory_is_a_size(rt: HostRuntime) -> Result<(), Fail> {
+    let sizes = [
+        ("0", 0),
+        ("17", 17),
+        ("64K", 65_536),
+        ("256M", 268_435_456),
+        ("4G", 4_294_967_296),
+        ("18446744073709551615", 18_446_744_073_709_551_615),
+        ("17179869183G", 18_446_744_072_635_809_792),
+    ];
+    assert_eq!(rt; first_of_another_size(rt.alloc(), &sizes)?, None);
+    let script = memory_of(rt.alloc(), "brestore serve --memory 1K")?;
+    let files = memory_of(rt.alloc(), "brestore serve --db j --volumes V --memory=2K")?;
+    assert_eq!(rt; (script, files), (Some(1024), Some(2048)));
+    Ok(())
+}
+
+#[test]
+fn memory_that_is_no_size_is_refused(rt: HostRuntime) -> Result<(), Fail> {
+    let lines = [
+        "brestore extract --bsr x --volumes V --memory K",
+        "brestore extract --bsr x --volumes V --memory 1k",
+        "brestore extract --bsr x --volumes V --memory 1T",
+        "brestore extract --bsr x --volumes V --memory 1.5G",
+        "brestore extract --bsr x --volumes V --memory=-1",
+        "brestore extract --bsr x --volumes V --memory 18446744073709551616",
+        "brestore extract --bsr x --volumes V --memory 17179869184G",
+        "brestore serve --memory x",
+    ];
+    let taken = first_with_another_fault(rt.alloc(), &lines, ErrorKind::ValueValidation)?;
+    assert_eq!(rt; taken, None);
     Ok(())
 }

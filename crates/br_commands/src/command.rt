@@ -28,7 +28,7 @@ pub fn run_command<C: Catalogue>(
     requires few { HasDrives command.now }
 {
     match command {
-        Invocation::Serve => serve_memory(rt, threads),
+        Invocation::Serve(memory) => serve_memory(rt, threads, *memory),
         Invocation::ServeFiles(options) => serve_files(rt, threads, catalogue, options),
         Invocation::Extract(options) => extract_files(rt, threads, options),
         Invocation::Console(options) => restore_marked(rt, threads, catalogue, options),

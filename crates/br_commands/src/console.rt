@@ -16,7 +16,7 @@ use crate::folders::{HostSink, folder_of, sink_over};
 use crate::status::{BAD_STREAM, Ending};
 use crate::tar::{Channel, Extent, TarEnd, TarFault, add_tar_end, end_stream, tar_into, tar_onto};
 use br_console::{ConsoleFault, ConsoleRun, End, JobSelection, Lines, run_console};
-use br_engine::{Flush, Outputs, RestoreEnd};
+use br_engine::{Budget, Flush, Outputs, RestoreEnd};
 use br_folder_sink::FolderFault;
 use br_history::History;
 use br_options::{ConsoleOptions, Target};
@@ -28,7 +28,7 @@ use br_tar::TarSink;
 use br_volume::Drive;
 use std::alloc::{AllocError, Global};
 use std::fs::{self, File};
-use std::io::{self, BufRead, BufReader, BufWriter, Printer};
+use std::io::{self, BufRead, BufReader, BufWriter, ErrorKind, Printer};
 use std::sync::Wait;
 use std::thread::Threads;
 use thiserror::Error;
@@ -82,6 +82,9 @@ pub fn console_ending(
 /// Prints to standard error that a stream failed, if one did.
 fn report_stream<R: Eprint>(rt: &R, fault: &ConsoleFault) -> io::Result<()> {
     match fault {
+        ConsoleFault::Io(e) if e.kind() == ErrorKind::InvalidData => {
+            eprintln!(rt; "brestore: {e}")
+        }
         ConsoleFault::Io(e) => eprintln!(rt; "brestore: standard input or output: {e}"),
         ConsoleFault::NoEnd(e) => eprintln!(rt; "brestore: standard input or output: {e}"),
         _ => Ok(()),
@@ -199,6 +202,7 @@ pub struct ConsoleSetup<'r, S> {
     request: Request,
     sink: Option<S>,
     history: History,
+    memory: u64,
     drives: Vec<HostDrive<'r>>,
 }
 
@@ -219,6 +223,7 @@ pub fn set_up_console<'r, C: Catalogue>(
     ensures asked { IfOk result (λ setup. request_asked given.now ≡ Ok setup.request) }
     ensures into { IfOk result (λ setup. option_map (λ s. s.path) setup.sink ≡ folder_asked given.now.target) }
     ensures jobs { IfOk result (λ setup. AreJobs (C.jobs_at catalogue.now given.now.db.now) setup.history) }
+    ensures memory { IfOk result (λ setup. setup.memory ≡ given.now.memory) }
     ensures drives { IfOk result (λ setup. length setup.drives.items ≡ given.now.drives) }
     ensures volumes { IfOk result (λ setup. AreOver given.now.volumes.now setup.drives.items) }
 {
@@ -238,6 +243,7 @@ fn set_up_over<'r, C: Catalogue, S: Drop>(
     ensures request { IfOk result (λ setup. setup.request ≡ request) }
     ensures sink { IfOk result (λ setup. setup.sink ≡ sink) }
     ensures jobs { IfOk result (λ setup. AreJobs (C.jobs_at catalogue.now given.now.db.now) setup.history) }
+    ensures memory { IfOk result (λ setup. setup.memory ≡ given.now.memory) }
     ensures drives { IfOk result (λ setup. length setup.drives.items ≡ given.now.drives) }
     ensures volumes { IfOk result (λ setup. AreOver given.now.volumes.now setup.drives.items) }
 {
@@ -247,15 +253,18 @@ fn set_up_over<'r, C: Catalogue, S: Drop>(
         request,
         sink,
         history,
+        memory: given.memory,
         drives,
     })
 }
 
-/// The jobs of a catalogue, which of them to choose, the drives to read by, and what to write to.
+/// The jobs of a catalogue, which of them to choose, the memory for data, the drives to read by, and what to
+/// write to.
 #[derive(Drop)]
 pub struct ConsoleTask<D, W, S> {
     history: History,
     request: Request,
+    memory: u64,
     drives: Vec<D>,
     out: Outputs<W, S>,
 }
@@ -265,6 +274,7 @@ impl<'r, S> ConsoleSetup<'r, S> {
     pub fn onto<W>(self, writer: W) -> ConsoleTask<HostDrive<'r>, W, S>
         ensures history { result.history ≡ self.entry.history }
         ensures request { result.request ≡ self.entry.request }
+        ensures memory { result.memory ≡ self.entry.memory }
         ensures drives { result.drives ≡ self.entry.drives }
         ensures out { result.out ≡ record { writer = writer; sink = self.entry.sink } }
     {
@@ -272,11 +282,13 @@ impl<'r, S> ConsoleSetup<'r, S> {
             request,
             sink,
             history,
+            memory,
             drives,
         } = self;
         ConsoleTask {
             history,
             request,
+            memory,
             drives,
             out: Outputs { writer, sink },
         }
@@ -300,9 +312,13 @@ pub fn console_over<R: BufRead + Drop, D: Drive + Send, W: Flush + Drop, S: Sink
         history: &task.history,
         request: &task.request,
     };
+    let budget = Budget {
+        alloc,
+        room: task.memory,
+    };
     run_console(
         threads,
-        alloc,
+        budget,
         &asked,
         reader,
         &mut task.drives,
@@ -405,6 +421,7 @@ fn set_up_tar_file<'r, C: Catalogue>(
     ensures asked { IfOk result (λ setup. request_asked given.now ≡ Ok setup.request) }
     ensures sink { IfOk result (λ setup. IsSome setup.sink) }
     ensures jobs { IfOk result (λ setup. AreJobs (C.jobs_at catalogue.now given.now.db.now) setup.history) }
+    ensures memory { IfOk result (λ setup. setup.memory ≡ given.now.memory) }
     ensures drives { IfOk result (λ setup. length setup.drives.items ≡ given.now.drives) }
     ensures volumes { IfOk result (λ setup. AreOver given.now.volumes.now setup.drives.items) }
 {
@@ -422,6 +439,7 @@ fn set_up_tar_output<'r, C: Catalogue>(
     ensures asked { IfOk result (λ setup. request_asked given.now ≡ Ok setup.request) }
     ensures sink { IfOk result (λ setup. IsSome setup.sink) }
     ensures jobs { IfOk result (λ setup. AreJobs (C.jobs_at catalogue.now given.now.db.now) setup.history) }
+    ensures memory { IfOk result (λ setup. setup.memory ≡ given.now.memory) }
     ensures drives { IfOk result (λ setup. length setup.drives.items ≡ given.now.drives) }
     ensures volumes { IfOk result (λ setup. AreOver given.now.volumes.now setup.drives.items) }
 {

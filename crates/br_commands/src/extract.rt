@@ -11,7 +11,7 @@ ghost use Rattle.br_commands.specs.Tasks.{ExtractsTask, StreamsTask};
 use crate::folders::{HostSink, folder_of, sink_over};
 use crate::status::{BAD_STREAM, Ending};
 use crate::tar::{Channel, Extent, TarEnd, TarFault, add_tar_end, end_stream, tar_into, tar_onto};
-use br_engine::{ExtractFault, Flush, Outputs, RestoreEnd, read_text};
+use br_engine::{Budget, ExtractFault, Flush, Outputs, RestoreEnd, read_text};
 use br_extract::{Extracted, extract_wanted};
 use br_folder_sink::FolderFault;
 use br_options::{ExtractOptions, Target, Wanted};
@@ -65,6 +65,9 @@ fn report_stream<R: Eprint>(rt: &R, fault: &ExtractFault) -> io::Result<()> {
     match fault {
         ExtractFault::Io(e) if e.kind() == ErrorKind::OutOfMemory => {
             Err(ErrorKind::OutOfMemory.into())
+        }
+        ExtractFault::Io(e) if e.kind() == ErrorKind::InvalidData => {
+            eprintln!(rt; "brestore: {e}")
         }
         ExtractFault::Io(e) => eprintln!(rt; "brestore: standard output: {e}"),
         ExtractFault::NoEnd(e) => eprintln!(rt; "brestore: standard output: {e}"),
@@ -152,6 +155,7 @@ impl From<AllocError> for ExtractStartFault {
 pub struct ExtractSetup<'r, 'p, S> {
     bootstrap: BootstrapFile<'p>,
     wanted: Wanted,
+    memory: u64,
     drives: Vec<HostDrive<'r>>,
     sink: Option<S>,
 }
@@ -164,6 +168,7 @@ pub fn set_up_extract<'r, 'p>(
 ) -> Result<ExtractSetup<'r, 'p, HostSink<'r>>, ExtractStartFault>
     ensures bootstrap { IfOk result (λ setup. setup.bootstrap.path.now ≡ given.now.bsr.now) }
     ensures wanted { IfOk result (λ setup. setup.wanted ≡ given.now.wanted) }
+    ensures memory { IfOk result (λ setup. setup.memory ≡ given.now.memory) }
     ensures into { IfOk result (λ setup. option_map (λ s. s.path) setup.sink ≡ folder_asked given.now.target) }
     ensures drives { IfOk result (λ setup. length setup.drives.items ≡ given.now.drives) }
     ensures volumes { IfOk result (λ setup. AreOver given.now.volumes.now setup.drives.items) }
@@ -180,6 +185,7 @@ fn set_up_over<'r, 'p, S: Drop>(
 ) -> Result<ExtractSetup<'r, 'p, S>, ExtractStartFault>
     ensures bootstrap { IfOk result (λ setup. setup.bootstrap.path.now ≡ given.now.bsr.now) }
     ensures wanted { IfOk result (λ setup. setup.wanted ≡ given.now.wanted) }
+    ensures memory { IfOk result (λ setup. setup.memory ≡ given.now.memory) }
     ensures sink { IfOk result (λ setup. setup.sink ≡ sink) }
     ensures drives { IfOk result (λ setup. length setup.drives.items ≡ given.now.drives) }
     ensures volumes { IfOk result (λ setup. AreOver given.now.volumes.now setup.drives.items) }
@@ -189,6 +195,7 @@ fn set_up_over<'r, 'p, S: Drop>(
     Ok(ExtractSetup {
         bootstrap,
         wanted: given.wanted,
+        memory: given.memory,
         drives,
         sink,
     })
@@ -218,11 +225,13 @@ fn refuse<R: Eprint>(rt: &R, bsr: &str, fault: ExtractStartFault) -> io::Result<
     }
 }
 
-/// The text of a bootstrap, what else is wanted, the drives to read by, and what to write to.
+/// The text of a bootstrap, what else is wanted, the memory for data, the drives to read by, and what to
+/// write to.
 #[derive(Drop)]
 pub struct ExtractTask<D, W, S> {
     text: Vec<u8>,
     wanted: Wanted,
+    memory: u64,
     drives: Vec<D>,
     out: Outputs<W, S>,
 }
@@ -232,18 +241,21 @@ impl<'r, S> ExtractSetup<'r, '_, S> {
     pub fn onto<W>(self, writer: W) -> ExtractTask<HostDrive<'r>, W, S>
         ensures text { result.text ≡ self.entry.bootstrap.text }
         ensures wanted { result.wanted ≡ self.entry.wanted }
+        ensures memory { result.memory ≡ self.entry.memory }
         ensures drives { result.drives ≡ self.entry.drives }
         ensures out { result.out ≡ record { writer = writer; sink = self.entry.sink } }
     {
         let ExtractSetup {
             bootstrap,
             wanted,
+            memory,
             drives,
             sink,
         } = self;
         ExtractTask {
             text: bootstrap.text,
             wanted,
+            memory,
             drives,
             out: Outputs { writer, sink },
         }
@@ -261,9 +273,13 @@ pub fn extract_over<D: Drive + Send, W: Flush, S: Sink>(
     ensures delivers { ExtractsTask D.shows W.contents S.has task.old task.new result }
     ensures flushed { IfOk result (λ _. W.is_flushed task.new.out.writer) }
 {
+    let budget = Budget {
+        alloc,
+        room: task.memory,
+    };
     extract_wanted(
         threads,
-        alloc,
+        budget,
         &task.text,
         task.wanted,
         &mut task.drives,

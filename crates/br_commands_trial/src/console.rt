@@ -34,6 +34,7 @@ fn given_of<'x>(db: &'x str, volumes: &'x str, into: &'x str) -> ConsoleOptions<
         before: AFTER,
         target: Target::Folder(into),
         drives: 2,
+        memory: u64::MAX,
     }
 }
 
@@ -336,6 +337,7 @@ fn refusal_of<'x>(
         before,
         target: Target::Folder(folder),
         drives: 1,
+        memory: u64::MAX,
     };
     match set_up_console(rt, &NewCatalogues { rt }, &given) {
         Ok(_) => 0,

@@ -190,6 +190,7 @@ fn delivered<W: Write>(
         volumes: volumes.as_str(),
         target: Target::Folder(into.as_str()),
         drives: 3,
+        memory: u64::MAX,
         wanted,
     };
     let mut task = set_up_extract(rt, &given)?.onto(manifest);
@@ -339,6 +340,7 @@ pub(crate) fn status_in(
         volumes: volumes.as_str(),
         target,
         drives: 2,
+        memory: u64::MAX,
         wanted: PLAIN,
     });
     Ok(run_command(rt, threads, &NoCatalogue, &command)?)
@@ -391,6 +393,7 @@ fn is_refused(rt: &HostRuntime, folder: &str) -> bool {
         volumes: folder,
         target: Target::Folder(folder),
         drives: 1,
+        memory: u64::MAX,
         wanted: PLAIN,
     };
     matches!(set_up_extract(rt, &given), Err(ExtractStartFault::Folder(fault)) if fault.number() == 81)

@@ -2,6 +2,7 @@
 use crate::catalogue::OneCatalogue;
 use crate::places::{BACK, FRONT, are_there, entries_in, new_place, path_in};
 use br_commands::run_command;
+use br_engine::Budget;
 use br_options::{Invocation, ServeOptions};
 use br_serving::{serve_by_lines, serve_over, set_up_serve};
 use br_setup::CatalogueFault;
@@ -28,7 +29,13 @@ fn served(
     match set_up_serve(rt, threads, catalogue, given) {
         Ok(setup) => {
             let mut reader = script;
-            let (keeper, status) = serve_over(threads, rt.alloc(), setup, &mut reader, written);
+            let (keeper, status) = serve_over(
+                threads,
+                Budget::unbounded(rt.alloc()),
+                setup,
+                &mut reader,
+                written,
+            );
             let (jobs, _volumes) = keeper.close(threads);
             Ok((status.ok(), jobs.added))
         }
@@ -72,6 +79,7 @@ fn tried(
     let given = ServeOptions {
         db: case.db,
         volumes: volumes.as_str(),
+        memory: u64::MAX,
     };
     let mut written = Vec::new(rt.alloc());
     let ended = served(rt, threads, &catalogue, &given, case.script, &mut written);
@@ -273,6 +281,7 @@ fn a_bad_catalogue_ends_serve_with_status_1(rt: HostRuntime) -> Result<(), Fail>
     let command = Invocation::ServeFiles(ServeOptions {
         db: "other.db",
         volumes: "nowhere",
+        memory: u64::MAX,
     });
     let status = run_command(&rt, &rt, &catalogue, &command)?;
     assert_eq!(rt; status, 1);
@@ -324,6 +333,7 @@ fn a_job_for_a_folder_that_is_not_there_is_refused(rt: HostRuntime) -> Result<()
     let given = ServeOptions {
         db: "c.db",
         volumes: volumes.as_str(),
+        memory: u64::MAX,
     };
     let script = b"job 2 B F T 100 2 100 64512 venus work\n\
         put 3 /x 616263 - A A IGk B A A A D A A A A A A\n\

@@ -103,6 +103,7 @@ fn given_of<'x>(db: &'x str, volumes: &'x str, client: &'x str, file: &'x str) -
         before: "2106-02-07 06:28:18",
         target: Target::TarFile(file),
         drives: 2,
+        memory: u64::MAX,
     }
 }
 

@@ -14,7 +14,7 @@ use crate::ending::{ConsoleRun, End, Lines, SessionEnd};
 use crate::talking::converse;
 use br_bsr::write_bootstrap;
 use br_choose::choose;
-use br_engine::{ExtractFault, Flush, Outputs, restore_into, show};
+use br_engine::{Budget, ExtractFault, Flush, Outputs, restore_into, show};
 use br_history::History;
 use br_mark::Console;
 use br_plan::{Plan, PlanFault, Request};
@@ -138,7 +138,7 @@ fn console_fault(fault: ExtractFault) -> ConsoleFault
 /// After an error nothing is put into the sink.
 pub fn run_console<R: BufRead + Drop, D: Drive + Send, W: Flush, S: Sink>(
     rt: &(impl Threads + Wait + Sync),
-    alloc: Global,
+    budget: Budget,
     asked: &JobSelection<'_>,
     reader: &mut R,
     drives: &mut Vec<D>,
@@ -157,7 +157,7 @@ pub fn run_console<R: BufRead + Drop, D: Drive + Send, W: Flush, S: Sink>(
     ensures sink_counted { CountsFailures S.failures out.old out.new }
     ensures sink_failed { RunStopIsCounted S.failures out.old out.new result }
 {
-    let (lines, plan) = prepare(alloc, asked, reader, &mut out.writer)?;
+    let (lines, plan) = prepare(budget.alloc, asked, reader, &mut out.writer)?;
     let Some(plan) = plan else {
         return Ok(ConsoleRun {
             lines,
@@ -165,7 +165,7 @@ pub fn run_console<R: BufRead + Drop, D: Drive + Send, W: Flush, S: Sink>(
         });
     };
     let (bootstrap, names) = plan.into_parts();
-    match restore_into(rt, alloc, &bootstrap, Some(names), drives, out) {
+    match restore_into(rt, budget, &bootstrap, Some(names), drives, out) {
         Ok(end) => Ok(ConsoleRun {
             lines,
             end: End::Done(end),

@@ -12,10 +12,9 @@ ghost use Rattle.br_driven.specs.Restoring.{IsRestored, some_shown};
 
 use crate::drives::{DriveCount, drives_over};
 use br_bsr::Bootstrap;
-use br_engine::{ExtractFault, RestoreEnd, restore_to};
+use br_engine::{Budget, ExtractFault, RestoreEnd, restore_to};
 use br_types::Names;
 use br_volume::{BorrowedDrive, MemStore, VolumeStore};
-use std::alloc::Global;
 use std::io::Write;
 use std::sync::Wait;
 use std::thread::Threads;
@@ -37,7 +36,7 @@ pub trait DrivenStore: VolumeStore {
     fn restore<T: Threads + Wait + Sync, W: Write>(
         &self,
         rt: &T,
-        alloc: Global,
+        budget: Budget,
         drives: DriveCount,
         wanted: Wanted<'_>,
         writer: &mut W,
@@ -51,7 +50,7 @@ pub trait DrivenStore: VolumeStore {
 #[tactic(auto, using(crate::proofs::DrivenLaws::grown))]
 fn restore_by<'v, T: Threads + Wait + Sync, W: Write>(
     rt: &T,
-    alloc: Global,
+    budget: Budget,
     drives: &mut Vec<BorrowedDrive<'v>>,
     wanted: Wanted<'_>,
     writer: &mut W,
@@ -62,7 +61,7 @@ fn restore_by<'v, T: Threads + Wait + Sync, W: Write>(
     ensures grow { AllZip OnlyGrows (some_shown drives.old.items) (some_shown drives.new.items) }
 {
     let Wanted { bootstrap, names } = wanted;
-    restore_to(rt, alloc, bootstrap, names, drives, writer)
+    restore_to(rt, budget, bootstrap, names, drives, writer)
 }
 
 impl DrivenStore for MemStore {
@@ -70,12 +69,12 @@ impl DrivenStore for MemStore {
     fn restore<T: Threads + Wait + Sync, W: Write>(
         &self,
         rt: &T,
-        alloc: Global,
+        budget: Budget,
         drives: DriveCount,
         wanted: Wanted<'_>,
         writer: &mut W,
     ) -> Result<RestoreEnd, ExtractFault> {
-        let mut drives = drives_over(alloc, self.volumes(), drives)?;
-        restore_by(rt, alloc, &mut drives, wanted, writer)
+        let mut drives = drives_over(budget.alloc, self.volumes(), drives)?;
+        restore_by(rt, budget, &mut drives, wanted, writer)
     }
 }

@@ -2,3 +2,7 @@ pub mod JoinLaws
 pub mod ReadLaws
 pub mod ExtractLaws
 pub mod DeliverLaws
+pub mod LikeLaws
+pub mod EndLaws
+pub mod AgainLaws
+pub mod StopLaws

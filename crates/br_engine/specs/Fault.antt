@@ -4,6 +4,8 @@ use Rattle.br_model.specs.Text.{refused_line}
 use Rattle.br_model.specs.BootstrapText.{LineFault}
 use Rattle.br_model.specs.Meaning as model
 use Rattle.br_model.specs.Refusal.{line_fault, piece_fault}
+use Rattle.br_again.specs.declared.fault.AgainFault.{AgainFault}
+use Rattle.br_again.specs.declared.fault.AgainFault.TheVariants as again
 use Rattle.br_bsr.specs.Fault as bootstrap
 use Rattle.br_match.specs.Fault as piece
 use Rattle.br_match.specs.declared.fault.PieceFault.{PieceFault}
@@ -67,6 +69,20 @@ IsFree (Bootstrap fault) = ⊥
 IsFree (Piece fault) = ⊥
 IsFree (Io fault) = ⊤
 IsFree (NoEnd turns) = ⊥
+
+-- the fault of a restore if data were not read again: memory ran out, no drive is left, or a volume was changed
+abbrev pub OfAgain : AgainFault → ExtractFault → Type 0
+OfAgain again.Memory fault = fault ≡ Memory
+OfAgain again.Failed fault = fault ≡ Piece of_pool.NoDriveLeft
+OfAgain again.Changed fault = IsFree fault
+
+-- memory ran out, a volume was changed, or no drive is left that reads again
+abbrev pub IsUnmade : ExtractFault → Type 0
+IsUnmade Memory = ⊤
+IsUnmade (Bootstrap fault) = ⊥
+IsUnmade (Piece fault) = fault ≡ of_pool.NoDriveLeft
+IsUnmade (Io fault) = ⊤
+IsUnmade (NoEnd turns) = ⊥
 
 -- the text of a bootstrap was not read whole: memory ran out, reading failed, or the input has no end
 abbrev pub IsUnread : ExtractFault → Type 0

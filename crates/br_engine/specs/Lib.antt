@@ -4,3 +4,4 @@ pub mod Outputs
 pub mod Reading
 pub mod Extracting
 pub mod Delivering
+pub mod Again

@@ -12,6 +12,7 @@ use Rattle.br_model.specs.Restored.{Names, Planned, Restored, files, planned_in}
 use Rattle.br_pool.specs.Fault.{cause}
 use Rattle.br_pool.specs.Pool.{StandsTold}
 use Rattle.br_pool.specs.declared.fault.PoolFault.{PoolFault}
+use Rattle.br_join.specs.Joining.{Joining}
 use Rattle.br_join.specs.Outcome.{restored}
 use Rattle.br_join.specs.declared.item.Outcome.{Outcome}
 
@@ -49,3 +50,9 @@ RestoredOver earlier later groups names result =
 -- the same, as the contract of a restore states it
 abbrev pub RestoresOver : {D : Type 0} → (D → Option (List Volume)) → List D → List D → List Group → Option Names → Result Outcomes PoolFault → Type 0
 RestoresOver shows before after groups names result = RestoredOver (map shows before) (map shows after) groups (option_map planned_in names) result
+
+-- over all volumes that each of the drives may be taken to show, a joiner has the hits of the bootstrap, or the refusal is the first fault
+abbrev pub JoinsOver : {D : Type 0} → (D → Option (List Volume)) → List D → List D → List Group → Result Joining PoolFault → Type 0
+JoinsOver shows before after groups result =
+    (volumes : List Volume) → AllStand (map shows before) (map shows after) (pieces_of groups) volumes
+    → Answers (λ (j : Joining). j.hits) cause result (meaning groups volumes)

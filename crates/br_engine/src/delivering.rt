@@ -6,12 +6,13 @@ ghost use Rattle.br_engine.specs.Outputs.{SinkCounts, StopsByFailure, end_of_fil
 ghost use Rattle.br_engine.specs.Delivering.{DeliversOver, DeliversText, EndsWith, ExtractsOver, RunsOver, WritesOver};
 ghost use Rattle.br_engine.specs.Delivering.{CountsFailures, RefusalWritesNothing, StopIsCounted};
 
+use crate::budget::Budget;
 use crate::extracting::{all_files, write_manifest};
 use crate::fault::ExtractFault;
 use crate::flushing::Flush;
+use crate::made::{deliver_made, restore_within};
 use crate::outputs::{Outputs, RestoreEnd};
 use crate::reading::read_text;
-use crate::restoring::restore;
 use br_bsr::{Bootstrap, read_bootstrap};
 use br_join::Outcome;
 use br_sink::{Sink, deliver};
@@ -23,7 +24,7 @@ use std::sync::Wait;
 use std::thread::Threads;
 
 /// Returns the end of a restore with these outcomes whose delivery did not stop.
-fn end_of(outcomes: &[(FileKey, Outcome)]) -> RestoreEnd
+pub(crate) fn end_of(outcomes: &[(FileKey, Outcome)]) -> RestoreEnd
     ensures { result ≡ end_of_files (map restored outcomes.now) }
 {
     if all_files(outcomes) {
@@ -68,21 +69,22 @@ pub fn deliver_files<S: Sink>(
     }
 }
 
-/// Restores as `restore`, writes the manifest and flushes it, and then delivers the files into the sink
-/// in the order of the manifest, if there is a sink.
+/// Restores as `restore_within`, writes the manifest and flushes it, and then delivers the files into the
+/// sink in the order of the manifest, if there is a sink.
 ///
 /// If the delivery stopped, the manifest is written, and the sink has the files before the stop.
 ///
 /// # Errors
 ///
-/// - `Piece` as `restore`; then nothing is written.
+/// - `Piece` as `restore_within`; then nothing is written.
 /// - `Memory` if memory ran out for the manifest; then nothing is written.
-/// - `Io` if the writer failed, which may have taken a part of the manifest.
+/// - `Io` if the writer failed, which may have taken a part of the manifest, or if a volume was changed
+///   while it was read.
 ///
 /// After an error nothing is put into the sink.
 pub fn restore_into<D: Drive + Send, W: Flush, S: Sink>(
     rt: &(impl Threads + Wait + Sync),
-    alloc: Global,
+    budget: Budget,
     bootstrap: &Bootstrap,
     names: Option<Names>,
     drives: &mut Vec<D>,
@@ -98,9 +100,11 @@ pub fn restore_into<D: Drive + Send, W: Flush, S: Sink>(
     ensures sink_counted { CountsFailures S.failures out.old out.new }
     ensures sink_failed { StopIsCounted S.failures out.old out.new result }
 {
-    let outcomes = restore(rt, alloc, bootstrap, names, drives)?;
-    write_manifest(alloc, &outcomes, &mut out.writer)?;
-    Ok(deliver_files(rt, alloc, &outcomes, &mut out.sink))
+    let alloc = budget.alloc;
+    let made = restore_within(rt, budget, bootstrap, names, drives)?;
+    write_manifest(alloc, &made.outcomes, &mut out.writer)?;
+    let groups = bootstrap.groups();
+    Ok(deliver_made(rt, alloc, &made, groups, drives, &mut out.sink))
 }
 
 /// Restores as `restore_into`, without a sink.
@@ -110,7 +114,7 @@ pub fn restore_into<D: Drive + Send, W: Flush, S: Sink>(
 /// As `restore_into`.
 pub fn restore_to<D: Drive + Send, W: Flush>(
     rt: &(impl Threads + Wait + Sync),
-    alloc: Global,
+    budget: Budget,
     bootstrap: &Bootstrap,
     names: Option<Names>,
     drives: &mut Vec<D>,
@@ -123,15 +127,15 @@ pub fn restore_to<D: Drive + Send, W: Flush>(
     ensures places { StayInPlace D.shows D.failures drives.old.items drives.new.items }
     ensures failed { OnlyIfAllFail D.failures drives.old.items drives.new.items IsNoDriveLeft result }
 {
-    let outcomes = restore(rt, alloc, bootstrap, names, drives)?;
-    write_manifest(alloc, &outcomes, writer)?;
-    Ok(end_of(&outcomes))
+    let made = restore_within(rt, budget, bootstrap, names, drives)?;
+    write_manifest(budget.alloc, &made.outcomes, writer)?;
+    Ok(end_of(&made.outcomes))
 }
 
 /// Restores all that a bootstrap selects, as `restore_into`.
 pub fn extract<D: Drive + Send, W: Flush, S: Sink>(
     rt: &(impl Threads + Wait + Sync),
-    alloc: Global,
+    budget: Budget,
     bootstrap: &Bootstrap,
     drives: &mut Vec<D>,
     out: &mut Outputs<W, S>,
@@ -146,7 +150,7 @@ pub fn extract<D: Drive + Send, W: Flush, S: Sink>(
     ensures sink_counted { CountsFailures S.failures out.old out.new }
     ensures sink_failed { StopIsCounted S.failures out.old out.new result }
 {
-    restore_into(rt, alloc, bootstrap, None, drives, out)
+    restore_into(rt, budget, bootstrap, None, drives, out)
 }
 
 /// Reads the text of a bootstrap and restores by it, as `extract`.
@@ -156,7 +160,7 @@ pub fn extract<D: Drive + Send, W: Flush, S: Sink>(
 /// `Bootstrap` for a line that is refused, and then as `extract`.
 pub fn extract_text<D: Drive + Send, W: Flush, S: Sink>(
     rt: &(impl Threads + Wait + Sync),
-    alloc: Global,
+    budget: Budget,
     text: &[u8],
     drives: &mut Vec<D>,
     out: &mut Outputs<W, S>,
@@ -172,8 +176,8 @@ pub fn extract_text<D: Drive + Send, W: Flush, S: Sink>(
     ensures sink_failed { StopIsCounted S.failures out.old out.new result }
     ensures endless { IfErr result EndlessAfterAll }
 {
-    let bootstrap = read_bootstrap(alloc, text)?;
-    restore_into(rt, alloc, &bootstrap, None, drives, out)
+    let bootstrap = read_bootstrap(budget.alloc, text)?;
+    restore_into(rt, budget, &bootstrap, None, drives, out)
 }
 
 /// Reads the text of a bootstrap from a reader and restores by it, as `extract_text`.
@@ -186,7 +190,7 @@ pub fn extract_text<D: Drive + Send, W: Flush, S: Sink>(
 /// `Io` if the reader failed, `NoEnd` if it has not ended after 2^40 reads, and then as `extract_text`.
 pub fn run_extract<R: Read + Drop, D: Drive + Send, W: Flush, S: Sink>(
     rt: &(impl Threads + Wait + Sync),
-    alloc: Global,
+    budget: Budget,
     reader: &mut R,
     drives: &mut Vec<D>,
     out: &mut Outputs<W, S>,
@@ -202,6 +206,6 @@ pub fn run_extract<R: Read + Drop, D: Drive + Send, W: Flush, S: Sink>(
     ensures sink_failed { StopIsCounted S.failures out.old out.new result }
     ensures endless { IfErr result EndlessAfterAll }
 {
-    let text = read_text(alloc, reader)?;
-    extract_text(rt, alloc, &text, drives, out)
+    let text = read_text(budget.alloc, reader)?;
+    extract_text(rt, budget, &text, drives, out)
 }

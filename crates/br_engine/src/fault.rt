@@ -4,9 +4,10 @@ ghost use Rattle.br_model.specs.Refusal.{line_fault, piece_fault};
 ghost use Rattle.br_bsr.specs.Fault.{cause};
 ghost use Rattle.br_engine.specs.declared.fault.ExtractFault.TheVariants.{Memory, Bootstrap, Piece, Io};
 ghost use Rattle.br_engine.specs.declared.fault.ExtractFault.TheVariants as of;
-ghost use Rattle.br_engine.specs.Fault.{fault_number, fault_text, bootstrap_text, piece_text, pool_text};
+ghost use Rattle.br_engine.specs.Fault.{OfAgain, fault_number, fault_text, bootstrap_text, piece_text, pool_text};
 
 use crate::turns::NoEnd;
+use br_again::AgainFault;
 use br_bsr::BsrFault;
 use br_match::PieceFault;
 use br_pool::PoolFault;
@@ -63,6 +64,22 @@ impl From<io::Error> for ExtractFault {
 
     fn from(fault: io::Error) -> ExtractFault {
         ExtractFault::Io(fault)
+    }
+}
+
+/// A volume that was changed is a fault of reading, whose kind is `InvalidData`.
+impl From<AgainFault> for ExtractFault {
+    ghost from_gives = { λ fault e. OfAgain fault e };
+
+    fn from(fault: AgainFault) -> ExtractFault {
+        match fault {
+            AgainFault::Memory => ExtractFault::Memory,
+            AgainFault::Failed => ExtractFault::Piece(PoolFault::NoDriveLeft),
+            AgainFault::Changed => ExtractFault::Io(io::Error::new(
+                io::ErrorKind::InvalidData,
+                "a volume was changed while it was read",
+            )),
+        }
     }
 }
 

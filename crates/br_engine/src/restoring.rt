@@ -5,8 +5,9 @@ ghost use Rattle.br_join.specs.Outcome.{restored};
 ghost use Rattle.br_pool.specs.Fault.{IsDecided, IsNoDriveLeft};
 ghost use Rattle.br_pool.specs.Pool.{AreDrives, OnlyIfAllFail, StayInPlace};
 ghost use Rattle.br_pool.specs.declared.fault.PoolFault.TheVariants.{Memory};
-ghost use Rattle.br_engine.specs.Restoring.{RestoresOver};
+ghost use Rattle.br_engine.specs.Restoring.{JoinsOver, RestoresOver};
 
+use crate::budget::Budget;
 use br_bsr::Bootstrap;
 use br_join::{Joiner, Outcome};
 use br_piece::split;
@@ -21,7 +22,7 @@ use std::thread::Threads;
 const ROOM: usize = 64;
 
 /// Makes the files of what a joiner took of all pieces.
-fn files_of(
+pub(crate) fn files_of(
     rt: &(impl Threads + Sync),
     joiner: &mut Joiner,
 ) -> Result<Vec<(FileKey, Outcome)>, PoolFault>
@@ -32,6 +33,44 @@ fn files_of(
     match joiner.finish(rt) {
         Ok(outcomes) => Ok(outcomes),
         Err(_) => Err(PoolFault::Memory),
+    }
+}
+
+/// Reads all that a bootstrap selects, and returns a joiner that took it.
+///
+/// # Errors
+///
+/// Those of `restore`.
+pub(crate) fn join_all<D: Drive + Send>(
+    rt: &(impl Threads + Wait + Sync),
+    budget: Budget,
+    bootstrap: &Bootstrap,
+    names: Option<Names>,
+    drives: &mut Vec<D>,
+) -> Result<Joiner, PoolFault>
+    requires drives { AreDrives drives.old.items }
+    ensures ready { IfOk result (λ joiner. is_ready joiner ≡ true) }
+    ensures names { IfOk result (λ joiner. joiner.names ≡ names) }
+    ensures hits { JoinsOver D.shows drives.old.items drives.new.items bootstrap.now result }
+    ensures places { StayInPlace D.shows D.failures drives.old.items drives.new.items }
+    ensures decided { IfErr result IsDecided }
+    ensures failed { OnlyIfAllFail D.failures drives.old.items drives.new.items IsNoDriveLeft result }
+{
+    let alloc = budget.alloc;
+    let Ok(pieces) = split(alloc, bootstrap) else {
+        return Err(PoolFault::Memory);
+    };
+    let Ok(mut joiner) = Joiner::with_room(alloc, &pieces, names, budget.room) else {
+        return Err(PoolFault::Memory);
+    };
+    let task = Streaming {
+        pieces: &pieces,
+        gate: &OpenGate,
+        room: ROOM,
+    };
+    match run_pool_streaming(rt, alloc, &task, drives, &mut joiner) {
+        Ok(()) => Ok(joiner),
+        Err(fault) => Err(fault),
     }
 }
 
@@ -64,19 +103,6 @@ pub fn restore<D: Drive + Send>(
     ensures decided { IfErr result IsDecided }
     ensures failed { OnlyIfAllFail D.failures drives.old.items drives.new.items IsNoDriveLeft result }
 {
-    let Ok(pieces) = split(alloc, bootstrap) else {
-        return Err(PoolFault::Memory);
-    };
-    let Ok(mut joiner) = Joiner::new(alloc, &pieces, names) else {
-        return Err(PoolFault::Memory);
-    };
-    let task = Streaming {
-        pieces: &pieces,
-        gate: &OpenGate,
-        room: ROOM,
-    };
-    match run_pool_streaming(rt, alloc, &task, drives, &mut joiner) {
-        Ok(()) => files_of(rt, &mut joiner),
-        Err(fault) => Err(fault),
-    }
+    let mut joiner = join_all(rt, Budget::unbounded(alloc), bootstrap, names, drives)?;
+    files_of(rt, &mut joiner)
 }

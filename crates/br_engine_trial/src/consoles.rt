@@ -7,7 +7,7 @@ use crate::sessions::{push_fault, push_lines};
 use crate::streams::Clogging;
 use crate::texts::{named, text_of};
 use br_console::{ConsoleFault, ConsoleRun, End, JobSelection, run_console};
-use br_engine::Outputs;
+use br_engine::{Budget, Outputs};
 use br_history::{History, JobRows};
 use br_plan::Request;
 use br_session::Span;
@@ -100,7 +100,14 @@ fn run_over<W: Write + Drop>(
     requires { AreDrives drives.old.items }
 {
     let mut left = lines;
-    let run = run_console(threads, case.alloc(), asked, &mut left, drives, out);
+    let run = run_console(
+        threads,
+        Budget::unbounded(case.alloc()),
+        asked,
+        &mut left,
+        drives,
+        out,
+    );
     push_run(case, run);
     case.lines(left);
 }

@@ -8,7 +8,7 @@ use crate::restores::{are_drives, push_restore_end};
 use crate::texts::text_of;
 use br_attr::Stat;
 use br_bsr::read_bootstrap;
-use br_engine::{Outputs, RestoreEnd, extract_text};
+use br_engine::{Budget, Outputs, RestoreEnd, extract_text};
 use br_files::HostDisk;
 use br_folder_sink::FolderSink;
 use br_join::{Joiner, Outcome};
@@ -209,7 +209,7 @@ fn delivered<S: Sink>(
     if !are_drives(drives) {
         return None;
     }
-    extract_text(threads, alloc, text, drives, out).ok()
+    extract_text(threads, Budget::unbounded(alloc), text, drives, out).ok()
 }
 
 /// Delivers the files of both sessions into a new folder, and prints how that ends, and the manifest.

@@ -5,7 +5,9 @@ ghost use Rattle.br_pool.specs.Pool.{AreDrives};
 use crate::streams::{Broken, Clogging, Drip, push_kind};
 use crate::texts::{named, text_of};
 use br_bsr::{Bootstrap, BsrFault, read_bootstrap};
-use br_engine::{ExtractFault, Outputs, RestoreEnd, extract, extract_text, restore, run_extract};
+use br_engine::{
+    Budget, ExtractFault, Outputs, RestoreEnd, extract, extract_text, restore, run_extract,
+};
 use br_join::Outcome;
 use br_match::{PieceCause, PieceFault};
 use br_pool::PoolFault;
@@ -187,21 +189,27 @@ fn run_reader<R: Read + Drop>(
 ) {
     let mut drives = two_drives(case);
     if are_drives(&drives) {
-        let end = run_extract(threads, case.alloc(), reader, &mut drives, out);
+        let budget = Budget::unbounded(case.alloc());
+        let end = run_extract(threads, budget, reader, &mut drives, out);
         push_end(case, end);
     }
 }
 
-/// Restores by a text, and prints how that ends.
+/// Restores by a text with room for this number of bytes of data, and prints how that ends.
 fn run_text<W: Write + Drop>(
     case: &mut Case,
     threads: &(impl Threads + Wait + Sync),
+    room: u64,
     text: &[u8],
     out: &mut Outputs<W, MemSink>,
 ) {
     let mut drives = two_drives(case);
     if are_drives(&drives) {
-        let end = extract_text(threads, case.alloc(), text, &mut drives, out);
+        let budget = Budget {
+            alloc: case.alloc(),
+            room,
+        };
+        let end = extract_text(threads, budget, text, &mut drives, out);
         push_end(case, end);
     }
 }
@@ -215,7 +223,8 @@ fn run_bootstrap(
 ) {
     let mut drives = two_drives(case);
     if are_drives(&drives) {
-        let end = extract(threads, case.alloc(), bootstrap, &mut drives, out);
+        let budget = Budget::unbounded(case.alloc());
+        let end = extract(threads, budget, bootstrap, &mut drives, out);
         push_end(case, end);
     }
 }
@@ -234,7 +243,8 @@ fn run_by(
         "reader" => run_reader(case, threads, &mut left, out),
         "drip" => run_reader(case, threads, &mut Drip { left: text }, out),
         "unread" => run_reader(case, threads, &mut text.chain(broken), out),
-        _ => run_text(case, threads, text, out),
+        "tight" => run_text(case, threads, 0, text, out),
+        _ => run_text(case, threads, u64::MAX, text, out),
     }
 }
 
@@ -264,7 +274,7 @@ fn restored_into<W: Write + Drop>(
     let text = text_of(case, text);
     let sink = Some(MemSink::new(case.alloc()));
     let mut out = Outputs { writer, sink };
-    run_text(case, threads, &text, &mut out);
+    run_text(case, threads, u64::MAX, &text, &mut out);
     push_sink(case, out.sink.as_ref());
 }
 

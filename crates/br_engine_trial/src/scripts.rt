@@ -2,6 +2,7 @@
 
 use crate::streams::{Broken, push_kind};
 use crate::texts::text_of;
+use br_engine::Budget;
 use br_script::{ScriptEnd, ScriptFault, run_script};
 use br_trial_rows::Case;
 use std::io::{BufRead, BufReader, ErrorKind, Read};
@@ -25,7 +26,12 @@ fn run_over<R: BufRead + Drop>(
     reader: &mut R,
 ) {
     let mut written = Vec::new(case.alloc());
-    let end = run_script(threads, case.alloc(), reader, &mut written);
+    let end = run_script(
+        threads,
+        Budget::unbounded(case.alloc()),
+        reader,
+        &mut written,
+    );
     case.lines(&written);
     push_end(case, &end);
 }
@@ -65,7 +71,12 @@ fn unread(case: &mut Case, threads: &(impl Threads + Wait + Sync), text: &str) {
 fn unwritten(case: &mut Case, threads: &(impl Threads + Wait + Sync), text: &str) {
     let text = text_of(case, text);
     let mut writer = Broken(ErrorKind::BrokenPipe);
-    let end = run_script(threads, case.alloc(), &mut text.as_slice(), &mut writer);
+    let end = run_script(
+        threads,
+        Budget::unbounded(case.alloc()),
+        &mut text.as_slice(),
+        &mut writer,
+    );
     push_end(case, &end);
 }
 
@@ -88,7 +99,12 @@ fn is_refused(
 ) -> bool {
     let mut written = Vec::new(case.alloc());
     let mut reader = script;
-    let end = run_script(threads, case.alloc(), &mut reader, &mut written);
+    let end = run_script(
+        threads,
+        Budget::unbounded(case.alloc()),
+        &mut reader,
+        &mut written,
+    );
     matches!(&end, Ok(ScriptEnd::Refused)) && written.as_slice() == wanted
 }
 

@@ -1,6 +1,7 @@
 //! Whole scripts over memory, each from an empty catalogue and without volumes. They are written one
 //! after another, each after a line that begins with `@` and says what it tries.
 
+use br_engine::Budget;
 use br_script::{ScriptEnd, run_script};
 use std::alloc::Global;
 use std::io::{self, Write};
@@ -23,7 +24,22 @@ fn first_line(text: &[u8]) -> (&[u8], &[u8]) {
     }
 }
 
-/// Runs a script that follows its name, and writes the name, what the script wrote, and its end.
+/// Runs a script within a budget. Returns what it wrote, and its end.
+fn answers_of(
+    rt: &(impl Threads + Wait + Sync),
+    budget: Budget,
+    script: &[u8],
+) -> io::Result<Vec<u8>> {
+    let mut written = Vec::new(budget.alloc);
+    let mut reader = script;
+    let end = run_script(rt, budget, &mut reader, &mut written)?;
+    let word = word_of(end);
+    writeln!(written, "end: {word}")?;
+    Ok(written)
+}
+
+/// Runs a script that follows its name, and writes the name, what the script wrote, and its end. What
+/// it writes with room for no data comes after it, if it is something else.
 fn run_one<W: Write>(
     rt: &(impl Threads + Wait + Sync),
     alloc: Global,
@@ -34,10 +50,14 @@ fn run_one<W: Write>(
     writer.write_all(b"@")?;
     writer.write_all(name)?;
     writer.write_all(b"\n")?;
-    let mut reader = script;
-    let end = run_script(rt, alloc, &mut reader, writer)?;
-    let word = word_of(end);
-    writeln!(writer, "end: {word}")
+    let answers = answers_of(rt, Budget::unbounded(alloc), script)?;
+    writer.write_all(&answers)?;
+    let again = answers_of(rt, Budget { alloc, room: 0 }, script)?;
+    if again != answers {
+        writer.write_all(b"with room for no data:\n")?;
+        writer.write_all(&again)?;
+    }
+    Ok(())
 }
 
 /// Returns the rows of a text, and the scripts after them.

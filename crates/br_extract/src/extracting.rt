@@ -9,13 +9,13 @@ ghost use Rattle.br_extract.specs.Wanted.{left_by};
 
 use crate::preparing::{keep_delivered, prepare};
 use br_bsr::{Bootstrap, read_bootstrap};
-use br_engine::{ExtractFault, Flush, Outputs, RestoreEnd, deliver_files, restore, write_manifest};
-use br_join::Outcome;
+use br_engine::{
+    Budget, ExtractFault, Flush, Outputs, RestoreEnd, deliver_made, restore_within, write_manifest,
+};
 use br_options::Wanted;
 use br_sink::Sink;
-use br_types::FileKey;
 use br_volume::Drive;
-use std::alloc::{AllocError, Global};
+use std::alloc::AllocError;
 use std::sync::Wait;
 use std::thread::Threads;
 
@@ -40,22 +40,6 @@ impl Extracted {
     }
 }
 
-/// Delivers the files among the outcomes that are to be delivered, if there is a sink.
-fn deliver_flagged<S: Sink>(
-    rt: &(impl Threads + Sync),
-    alloc: Global,
-    mut outcomes: Vec<(FileKey, Outcome)>,
-    flags: &Option<Vec<bool>>,
-    sink: &mut Option<S>,
-) -> RestoreEnd
-    ensures ends { EndsWith (option_map S.has sink.old) (option_map S.has sink.new) (map restored (left_by flags.now outcomes.items)) result }
-    ensures counted { SinkCounts (option_map S.failures sink.old) (option_map S.failures sink.new) }
-    ensures failed { StopsByFailure (option_map S.failures sink.old) (option_map S.failures sink.new) result }
-{
-    keep_delivered(&mut outcomes, flags);
-    deliver_files(rt, alloc, &outcomes, sink)
-}
-
 /// Restores by a bootstrap, writes the manifest and flushes it, and then delivers the files into the sink
 /// in the order of the manifest, if there is a sink.
 ///
@@ -73,7 +57,7 @@ fn deliver_flagged<S: Sink>(
 /// After an error nothing is put into the sink.
 pub fn restore_wanted<D: Drive + Send, W: Flush, S: Sink>(
     rt: &(impl Threads + Wait + Sync),
-    alloc: Global,
+    budget: Budget,
     bootstrap: &Bootstrap,
     wanted: Wanted,
     drives: &mut Vec<D>,
@@ -87,10 +71,13 @@ pub fn restore_wanted<D: Drive + Send, W: Flush, S: Sink>(
     ensures failed { OnlyIfAllFail D.failures drives.old.items drives.new.items IsNoDriveLeft result }
     ensures sink_counted { CountsFailures S.failures out.old out.new }
 {
-    let outcomes = restore(rt, alloc, bootstrap, None, drives)?;
-    let prepared = prepare(alloc, wanted, bootstrap, &outcomes)?;
-    write_manifest(alloc, &outcomes, &mut out.writer)?;
-    let end = deliver_flagged(rt, alloc, outcomes, &prepared.flags, &mut out.sink);
+    let alloc = budget.alloc;
+    let mut made = restore_within(rt, budget, bootstrap, None, drives)?;
+    let prepared = prepare(alloc, wanted, bootstrap, &made.outcomes)?;
+    write_manifest(alloc, &made.outcomes, &mut out.writer)?;
+    keep_delivered(&mut made.outcomes, &prepared.flags);
+    let groups = bootstrap.groups();
+    let end = deliver_made(rt, alloc, &made, groups, drives, &mut out.sink);
     Ok(Extracted {
         end,
         missing: prepared.missing,
@@ -104,7 +91,7 @@ pub fn restore_wanted<D: Drive + Send, W: Flush, S: Sink>(
 /// `Bootstrap` for a line that is refused, and then as `restore_wanted`.
 pub fn extract_wanted<D: Drive + Send, W: Flush, S: Sink>(
     rt: &(impl Threads + Wait + Sync),
-    alloc: Global,
+    budget: Budget,
     text: &[u8],
     wanted: Wanted,
     drives: &mut Vec<D>,
@@ -117,6 +104,6 @@ pub fn extract_wanted<D: Drive + Send, W: Flush, S: Sink>(
     ensures failed { OnlyIfAllFail D.failures drives.old.items drives.new.items IsNoDriveLeft result }
     ensures sink_counted { CountsFailures S.failures out.old out.new }
 {
-    let bootstrap = read_bootstrap(alloc, text)?;
-    restore_wanted(rt, alloc, &bootstrap, wanted, drives, out)
+    let bootstrap = read_bootstrap(budget.alloc, text)?;
+    restore_wanted(rt, budget, &bootstrap, wanted, drives, out)
 }

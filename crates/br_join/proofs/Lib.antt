@@ -1,7 +1,6 @@
 mod ChoiceLaws
 mod DataLaws
 pub mod HeldLaws
-mod GivenLaws
 mod JoinLaws
 mod PartLaws
 pub mod TakingLaws

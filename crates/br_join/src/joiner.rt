@@ -3,22 +3,20 @@ ghost use Rattle.std.specs.List.{list_all};
 ghost use Rattle.std.specs.BTreeMap.{values, IsOrdered};
 ghost use Rattle.std.specs.Ordering.{nat_cmp};
 ghost use Rattle.std.specs.FinMap as finite;
+ghost use Rattle.br_model.specs.Meaning.{hits_of};
 ghost use Rattle.br_model.specs.Restored.{files, planned_in};
-ghost use Rattle.br_body.specs.Parts.{KeepsGiving};
-ghost use Rattle.br_join.specs.Given.{GivesSet};
 ghost use Rattle.br_join.specs.Outcome.{restored};
 ghost use Rattle.br_join.specs.Joining.{begun, taken, with_batch, with_closed, is_ready, emptied};
 ghost use Rattle.br_join.specs.Pieces.{as_map, opens};
+ghost use Rattle.br_join.specs.Runs.{AreListed};
 ghost use Rattle.br_join.specs.declared.fault.JoinFault.TheVariants.{StrangerPiece};
 
 use crate::fault::{JoinFault, Refused};
 use crate::held::Held;
 use crate::item::Outcome;
-use crate::made_again::files_by;
 use crate::room::Room;
 use crate::runs::files_of;
-use br_again::{AgainFault, Fetch};
-use br_match::{Batch, Found};
+use br_match::{Batch, Found, Hit};
 use br_piece::Piece;
 use br_types::{FileKey, Names};
 use std::alloc::{AllocError, Global};
@@ -256,36 +254,30 @@ impl Joiner {
         }
     }
 
-    /// Returns the files of what was taken as `finish` does, but makes them one after another, of
-    /// data that `fetch` gives if they were let go. The data of one file at a time are read again.
-    ///
-    /// If `fetch` gives what was found, the result is that of `finish`.
+    /// Returns whether all data that were taken are in memory. If not, `finish` refuses, and the files
+    /// are made of `into_hits`.
+    pub fn holds_all(&self) -> bool {
+        self.room.holds_all()
+    }
+
+    /// Returns the hits that were taken, in order of file and place, and the names of the plan, if
+    /// there is one.
     ///
     /// # Errors
     ///
-    /// Those of `fetch`, and `Memory` if memory runs out. Then the joiner is unchanged.
-    pub fn finish_by<F: Fetch>(
-        &mut self,
-        fetch: &mut F,
-    ) -> Result<Vec<(FileKey, Outcome)>, AgainFault>
-        requires { is_ready self.old ≡ true }
-        ensures ok { OnOk result (self.new ≡ emptied self.old) }
-        ensures err { OnErr result (self.new ≡ self.old) }
-        ensures files { IfOk result (λ outcomes. GivesSet F.gives fetch.old self.old.hits
-            → map restored outcomes.items ≡ files self.old.hits (option_map planned_in self.old.names)) }
-        ensures keeps { KeepsGiving F.gives fetch.old fetch.new }
+    /// `AllocError` if memory runs out. Then the hits are lost.
+    pub fn into_hits(self) -> Result<(Vec<Hit>, Option<Names>), AllocError>
+        ensures listed { IfOk result (λ r. AreListed r.0.items) }
+        ensures same { IfOk result (λ r. hits_of r.0.items ≡ self.entry.hits) }
+        ensures names { IfOk result (λ r. r.1 ≡ self.entry.names) }
     {
-        let hits = self.hits.take_out()?;
-        match files_by(*hits.allocator(), fetch, &hits, self.names.as_ref()) {
-            Ok(outcomes) => {
-                open_again(&mut self.pieces);
-                self.room = self.room.emptied();
-                Ok(outcomes)
-            }
-            Err(refused) => {
-                self.hits.put_back(hits);
-                Err(refused)
-            }
-        }
+        let Joiner {
+            pieces: _pieces,
+            names,
+            mut hits,
+            room: _room,
+        } = self;
+        let listed = hits.take_out()?;
+        Ok((listed, names))
     }
 }

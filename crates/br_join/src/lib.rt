@@ -1,7 +1,8 @@
 //! Joining: from the fragments that were found to the files that they make.
 //!
 //! `Joiner` gathers what drives find of the pieces of a bootstrap, piece by piece or block by block,
-//! and makes an `Outcome` of each file.
+//! and makes an `Outcome` of each file. If it let data go, it gives its hits, of which the crates
+//! above make files with data that are read again.
 #![tactic(auto)]
 
 mod data;
@@ -9,12 +10,10 @@ mod fault;
 mod held;
 mod item;
 mod joiner;
-mod made_again;
 mod making;
 mod making_fault;
 mod parts;
 mod records;
-mod rereading;
 mod room;
 mod runs;
 mod streams;
@@ -23,3 +22,5 @@ pub use br_body::FileBytes;
 pub use fault::{JoinFault, Refused};
 pub use item::{Item, Outcome};
 pub use joiner::Joiner;
+pub use making::outcome_of;
+pub use runs::{around, named};

@@ -157,7 +157,7 @@ fn no_file(why: MakingFault) -> Result<Outcome, AllocError>
 }
 
 /// Returns the outcome of a file by its fragments, given in order of place.
-pub(crate) fn outcome_of(alloc: Global, key: FileKey, hits: &[Hit]) -> Result<Outcome, AllocError>
+pub fn outcome_of(alloc: Global, key: FileKey, hits: &[Hit]) -> Result<Outcome, AllocError>
     requires { All (λ (h : meaning.Hit). h.key ≡ key) hits.now }
     ensures { IfOk result (λ outcome. shown outcome ≡ model.outcome_of key (map (λ (h : meaning.Hit). h.fragment) hits.now)) }
 {

@@ -9,6 +9,8 @@ use br_match::Hit;
 pub(crate) struct Room {
     all: u64,
     left: u64,
+    /// Whether no data were let go.
+    holds_all: bool,
 }
 
 /// Returns whether a hit is of attributes or a digest.
@@ -36,7 +38,11 @@ fn hold_within(hit: &mut Hit, room: u64) -> u64
 impl Room {
     /// Returns room for this number of bytes.
     pub(crate) fn new(all: u64) -> Room {
-        Room { all, left: all }
+        Room {
+            all,
+            left: all,
+            holds_all: true,
+        }
     }
 
     /// Lets the data of the hits go for which there is no room, in order, and counts the others. As
@@ -47,8 +53,14 @@ impl Room {
         let mut fitted = hits;
         for i in 0..fitted.len() {
             self.left = hold_within(&mut fitted[i], self.left);
+            self.holds_all &= fitted[i].data.is_held();
         }
         fitted
+    }
+
+    /// Returns whether no data were let go.
+    pub(crate) fn holds_all(&self) -> bool {
+        self.holds_all
     }
 
     /// Returns the room when nothing is held.

@@ -42,7 +42,7 @@ impl<'h> Model for Run<'h> {
 }
 
 /// Returns the outcome of a file under its planned path, if it has one.
-pub(crate) fn named(path: Option<&Path>, outcome: Outcome) -> Outcome
+pub fn named(path: Option<&Path>, outcome: Outcome) -> Outcome
     ensures { shown result ≡ run.named (option_copied path.entry) (shown outcome) }
 {
     match path {
@@ -70,7 +70,7 @@ impl<'h> Run<'h> {
 }
 
 /// Returns the hits of the files before this one, of this one, and of the files after it.
-pub(crate) fn around(hits: &[Hit], key: FileKey) -> (&[Hit], &[Hit], &[Hit])
+pub fn around(hits: &[Hit], key: FileKey) -> (&[Hit], &[Hit], &[Hit])
     requires { AreListed hits.now }
     ensures joined { result.0.now ++ (result.1.now ++ result.2.now) ≡ hits.now }
     ensures before { AllByRecursion (λ (h : model.Hit). key_cmp h.key key ≡ Less) result.0.now }

@@ -46,6 +46,8 @@ pub struct ExtractOptions<'a> {
     pub target: Target<'a>,
     /// The number of drives that read the volumes at once, from 1 to 16.
     pub drives: usize,
+    /// The number of bytes of data that are held in memory.
+    pub memory: u64,
     pub wanted: Wanted,
 }
 
@@ -63,6 +65,8 @@ pub struct ConsoleOptions<'a> {
     pub target: Target<'a>,
     /// The number of drives that read the volumes at once, from 1 to 16.
     pub drives: usize,
+    /// The number of bytes of data that are held in memory.
+    pub memory: u64,
 }
 
 /// The options of `serve` over files.
@@ -72,13 +76,16 @@ pub struct ServeOptions<'a> {
     pub db: &'a str,
     /// The folder of the volumes.
     pub volumes: &'a str,
+    /// The number of bytes of data that a restore holds in memory.
+    pub memory: u64,
 }
 
 /// A command of the program with its options.
 #[derive(Clone, Copy, Debug, PartialEq, Eq)]
 pub enum Invocation<'a> {
-    /// Runs a script from standard input, with its jobs and volumes in memory.
-    Serve,
+    /// Runs a script from standard input, with its jobs and volumes in memory, and this number of bytes
+    /// of data that a restore holds.
+    Serve(u64),
     /// Runs a script from standard input, with its jobs in a catalogue and its volumes in a folder.
     ServeFiles(ServeOptions<'a>),
     /// Runs a bootstrap over the volumes of a folder.

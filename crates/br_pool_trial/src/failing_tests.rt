@@ -2,7 +2,7 @@
 ghost use Rattle.std.specs.Prelude.{◌≡◌, length, IfOk};
 ghost use Rattle.br_pool.specs.Pool.{IsDriveCount};
 
-use br_engine::{Outputs, extract_text};
+use br_engine::{Budget, Outputs, extract_text};
 use br_sink::MemSink;
 use br_types::VolName;
 use br_volume::MemDrive;
@@ -92,7 +92,7 @@ fn extracted(
         writer: Vec::new(alloc),
         sink: None::<MemSink>,
     };
-    let run = extract_text(rt, alloc, TEXT, &mut drives, &mut out);
+    let run = extract_text(rt, Budget::unbounded(alloc), TEXT, &mut drives, &mut out);
     let Outputs { writer, .. } = out;
     match run {
         Ok(_) => Ok(Ok(writer)),

@@ -5,7 +5,7 @@ ghost use Rattle.br_pool.specs.Pool.{AreDrives, AreNumbered, IsDriveCount};
 
 use crate::failing_tests::{MANIFEST, TEXT, volumes};
 use br_bsr::{BsrFault, read_bootstrap};
-use br_engine::{Outputs, extract_text};
+use br_engine::{Budget, Outputs, extract_text};
 use br_match::{Found, Hit, PieceFault, match_piece};
 use br_piece::{Piece, split};
 use br_sink::MemSink;
@@ -148,7 +148,7 @@ pub(crate) fn printed<D: Drive + Send>(
         writer: Vec::new(alloc),
         sink: None::<MemSink>,
     };
-    let run = extract_text(rt, alloc, text, drives, &mut out);
+    let run = extract_text(rt, Budget::unbounded(alloc), text, drives, &mut out);
     let Outputs { mut writer, .. } = out;
     if let Err(fault) = run {
         fault.push_line(&mut writer)?;

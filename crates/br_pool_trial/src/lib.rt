@@ -3,6 +3,8 @@
 #![tactic(auto)]
 
 #[cfg(test)]
+mod again_tests;
+#[cfg(test)]
 mod failing_tests;
 #[cfg(test)]
 mod folder_tests;

@@ -1,1 +1,3 @@
-mod OverLaws
+pub mod OverLaws
+mod ManyLaws
+pub mod GoOnLaws

@@ -158,7 +158,7 @@ impl<C: JobStore, V: DrivenStore> Script<C, V> {
             names: None,
         };
         let volumes = self.desk.keeper.volumes();
-        let result = volumes.restore(rt, self.alloc, self.drives, wanted, writer);
+        let result = volumes.restore(rt, self.budget(), self.drives, wanted, writer);
         self.end_restore(result, writer)
     }
 
@@ -180,7 +180,7 @@ impl<C: JobStore, V: DrivenStore> Script<C, V> {
             names: Some(names),
         };
         let volumes = self.desk.keeper.volumes();
-        let result = volumes.restore(rt, self.alloc, self.drives, wanted, writer);
+        let result = volumes.restore(rt, self.budget(), self.drives, wanted, writer);
         self.end_restore(result, writer)
     }
 

@@ -16,11 +16,11 @@ use crate::line::{MAX_LINE, ScriptLine, is_restore, read_line};
 use crate::script::{BAD_SCRIPT, Script, ScriptEnd};
 use crate::text::skip_dialogue;
 use br_driven::DrivenStore;
+use br_engine::Budget;
 use br_fields::LineFault;
 use br_keeper::{JobStore, Keeper, Session};
 use br_types::VolName;
 use br_volume::MemStore;
-use std::alloc::Global;
 use std::io::{self, BufRead, ErrorKind, Write};
 use std::sync::Wait;
 use std::thread::Threads;
@@ -172,7 +172,7 @@ impl<C: JobStore, V: DrivenStore> Script<C, V> {
 /// Runs a script over the jobs and volumes of a keeper, and writes its answers. Returns the keeper.
 pub fn run_script_over<T: Threads + Wait + Sync, C: JobStore, V: DrivenStore, R: BufRead, W: Write>(
     rt: &T,
-    alloc: Global,
+    budget: Budget,
     keeper: Keeper<C, V>,
     session: Session,
     reader: &mut R,
@@ -182,7 +182,7 @@ pub fn run_script_over<T: Threads + Wait + Sync, C: JobStore, V: DrivenStore, R:
     ensures endless { IfErr result.1 EndlessAfterAll }
     ensures does { DoesSome C.inserts C.refuses V.holds V.failures keeper result.0 }
 {
-    let mut script = Script::new(alloc, keeper, session);
+    let mut script = Script::new(budget, keeper, session);
     let end = script.run(rt, reader, writer);
     (script.into_keeper(), end)
 }
@@ -195,7 +195,7 @@ fn no_memory() -> ScriptFault {
 /// Runs a script over a keeper in memory, and ends the keeper.
 fn run_in_memory<T: Threads + Wait + Sync, R: BufRead, W: Write>(
     rt: &T,
-    alloc: Global,
+    budget: Budget,
     keeper: Keeper<Forgetful, MemStore>,
     session: Session,
     reader: &mut R,
@@ -204,7 +204,7 @@ fn run_in_memory<T: Threads + Wait + Sync, R: BufRead, W: Write>(
     requires own { session.book ≡ keeper.list.book }
     ensures endless { IfErr result EndlessAfterAll }
 {
-    let (keeper, end) = run_script_over(rt, alloc, keeper, session, reader, writer);
+    let (keeper, end) = run_script_over(rt, budget, keeper, session, reader, writer);
     let _ = keeper.close(rt);
     end
 }
@@ -223,16 +223,17 @@ fn run_in_memory<T: Threads + Wait + Sync, R: BufRead, W: Write>(
 /// - `NoEnd` if the input does not end within 2^40 turns of reading.
 pub fn run_script<R: BufRead, W: Write>(
     rt: &(impl Threads + Wait + Sync),
-    alloc: Global,
+    budget: Budget,
     reader: &mut R,
     writer: &mut W,
 ) -> Result<ScriptEnd, ScriptFault>
     ensures endless { IfErr result EndlessAfterAll }
 {
+    let alloc = budget.alloc;
     let catalogue = Forgetful::new(alloc);
     match Keeper::new(rt, alloc, catalogue, MemStore::new(alloc), 1) {
         Ok((keeper, mut sessions)) => match sessions.pop() {
-            Some(session) => run_in_memory(rt, alloc, keeper, session, reader, writer),
+            Some(session) => run_in_memory(rt, budget, keeper, session, reader, writer),
             None => {
                 let _ = keeper.close(rt);
                 Err(no_memory())

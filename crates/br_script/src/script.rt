@@ -14,7 +14,7 @@ use br_bsr::Bootstrap;
 use br_console::ConsoleFault;
 use br_draft::Draft;
 use br_driven::DriveCount;
-use br_engine::{ExtractFault, RestoreEnd};
+use br_engine::{Budget, ExtractFault, RestoreEnd};
 use br_keeper::{JobStore, Keeper, Session};
 use br_volume::VolumeStore;
 use std::alloc::{AllocError, Global};
@@ -35,6 +35,8 @@ pub enum ScriptEnd {
 /// The state of a script that runs.
 pub(crate) struct Script<C: JobStore, V: VolumeStore> {
     pub(crate) alloc: Global,
+    /// The number of bytes of data that a restore holds.
+    pub(crate) room: u64,
     pub(crate) drives: DriveCount,
     pub(crate) desk: Desk<C, V>,
     /// The bootstrap that `extract` runs.
@@ -46,13 +48,14 @@ pub(crate) struct Script<C: JobStore, V: VolumeStore> {
 
 impl<C: JobStore, V: VolumeStore> Script<C, V> {
     /// Returns the state before the first line.
-    pub(crate) fn new(alloc: Global, keeper: Keeper<C, V>, session: Session) -> Script<C, V>
+    pub(crate) fn new(budget: Budget, keeper: Keeper<C, V>, session: Session) -> Script<C, V>
         ensures drives { result.drives ≡ 1 }
         ensures keeper { result.desk.keeper ≡ keeper }
         ensures session { result.desk.session ≡ Some session }
     {
         Script {
-            alloc,
+            alloc: budget.alloc,
+            room: budget.room,
             drives: DriveCount::one(),
             desk: Desk {
                 keeper,
@@ -64,12 +67,21 @@ impl<C: JobStore, V: VolumeStore> Script<C, V> {
         }
     }
 
+    /// Returns the memory of a restore.
+    pub(crate) fn budget(&self) -> Budget {
+        Budget {
+            alloc: self.alloc,
+            room: self.room,
+        }
+    }
+
     /// Returns the keeper.
     pub(crate) fn into_keeper(self) -> Keeper<C, V>
         ensures { result ≡ self.desk.keeper }
     {
         let Script {
             alloc: _,
+            room: _,
             drives: _,
             desk,
             kept: _kept,

@@ -2,10 +2,9 @@
 ghost use Rattle.std.specs.Prelude.{◌≡◌, IfOk};
 ghost use Rattle.br_serving.specs.ScriptEnding.{IsStatus, IsStatusOf, script_status};
 
-use br_engine::Flush;
+use br_engine::{Budget, Flush};
 use br_script::{ScriptEnd, ScriptFault, run_script};
 use br_setup::{CLEAN, REFUSED};
-use std::alloc::Global;
 use std::io::{self, BufRead, BufReader, BufWriter, ErrorKind};
 use std::sync::Wait;
 use std::thread::Threads;
@@ -36,14 +35,14 @@ pub(crate) fn flushed_end<W: Flush>(
 /// Runs a script, and writes and flushes its answers. Returns the exit status.
 pub fn answer<R: BufRead, W: Flush>(
     threads: &(impl Threads + Wait + Sync),
-    alloc: Global,
+    budget: Budget,
     reader: &mut R,
     writer: &mut W,
 ) -> io::Result<u8>
     ensures flushed { IfOk result (λ _. W.is_flushed writer.new) }
     ensures status { IfOk result IsStatus }
 {
-    let end = run_script(threads, alloc, reader, writer);
+    let end = run_script(threads, budget, reader, writer);
     flushed_end(end, writer)
 }
 
@@ -51,12 +50,17 @@ pub fn answer<R: BufRead, W: Flush>(
 fn run_input<R: Input + Print + AllocGlobal>(
     rt: &R,
     threads: &(impl Threads + Wait + Sync),
+    memory: u64,
 ) -> io::Result<u8>
     ensures { IfOk result IsStatus }
 {
     let mut reader = BufReader::new(rt.alloc(), rt.reader())?;
     let mut writer = BufWriter::new(rt.alloc(), io::writer(rt))?;
-    answer(threads, rt.alloc(), &mut reader, &mut writer)
+    let budget = Budget {
+        alloc: rt.alloc(),
+        room: memory,
+    };
+    answer(threads, budget, &mut reader, &mut writer)
 }
 
 /// Returns the exit status of a script. An error for memory is a refusal of the script: it is printed as its
@@ -78,8 +82,9 @@ pub(crate) fn refuse_memory<R: Print>(rt: &R, status: io::Result<u8>) -> io::Res
 pub fn serve_memory<R: Input + Print + AllocGlobal>(
     rt: &R,
     threads: &(impl Threads + Wait + Sync),
+    memory: u64,
 ) -> io::Result<u8>
     ensures { IfOk result IsStatus }
 {
-    refuse_memory(rt, run_input(rt, threads))
+    refuse_memory(rt, run_input(rt, threads, memory))
 }

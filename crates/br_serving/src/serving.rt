@@ -8,13 +8,13 @@ ghost use Rattle.br_serving.specs.declared.serving.ServeStartFault.TheVariants a
 use crate::script::{flushed_end, refuse_memory};
 use crate::volumes::FolderVolumes;
 use br_driven::DrivenStore;
-use br_engine::Flush;
+use br_engine::{Budget, Flush};
 use br_keeper::{JobStore, Keeper, KeeperFault, Session};
 use br_options::ServeOptions;
 use br_script::run_script_over;
 use br_setup::{Catalogue, CatalogueFault, refuse_start};
 use br_volume::VolumeStore;
-use std::alloc::{AllocError, Global};
+use std::alloc::AllocError;
 use std::io::{self, BufRead, BufReader, LineWriter};
 use std::sync::Wait;
 use std::thread::Threads;
@@ -108,7 +108,7 @@ pub fn set_up_serve<'r, C: Catalogue>(
 /// exit status.
 pub fn serve_over<C: JobStore, V: DrivenStore, R: BufRead, W: Flush>(
     threads: &(impl Threads + Wait + Sync),
-    alloc: Global,
+    budget: Budget,
     setup: ServeSetup<C, V>,
     reader: &mut R,
     writer: &mut W,
@@ -119,7 +119,7 @@ pub fn serve_over<C: JobStore, V: DrivenStore, R: BufRead, W: Flush>(
     ensures status { IfOk result.1 IsStatus }
 {
     let ServeSetup { keeper, session } = setup;
-    let (keeper, end) = run_script_over(threads, alloc, keeper, session, reader, writer);
+    let (keeper, end) = run_script_over(threads, budget, keeper, session, reader, writer);
     (keeper, flushed_end(end, writer))
 }
 
@@ -170,7 +170,11 @@ pub fn serve_by_lines<C: Catalogue, R: BufRead + Drop>(
     let mut writer = LineWriter::new(rt.alloc(), io::writer(rt))?;
     match set_up_serve(rt, threads, catalogue, given) {
         Ok(setup) => {
-            let (keeper, status) = serve_over(threads, rt.alloc(), setup, reader, &mut writer);
+            let budget = Budget {
+                alloc: rt.alloc(),
+                room: given.memory,
+            };
+            let (keeper, status) = serve_over(threads, budget, setup, reader, &mut writer);
             let (jobs, _volumes) = keeper.close(threads);
             end_serve(rt, catalogue, jobs, refuse_memory(rt, status))
         }

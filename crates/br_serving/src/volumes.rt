@@ -5,13 +5,13 @@ ghost use Rattle.br_setup.specs.Setup.{AreOver, AreUntold};
 ghost use Rattle.br_serving.specs.Serving.{IsFolder};
 
 use br_driven::{DriveCount, DrivenStore, Wanted};
-use br_engine::{ExtractFault, RestoreEnd, restore_to};
+use br_engine::{Budget, ExtractFault, RestoreEnd, restore_to};
 use br_files::HostDisk;
 use br_folder::FolderStore;
 use br_setup::{HostDrive, drives_over};
 use br_types::VolName;
 use br_volume::{VolumeFault, VolumeStore};
-use std::alloc::{AllocError, Global};
+use std::alloc::AllocError;
 use std::io::Write;
 use std::sync::Wait;
 use std::thread::Threads;
@@ -68,13 +68,13 @@ impl DrivenStore for FolderVolumes<'_> {
     fn restore<T: Threads + Wait + Sync, W: Write>(
         &self,
         rt: &T,
-        alloc: Global,
+        budget: Budget,
         drives: DriveCount,
         wanted: Wanted<'_>,
         writer: &mut W,
     ) -> Result<RestoreEnd, ExtractFault> {
         let mut drives = self.drives(drives)?;
         let Wanted { bootstrap, names } = wanted;
-        restore_to(rt, alloc, bootstrap, names, &mut drives, writer)
+        restore_to(rt, budget, bootstrap, names, &mut drives, writer)
     }
 }

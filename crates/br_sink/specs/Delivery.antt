@@ -37,10 +37,11 @@ pub record StandApart (outcomes : List (FileKey × Outcome)) (place files : ℕ)
   pub within : place < length outcomes → files < length (items_in outcomes)
   pub next : place < length outcomes → put_behind [] (items_in outcomes) ≡ Err (record { number = 81; done = files })
 
--- A stop is at one of the files: for want of memory (1), for a sink that failed (80), or for a path in the way (81). No path
--- of the files before it is in the way of another, nor is that of the file itself unless the stop is for it.
+-- A stop is at one of the files: for want of memory (1), for want of a drive that gives the data of the file (70), for a sink that failed
+-- (80), or for a path in the way (81). No path of the files before it is in the way of another, nor is that of the file itself unless the
+-- stop is for it.
 pub record IsStopIn (items : List model.Item) (stop : Stop) : Type 0 where
-  pub number : (stop.number ≡ 1) ⊎ (stop.number ≡ 80) ⊎ (stop.number ≡ 81)
+  pub number : (stop.number ≡ 1) ⊎ (stop.number ≡ 80) ⊎ (stop.number ≡ 81) ⊎ (stop.number ≡ 70)
   pub within : stop.done < length items
   pub before : AreApart (take stop.done items)
   pub at_it : (stop.number ≡ 81 → ⊥) → AreApart (take (stop.done + 1) items)

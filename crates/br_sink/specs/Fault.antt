@@ -16,6 +16,7 @@ abbrev pub cause_number : StopCause → ℕ
 cause_number stop.Memory = 1
 cause_number stop.Fault = 80
 cause_number stop.Conflict = 81
+cause_number stop.NoDriveLeft = 70
 
 -- the fault of a file, with the stream that it is about
 abbrev pub fault_of : ℕ → ℕ → model.Fault

@@ -29,7 +29,10 @@ fn is_next<'p>(ways: &mut Ways<'p>, path: &'p [u8]) -> Result<bool, AllocError>
 
 /// Returns the number of outcomes before the first file whose path conflicts with an earlier one, and the
 /// number of files among them.
-fn stand_apart(alloc: Global, outcomes: &[(FileKey, Outcome)]) -> Result<(usize, u64), AllocError>
+pub fn stand_apart(
+    alloc: Global,
+    outcomes: &[(FileKey, Outcome)],
+) -> Result<(usize, u64), AllocError>
     ensures apart { IfOk result (λ r. StandApart outcomes.now r.0 r.1) }
     ensures memory { OnErr result (0 < length (items_in outcomes.now)) }
 {

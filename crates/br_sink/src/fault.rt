@@ -46,6 +46,9 @@ pub enum StopCause {
     /// Its path conflicts with one put before.
     #[error("the path conflicts with one put before")]
     Conflict,
+    /// No drive is left that gives its data again as they were found.
+    #[error("no drive is left that gives the data of the file")]
+    NoDriveLeft,
 }
 
 impl From<AllocError> for StopCause {
@@ -74,7 +77,8 @@ impl Model for SinkStop {
 }
 
 impl SinkStop {
-    pub(crate) fn new(cause: StopCause, done: u64) -> SinkStop
+    /// Creates the stop after `done` files for this reason.
+    pub fn new(cause: StopCause, done: u64) -> SinkStop
         ensures { result ≡ record { number = cause_number cause; done = done } }
     {
         SinkStop { cause, done }
@@ -97,8 +101,8 @@ impl SinkStop {
         self.cause
     }
 
-    /// Returns the number of the refusal: 1 out of memory, 80 a sink that failed, 81 a path that conflicts
-    /// with one put before.
+    /// Returns the number of the refusal: 1 out of memory, 70 no drive left that gives the data of the
+    /// file, 80 a sink that failed, 81 a path that conflicts with one put before.
     pub fn number(&self) -> u32
         ensures { result ≡ self.now.number }
     {
@@ -106,6 +110,7 @@ impl SinkStop {
             StopCause::Memory => 1,
             StopCause::Fault => 80,
             StopCause::Conflict => 81,
+            StopCause::NoDriveLeft => 70,
         }
     }
 

@@ -17,7 +17,7 @@ mod ways;
 mod writing;
 
 pub use br_join::Item;
-pub use delivery::deliver;
+pub use delivery::{deliver, stand_apart};
 pub use fault::{SinkFault, SinkStop, StopCause};
 pub use mem_sink::MemSink;
 pub use parts::{manifest_room, write_manifest};

@@ -1,31 +1,28 @@
-use Rattle.std.proofs.Common.{map, subst}
+use Rattle.std.proofs.Common.{◌≡◌, List, map, refl, subst}
 use Rattle.std.specs.Prelude.{option_map}
-use Rattle.std.proofs.KnownBytes.{Keeps-refl}
 use Rattle.std.specs.Io.KnownBytes.{Appends}
 use Rattle.std.proofs.lemmas.Result.{err_from_is_err_and}
+use Rattle.br_model.specs.Bootstrap.{Group}
+use Rattle.br_model.specs.Meaning.{pieces_of}
 use Rattle.br_model.specs.Restored.{planned_in}
 use Rattle.br_model.specs.Manifest.{manifest}
 use Rattle.br_join.specs.Outcome.{restored}
-use Rattle.br_engine.specs.Delivering.{EndsWith, in_sink}
-use Rattle.br_engine.specs.declared.fault.ExtractFault.TheVariants.{Piece}
-use Rattle.br_engine.proofs.ExtractLaws.{gives_files, gives_refused}
-use Rattle.br_engine.proofs.DeliverLaws.{delivers_files, delivers_refused, free_is_no_drive, free_is_no_line, gives_free}
+use Rattle.br_engine.specs.Again.{CanGive, EndsLike}
+use Rattle.br_engine.specs.Delivering.{in_sink}
+use Rattle.br_engine.proofs.AgainLaws.{delivers_like, nothing_written, only_grow, stand_midst, stay_on}
+use Rattle.br_engine.proofs.DeliverLaws.{delivers_refused, free_is_no_drive, free_is_no_line, gives_free}
 use Rattle.br_engine.proofs.delivering.restore_into.Goals as goal
 
 -- ---- nothing is restored
 
-pub returns-in_err-outcomes-clause-delivers : goal.returns-in_err-outcomes-clause-delivers
-returns-in_err-outcomes-clause-delivers g c =
+pub returns-in_err-made-clause-delivers : goal.returns-in_err-made-clause-delivers
+returns-in_err-made-clause-delivers g c =
     let p = err_from_is_err_and c.from_residual.result c.from_residual.ensures.1 in
-    let earlier = map g.D.Drive.shows c.args.drives.now.items in
-    let later = map g.D.Drive.shows c.restore.new.drives.items in
-    let groups = c.args.bootstrap.now in
-    let names = option_map planned_in c.args.names in
     let before = g.W.Write.contents c.args.out.now.writer in
-    let why = c.in_err-outcomes.field-0.0 in
+    let fault = c.in_err-made.field-0.0 in
     rw (p.1, p.2)
-    (delivers_refused earlier later groups names before before (in_sink g.S.Sink.has c.args.out.now) (Piece why)
-    (gives_refused earlier later groups names why c.in_err-outcomes.ensures.files) (Keeps-refl before))
+    (delivers_refused (map g.D.Drive.shows c.args.drives.now.items) (map g.D.Drive.shows c.restore_within.new.drives.items) c.args.bootstrap.now
+    (option_map planned_in c.args.names) before before (in_sink g.S.Sink.has c.args.out.now) fault c.in_err-made.ensures.files (nothing_written before fault))
 
 -- ---- the manifest is not written
 
@@ -33,7 +30,7 @@ pub returns-in_err-write_manifest-clause-delivers : goal.returns-in_err-write_ma
 returns-in_err-write_manifest-clause-delivers g c =
     let p = err_from_is_err_and c.from_residual-in_err-write_manifest.result c.from_residual-in_err-write_manifest.ensures.1 in
     let earlier = map g.D.Drive.shows c.args.drives.now.items in
-    let later = map g.D.Drive.shows c.restore.new.drives.items in
+    let later = map g.D.Drive.shows c.restore_within.new.drives.items in
     let groups = c.args.bootstrap.now in
     let names = option_map planned_in c.args.names in
     let fault = c.in_err-write_manifest.field-0.0 in
@@ -55,15 +52,30 @@ returns-in_err-write_manifest-clause-failed g c =
 
 pub returns-clause-delivers : goal.returns-clause-delivers
 returns-clause-delivers g c =
-    let earlier = map g.D.Drive.shows c.args.drives.now.items in
-    let later = map g.D.Drive.shows c.restore.new.drives.items in
+    let shows = g.D.Drive.shows in
+    let failures = g.D.Drive.failures in
+    let first = c.args.drives.now.items in
+    let second = c.restore_within.new.drives.items in
+    let third = c.deliver_made.new.drives.items in
     let groups = c.args.bootstrap.now in
     let names = option_map planned_in c.args.names in
     let before = g.W.Write.contents c.args.out.now.writer in
     let after = g.W.Write.contents c.write_manifest.new.writer in
     let had = in_sink g.S.Sink.has c.args.out.now in
-    let has = option_map g.S.Sink.has c.deliver_files.new.sink in
-    let outcomes = c.in_ok-outcomes.outcomes in
-    delivers_files earlier later groups names before after had has outcomes c.deliver_files.result (gives_files earlier later groups names outcomes c.in_ok-outcomes.ensures.files)
+    let has = option_map g.S.Sink.has c.deliver_made.new.sink in
+    let made = c.in_ok-made.made in
+    let os = map restored made.outcomes.items in
+    let given = CanGive shows failures second groups made.gathered os in
+    let midst = λ volumes stands.
+    stand_midst (pieces_of groups) volumes (map shows first) (map shows second) (map shows third) stands
+    (only_grow shows failures first second c.in_ok-made.ensures.places) (only_grow shows failures second third c.deliver_made.ensures.places) in
+    delivers_like (map shows first) (map shows third) groups names before after had has os c.deliver_made.result given
+    (λ volumes stands. c.in_ok-made.ensures.files volumes (midst volumes stands))
+    (λ volumes stands. c.in_ok-made.ensures.again volumes (midst volumes stands))
     (subst (λ os. Appends before after (manifest (map restored os))) c.deref.ensures.value c.in_ok-write_manifest.ensures.written)
-    (subst (λ os. EndsWith had has (map restored os) c.deliver_files.result) c.deref-2.ensures.value c.deliver_files.ensures.ends)
+    (subst (λ (gs : List Group). EndsLike (CanGive shows failures second gs made.gathered os) had has os c.deliver_made.result) c.groups.ensures.same c.deliver_made.ensures.ends)
+
+pub returns-clause-places : goal.returns-clause-places
+returns-clause-places g c =
+    stay_on g.D.Drive.shows g.D.Drive.failures c.args.drives.now.items c.restore_within.new.drives.items c.deliver_made.new.drives.items c.in_ok-made.ensures.places
+    c.deliver_made.ensures.places

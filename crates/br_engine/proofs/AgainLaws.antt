@@ -1,0 +1,119 @@
+-- What drives read again over all volumes that they may be taken to show.
+use Rattle.std.proofs.Common.{◌≡◌, ◌<◌, ◌≤◌, ℕ, List, [], ◌∷◌, map, Option, Some, None, Result, Ok, Err, refl, ap, sym, subst, ◌∙◌, inl, inr, arith}
+use Rattle.std.specs.Io.KnownBytes.{Appends}
+use Rattle.std.proofs.KnownBytes.{Keeps-refl}
+use Rattle.std.specs.List.{AllByRecursion, AllZip}
+use Rattle.br_model.specs.Answer.{refused_as}
+use Rattle.br_model.specs.Bootstrap.{Group}
+use Rattle.br_model.specs.Manifest.{manifest}
+use Rattle.br_model.specs.Meaning.{Hit, Piece, hits_of, meaning, pieces_of}
+use Rattle.br_model.specs.Restored.{Planned, Restored}
+use Rattle.br_model.specs.Volume.{Volume, Extends}
+use Rattle.br_model.proofs.MeaningLaws.{meaning_has_hits_lem}
+use Rattle.br_volume.specs.Drive.{OnlyGrows}
+use Rattle.br_volume.proofs.ExtendLaws.{extends_more, grows_more}
+use Rattle.br_again.specs.Stands.{HitsStand, StandingStays}
+use Rattle.br_join.specs.Runs.{AreListed}
+use Rattle.br_pool.specs.Pool.{StandsTold}
+use Rattle.br_pool.proofs.ListLaws.{zip_trans}
+use Rattle.br_reread.specs.Many.{Driven, RereadingMany, driven_by}
+use Rattle.br_gather.specs.Given.{GivesHits}
+use Rattle.br_gather.proofs.MeantLaws.{ShowsThem, meant_given}
+use Rattle.br_engine.specs.Again.{EndsLike}
+use Rattle.br_engine.specs.Delivering.{Delivers}
+use Rattle.br_engine.specs.Extracting.{OverVolumes, WritesNothing}
+use Rattle.br_engine.specs.Fault.{OfPiece}
+use Rattle.br_engine.specs.Outputs.{InSink}
+use Rattle.br_engine.specs.Restoring.{AllStand, Told, restored_files}
+use Rattle.br_engine.specs.declared.fault.ExtractFault.{ExtractFault}
+use Rattle.br_engine.specs.declared.fault.ExtractFault.TheVariants.{Memory, Bootstrap, Piece, Io, NoEnd}
+use Rattle.br_engine.specs.declared.outputs.RestoreEnd.{RestoreEnd}
+use Rattle.br_engine.proofs.LikeLaws.{same_manifest}
+
+-- ---- volumes that drives may be taken to show
+
+-- what a drive may be taken to show after a call it may be taken to show in the midst
+stands_one : (pieces : List Piece) (volumes : List Volume) (e m l : Option (List Volume)) → StandsTold pieces volumes e l → OnlyGrows e m → OnlyGrows m l
+    → StandsTold pieces volumes e m
+stands_one pieces volumes None m l stands p q = absurd stands
+stands_one pieces volumes (Some e) None l stands p q = absurd p
+stands_one pieces volumes (Some e) (Some m) None stands p q = absurd q
+stands_one pieces volumes (Some e) (Some m) (Some l) stands p q = (
+  stands.0,
+  elim stands.1 [
+    | inl throughout ↦ inl (extends_more m l volumes throughout q)
+    | inr enclosed ↦ inr enclosed
+  ],
+)
+
+pub stand_midst : (pieces : List Piece) (volumes : List Volume) (es ms ls : Told) → AllZip (StandsTold pieces volumes) es ls → AllZip OnlyGrows es ms
+    → AllZip OnlyGrows ms ls → AllZip (StandsTold pieces volumes) es ms
+stand_midst pieces volumes [] [] ls stands p q = tt
+stand_midst pieces volumes [] (m ∷ ms) ls stands p q = absurd p
+stand_midst pieces volumes (e ∷ es) [] ls stands p q = absurd p
+stand_midst pieces volumes (e ∷ es) (m ∷ ms) [] stands p q = absurd q
+stand_midst pieces volumes (e ∷ es) (m ∷ ms) (l ∷ ls) stands p q =
+    (stands_one pieces volumes e m l stands.0 p.0 q.0, stand_midst pieces volumes es ms ls stands.1 p.1 q.1)
+
+-- a drive shows them afterwards
+shows_one : (pieces : List Piece) (volumes : List Volume) (failed : ℕ) (e l : Option (List Volume)) → StandsTold pieces volumes e l → OnlyGrows e l
+    → ShowsThem volumes (record { shown = l; failures = failed })
+shows_one pieces volumes failed None l stands grown = absurd stands
+shows_one pieces volumes failed (Some e) None stands grown = absurd stands
+shows_one pieces volumes failed (Some e) (Some l) stands grown = (l, refl, extends_more volumes e l grown stands.0)
+
+module _ {D : Type 0} (shows : D → Option (List Volume)) (failures : D → ℕ) where
+  -- only the volumes
+  pub only_grow : (xs ys : List D) → AllZip (λ (x y : D). OnlyGrows (shows x) (shows y) × (failures x ≤ failures y)) xs ys
+      → AllZip OnlyGrows (map shows xs) (map shows ys)
+  only_grow [] [] z = tt
+  only_grow [] (y ∷ ys) z = absurd z
+  only_grow (x ∷ xs) [] z = absurd z
+  only_grow (x ∷ xs) (y ∷ ys) z = (z.0.0, only_grow xs ys z.1)
+
+  show_them : (pieces : List Piece) (volumes : List Volume) (xs ys : List D) → AllZip (StandsTold pieces volumes) (map shows xs) (map shows ys)
+      → AllZip OnlyGrows (map shows xs) (map shows ys) → AllByRecursion (ShowsThem volumes) (driven_by shows failures ys)
+  show_them pieces volumes [] [] stands grown = tt
+  show_them pieces volumes [] (y ∷ ys) stands grown = absurd grown
+  show_them pieces volumes (x ∷ xs) [] stands grown = absurd grown
+  show_them pieces volumes (x ∷ xs) (y ∷ ys) stands grown =
+      (shows_one pieces volumes (failures y) (shows x) (shows y) stands.0 grown.0, show_them pieces volumes xs ys stands.1 grown.1)
+
+  -- so the hits of a bootstrap are read again
+  pub reread : HitsStand → StandingStays → (groups : List Group) (volumes : List Volume) (xs ys : List D) (hs : List Hit) → AllStand (map shows xs) (map shows ys) (pieces_of groups) volumes
+      → AllZip (λ (x y : D). OnlyGrows (shows x) (shows y) × (failures x ≤ failures y)) xs ys → meaning groups volumes ≡ Ok (hits_of hs) → AreListed hs
+      → GivesHits (record { drives = driven_by shows failures ys; groups = groups }) hs
+  reread stand stays groups volumes xs ys hs all grown means sorted =
+      meant_given stand stays meaning_has_hits_lem groups volumes (record { drives = driven_by shows failures ys; groups = groups }) hs sorted
+      means refl (show_them (pieces_of groups) volumes xs ys all (only_grow xs ys grown))
+
+-- ---- what is delivered
+
+pub delivers_like : (earlier later : Told) (groups : List Group) (names : Option (List Planned)) (before after : Option (List ℕ)) (had has : InSink) (os : List Restored) (end : RestoreEnd)
+    (given : Type 0) → OverVolumes earlier later groups names (λ expected. expected ≡ Ok os) → ((volumes : List Volume) → AllStand earlier later (pieces_of groups) volumes → given)
+    → Appends before after (manifest os) → EndsLike given had has os end
+    → Delivers (λ holds. OverVolumes earlier later groups names holds) before after had has (Ok end)
+delivers_like earlier later groups names before after had has os end given made can written like = (
+  like.rs,
+  (
+    λ volumes stands. made volumes stands ∙ ap Ok (sym (like.same (can volumes stands))),
+    subst (Appends before after) (sym (same_manifest like.rs os like.like)) written,
+  ),
+  like.ends,
+)
+
+-- each drive stays in its place from one call to the next
+pub stay_on : {D : Type 0} (shows : D → Option (List Volume)) (failures : D → ℕ) (xs ys zs : List D)
+    → AllZip (λ (x y : D). OnlyGrows (shows x) (shows y) × (failures x ≤ failures y)) xs ys
+    → AllZip (λ (x y : D). OnlyGrows (shows x) (shows y) × (failures x ≤ failures y)) ys zs
+    → AllZip (λ (x y : D). OnlyGrows (shows x) (shows y) × (failures x ≤ failures y)) xs zs
+stay_on shows failures xs ys zs p q =
+    zip_trans _ _ _ (λ a b c first next. (grows_more (shows a) (shows b) (shows c) first.0 next.0, omega (arith, first.1, next.1))) xs ys zs p q
+
+-- a writer that was not asked has what it had
+pub nothing_written : (before : Option (List ℕ)) (fault : ExtractFault) → WritesNothing before before fault
+nothing_written before Memory = Keeps-refl before
+nothing_written before (Bootstrap fault) = Keeps-refl before
+nothing_written before (Piece fault) = Keeps-refl before
+nothing_written before (Io fault) = tt
+nothing_written before (NoEnd turns) = Keeps-refl before

@@ -1,0 +1,118 @@
+-- Where a delivery stops whose files are made once more, and what was put by then.
+use Rattle.std.proofs.Common.{◌≡◌, ◌≤◌, ◌<◌, ◌+◌, ℕ, zero, suc, List, [], ◌∷◌, ◌++◌, length, map, take, Option, Result, Ok, Err, refl, ap, sym, subst, arith, ◌∙◌, inl, inr, length-append}
+use Rattle.std.specs.List.{AllZip}
+use Rattle.br_model.specs.Answer.{IsRefusal}
+use Rattle.br_model.specs.Delivery.{Stop, delivery}
+use Rattle.br_model.specs.File.{Item}
+use Rattle.br_model.specs.Name.{FileKey}
+use Rattle.br_model.specs.Restored.{Restored}
+use Rattle.br_join.specs.declared.item.Outcome.{Outcome}
+use Rattle.br_gather.specs.Again.{IsLike}
+use Rattle.br_sink.specs.Delivery.{AreApart, IsStopBelow, IsStopIn, StandApart, items_in, items_put, stop_cause}
+use Rattle.br_sink.specs.Sink.{HasMore}
+use Rattle.br_sink.proofs.DeliveryLaws.{apart_taken, fewer_items, more_behind, none_more, taken_items}
+use Rattle.br_again.specs.declared.fault.AgainFault.{AgainFault}
+use Rattle.br_again.specs.declared.fault.AgainFault.TheVariants as again
+use Rattle.br_engine.specs.Again.{IsStopAgain, PutsLike, again_number}
+use Rattle.br_engine.proofs.LikeLaws.{like_length, like_take}
+
+-- ---- the stop
+
+-- such a stop is one of the delivery
+pub again_below : (os : List (FileKey × Outcome)) (place files : ℕ) → StandApart os place files → (stop : Stop) → IsStopAgain (length (items_in (take place os))) stop
+    → IsStopIn (items_in os) stop
+again_below os place files stands stop below =
+    let fewer = fewer_items os place in
+    let apart_at : (n : ℕ) → n ≤ length (items_in (take place os)) → AreApart (take n (items_in os)) =
+    λ n few. subst AreApart (sym (taken_items os place n few)) (apart_taken (items_in (take place os)) n stands.apart) in record {
+      number = elim below.number [
+        | inl one ↦ inl one
+        | inr other ↦ elim other [ inl eighty ↦ inr (inl eighty) | inr seventy ↦ inr (inr (inr seventy)) ]
+      ];
+      within = omega (arith, below.within, fewer);
+      before = apart_at stop.done (omega (arith, below.within));
+      at_it = λ _. apart_at (stop.done + 1) (omega (arith, below.within));
+    }
+
+-- and it says nothing of the model
+pub no_cause_again : (stop : Stop) (rs : List Restored) (count : ℕ) → IsStopAgain count stop → IsRefusal (stop_cause stop) (delivery rs)
+no_cause_again stop rs count is = elim is.number [
+  | inl one ↦ rw one tt
+  | inr other ↦ elim other [ inl eighty ↦ rw eighty tt | inr seventy ↦ rw seventy tt ]
+]
+
+-- ---- what was put
+
+like_both : (xs ys as bs : List Item) → AllZip IsLike xs as → AllZip IsLike ys bs → AllZip IsLike (xs ++ ys) (as ++ bs)
+like_both [] ys [] bs p q = q
+like_both [] ys (a ∷ as) bs p q = absurd p
+like_both (x ∷ xs) ys [] bs p q = absurd p
+like_both (x ∷ xs) ys (a ∷ as) bs p q = (p.0, like_both xs ys as bs p.1 q)
+
+take_behind : {X : Type 0} (xs ys : List X) (n : ℕ) → take (length xs + n) (xs ++ ys) ≡ xs ++ take n ys
+take_behind [] ys n = refl
+take_behind (x ∷ xs) ys n = ap (λ (zs : List _). x ∷ zs) (take_behind xs ys n)
+
+-- nothing was put of no files
+pub none_put : (given : Type 0) (has : Option (List Item)) → PutsLike {A = Unit {0}} given [] has has (Ok tt)
+none_put given has = record { put = []; like = tt; same = λ _. refl; more = none_more has }
+
+-- some files and then others
+pub puts_more : (given : Type 0) (xs ys : List Item) (had mid has : Option (List Item)) → PutsLike {A = Unit {0}} given xs had mid (Ok tt) → PutsLike {A = Unit {0}} given ys mid has (Ok tt)
+    → PutsLike {A = Unit {0}} given (xs ++ ys) had has (Ok tt)
+puts_more given xs ys had mid has p q = record {
+  put = p.put ++ q.put;
+  like = like_both p.put q.put xs ys p.like q.like;
+  same = λ g i. p.same g i ++ q.same g i;
+  more = more_behind p.put q.put had mid has p.more q.more;
+}
+
+-- some files, and then a stop among others
+pub puts_stop : (given : Type 0) (xs ys zs : List Item) (had mid has : Option (List Item)) (number done : ℕ) → PutsLike {A = Unit {0}} given xs had mid (Ok tt)
+    → PutsLike {A = Unit {0}} given ys mid has (Err (record { number = number; done = done })) → done ≤ length ys
+    → PutsLike {A = Unit {0}} given (xs ++ (ys ++ zs)) had has (Err (record { number = number; done = length xs + done }))
+puts_stop given xs ys zs had mid has number done p q few =
+    let all : take (length xs + done) (xs ++ (ys ++ zs)) ≡ xs ++ take done ys =
+    take_behind xs (ys ++ zs) done ∙ ap (λ (is : List Item). xs ++ is) (take_within ys zs done few) in record {
+      put = p.put ++ q.put;
+      like = subst (AllZip IsLike (p.put ++ q.put)) (sym all) (like_both p.put q.put xs (take done ys) p.like q.like);
+      same = λ g. (λ i. p.same g i ++ q.same g i) ∙ sym all;
+      more = more_behind p.put q.put had mid has p.more q.more;
+    }
+  where
+    take_within : (xs ys : List Item) (n : ℕ) → n ≤ length xs → take n (xs ++ ys) ≡ take n xs
+    take_within xs ys zero few = refl
+    take_within [] ys (suc n) few = absurd (omega (arith, few))
+    take_within (x ∷ xs) ys (suc n) few = ap (λ (is : List Item). x ∷ is) (take_within xs ys n (omega (arith, few)))
+
+-- ---- files that were made once more together
+
+like_put : {A : Type 0} (r : Result A Stop) (xs ys : List Item) → AllZip IsLike xs ys → AllZip IsLike (items_put r xs) (items_put r ys)
+like_put (Ok a) xs ys like = like
+like_put (Err stop) xs ys like = like_take stop.done xs ys like
+
+-- what a sink took of the files that were made is like what it was to take
+pub put_of : {A : Type 0} (given : Type 0) (made items : List Item) (had has : Option (List Item)) (r : Result A Stop) → AllZip IsLike made items → (given → made ≡ items)
+    → HasMore (items_put r made) had has → PutsLike given items had has r
+put_of given made items had has r like same more = record {
+  put = items_put r made;
+  like = like_put r made items like;
+  same = λ g. ap (items_put r) (same g);
+  more = more;
+}
+
+-- a stop of the sink among them is one among those
+pub stop_of_sink : (made items : List Item) (stop : Stop) → AllZip IsLike made items → IsStopBelow (length made) stop → IsStopAgain (length items) stop
+stop_of_sink made items stop like below = record {
+  number = elim below.number [ inl one ↦ inl one | inr eighty ↦ inr (inl eighty) ];
+  within = subst (λ (n : ℕ). stop.done < n) (like_length made items like) below.within;
+}
+
+-- no file was made once more
+pub stop_of_again : (items : List Item) (fault : AgainFault) → 0 < length items → IsStopAgain (length items) (record { number = again_number fault; done = 0 })
+stop_of_again items again.Memory some = record { number = inl refl; within = some }
+stop_of_again items again.Failed some = record { number = inr (inr refl); within = some }
+stop_of_again items again.Changed some = record { number = inr (inr refl); within = some }
+
+pub put_none : {A : Type 0} (given : Type 0) (items : List Item) (has : Option (List Item)) (number : ℕ) → PutsLike {A = A} given items has has (Err (record { number = number; done = 0 }))
+put_none given items has number = record { put = []; like = tt; same = λ _. refl; more = none_more has }

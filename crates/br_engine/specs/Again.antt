@@ -1,0 +1,106 @@
+-- Files that are made once more for their delivery.
+use Rattle.std.specs.Prelude.{◌≡◌, ◌⊎◌, ◌<◌, ℕ, List, map, Option, option_map, Some, None, Result, Ok, Err, ⊤}
+use Rattle.std.specs.List.{AllByRecursion, AllZip}
+use Rattle.br_model.specs.Bootstrap.{Group}
+use Rattle.br_model.specs.Answer.{Answers, IsRefusal}
+use Rattle.br_model.specs.Delivery.{Stop, delivery}
+use Rattle.br_model.specs.Manifest.{totals_of}
+use Rattle.br_model.specs.File.{Item, Outcome}
+use Rattle.br_model.specs.Meaning.{Hit, Hits, hits_of, pieces_of}
+use Rattle.br_model.specs.Restored.{Names, Restored, files, planned_in}
+use Rattle.br_model.specs.Volume.{Volume}
+use Rattle.br_join.specs.Joining.{Joining}
+use Rattle.br_join.specs.Outcome.{restored}
+use Rattle.br_join.specs.Runs.{AreListed}
+use Rattle.br_gather.specs.Again.{IsLike, IsMadeOf}
+use Rattle.br_gather.specs.Gathered.{Gathered}
+use Rattle.br_gather.specs.Given.{GivesHits}
+use Rattle.br_reread.specs.Many.{RereadingMany, driven_by}
+use Rattle.br_again.specs.declared.fault.AgainFault.{AgainFault}
+use Rattle.br_again.specs.declared.fault.AgainFault.TheVariants as again
+use Rattle.br_sink.specs.Delivery.{items_put, stop_cause}
+use Rattle.br_sink.specs.Sink.{HasMore}
+use Rattle.br_engine.specs.Delivering.{EndsWith}
+use Rattle.br_engine.specs.Extracting.{OverVolumes}
+use Rattle.br_engine.specs.Fault.{cause}
+use Rattle.br_engine.specs.Outputs.{InSink}
+use Rattle.br_engine.specs.Restoring.{AllStand}
+use Rattle.br_engine.specs.declared.fault.ExtractFault.{ExtractFault}
+use Rattle.br_engine.specs.declared.made.Made.{Made}
+use Rattle.br_engine.specs.declared.outputs.RestoreEnd.{RestoreEnd}
+
+-- ---- what files are made of
+
+-- the drives read the hits of the files again as they were found, and these make the files
+abbrev pub CanMake : RereadingMany → Gathered → List Restored → Type 0
+CanMake many gathered rs = GivesHits many gathered.hits × AllByRecursion (IsMadeOf gathered.hits) rs
+
+-- the same of files of which the bytes may all be in memory
+abbrev pub CanGive : {D : Type 0} → (D → Option (List Volume)) → (D → ℕ) → List D → List Group → Option Gathered → List Restored → Type 0
+CanGive shows failures drives groups None rs = ⊤
+CanGive shows failures drives groups (Some gathered) rs = CanMake (record { drives = driven_by shows failures drives; groups = groups }) gathered rs
+
+-- ---- what is delivered
+
+-- a file like the other, or the same fault
+abbrev pub IsOutcomeLike : Outcome → Outcome → Type 0
+IsOutcomeLike (Ok one) (Ok other) = IsLike one other
+IsOutcomeLike (Err one) (Err other) = one ≡ other
+IsOutcomeLike (Ok one) (Err other) = ⊥
+IsOutcomeLike (Err one) (Ok other) = ⊥
+
+-- the same file, of which the bytes may be others with the same digest
+abbrev pub IsFileLike : Restored → Restored → Type 0
+IsFileLike one other = (one.key ≡ other.key) × IsOutcomeLike one.outcome other.outcome
+
+-- Some files like the first of these were put into a sink: those that were put, all or before a stop. They are these files, if they can be given.
+pub record PutsLike {A : Type 0} (given : Type 0) (items : List Item) (had has : Option (List Item)) (result : Result A Stop) : Type 0 where
+  pub put : List Item
+  pub like : AllZip IsLike put (items_put result items)
+  pub same : given → put ≡ items_put result items
+  pub more : HasMore put had has
+
+-- a stop behind fewer files than so many: for want of memory (1), of a drive (70), or for a fault of the sink (80)
+pub record IsStopAgain (count : ℕ) (stop : Stop) : Type 0 where
+  pub number : (stop.number ≡ 1) ⊎ (stop.number ≡ 80) ⊎ (stop.number ≡ 70)
+  pub within : stop.done < count
+
+-- a restore ends so with files that are like these, and that are these if they can be given
+pub record EndsLike (given : Type 0) (had has : InSink) (os : List Restored) (end : RestoreEnd) : Type 0 where
+  pub rs : List Restored
+  pub like : AllZip IsFileLike rs os
+  pub same : given → rs ≡ os
+  pub ends : EndsWith had has rs end
+
+-- the number of a stop if a file is not made once more
+abbrev pub again_number : AgainFault → ℕ
+again_number again.Memory = 1
+again_number again.Failed = 70
+again_number again.Changed = 70
+
+-- the delivery of all files is taken, or the stop is the one that they decide
+abbrev pub DeliversAll : Result (Unit {0}) Stop → List Restored → Type 0
+DeliversAll (Ok u) rs = delivery rs ≡ Ok (totals_of rs)
+DeliversAll (Err stop) rs = IsRefusal (stop_cause stop) (delivery rs)
+
+-- ---- what is made
+
+-- the drives read the hits of a set again as they were found
+abbrev pub CanReread : {D : Type 0} → (D → Option (List Volume)) → (D → ℕ) → List D → List Group → Hits → Type 0
+CanReread shows failures drives groups hits = (found : List Hit) → hits_of found ≡ hits → AreListed found
+    → GivesHits (record { drives = driven_by shows failures drives; groups = groups }) found
+
+-- if the hits are read again as they were found, the files are those of what a joiner took
+abbrev pub MadeOver : Type 0 → Joining → Made → Type 0
+MadeOver given joining made = given → map restored made.outcomes.items ≡ files joining.hits (option_map planned_in joining.names)
+
+-- over all volumes that each of the drives may be taken to show, the files are those that the bootstrap gives, or the refusal is the first
+-- fault
+abbrev pub MakesOver : {D : Type 0} → (D → Option (List Volume)) → List D → List D → List Group → Option Names → Result Made ExtractFault → Type 0
+MakesOver shows before after groups names result =
+    OverVolumes (map shows before) (map shows after) groups (option_map planned_in names) (Answers (λ (m : Made). map restored m.outcomes.items) cause result)
+
+-- over all such volumes, the files can be made once more of what the drives show afterwards
+abbrev pub GivesAgain : {D : Type 0} → (D → Option (List Volume)) → (D → ℕ) → List D → List D → List Group → Option Gathered → List Restored → Type 0
+GivesAgain shows failures before after groups gathered rs =
+    (volumes : List Volume) → AllStand (map shows before) (map shows after) (pieces_of groups) volumes → CanGive shows failures after groups gathered rs

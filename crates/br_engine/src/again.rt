@@ -1,0 +1,144 @@
+//! Files that are made once more and put into a sink, some at a time.
+ghost use Rattle.std.specs.Prelude.{◌≡◌, ◌<◌, ◌≤◌, length, map, IfErr};
+ghost use Rattle.br_model.specs.Answer.{IsRefusal};
+ghost use Rattle.br_model.specs.Delivery.{delivery};
+ghost use Rattle.br_join.specs.Outcome.{restored};
+ghost use Rattle.br_reread.specs.Many.{GoOn};
+ghost use Rattle.br_sink.specs.Delivery.{AreApart, IsStopIn, items_in, stop_cause};
+ghost use Rattle.br_sink.specs.Fault.{cause_number};
+ghost use Rattle.br_engine.specs.Again.{CanMake, DeliversAll, IsStopAgain, PutsLike, again_number};
+
+use br_again::AgainFault;
+use br_gather::Gathered;
+use br_join::Outcome;
+use br_reread::OverMany;
+use br_sink::{Sink, SinkStop, StopCause, stand_apart, totals};
+use br_types::FileKey;
+use br_volume::Drive;
+use std::alloc::Global;
+use std::thread::Threads;
+
+/// The number of bytes of the files that are made once more together. A file with more is made alone.
+const WINDOW_LEN: u64 = 16 * 1024 * 1024;
+
+/// What files are made of once more.
+#[derive(Drop)]
+pub(crate) struct Source<'g> {
+    pub(crate) alloc: Global,
+    pub(crate) gathered: &'g Gathered,
+}
+
+/// Returns the number of bytes of an outcome.
+fn len_of(outcome: &Outcome) -> u64 {
+    match outcome {
+        Outcome::File(item) => item.bytes.len(),
+        Outcome::Fault { .. } => 0,
+    }
+}
+
+/// Returns the number of the first outcomes whose files are made once more together: one at least.
+fn window_len(outcomes: &[(FileKey, Outcome)]) -> usize
+    requires { 0 < length outcomes.now }
+    ensures some { 0 < result }
+    ensures within { result ≤ length outcomes.now }
+{
+    let mut count = 0;
+    let mut left = WINDOW_LEN;
+    for (_, outcome) in outcomes {
+        let len = len_of(outcome);
+        if count > 0 && len > left {
+            return count;
+        }
+        left = left.saturating_sub(len);
+        count += 1;
+    }
+    count
+}
+
+/// Returns why a delivery stops if a file is not made once more.
+fn stop_of(fault: AgainFault) -> StopCause
+    ensures { cause_number result ≡ again_number fault }
+{
+    match fault {
+        AgainFault::Memory => StopCause::Memory,
+        AgainFault::Failed | AgainFault::Changed => StopCause::NoDriveLeft,
+    }
+}
+
+/// Makes the files among the outcomes once more, and puts them into a sink.
+fn put_window<D: Drive, S: Sink>(
+    rt: &(impl Threads + Sync),
+    source: &Source<'_>,
+    many: &mut OverMany<'_, D>,
+    window: &[(FileKey, Outcome)],
+    sink: &mut S,
+) -> Result<(), SinkStop>
+    ensures put { PutsLike (CanMake many.old source.now.gathered.now (map restored window.now)) (items_in window.now) (S.has sink.old) (S.has sink.new) result }
+    ensures stopped { IfErr result (IsStopAgain (length (items_in window.now))) }
+    ensures on { GoOn many.old many.new }
+    ensures counted { S.failures sink.old ≤ S.failures sink.new }
+    ensures failed { IfErr result (λ stop. stop.number ≡ 80 → S.failures sink.old < S.failures sink.new) }
+{
+    match source.gathered.again(source.alloc, many, window) {
+        Ok(made) => sink.put_all(rt, &made),
+        Err(fault) => Err(SinkStop::new(stop_of(fault), 0)),
+    }
+}
+
+/// Makes the files among the outcomes once more, some at a time, and puts them into a sink in their
+/// order.
+fn put_windows<D: Drive, S: Sink>(
+    rt: &(impl Threads + Sync),
+    source: &Source<'_>,
+    many: &mut OverMany<'_, D>,
+    outcomes: &[(FileKey, Outcome)],
+    sink: &mut S,
+) -> Result<(), SinkStop>
+    ensures put { PutsLike (CanMake many.old source.now.gathered.now (map restored outcomes.now)) (items_in outcomes.now) (S.has sink.old) (S.has sink.new) result }
+    ensures stopped { IfErr result (IsStopAgain (length (items_in outcomes.now))) }
+    ensures on { GoOn many.old many.new }
+    ensures counted { S.failures sink.old ≤ S.failures sink.new }
+    ensures failed { IfErr result (λ stop. stop.number ≡ 80 → S.failures sink.old < S.failures sink.new) }
+{
+    let mut rest = outcomes;
+    let mut done = 0;
+    while !rest.is_empty() {
+        let (window, after) = rest.split_at(window_len(rest));
+        if let Err(stop) = put_window(rt, source, many, window, sink) {
+            return Err(SinkStop::new(stop.cause(), done + stop.done()));
+        }
+        done += totals(window).files;
+        rest = after;
+    }
+    Ok(())
+}
+
+/// Makes the files among the outcomes once more, and puts them into a sink as `deliver` of br_sink does.
+///
+/// # Errors
+///
+/// Those of `deliver`, and `NoDriveLeft` (70) if no drive is left that gives the data of a file as they
+/// were found.
+pub(crate) fn deliver_again<D: Drive, S: Sink>(
+    rt: &(impl Threads + Sync),
+    source: &Source<'_>,
+    many: &mut OverMany<'_, D>,
+    outcomes: &[(FileKey, Outcome)],
+    sink: &mut S,
+) -> Result<(), SinkStop>
+    ensures put { PutsLike (CanMake many.old source.now.gathered.now (map restored outcomes.now)) (items_in outcomes.now) (S.has sink.old) (S.has sink.new) result }
+    ensures all { DeliversAll result (map restored outcomes.now) }
+    ensures stopped { IfErr result (IsStopIn (items_in outcomes.now)) }
+    ensures on { GoOn many.old many.new }
+    ensures counted { S.failures sink.old ≤ S.failures sink.new }
+    ensures failed { IfErr result (λ stop. stop.number ≡ 80 → S.failures sink.old < S.failures sink.new) }
+{
+    let Ok((place, files)) = stand_apart(source.alloc, outcomes) else {
+        return Err(SinkStop::new(StopCause::Memory, 0));
+    };
+    put_windows(rt, source, many, &outcomes[..place], sink)?;
+    if place < outcomes.len() {
+        return Err(SinkStop::new(StopCause::Conflict, files));
+    }
+    Ok(())
+}

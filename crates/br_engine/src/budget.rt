@@ -1,0 +1,21 @@
+use std::alloc::Global;
+
+/// The memory of a restore.
+#[derive(Clone, Copy)]
+pub struct Budget {
+    /// The allocator.
+    pub alloc: Global,
+    /// The number of bytes of data that are held. Data beyond it are read again. Attributes and
+    /// digests are held beside them.
+    pub room: u64,
+}
+
+impl Budget {
+    /// Returns the budget that has room for all data.
+    pub fn unbounded(alloc: Global) -> Budget {
+        Budget {
+            alloc,
+            room: u64::MAX,
+        }
+    }
+}

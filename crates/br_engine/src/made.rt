@@ -1,0 +1,148 @@
+//! The files of a restore, made within a budget of memory.
+ghost use Rattle.std.specs.Prelude.{◌≡◌, map, option_map, Some, IfErr, IfOk};
+ghost use Rattle.br_join.specs.Outcome.{restored};
+ghost use Rattle.br_pool.specs.Pool.{AreDrives, OnlyIfAllFail, StayInPlace};
+ghost use Rattle.br_engine.specs.Again.{CanGive, CanReread, EndsLike, GivesAgain, MadeOver, MakesOver};
+ghost use Rattle.br_engine.specs.Fault.{IsNoDriveLeft, IsNoLine, IsUnmade};
+ghost use Rattle.br_engine.specs.Outputs.{SinkCounts, StopsByFailure};
+
+use crate::again::{Source, deliver_again};
+use crate::budget::Budget;
+use crate::delivering::{deliver_files, end_of};
+use crate::fault::ExtractFault;
+use crate::outputs::RestoreEnd;
+use crate::restoring::{files_of, join_all};
+use br_again::{hits_stand, standing_stays};
+use br_bsr::{Bootstrap, Group};
+use br_gather::Gathered;
+use br_join::{Joiner, Outcome};
+use br_reread::OverMany;
+use br_sink::Sink;
+use br_types::{FileKey, Names};
+use br_volume::Drive;
+use std::alloc::Global;
+use std::mem;
+use std::sync::Wait;
+use std::thread::Threads;
+
+/// The files of a restore, each with its outcome, in order of their keys.
+#[derive(Drop)]
+pub struct Made {
+    pub outcomes: Vec<(FileKey, Outcome)>,
+    /// What the files are made of once more, if their bytes are not in memory.
+    gathered: Option<Gathered>,
+}
+
+/// Makes the files of what a joiner took and did not hold. The drives read their data again.
+fn made_of<D: Drive>(
+    alloc: Global,
+    joiner: Joiner,
+    groups: &[Group],
+    drives: &mut Vec<D>,
+) -> Result<Made, ExtractFault>
+    ensures made { IfOk result (λ made. MadeOver (CanReread D.shows D.failures drives.old.items groups.now joiner.hits) joiner made) }
+    ensures again { IfOk result (λ made. CanReread D.shows D.failures drives.old.items groups.now joiner.hits
+        → CanGive D.shows D.failures drives.new.items groups.now made.gathered (map restored made.outcomes.items)) }
+    ensures places { StayInPlace D.shows D.failures drives.old.items drives.new.items }
+    ensures failed { OnlyIfAllFail D.failures drives.old.items drives.new.items IsNoDriveLeft result }
+    ensures free { IfErr result IsUnmade }
+{
+    hits_stand();
+    standing_stays();
+    let gathered = Gathered::of(joiner)?;
+    let taken = mem::replace(drives, Vec::new(alloc));
+    let mut many = OverMany::new(alloc, taken, groups);
+    let files = gathered.files(alloc, &mut many);
+    let none = mem::replace(drives, many.into_drives());
+    none.destroy_empty();
+    Ok(Made {
+        outcomes: files?,
+        gathered: Some(gathered),
+    })
+}
+
+/// Returns the files that a bootstrap selects as `restore` does, but holds no more data than there is
+/// room for. If there is not room for all, the bytes of the files are not in memory: `deliver_made`
+/// reads them again.
+///
+/// # Errors
+///
+/// - `Piece` and `Memory` as `restore`; `NoDriveLeft` also if each drive failed while data were read
+///   again.
+/// - `Io` if a volume was changed while it was read.
+pub fn restore_within<D: Drive + Send>(
+    rt: &(impl Threads + Wait + Sync),
+    budget: Budget,
+    bootstrap: &Bootstrap,
+    names: Option<Names>,
+    drives: &mut Vec<D>,
+) -> Result<Made, ExtractFault>
+    requires drives { AreDrives drives.old.items }
+    ensures files { MakesOver D.shows drives.old.items drives.new.items bootstrap.now names result }
+    ensures again { IfOk result (λ made. GivesAgain D.shows D.failures drives.old.items drives.new.items bootstrap.now
+        made.gathered (map restored made.outcomes.items)) }
+    ensures places { StayInPlace D.shows D.failures drives.old.items drives.new.items }
+    ensures driven { IfErr result IsNoLine }
+    ensures failed { OnlyIfAllFail D.failures drives.old.items drives.new.items IsNoDriveLeft result }
+{
+    let mut joiner = join_all(rt, budget, bootstrap, names, drives)?;
+    if joiner.holds_all() {
+        let outcomes = files_of(rt, &mut joiner)?;
+        return Ok(Made {
+            outcomes,
+            gathered: None,
+        });
+    }
+    made_of(budget.alloc, joiner, bootstrap.groups(), drives)
+}
+
+/// Delivers the files among the outcomes into a sink. They are made once more of their source.
+fn deliver_by<D: Drive, S: Sink>(
+    rt: &(impl Threads + Sync),
+    source: &Source<'_>,
+    groups: &[Group],
+    drives: &mut Vec<D>,
+    outcomes: &[(FileKey, Outcome)],
+    sink: &mut S,
+) -> RestoreEnd
+    ensures ends { EndsLike (CanGive D.shows D.failures drives.old.items groups.now (Some source.now.gathered.now) (map restored outcomes.now))
+        (Some (S.has sink.old)) (Some (S.has sink.new)) (map restored outcomes.now) result }
+    ensures places { StayInPlace D.shows D.failures drives.old.items drives.new.items }
+    ensures counted { SinkCounts (Some (S.failures sink.old)) (Some (S.failures sink.new)) }
+    ensures failed { StopsByFailure (Some (S.failures sink.old)) (Some (S.failures sink.new)) result }
+{
+    let taken = mem::replace(drives, Vec::new(source.alloc));
+    let mut many = OverMany::new(source.alloc, taken, groups);
+    let delivered = deliver_again(rt, source, &mut many, outcomes, sink);
+    let none = mem::replace(drives, many.into_drives());
+    none.destroy_empty();
+    match delivered {
+        Ok(()) => end_of(outcomes),
+        Err(stop) => RestoreEnd::Stopped(stop),
+    }
+}
+
+/// Delivers the files of a restore in their order, if there is a sink. Those that are not in memory are
+/// made once more, and compared with what was made before. Returns the end of the restore.
+pub fn deliver_made<D: Drive, S: Sink>(
+    rt: &(impl Threads + Sync),
+    alloc: Global,
+    made: &Made,
+    groups: &[Group],
+    drives: &mut Vec<D>,
+    sink: &mut Option<S>,
+) -> RestoreEnd
+    ensures ends { EndsLike (CanGive D.shows D.failures drives.old.items groups.now made.now.gathered (map restored made.now.outcomes.items))
+        (option_map S.has sink.old) (option_map S.has sink.new) (map restored made.now.outcomes.items) result }
+    ensures places { StayInPlace D.shows D.failures drives.old.items drives.new.items }
+    ensures counted { SinkCounts (option_map S.failures sink.old) (option_map S.failures sink.new) }
+    ensures failed { StopsByFailure (option_map S.failures sink.old) (option_map S.failures sink.new) result }
+{
+    match (&made.gathered, sink) {
+        (Some(gathered), Some(sink)) => {
+            let source = Source { alloc, gathered };
+            deliver_by(rt, &source, groups, drives, &made.outcomes, sink)
+        }
+        (_, sink) => deliver_files(rt, alloc, &made.outcomes, sink),
+    }
+}

@@ -1,0 +1,51 @@
+-- Files that are made once more of the hits that made them.
+use Rattle.std.proofs.Common.{◌≡◌, ℕ, Bool, true, false, List, [], ◌∷◌, ◌++◌, map, Option, Some, None, Ok, Err, IfOk, refl}
+use Rattle.std.specs.Prelude.{not, bytes_eq}
+use Rattle.std.specs.List.{AllByRecursion, AllZip}
+use Rattle.br_model.specs.Answer.{◌>>=◌, refuse_if}
+use Rattle.br_model.specs.File.{Item, Outcome, fault}
+use Rattle.br_model.specs.Meaning.{Hit}
+use Rattle.br_model.specs.Name.{FileKey}
+use Rattle.br_model.specs.Restored.{Names, Planned, files_found, files_listed, files_planned, fragments_for, outcome_of, under_name}
+use Rattle.br_join.specs.Runs.{files_of, listed}
+use Rattle.br_gather.specs.Again.{IsLike, IsMadeOf}
+
+-- ---- each file is made of the hits of its key
+
+made_itself : (whole o : Outcome) → whole ≡ o → IfOk o (λ item. whole ≡ Ok item)
+made_itself whole (Ok item) e = e
+made_itself whole (Err f) e = tt
+
+made_under : (path : List ℕ) (o : Outcome) → IfOk (under_name path o) (λ item. o ≡ Ok item)
+unfolding under_name
+made_under path (Err f) = tt
+made_under path (Ok item) = go (not (bytes_eq item.path path))
+  where
+    go : (b : Bool) → IfOk (refuse_if b (fault 69) >>= (λ _. Ok item)) (λ i. Ok {E = _} item ≡ Ok i)
+    go true = tt
+    go false = refl
+
+all_found : (hits : List Hit) (keys : List FileKey)
+    → AllByRecursion (IsMadeOf hits) (map (λ (key : FileKey). record { key = key; outcome = outcome_of key (fragments_for key (listed hits)) }) keys)
+all_found hits [] = tt
+all_found hits (key ∷ keys) =
+    (made_itself (outcome_of key (fragments_for key (listed hits))) (outcome_of key (fragments_for key (listed hits))) refl, all_found hits keys)
+
+all_planned : (hits : List Hit) (names : List Planned)
+    → AllByRecursion (IsMadeOf hits) (map (λ (p : Planned). record { key = p.key; outcome = under_name p.path (outcome_of p.key (fragments_for p.key (listed hits))) }) names)
+all_planned hits [] = tt
+all_planned hits (p ∷ names) = (made_under p.path (outcome_of p.key (fragments_for p.key (listed hits))), all_planned hits names)
+
+pub all_made : (hits : List Hit) (names : Option Names) → AllByRecursion (IsMadeOf hits) (files_of hits names)
+unfolding files_listed files_found files_planned
+all_made hits None = all_found hits _
+all_made hits (Some names) = all_planned hits _
+
+-- ---- files that are like others
+
+-- one file more
+pub like_more : (xs ys : List Item) (x y : Item) → AllZip IsLike xs ys → IsLike x y → AllZip IsLike (xs ++ x ∷ []) (ys ++ y ∷ [])
+like_more [] [] x y z like = (like, tt)
+like_more [] (b ∷ ys) x y z like = absurd z
+like_more (a ∷ xs) [] x y z like = absurd z
+like_more (a ∷ xs) (b ∷ ys) x y z like = (z.0, like_more xs ys x y z.1 like)

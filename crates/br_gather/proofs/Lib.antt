@@ -1,0 +1,3 @@
+mod GivenLaws
+pub mod AgainLaws
+pub mod MeantLaws

@@ -1,0 +1,90 @@
+//! Files that are made once more.
+ghost use Rattle.std.specs.Prelude.{◌≡◌, ◌<◌, ◌∷◌, ◌++◌, [], length, map, Ok, Err, IfOk, OnErr, OnOk};
+ghost use Rattle.std.specs.List.{AllByRecursion, AllZip};
+ghost use Rattle.br_again.specs.declared.fault.AgainFault.TheVariants.{Failed};
+ghost use Rattle.br_model.specs.Restored as model;
+ghost use Rattle.br_join.specs.Outcome.{restored};
+ghost use Rattle.br_join.specs.Runs.{AreListed, listed};
+ghost use Rattle.br_reread.specs.Many.{GoOn, HaveFailed};
+ghost use Rattle.br_sink.specs.Delivery.{items_in};
+ghost use Rattle.br_gather.specs.Again.{IsLike, IsMadeOf};
+ghost use Rattle.br_gather.specs.Given.{GivesHits};
+
+use crate::likeness::is_like;
+use crate::rereading::outcome_by;
+use br_again::{AgainFault, standing_stays};
+use br_join::{Item, Outcome, around};
+use br_match::Hit;
+use br_reread::OverMany;
+use br_types::FileKey;
+use br_volume::Drive;
+use std::alloc::{AllocError, Global};
+
+/// Makes a file once more, of the hits with its key.
+///
+/// # Errors
+///
+/// Those of `many`, `Changed` if it is not like the file, and `Memory` if memory runs out.
+fn item_once_more<D: Drive>(
+    alloc: Global,
+    many: &mut OverMany<'_, D>,
+    hits: &[Hit],
+    key: FileKey,
+    item: &Item,
+) -> Result<Item, AgainFault>
+    requires { AreListed hits.now }
+    ensures like { IfOk result (λ made. IsLike made item.now) }
+    ensures same { IfOk result (λ made. GivesHits many.old hits.now
+        → model.outcome_of key (model.fragments_for key (listed hits.now)) ≡ Ok item.now → made ≡ item.now) }
+    ensures on { GoOn many.old many.new }
+    ensures failed { result ≡ Err Failed → HaveFailed many.old many.new }
+{
+    let (_, run, _) = around(hits, key);
+    match outcome_by(alloc, many, key, run)? {
+        Outcome::File(made) if is_like(&made, item) => Ok(made),
+        _ => Err(AgainFault::Changed),
+    }
+}
+
+/// Appends a file.
+fn push_item(
+    files: &mut Vec<(FileKey, Outcome)>,
+    key: FileKey,
+    item: Item,
+) -> Result<(), AllocError>
+    ensures { OnOk result (items_in files.new.items ≡ items_in files.old.items ++ item ∷ []) }
+{
+    files.push((key, Outcome::File(item)))?;
+    Ok(())
+}
+
+/// Makes the files among outcomes once more, and passes over the faults.
+///
+/// # Errors
+///
+/// As `item_once_more`.
+#[tactic(auto, using(br_reread::proofs::GoOnLaws::go_itself, br_reread::proofs::GoOnLaws::go_more, br_reread::proofs::GoOnLaws::failed_on))]
+pub(crate) fn made_once_more<D: Drive>(
+    alloc: Global,
+    many: &mut OverMany<'_, D>,
+    hits: &[Hit],
+    outcomes: &[(FileKey, Outcome)],
+) -> Result<Vec<(FileKey, Outcome)>, AgainFault>
+    requires { AreListed hits.now }
+    ensures like { IfOk result (λ made. AllZip IsLike (items_in made.items) (items_in outcomes.now)) }
+    ensures same { IfOk result (λ made. GivesHits many.old hits.now → AllByRecursion (IsMadeOf hits.now) (map restored outcomes.now)
+        → items_in made.items ≡ items_in outcomes.now) }
+    ensures some { OnErr result (0 < length (items_in outcomes.now)) }
+    ensures on { GoOn many.old many.new }
+    ensures failed { result ≡ Err Failed → HaveFailed many.old many.new }
+{
+    standing_stays();
+    let mut files = Vec::new(alloc);
+    for (key, outcome) in outcomes {
+        if let Outcome::File(item) = outcome {
+            let made = item_once_more(alloc, many, hits, *key, item)?;
+            push_item(&mut files, *key, made)?;
+        }
+    }
+    Ok(files)
+}

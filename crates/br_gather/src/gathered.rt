@@ -1,0 +1,95 @@
+ghost use Rattle.std.specs.Prelude.{◌≡◌, ◌<◌, length, map, Err, OnErr, IfOk};
+ghost use Rattle.std.specs.List.{AllByRecursion, AllZip};
+ghost use Rattle.br_model.specs.Meaning.{hits_of};
+ghost use Rattle.br_join.specs.Outcome.{restored};
+ghost use Rattle.br_reread.specs.Many.{GoOn, HaveFailed};
+ghost use Rattle.br_join.specs.Runs.{files_of};
+ghost use Rattle.br_sink.specs.Delivery.{items_in};
+ghost use Rattle.br_gather.specs.Again.{IsLike, IsMadeOf};
+ghost use Rattle.br_gather.specs.Given.{GivesHits};
+
+use crate::again::made_once_more;
+use crate::made_again::files_by;
+use br_again::AgainFault;
+use br_join::{Joiner, Outcome};
+use br_match::Hit;
+use br_reread::OverMany;
+use br_types::{FileKey, Names};
+use br_volume::Drive;
+use std::alloc::{AllocError, Global};
+use std::marker::Model;
+
+/// The hits of a restore, in order of file and place, and the names of its plan, if it has one.
+#[derive(Drop)]
+pub struct Gathered {
+    hits: Vec<Hit>,
+    names: Option<Names>,
+}
+
+impl Model for Gathered {
+    ghost use Rattle.br_join.specs.Runs.{AreListed};
+    ghost use Rattle.br_gather.specs.Gathered as model;
+
+    ghost Value = { model.Gathered };
+
+    ghost view = { λ g. record { hits = g.hits.items; names = g.names } };
+
+    ghost invariant = { λ g. AreListed g.hits.items };
+}
+
+impl Gathered {
+    /// Returns what the joiner took.
+    ///
+    /// # Errors
+    ///
+    /// `AllocError` if memory runs out. Then what it took is lost.
+    pub fn of(joiner: Joiner) -> Result<Gathered, AllocError>
+        ensures hits { IfOk result (λ g. hits_of g.hits ≡ joiner.hits) }
+        ensures names { IfOk result (λ g. g.names ≡ joiner.names) }
+    {
+        let (hits, names) = joiner.into_hits()?;
+        Ok(Gathered { hits, names })
+    }
+
+    /// Makes the files, in order of key: the planned ones if there is a plan, else those that were found.
+    /// The data of one file at a time are in memory, and its bytes are let go again.
+    ///
+    /// # Errors
+    ///
+    /// Those of `many`, and `Memory` if memory runs out.
+    pub fn files<D: Drive>(
+        &self,
+        alloc: Global,
+        many: &mut OverMany<'_, D>,
+    ) -> Result<Vec<(FileKey, Outcome)>, AgainFault>
+        ensures files { IfOk result (λ made. GivesHits many.old self.now.hits → map restored made.items ≡ files_of self.now.hits self.now.names) }
+        ensures on { GoOn many.old many.new }
+        ensures failed { result ≡ Err Failed → HaveFailed many.old many.new }
+    {
+        files_by(alloc, many, &self.hits, self.names.as_ref())
+    }
+
+    /// Makes the files among these outcomes once more, in their order, and passes over the faults. Their
+    /// data are in memory together. Each file is like the one that it is made for: their paths, numbers,
+    /// links and lengths are the same, and the digests of their bytes.
+    ///
+    /// # Errors
+    ///
+    /// Those of `many`, `Changed` if a file is not like the one that it is made for, and `Memory` if
+    /// memory runs out. There is none if there is no file among the outcomes.
+    pub fn again<D: Drive>(
+        &self,
+        alloc: Global,
+        many: &mut OverMany<'_, D>,
+        outcomes: &[(FileKey, Outcome)],
+    ) -> Result<Vec<(FileKey, Outcome)>, AgainFault>
+        ensures like { IfOk result (λ made. AllZip IsLike (items_in made.items) (items_in outcomes.now)) }
+        ensures same { IfOk result (λ made. GivesHits many.old self.now.hits → AllByRecursion (IsMadeOf self.now.hits) (map restored outcomes.now)
+            → items_in made.items ≡ items_in outcomes.now) }
+        ensures some { OnErr result (0 < length (items_in outcomes.now)) }
+        ensures on { GoOn many.old many.new }
+        ensures failed { result ≡ Err Failed → HaveFailed many.old many.new }
+    {
+        made_once_more(alloc, many, &self.hits, outcomes)
+    }
+}

@@ -1,0 +1,90 @@
+ghost use Rattle.std.specs.Prelude.{◌≡◌, Err, IfOk};
+ghost use Rattle.br_again.specs.declared.fault.AgainFault.TheVariants.{Failed};
+ghost use Rattle.br_reread.specs.Many.{GivesMany, GoOn, HaveFailed, driven_by};
+
+use crate::reading::read_again;
+use br_again::{Again, AgainFault, Data, Place, Spot};
+use br_bsr::Group;
+use br_volume::Drive;
+use std::alloc::Global;
+use std::marker::Model;
+
+/// Reads data again from the volumes that its drives show, each of them all. One drive reads as long
+/// as it does not fail, and then the first of all that does not. The number of a group among the
+/// groups of the bootstrap says which volume that is.
+#[derive(Drop)]
+pub struct OverMany<'b, D: Drive> {
+    drives: Vec<D>,
+    groups: &'b [Group],
+    /// The number of the drive that reads.
+    at: usize,
+    /// The block that this drive read last.
+    again: Again,
+}
+
+impl<'b, D: Drive> Model for OverMany<'b, D> {
+    ghost use Rattle.br_reread.specs.Many.{IsKnownAt, RereadingMany, driven_by};
+
+    ghost Value = { RereadingMany };
+
+    ghost view = { λ m. record { drives = driven_by D.shows D.failures m.drives.items; groups = m.groups.now } };
+
+    ghost invariant = { λ m. IsKnownAt D.shows m.drives.items m.at m.again };
+}
+
+impl<'b, D: Drive> OverMany<'b, D> {
+    /// Returns one that has read nothing yet, by these drives.
+    pub fn new(alloc: Global, drives: Vec<D>, groups: &'b [Group]) -> OverMany<'b, D>
+        ensures drives { result.drives ≡ driven_by D.shows D.failures drives.items }
+        ensures groups { result.groups ≡ groups.now }
+    {
+        OverMany {
+            drives,
+            groups,
+            at: 0,
+            again: Again::new(alloc),
+        }
+    }
+
+    /// Returns the drives, each in its place.
+    pub fn into_drives(self) -> Vec<D>
+        ensures { driven_by D.shows D.failures result.items ≡ self.entry.drives }
+    {
+        self.drives
+    }
+
+    /// Returns the data in memory: they are shared if they are held, or else read again.
+    ///
+    /// # Errors
+    ///
+    /// `Failed` if each drive failed, `Changed` if no group has this number or the volume no longer
+    /// has as many bytes at the place, `Memory` if memory runs out.
+    pub fn read(&mut self, alloc: Global, spot: Spot, found: &Data) -> Result<Data, AgainFault>
+        ensures same { IfOk result (λ read. GivesMany self.old spot found.now.bytes → read.bytes ≡ found.now.bytes) }
+        ensures on { GoOn self.old self.new }
+        ensures failed { result ≡ Err Failed → HaveFailed self.old self.new }
+    {
+        if found.is_held() {
+            return Ok(found.share()?);
+        }
+        let groups = self.groups;
+        match groups.get(spot.group as usize) {
+            None => Err(AgainFault::Changed),
+            Some(group) => {
+                let place = Place {
+                    vol: &group.vol,
+                    addr: spot.addr,
+                    ordinal: spot.ordinal,
+                };
+                read_again(
+                    alloc,
+                    &mut self.drives,
+                    &mut self.at,
+                    &mut self.again,
+                    &place,
+                    found,
+                )
+            }
+        }
+    }
+}
