@@ -1,6 +1,6 @@
 #!/usr/bin/env python3
-"""Restores from a catalogue that the real sqlite3 made, with a delivery into a folder and without, migrates one of version 1,
-and has sqlite3 check a catalogue that the program made.
+"""Restores from a catalogue that the real sqlite3 made, with a delivery into a folder and without, lists its jobs, migrates one of
+version 1, and has sqlite3 check a catalogue that the program made.
 
     acceptance/catalogue.py                    needs sqlite3, and the program in crates/brestore/out
     acceptance/catalogue.py --program FILE     another program
@@ -64,6 +64,11 @@ class ConsoleChecks(Checks):
         ran = subprocess.run([self.program, *words], input=lines, capture_output=True, text=True)
         return ran.returncode, ran.stdout, ran.stderr
 
+    def jobs(self, db, **only):
+        words = [word for name, value in only.items() for word in (f"--{name}", value)]
+        ran = subprocess.run([self.program, "jobs", "--db", db, *words], input="", capture_output=True, text=True)
+        return ran.returncode, ran.stdout, ran.stderr
+
     def migrate(self, db):
         ran = subprocess.run([self.program, "migrate", "--db", db], input="", capture_output=True, text=True)
         return ran.returncode, ran.stdout, ran.stderr
@@ -122,6 +127,58 @@ def delivers(checks, folder):
     checks.check("an empty folder and no catalogue", checks.console(missing, into=empty), (1, "", "refused 45\n"))
     checks.check("a talk that is quit", checks.console(db, lines="mark *\nquit\n", into=empty), (0, "5 marked\n", ""))
     checks.check("delivers nothing", os.listdir(empty), [])
+
+
+# The jobs of the catalogue, from the table of File: of the Full three files of 7 bytes and two folders, of the Differential one of
+# 13 bytes, of the Incremental one of 24.
+LISTED = [
+    "1 F T 2026-11-21 23:15:33 peer-fd Peer 5 21 Vol-0001\n",
+    "2 D T 2026-11-21 23:15:38 peer-fd Peer 1 13 Vol-0001\n",
+    "3 I T 2026-11-21 23:15:45 peer-fd Peer 1 24 Vol-0001\n",
+]
+
+
+def listed(marks):
+    return "".join(f"{mark} {job}" for mark, job in zip(marks, LISTED) if mark != " ")
+
+
+def lists(checks, folder):
+    """Lists the jobs of a catalogue."""
+    db, missing = os.path.join(folder, "listed.db"), os.path.join(folder, "no.db")
+    with open(ORDER_SQL) as text:
+        sqlite3(db, text.read())
+    peer = {"client": "peer-fd", "fileset": "Peer"}
+    for name, only, marks in [
+        ("all jobs", {}, "---"),
+        ("jobs of a client", {"client": "peer-fd"}, "---"),
+        ("jobs of another client", {"client": "other"}, "   "),
+        ("jobs of another file set", {"fileset": "peer"}, "   "),
+        ("jobs before a moment", {"before": "2026-11-21 23:15:45"}, "-- "),
+        ("jobs that are chosen", {**peer, "before": "2026-11-22 00:00:00"}, "***"),
+        ("jobs that are chosen without the Incremental", {**peer, "before": "2026-11-21 23:15:45"}, "** "),
+        ("the Full alone", {**peer, "before": "2026-11-21 23:15:34"}, "*  "),
+    ]:
+        checks.check(name, checks.jobs(db, **only), (0, listed(marks), ""))
+    for name, only, marks, number in [
+        ("jobs before the Full", {**peer, "before": "2026-11-21 23:15:33"}, "   ", 50),
+        ("no such client", {**peer, "client": "other", "before": "2026-11-22 00:00:00"}, "   ", 53),
+        ("no such file set", {**peer, "fileset": "other", "before": "2026-11-22 00:00:00"}, "   ", 54),
+        ("a client with a slash", {**peer, "client": "a/b", "before": "2026-11-22 00:00:00"}, "   ", 2),
+        ("no moment", {"before": "2026-11-22"}, "   ", 52),
+    ]:
+        checks.check(name, checks.jobs(db, **only), (1, listed(marks), f"refused {number}\n"))
+    sqlite3(db, "UPDATE Job SET JobStatus = 'E' WHERE JobId = 2;")
+    checks.check("a Differential that failed", checks.jobs(db, **peer, before="2026-11-22 00:00:00"), (0, listed("*-*").replace("2 D T", "2 D E"), ""))
+    sqlite3(db, "UPDATE JobMedia SET JobId = 1, VolIndex = 2 WHERE JobId = 3; INSERT INTO Media VALUES (2, 'Vol 2', 'File');")
+    sqlite3(db, "UPDATE JobMedia SET MediaId = 2 WHERE JobId = 1 AND VolIndex = 2;")
+    text = listed("---").replace("2 D T", "2 D E").replace("5 21 Vol-0001", "5 21 Vol-0001,Vol\\x202").replace("1 24 Vol-0001", "1 24 -")
+    checks.check("a job on two volumes and one on none", checks.jobs(db), (0, text, ""))
+    checks.check("a catalogue that is not there", checks.jobs(missing), (1, "", "refused 45\n"))
+    checks.check("and is not made", os.path.exists(missing), False)
+    old = os.path.join(folder, "old_list.db")
+    with open(VERSION_1_SQL) as text:
+        sqlite3(old, text.read())
+    checks.check("jobs of a catalogue of version 1", checks.jobs(old), (1, "", "refused 48\n"))
 
 
 def refuses(checks, folder):
@@ -229,6 +286,7 @@ def main():
     with tempfile.TemporaryDirectory() as folder:
         restores(checks, folder)
         delivers(checks, folder)
+        lists(checks, folder)
         refuses(checks, folder)
         migrates(checks, folder)
         makes(checks, folder)

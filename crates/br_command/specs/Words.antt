@@ -33,12 +33,13 @@ pub data Goal : Type 0 where
 -- a command of the program: a script, and the memory for data; a script, a catalogue's file, the folder of the volumes and the memory; a
 -- bootstrap's file, the folder of the volumes, where the files go, the number of drives, the memory, and what else is done; a catalogue's
 -- file, the folder of the volumes, client, file set and moment, where the files go, the number of drives and the memory; a catalogue's
--- file; a number; all numbers
+-- file, and client, file set and moment of jobs, each if it is given; a catalogue's file; a number; all numbers
 pub data Asked : Type 0 where
   Serve : ℕ → Asked
   ServeFiles : Text → Text → ℕ → Asked
   Extract : Text → Text → Goal → ℕ → ℕ → Wanted → Asked
   Console : Text → Text → Text → Text → Text → Goal → ℕ → ℕ → Asked
+  Jobs : Text → Option Text → Option Text → Option Text → Asked
   Migrate : Text → Asked
   Explain : ℕ → Asked
   ExplainAll : Asked
@@ -57,6 +58,7 @@ asked (commands.ServeFiles o) = ServeFiles o.db.now o.volumes.now o.memory
 asked (commands.Extract o) = Extract o.bsr.now o.volumes.now (target o.target) o.drives o.memory o.wanted
 asked (commands.Console o) =
     Console o.db.now o.volumes.now o.client.now o.fileset.now o.before.now (target o.target) o.drives o.memory
+asked (commands.Jobs o) = Jobs o.db.now (option_map (λ s. s.now) o.client) (option_map (λ s. s.now) o.fileset) (option_map (λ s. s.now) o.before)
 asked (commands.Migrate db) = Migrate db.now
 asked (commands.Explain number) = Explain number
 asked commands.ExplainAll = ExplainAll
@@ -135,6 +137,14 @@ serve_app = with_rule (with_rule (with_rule (new_app (codes "serve")) (value_rul
 unfoldable pub migrate_app : App
 migrate_app = with_rule (new_app (codes "migrate")) (value_rule (codes "db") true)
 
+-- `jobs --db FILE` with `--client NAME`, which may be left out; this is not all of it
+unfoldable pub jobs_start_app : App
+jobs_start_app = with_rule (with_rule (new_app (codes "jobs")) (value_rule (codes "db") true)) (value_rule (codes "client") false)
+
+-- `jobs --db FILE` with `--client NAME`, `--fileset NAME` and `--before MOMENT`, which may be left out
+unfoldable pub jobs_app : App
+jobs_app = with_rule (with_rule jobs_start_app (value_rule (codes "fileset") false)) (value_rule (codes "before") false)
+
 -- the program with its version and the command `extract`
 unfoldable pub extracting_app : App
 extracting_app = with_subcommand (on_top (λ s. record s { has_version = true }) (new_app (codes "brestore"))) extract_app.top
@@ -143,9 +153,13 @@ extracting_app = with_subcommand (on_top (λ s. record s { has_version = true })
 unfoldable pub restoring_app : App
 restoring_app = with_subcommand extracting_app console_app.top
 
+-- the program also has the command `jobs`
+unfoldable pub listing_app : App
+listing_app = with_subcommand restoring_app jobs_app.top
+
 -- the program also has the commands `explain` and `serve`
 unfoldable pub serving_app : App
-serving_app = with_subcommand (with_subcommand restoring_app explain_app.top) serve_app.top
+serving_app = with_subcommand (with_subcommand listing_app explain_app.top) serve_app.top
 
 -- the program also has the command `migrate`
 unfoldable pub program_app : App
@@ -247,6 +261,12 @@ console_asked rows =
     (first_of (codes "volumes") rows))
     (first_of (codes "db") rows)
 
+-- the command `jobs` by the values that were found for its options
+unfoldable pub jobs_asked : List Row → Option Asked
+jobs_asked rows =
+    option_map (λ db. Jobs db (first_of (codes "client") rows) (first_of (codes "fileset") rows) (first_of (codes "before") rows))
+    (first_of (codes "db") rows)
+
 -- the command `serve` by the values of `--db` and `--volumes`, which go together, and the memory
 abbrev pub serve_by : Option Text → Option Text → ℕ → Option Asked
 serve_by None None memory = Some (Serve memory)
@@ -268,6 +288,7 @@ asked_by None = Some (Serve default_memory)
 asked_by (Some (name, rows)) =
     if bytes_eq name (codes "extract") then extract_asked rows
     else if bytes_eq name (codes "console") then console_asked rows
+    else if bytes_eq name (codes "jobs") then jobs_asked rows
     else if bytes_eq name (codes "explain") then explain_asked rows
     else if bytes_eq name (codes "serve") then serve_asked rows
     else if bytes_eq name (codes "migrate") then migrate_asked rows

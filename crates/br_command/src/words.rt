@@ -11,13 +11,15 @@ ghost use Rattle.br_command.specs.Words.{AsksFor, MissesBy, asked, asked_by, wor
 ghost use Rattle.br_command.specs.Words.{console_asked, drives_asked, explain_asked, extract_asked, migrate_asked, number_asked, serve_asked, serve_by};
 ghost use Rattle.br_command.specs.Words.{target_asked};
 ghost use Rattle.br_command.specs.Words.{kind_by, kind_in, tar_target, target, target_by, with_target_rules};
+ghost use Rattle.br_command.specs.Words.{jobs_app, jobs_asked, jobs_start_app, listing_app};
 ghost use Rattle.br_command.specs.Words.{console_app, console_jobs_app, console_start_app, explain_app, extract_app};
 ghost use Rattle.br_command.specs.Words.{drives_rule, extracting_app, migrate_app, number_rule, program_app, restoring_app, serve_app, serving_app};
 ghost use Rattle.br_command.specs.Words.{value_rule};
 
 use crate::size::read_size;
 use br_options::{
-    ConsoleOptions, Copies, ExtractOptions, Gaps, Invocation, ServeOptions, Target, Wanted,
+    ConsoleOptions, Copies, ExtractOptions, Gaps, Invocation, JobsOptions, ServeOptions, Target,
+    Wanted,
 };
 use clap::builder::ValueParser;
 use clap::error::ErrorKind;
@@ -285,6 +287,36 @@ fn migrate_command<'a>(alloc: Global) -> Result<Command<'a>, AllocError>
         .arg(value_option(alloc, "db", "FILE", true, "The file of the catalogue"))
 }
 
+/// Returns an option of `jobs` that may be left out.
+fn jobs_option<'a>(alloc: Global, name: &'a str, value: &'a str, help: &'a str) -> Arg<'a>
+    ensures rule { rule_of result ≡ value_rule name.entry.now false }
+    ensures local { result.global ≡ false }
+{
+    value_option(alloc, name, value, false, help)
+}
+
+/// Returns `jobs` with the options for what is read and for a client.
+fn jobs_start<'a>(alloc: Global) -> Result<Command<'a>, AllocError>
+    ensures app { IfOk result (λ command. app_of command ≡ jobs_start_app) }
+    ensures local { IfOk result (λ command. (fields_of command).has_globals ≡ false) }
+{
+    Command::new(alloc, "jobs")
+        .about("Lists the jobs of a catalogue, and which of them would be chosen")
+        .arg(value_option(alloc, "db", "FILE", true, "The file of the catalogue"))?
+        .arg(jobs_option(alloc, "client", "NAME", "Lists only jobs of this client"))
+}
+
+/// Returns `jobs` with its options.
+fn jobs_command<'a>(alloc: Global) -> Result<Command<'a>, AllocError>
+    ensures app { IfOk result (λ command. app_of command ≡ jobs_app) }
+    ensures local { IfOk result (λ command. (fields_of command).has_globals ≡ false) }
+{
+    let before = "Lists only jobs that began before YYYY-MM-DD HH:MM:SS, in UTC";
+    jobs_start(alloc)?
+        .arg(jobs_option(alloc, "fileset", "NAME", "Lists only jobs of this file set"))?
+        .arg(jobs_option(alloc, "before", "MOMENT", before))
+}
+
 /// Returns the program with its command `extract`.
 fn extracting<'a>(alloc: Global) -> Result<Command<'a>, AllocError>
     ensures app { IfOk result (λ command. app_of command ≡ extracting_app) }
@@ -306,6 +338,15 @@ fn restoring<'a>(alloc: Global) -> Result<Command<'a>, AllocError>
     extracting(alloc)?.subcommand(console)
 }
 
+/// Returns the program with its commands that restore, and with `jobs`.
+fn listing<'a>(alloc: Global) -> Result<Command<'a>, AllocError>
+    ensures app { IfOk result (λ command. app_of command ≡ listing_app) }
+    ensures local { IfOk result (λ command. (fields_of command).has_globals ≡ false) }
+{
+    let jobs = jobs_command(alloc)?;
+    restoring(alloc)?.subcommand(jobs)
+}
+
 /// Returns the program with its commands but `migrate`.
 fn serving<'a>(alloc: Global) -> Result<Command<'a>, AllocError>
     ensures app { IfOk result (λ command. app_of command ≡ serving_app) }
@@ -313,7 +354,7 @@ fn serving<'a>(alloc: Global) -> Result<Command<'a>, AllocError>
 {
     let explain = explain_command(alloc)?;
     let serve = serve_command(alloc)?;
-    restoring(alloc)?.subcommand(explain)?.subcommand(serve)
+    listing(alloc)?.subcommand(explain)?.subcommand(serve)
 }
 
 /// Returns the program with its commands.
@@ -485,6 +526,20 @@ fn console_found<'a>(found: &ArgMatches<'a>) -> Option<Invocation<'a>>
     }))
 }
 
+/// Returns `jobs` with the options that were found, if all that are required were.
+#[tactic(auto, unfolding(crate::specs::Words::jobs_asked))]
+fn jobs_found<'a>(found: &ArgMatches<'a>) -> Option<Invocation<'a>>
+    ensures asked { option_map asked result ≡ jobs_asked (rows_of (found_of found.now)) }
+    ensures drives { IfSome result HasDrives }
+{
+    Some(Invocation::Jobs(JobsOptions {
+        db: value_of(found, "db")?,
+        client: value_of(found, "client"),
+        fileset: value_of(found, "fileset"),
+        before: value_of(found, "before"),
+    }))
+}
+
 /// Returns `explain` with the number that was found, if any.
 #[tactic(auto, unfolding(crate::specs::Words::explain_asked))]
 fn explain_found<'a>(found: &ArgMatches<'a>) -> Option<Invocation<'a>>
@@ -554,6 +609,7 @@ fn invocation_of<'a>(matches: &ArgMatches<'a>) -> Option<Invocation<'a>>
         None => Some(Invocation::Serve(DEFAULT_MEMORY)),
         Some((name, found)) if name == "extract" => extract_found(found),
         Some((name, found)) if name == "console" => console_found(found),
+        Some((name, found)) if name == "jobs" => jobs_found(found),
         Some((name, found)) if name == "explain" => explain_found(found),
         Some((name, found)) if name == "serve" => serve_found(found),
         Some((name, found)) if name == "migrate" => migrate_found(found),
@@ -645,9 +701,10 @@ fn read_by<'a>(command: &mut Command<'a>, words: &'a [String]) -> Result<Invocat
 /// Reads the words of a command line, of which the first is the program's name.
 ///
 /// The commands are `extract --bsr FILE --volumes DIR`, `console --db FILE --volumes DIR --client NAME --fileset NAME
-/// --before MOMENT`, `migrate --db FILE`, `explain [N]` and `serve`. The first two also take `--into DIR` or `--tar FILE`, and
-/// `--drives N`; the first takes `--newest` and `--complete`; the last takes `--db FILE` and `--volumes DIR`, both or neither. All that
-/// restore take `--memory SIZE`: bytes, or a number with K, M or G. No command is the same as `serve`.
+/// --before MOMENT`, `jobs --db FILE [--client NAME] [--fileset NAME] [--before MOMENT]`, `migrate --db FILE`, `explain [N]`
+/// and `serve`. The first two also take `--into DIR` or `--tar FILE`, and `--drives N`; the first takes `--newest` and `--complete`;
+/// the last takes `--db FILE` and `--volumes DIR`, both or neither. All that restore take `--memory SIZE`: bytes, or a number with K,
+/// M or G. No command is the same as `serve`.
 ///
 /// # Errors
 ///

@@ -1,6 +1,7 @@
 use br_command::read_words;
 use br_options::{
-    ConsoleOptions, Copies, ExtractOptions, Gaps, Invocation, ServeOptions, Target, Wanted,
+    ConsoleOptions, Copies, ExtractOptions, Gaps, Invocation, JobsOptions, ServeOptions, Target,
+    Wanted,
 };
 use clap::error::ErrorKind;
 use std::alloc::Global;
@@ -251,6 +252,32 @@ fn a_migration_is_asked_for(rt: HostRuntime) -> Result<(), Fail> {
 }
 
 #[test]
+fn a_list_of_jobs_is_asked_for(rt: HostRuntime) -> Result<(), Fail> {
+    let all = JobsOptions {
+        db: "j.db",
+        client: None,
+        fileset: None,
+        before: None,
+    };
+    let lines = ["brestore jobs --db j.db", "brestore jobs --db=j.db"];
+    let other = first_other(rt.alloc(), &lines, &Invocation::Jobs(all))?;
+    assert_eq!(rt; other, None);
+    let chosen = JobsOptions {
+        db: "j.db",
+        client: Some("mars"),
+        fileset: Some("home"),
+        before: Some("2026-11-22"),
+    };
+    let lines = [
+        "brestore jobs --db j.db --client mars --fileset home --before 2026-11-22",
+        "brestore jobs --before=2026-11-22 --fileset=home --client=mars --db=j.db",
+    ];
+    let other = first_other(rt.alloc(), &lines, &Invocation::Jobs(chosen))?;
+    assert_eq!(rt; other, None);
+    Ok(())
+}
+
+#[test]
 fn catalogue_and_volumes_are_given_together(rt: HostRuntime) -> Result<(), Fail> {
     let alone = [
         "brestore serve --db j.db",
@@ -426,7 +453,7 @@ fn drives_are_named_once_and_if_volumes_are_read(rt: HostRuntime) -> Result<(), 
     Ok(())
 }
 
-const REFUSED: [&str; 35] = [
+const REFUSED: [&str; 41] = [
     "brestore x",
     "brestore --bsr x",
     "brestore serve x",
@@ -456,6 +483,12 @@ const REFUSED: [&str; 35] = [
     "brestore console --db j.db --volumes d --client mars --fileset home --before 2026-11-22 --bsr x",
     "brestore console --db j.db --volumes d --client mars --fileset home --before 2026-11-22 --into=",
     "brestore console --db j.db --volumes d --client mars --fileset home --into e",
+    "brestore jobs",
+    "brestore jobs --client mars",
+    "brestore jobs j.db",
+    "brestore jobs --db j.db --client=",
+    "brestore jobs --db j.db --before 1 --before 2",
+    "brestore jobs --db j.db --volumes d",
     "brestore migrate",
     "brestore migrate j.db",
     "brestore migrate --db=",
@@ -480,6 +513,7 @@ fn help_is_given(rt: HostRuntime) -> Result<(), Fail> {
         ("brestore console --help", ErrorKind::DisplayHelp),
         ("brestore explain --help", ErrorKind::DisplayHelp),
         ("brestore serve --help", ErrorKind::DisplayHelp),
+        ("brestore jobs --help", ErrorKind::DisplayHelp),
         ("brestore migrate --help", ErrorKind::DisplayHelp),
         ("brestore --version", ErrorKind::DisplayVersion),
     ] {

@@ -5,6 +5,7 @@ use crate::console::restore_marked;
 use crate::explaining::{explain_all, explain_number};
 use crate::extract::extract_files;
 use crate::migrating::migrate_catalogue;
+use br_listing::list;
 use br_options::Invocation;
 use br_serving::{serve_files, serve_memory};
 use br_setup::Catalogue;
@@ -32,6 +33,7 @@ pub fn run_command<C: Catalogue>(
         Invocation::ServeFiles(options) => serve_files(rt, threads, catalogue, options),
         Invocation::Extract(options) => extract_files(rt, threads, options),
         Invocation::Console(options) => restore_marked(rt, threads, catalogue, options),
+        Invocation::Jobs(options) => list(rt, catalogue, options),
         Invocation::Migrate(db) => migrate_catalogue(rt, catalogue, db),
         Invocation::Explain(number) => explain_number(rt, *number),
         Invocation::ExplainAll => explain_all(rt),

@@ -4,5 +4,6 @@
 mod options;
 
 pub use options::{
-    ConsoleOptions, Copies, ExtractOptions, Gaps, Invocation, ServeOptions, Target, Wanted,
+    ConsoleOptions, Copies, ExtractOptions, Gaps, Invocation, JobsOptions, ServeOptions, Target,
+    Wanted,
 };

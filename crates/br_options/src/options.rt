@@ -80,6 +80,18 @@ pub struct ServeOptions<'a> {
     pub memory: u64,
 }
 
+/// The options of `jobs`. A job is listed if it is of the client and of the file set and began before the moment, of those
+/// that are given.
+#[derive(Clone, Copy, Debug, PartialEq, Eq)]
+pub struct JobsOptions<'a> {
+    /// The file of the catalogue.
+    pub db: &'a str,
+    pub client: Option<&'a str>,
+    pub fileset: Option<&'a str>,
+    /// The moment, as text.
+    pub before: Option<&'a str>,
+}
+
 /// A command of the program with its options.
 #[derive(Clone, Copy, Debug, PartialEq, Eq)]
 pub enum Invocation<'a> {
@@ -92,6 +104,8 @@ pub enum Invocation<'a> {
     Extract(ExtractOptions<'a>),
     /// Runs a console session over the jobs of a catalogue, and restores what was marked.
     Console(ConsoleOptions<'a>),
+    /// Lists the jobs of a catalogue.
+    Jobs(JobsOptions<'a>),
     /// Makes the catalogue of version 1 in this file one of version 2.
     Migrate(&'a str),
     /// Explains the number of a refusal or of an outcome.

@@ -7,6 +7,7 @@ mod choices;
 mod dialogues;
 mod histories;
 mod jobs;
+mod listings;
 mod plans;
 mod saved;
 mod trees;
@@ -19,6 +20,7 @@ fn run(case: &mut Case, fields: &[&str]) {
     match fields {
         ["history", call @ ..] => histories::run(case, call),
         ["choice", call @ ..] => choices::run(case, call),
+        ["list", call @ ..] => listings::run(case, call),
         ["tree", call @ ..] => trees::run(case, call),
         ["dialogue", call @ ..] => dialogues::run(case, call),
         ["plan", call @ ..] => plans::run(case, call),

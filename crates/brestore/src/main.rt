@@ -1,8 +1,8 @@
 //! The restoring half of a Bacula Director, with the volume reading that a restore needs.
 //!
 //! `extract` runs a bootstrap over the volumes of a folder. `console` lets the operator mark files as they were at a moment, and
-//! restores them. Both write the restored files into another folder, if one is given. `explain` says what a refusal number means.
-//! `migrate` makes a catalogue of version 1 one of version 2.
+//! restores them. Both write the restored files into another folder, if one is given. `jobs` lists the jobs of a catalogue.
+//! `explain` says what a refusal number means. `migrate` makes a catalogue of version 1 one of version 2.
 //! `serve` runs a script from standard input, over a catalogue and a folder of volumes, or in memory; without a command the
 //! program does the same in memory.
 //!

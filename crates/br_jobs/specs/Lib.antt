@@ -1,0 +1,4 @@
+pub mod Fault
+pub mod Filter
+pub mod Line
+pub mod Marking

@@ -1,0 +1,89 @@
+ghost use Rattle.std.specs.Prelude.{◌≡◌, ◌⊎◌, IfOk};
+ghost use Rattle.br_setup.specs.Setup.{AreJobs};
+
+use br_history::History;
+use br_jobs::{Filter, marked_lines, unmarked_lines};
+use br_options::JobsOptions;
+use br_plan::{BadMoment, read_moment};
+use br_setup::{CLEAN, Catalogue, CatalogueFault, refuse_start};
+use std::fs;
+use std::io::{self, Write};
+
+/// Returns which jobs are listed by these options.
+fn filter_of<'a>(given: &JobsOptions<'a>) -> Result<Filter<'a>, BadMoment> {
+    let before = match given.before {
+        Some(text) => Some(read_moment(text.as_bytes())?),
+        None => None,
+    };
+    Ok(Filter {
+        client: given.client,
+        fileset: given.fileset,
+        before,
+    })
+}
+
+/// Loads the jobs in the file of a catalogue, if the file is there.
+fn jobs_in<C: Catalogue>(
+    rt: &HostRuntime,
+    catalogue: &C,
+    db: &str,
+) -> Result<History, CatalogueFault>
+    ensures jobs { IfOk result (λ history. AreJobs (C.jobs_at catalogue.now db.now) history) }
+{
+    // A file that is not there would be made.
+    if fs::metadata(rt, db).is_err() {
+        return Err(CatalogueFault::Unreadable);
+    }
+    catalogue.load(db)
+}
+
+/// Prints lines to standard output.
+fn print_lines(rt: &HostRuntime, text: &[u8]) -> io::Result<()> {
+    let mut writer = io::writer(rt);
+    writer.write_all(text)?;
+    writer.flush()
+}
+
+/// Prints the lines of the jobs that the filter lists, and why none is marked, if the choice was refused.
+/// Returns the exit status.
+fn print_jobs(rt: &HostRuntime, history: &History, filter: &Filter<'_>) -> io::Result<u8>
+    ensures status { IfOk result (λ status. (status ≡ 0) ⊎ (status ≡ 1)) }
+{
+    match marked_lines(rt.alloc(), history, filter) {
+        Ok(text) => {
+            print_lines(rt, &text)?;
+            Ok(CLEAN)
+        }
+        Err(fault) => {
+            print_lines(rt, &unmarked_lines(rt.alloc(), history, filter)?)?;
+            refuse_start(rt, fault.number())
+        }
+    }
+}
+
+/// Prints the jobs of a catalogue, a line for each. If client, file set and moment are given, it marks those
+/// that `console` would choose; if that choice is refused, the refusal goes to standard error after the
+/// jobs.
+///
+/// Returns the exit status: 1 if something was refused, else 0.
+///
+/// # Errors
+///
+/// If memory ran out, or a stream failed.
+pub fn list<C: Catalogue>(
+    rt: &HostRuntime,
+    catalogue: &C,
+    given: &JobsOptions<'_>,
+) -> io::Result<u8>
+    ensures status { IfOk result (λ status. (status ≡ 0) ⊎ (status ≡ 1)) }
+{
+    let filter = match filter_of(given) {
+        Ok(filter) => filter,
+        Err(fault) => return refuse_start(rt, fault.number()),
+    };
+    let history = match jobs_in(rt, catalogue, given.db) {
+        Ok(history) => history,
+        Err(fault) => return refuse_start(rt, fault.number()),
+    };
+    print_jobs(rt, &history, &filter)
+}
