@@ -26,6 +26,9 @@ journal makes new files slowly for six minutes after many were deleted. So wait 
     bench/delivering.py --program FILE     another program than crates/brestore/out/brestore
     bench/delivering.py --bextract FILE    another program than the bextract of the system
     bench/delivering.py --drives N         brestore reads with N drives
+    bench/delivering.py --memory SIZE      brestore holds this much of the files' bytes, and reads the rest again: its time is
+                                           compared with that of bextract and of md5sum, and its peak with the budget
+    bench/delivering.py --kind tiny        a file of 1 KiB for each KiB of a set
     bench/delivering.py --unchecked        bextract doesn't compare the blocks' checksums
 
 The status is 1 if a program failed or delivered other files, and with --strict if a target was missed.
@@ -47,8 +50,15 @@ from common import MIB, PROGRAM, escaped, run_measured
 from extract import Best, make, same_bytes
 
 # The sets by the names that are shown.
-KINDS = {"small": "one-session", "large": "large"}
-MOST_TIME = {"small": 1.5, "large": 1.0}
+KINDS = {"small": "one-session", "large": "large", "tiny": "tiny"}
+USUAL_KINDS = ("small", "large")
+MOST_TIME = {"small": 1.5, "large": 1.0, "tiny": 1.5}
+# With a budget: by the time of bextract and md5sum, and the bytes of memory beyond the budget.
+MOST_TIME_WITHIN = 1.3
+FREE_MEMORY = 64 * MIB
+FRAGMENT_MEMORY = 200
+FILE_MEMORY = 400
+UNITS = {"K": 1 << 10, "M": 1 << 20, "G": 1 << 30}
 # As many as the larger set has volumes.
 DRIVES = 6
 
@@ -60,7 +70,8 @@ def read_options():
     parser.add_argument("--size", type=int, default=1024, metavar="MIB", help="bytes of files in a set (default: %(default)s MiB)")
     parser.add_argument("--quick", action="store_true", help="sets of 16 MiB")
     parser.add_argument("--repeats", type=int, default=3, metavar="N", help="runs of each, of which the best counts (default: %(default)s)")
-    parser.add_argument("--kind", choices=KINDS, action="append", help="these sets only (default: all)")
+    parser.add_argument("--kind", choices=KINDS, action="append", help="these sets only (default: %s)" % ", ".join(USUAL_KINDS))
+    parser.add_argument("--memory", metavar="SIZE", help="handed on to brestore")
     parser.add_argument("--drives", type=int, default=DRIVES, metavar="N", help="the number of drives that brestore reads with (default: %(default)s)")
     parser.add_argument("--unchecked", action="store_true", help="have bextract compare no checksums")
     parser.add_argument("--seed", type=int, default=1, help="of the files' bytes")
@@ -120,6 +131,8 @@ class Delivery:
         volumes, bootstrap = self.path("volumes"), self.path("bootstrap")
         self.delivered = []
         extract = [options.program, "extract", "--bsr", bootstrap, "--volumes", volumes, "--drives", str(options.drives)]
+        self.budget = options.memory
+        extract += ["--memory", options.memory] if options.memory else []
         self.commands = {
             "brestore": [*extract, "--into"],
             "bextract": words_of_bextract(options.bextract, self.path("bacula"), volumes, bootstrap, not options.unchecked),
@@ -189,8 +202,24 @@ class Delivery:
         print(f"  time by that of bextract and md5sum {ours.seconds / seconds:.2f} ({ours.busy / busy:.2f} of the processor's)")
         print(f"  {'the same files and bytes from both, with the digests of the manifest' if self.is_right else 'WRONG'}")
 
+    def most_memory(self):
+        """The most memory that the budget, the fragments and the files allow."""
+        number, unit = self.budget.rstrip("KMG"), self.budget[-1]
+        files = sum(FILE_MEMORY + len(line.split()[0]) for line in open(self.path("wanted"))) if self.kind == "tiny" else 0
+        return int(number) * UNITS.get(unit, 1) + FREE_MEMORY + FRAGMENT_MEMORY * self.facts["fragments"] + files
+
+    def judge_within(self):
+        """Shows the targets of a run within a budget, and says whether they are met."""
+        ours, theirs, checked = self.best["brestore"], self.best["bextract"], self.best["md5sum"]
+        ratio, most = ours.seconds / (theirs.seconds + checked.seconds), self.most_memory()
+        print(f"{self.kind}: time by that of bextract and md5sum {ratio:.2f}, at most {MOST_TIME_WITHIN}  {'met' if ratio <= MOST_TIME_WITHIN else 'MISSED'}")
+        print(f"{self.kind}: peak {ours.memory / MIB:.0f} MiB, at most {most / MIB:.0f}  {'met' if ours.memory <= most else 'MISSED'}")
+        return ratio <= MOST_TIME_WITHIN and ours.memory <= most
+
     def judge(self):
         """Shows the target, and says whether it is met."""
+        if self.budget:
+            return self.judge_within()
         ours, theirs, most = self.best["brestore"], self.best["bextract"], MOST_TIME[self.kind]
         ratio, busy = ours.seconds / theirs.seconds, ours.busy / theirs.busy
         met = "met" if ratio <= most else "MISSED"
@@ -228,7 +257,7 @@ def main():
     least = run_measured(["true"], os.devnull)[1] / MIB
     print(f"load {os.getloadavg()[0]:.1f} on {os.cpu_count()} processors; a peak below {least:.0f} MiB is not seen")
     try:
-        sets = [measure(folder, kind, options) for kind in options.kind or KINDS]
+        sets = [measure(folder, kind, options) for kind in options.kind or USUAL_KINDS]
         are_met = options.quick or all([it.judge() for it in sets])
         for it in sets:
             it.remove()

@@ -162,6 +162,7 @@ class Session:
         self.files = 0
         self.bytes = 0
         self.blocks = 0
+        self.fragments = 0
         self.lines = []
         self.spans = []
         self.empty_block()
@@ -184,6 +185,7 @@ class Session:
             take = min(left, self.room - front)
             self.parts.append(self.level.record_header((self.id, self.time), index, stream if at == 0 else -stream, left))
             self.parts.append(data[at : at + take])
+            self.fragments += 1
             self.room -= front + take
             at += take
             left -= take
@@ -332,6 +334,16 @@ def fill_large(sessions, size, source):
         session.add_large(b"/srv/image-%d" % number, each, source.chunks(each))
 
 
+def fill_tiny(sessions, size, source):
+    """Files of 1 KiB."""
+    (session,) = sessions
+    for number in range(size // 1024):
+        folder = b"/home/folder-%05d/" % (number // FILES_IN_FOLDER)
+        if number % FILES_IN_FOLDER == 0:
+            session.add(FOLDER, folder)
+        session.add(FILE, folder + b"file-%d" % number, source.take(1024))
+
+
 # For each kind: how the sessions are filled, how many there are, on how many volumes of which sort, and the level of blocks.
 KINDS = {
     "small": (fill_small, 2, 4, Volumes, b"BB02"),
@@ -339,6 +351,7 @@ KINDS = {
     "small-older": (fill_small, 2, 4, Volumes, b"BB01"),
     "large-older": (fill_large, 1, 5, Volumes, b"BB01"),
     "one-session": (fill_small, 1, 4, Volumes, b"BB02"),
+    "tiny": (fill_tiny, 1, 1, Volumes, b"BB02"),
     "many-volumes": (fill_small, 2, 2000, Volumes, b"BB02"),
     "many-visits": (fill_small, 1, 2, VolumesInTurns, b"BB02"),
 }
@@ -365,6 +378,7 @@ def make_set(folder, kind, size, seed, without_every=0):
         "volumes": volumes.names,
         "volume_bytes": volumes.bytes,
         "blocks": volumes.blocks,
+        "fragments": sum(session.fragments for session in sessions),
         "files": files,
         "restored_bytes": restored,
     }
