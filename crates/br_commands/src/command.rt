@@ -9,9 +9,13 @@ use br_listing::list;
 use br_options::Invocation;
 use br_serving::{serve_files, serve_memory};
 use br_setup::Catalogue;
+use br_terminal::greet;
 use std::io;
 use std::sync::Wait;
 use std::thread::Threads;
+
+/// What an operator at a terminal reads who gives no command.
+const SCRIPT_AWAITED: &str = "brestore: reads a script from standard input. `brestore --help` lists the commands; Ctrl-D ends the input.";
 
 /// Does what a command asks for, in as many threads as `threads` starts. Returns the exit status: 0 if
 /// nothing was refused and every outcome is a file; 1 otherwise; 3 if the program's own files or streams
@@ -29,7 +33,10 @@ pub fn run_command<C: Catalogue>(
     requires few { HasDrives command.now }
 {
     match command {
-        Invocation::Serve(memory) => serve_memory(rt, threads, *memory),
+        Invocation::Serve(memory) => {
+            greet(rt, SCRIPT_AWAITED)?;
+            serve_memory(rt, threads, *memory)
+        }
         Invocation::ServeFiles(options) => serve_files(rt, threads, catalogue, options),
         Invocation::Extract(options) => extract_files(rt, threads, options),
         Invocation::Console(options) => restore_marked(rt, threads, catalogue, options),

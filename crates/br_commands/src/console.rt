@@ -19,12 +19,14 @@ use br_console::{ConsoleFault, ConsoleRun, End, JobSelection, Lines, run_console
 use br_engine::{Budget, Flush, Outputs, RestoreEnd};
 use br_folder_sink::FolderFault;
 use br_history::History;
+use br_listing::tell_chosen;
 use br_options::{ConsoleOptions, Target};
 use br_plan::Request;
 use br_request::{RequestFault, read_request};
 use br_setup::{CLEAN, Catalogue, CatalogueFault, HostDrive, REFUSED, drives_over, refuse_start};
 use br_sink::Sink;
 use br_tar::TarSink;
+use br_terminal::prompted;
 use br_volume::Drive;
 use std::alloc::{AllocError, Global};
 use std::fs::{self, File};
@@ -32,6 +34,10 @@ use std::io::{self, BufRead, BufReader, BufWriter, ErrorKind, Printer};
 use std::sync::Wait;
 use std::thread::Threads;
 use thiserror::Error;
+
+/// What an operator at a terminal reads before the first line.
+const GREETING: &str = "Mark files with `mark NAME`, or all with `mark *`. `ls` lists, `cd NAME` goes into a folder.
+`done` restores what is marked, and `quit` restores nothing.";
 
 /// Returns the exit status of a run that was not refused.
 fn status_of(run: &ConsoleRun) -> u8
@@ -92,8 +98,8 @@ fn report_stream<R: Eprint>(rt: &R, fault: &ConsoleFault) -> io::Result<()> {
 }
 
 /// Prints how a run ended to standard error. Returns the exit status.
-fn report<R: Eprint + AllocGlobal>(
-    rt: &R,
+fn report(
+    rt: &HostRuntime,
     run: Result<ConsoleRun, ConsoleFault>,
 ) -> io::Result<u8> {
     let ending = console_ending(rt.alloc(), &run)?;
@@ -376,8 +382,8 @@ fn console_stream<R: BufRead + Drop, D: Drive + Send, W: Flush + Drop, T: Flush 
 }
 
 /// Prints how a run with a tar stream ended to standard error. Returns the exit status.
-fn report_tar<R: Eprint + AllocGlobal>(
-    rt: &R,
+fn report_tar(
+    rt: &HostRuntime,
     run: Result<ConsoleRun, ConsoleFault>,
     end: TarEnd,
 ) -> io::Result<u8> {
@@ -404,6 +410,7 @@ fn restore_into<C: Catalogue, R: BufRead + Drop>(
         Ok(setup) => setup,
         Err(fault) => return refuse_start(rt, fault.number()),
     };
+    tell_chosen(rt, &setup.history, &setup.request)?;
     let writer = BufWriter::new(rt.alloc(), io::writer(rt))?;
     let mut task = setup.onto(writer);
     let run = console_over(threads, rt.alloc(), &mut task, reader);
@@ -463,6 +470,7 @@ fn restore_onto<R: BufRead + Drop, T: Channel + Drop, W: Channel + Drop>(
     requires asked { stream_asked given.now.target ≡ Some T.is_output }
     requires apart { W.is_output ≡ not T.is_output }
 {
+    tell_chosen(rt, &setup.history, &setup.request)?;
     let writer = BufWriter::new(rt.alloc(), answers)?;
     let mut task = setup.onto(writer);
     let stream = console_stream(threads, rt.alloc(), &mut task, reader);
@@ -517,6 +525,6 @@ pub(crate) fn restore_marked<C: Catalogue>(
 ) -> io::Result<u8>
     requires few { AreFew given.now.drives }
 {
-    let mut reader = BufReader::new(rt.alloc(), rt.reader())?;
+    let mut reader = BufReader::new(rt.alloc(), prompted(rt, GREETING, rt.reader()))?;
     restore_by_lines(rt, threads, catalogue, given, &mut reader)
 }

@@ -15,7 +15,7 @@ use br_engine::{Budget, ExtractFault, Flush, Outputs, RestoreEnd, read_text};
 use br_extract::{Extracted, extract_wanted};
 use br_folder_sink::FolderFault;
 use br_options::{ExtractOptions, Target, Wanted};
-use br_setup::{CLEAN, HostDrive, REFUSED, drives_over};
+use br_setup::{CLEAN, HostDrive, REFUSED, drives_over, refuse_start};
 use br_sink::Sink;
 use br_tar::TarSink;
 use br_volume::Drive;
@@ -76,7 +76,7 @@ fn report_stream<R: Eprint>(rt: &R, fault: &ExtractFault) -> io::Result<()> {
 }
 
 /// Prints how a run ended to standard error. Returns the exit status.
-fn report<R: Eprint + AllocGlobal>(rt: &R, run: Result<Extracted, ExtractFault>) -> io::Result<u8> {
+fn report(rt: &HostRuntime, run: Result<Extracted, ExtractFault>) -> io::Result<u8> {
     let ending = extract_ending(rt.alloc(), &run)?;
     if let Err(fault) = &run {
         report_stream(rt, fault)?;
@@ -202,17 +202,10 @@ fn set_up_over<'r, 'p, S: Drop>(
 }
 
 /// Prints why no restore began to standard error. Returns the exit status.
-fn refuse<R: Eprint>(rt: &R, bsr: &str, fault: ExtractStartFault) -> io::Result<u8> {
+fn refuse(rt: &HostRuntime, bsr: &str, fault: ExtractStartFault) -> io::Result<u8> {
     match fault {
-        ExtractStartFault::Folder(fault) => {
-            eprintln!(rt; "refused {}", fault.number())?;
-            Ok(REFUSED)
-        }
-        ExtractStartFault::Tar(TarFault::Memory) => Err(ErrorKind::OutOfMemory.into()),
-        ExtractStartFault::Tar(fault) => {
-            eprintln!(rt; "refused {}", fault.number())?;
-            Ok(REFUSED)
-        }
+        ExtractStartFault::Folder(fault) => refuse_start(rt, fault.number()),
+        ExtractStartFault::Tar(fault) => refuse_start(rt, fault.number()),
         ExtractStartFault::Io(e) if e.kind() == ErrorKind::OutOfMemory => Err(e),
         ExtractStartFault::Io(e) => {
             eprintln!(rt; "brestore: {bsr}: {e}")?;
@@ -331,8 +324,8 @@ fn extract_stream<D: Drive + Send, W: Flush, T: Flush + Drop>(
 }
 
 /// Prints how a run with a tar stream ended to standard error. Returns the exit status.
-fn report_tar<R: Eprint + AllocGlobal>(
-    rt: &R,
+fn report_tar(
+    rt: &HostRuntime,
     run: Result<Extracted, ExtractFault>,
     end: TarEnd,
 ) -> io::Result<u8> {

@@ -1,3 +1,4 @@
+use br_terminal::tell_refusals;
 use std::io;
 
 /// The exit status for a fault of the program's own files and streams.
@@ -12,10 +13,12 @@ pub struct Ending {
 }
 
 impl Ending {
-    /// Prints the line of the refusal to standard error. Returns the exit status.
-    pub(crate) fn print<R: Eprint + AllocGlobal>(&self, rt: &R) -> io::Result<u8> {
+    /// Prints the line of the refusal to standard error, and to a terminal what it means. Returns the exit
+    /// status.
+    pub(crate) fn print(&self, rt: &HostRuntime) -> io::Result<u8> {
         let refusal = String::from_utf8_lossy(rt.alloc(), &self.refusal)?;
         eprint!(rt; "{refusal}")?;
+        tell_refusals(rt, &self.refusal)?;
         Ok(self.status)
     }
 }

@@ -129,8 +129,8 @@ pub fn serve_over<C: JobStore, V: DrivenStore, R: BufRead, W: Flush>(
 /// # Errors
 ///
 /// That of the script, or if standard error failed.
-fn end_serve<C: Catalogue, R: Eprint>(
-    rt: &R,
+fn end_serve<C: Catalogue>(
+    rt: &HostRuntime,
     catalogue: &C,
     jobs: C::Jobs,
     status: io::Result<u8>,

@@ -21,6 +21,7 @@ use br_kept::StoredJobs;
 use br_look::{HostSight, LookFault, fold, look};
 use br_setup::{CLEAN, Catalogue, CatalogueFault, REFUSED};
 use br_store::{Store, StoreFault, reopened};
+use br_terminal::tell_refusal;
 use sqlite::{Alter, Connection, File, FileStore};
 use std::alloc::Global;
 use std::io::{self, ErrorKind};
@@ -189,6 +190,7 @@ fn main(rt: HostRuntime) -> ExitCode {
         Ok(status) => ExitCode::from(status),
         Err(e) if e.kind() == ErrorKind::OutOfMemory => {
             let _ = eprintln!(rt; "refused 1");
+            let _ = tell_refusal(&rt, 1);
             ExitCode::from(REFUSED)
         }
         Err(e) => {
