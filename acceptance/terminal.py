@@ -1,0 +1,161 @@
+#!/usr/bin/env python3
+"""Plays an operator at a terminal who makes mistakes, and compares what the terminal shows beside standard output.
+
+Standard input and standard error are a pseudo terminal, without echo; standard output is a file. What a refusal means is compared
+with the table of docs/RESTORING.md. Needs sqlite3.
+
+    acceptance/terminal.py                    over crates/brestore/out/brestore
+    acceptance/terminal.py --program FILE     over another program
+
+The status is 1 if something is not as expected.
+"""
+
+import argparse
+import os
+import pty
+import select
+import shutil
+import subprocess
+import sys
+import tempfile
+import termios
+import time
+
+# Nothing is left beside the script.
+sys.dont_write_bytecode = True
+sys.path.insert(0, os.path.join(os.path.dirname(os.path.dirname(os.path.abspath(__file__))), "tools"))
+from common import CASES, ORDER_SQL, PROGRAM, SETS, Checks
+from explain import rows
+
+VOLUMES = os.path.join(SETS, "order")
+BOOTSTRAP = os.path.join(CASES, "order-inc", "x.bsr")
+SECONDS = 60
+PROMPT = "$ "
+GREETING = [
+    "Mark files with `mark NAME`, or all with `mark *`. `ls` lists, `cd NAME` goes into a folder.",
+    "`done` restores what is marked, and `quit` restores nothing.",
+]
+CHOSEN = [
+    "chosen: * 1 F T 2026-11-21 23:15:33 peer-fd Peer 5 21 Vol-0001",
+    "chosen: * 2 D T 2026-11-21 23:15:38 peer-fd Peer 1 13 Vol-0001",
+    "chosen: * 3 I T 2026-11-21 23:15:45 peer-fd Peer 1 24 Vol-0001",
+]
+AWAITED = "brestore: reads a script from standard input. `brestore --help` lists the commands; Ctrl-D ends the input."
+
+
+def told(number, line=None):
+    """The lines of a refusal at a terminal."""
+    _, name, meaning, following = next(row for row in rows() if row[0] == number)
+    return [line or f"refused {number}", f"  {name}: {meaning}", f"  Next: {following}"]
+
+
+def read_until(terminal, text, wanted, ends):
+    """Reads what the terminal shows until that ends with a text, or until it is closed."""
+    while not (wanted and text.endswith(wanted)):
+        if not select.select([terminal], [], [], max(0.0, ends - time.monotonic()))[0]:
+            raise TimeoutError(f"after {text!r} nothing came")
+        try:
+            more = os.read(terminal, 65536)
+        except OSError:
+            return text
+        if not more:
+            return text
+        text += more.decode().replace("\r\n", "\n")
+    return text
+
+
+def play(program, words, lines, folder):
+    """Runs the program at a terminal, and types each line when it is asked for. Returns the exit status, what the terminal showed as
+    lines, and standard output."""
+    terminal, inner = pty.openpty()
+    modes = termios.tcgetattr(inner)
+    modes[3] &= ~termios.ECHO
+    termios.tcsetattr(inner, termios.TCSANOW, modes)
+    ends, shown = time.monotonic() + SECONDS, ""
+    with open(os.path.join(folder, "printed"), "w+") as printed:
+        child = subprocess.Popen([program, *words], stdin=inner, stdout=printed, stderr=inner)
+        os.close(inner)
+        for wanted, line in lines:
+            shown = read_until(terminal, shown, wanted, ends)
+            os.write(terminal, line.encode())
+        shown = read_until(terminal, shown, None, ends)
+        status = child.wait()
+        os.close(terminal)
+        printed.seek(0)
+        return status, shown.splitlines(), printed.read()
+
+
+def console_words(db, into, client="peer-fd"):
+    words = ["console", "--db", db, "--volumes", VOLUMES, "--client", client, "--fileset", "Peer", "--before", "2026-11-21 23:15:46"]
+    return [*words, "--into", into]
+
+
+def typed(*lines):
+    """Lines that are typed at the prompt."""
+    return [(PROMPT, f"{line}\n") for line in lines]
+
+
+def restores(checks, folder):
+    """A whole restore from a catalogue, with mistakes."""
+    db, into = os.path.join(folder, "jobs.db"), os.path.join(folder, "restored")
+    with open(ORDER_SQL) as text:
+        subprocess.run(["sqlite3", db], stdin=text, check=True)
+    status, shown, printed = play(checks.program, console_words(db, into), [], folder)
+    checks.check("a folder that is not there", (status, shown, printed), (1, told(81), ""))
+    os.mkdir(into)
+    status, shown, printed = play(checks.program, console_words(os.path.join(folder, "nothing.db"), into), [], folder)
+    checks.check("a catalogue that is not there", (status, shown, printed), (1, told(45), ""))
+    status, shown, printed = play(checks.program, console_words(db, into, client="mars-fd"), [], folder)
+    checks.check("another client", (status, shown, printed), (1, told(53), ""))
+    status, shown, printed = play(checks.program, console_words(db, into), typed("done"), folder)
+    checks.check("nothing is marked", (status, shown, printed), (1, [*CHOSEN, *GREETING, *told(51, f"{PROMPT}refused 51")], ""))
+    lines = typed("frob", "ls", "mark *", "done")
+    status, shown, printed = play(checks.program, console_words(db, into), lines, folder)
+    checks.check("a session with a line that is refused", (status, shown), (1, [*CHOSEN, *GREETING, PROMPT * 4]))
+    with open(os.path.join(CASES, "order-inc", "expected")) as text:
+        manifest = text.read()
+    checks.check("and its answers", (printed.startswith("refused 55\n"), printed.endswith(manifest)), (True, True))
+    with open(os.path.join(into, "tmp/peerlab/src/sub/f2")) as text:
+        checks.check("and a file", len(text.read()), 24)
+    status, shown, printed = play(checks.program, console_words(db, into), [], folder)
+    checks.check("a second restore into the folder", (status, shown, printed), (1, told(81), ""))
+
+
+def extracts(checks, folder):
+    """Restores by a bootstrap, with faults of the volumes."""
+    empty, cut = os.path.join(folder, "empty"), os.path.join(folder, "cut")
+    for place in (empty, cut):
+        os.mkdir(place)
+    words = ["extract", "--bsr", BOOTSTRAP, "--volumes"]
+    status, shown, printed = play(checks.program, [*words, empty], [], folder)
+    checks.check("a volume that is missing", (status, shown, printed), (1, told(14, "refused 14 Vol-0001 0"), ""))
+    with open(os.path.join(VOLUMES, "Vol-0001"), "rb") as whole, open(os.path.join(cut, "Vol-0001"), "wb") as part:
+        part.write(whole.read()[:300])
+    status, shown, printed = play(checks.program, [*words, cut], [], folder)
+    checks.check("a volume that is cut", (status, shown, printed), (1, told(12, "refused 12 Vol-0001 206"), ""))
+    status, shown, printed = play(checks.program, [*words, VOLUMES], [], folder)
+    checks.check("a restore without a fault shows nothing", (status, shown), (0, []))
+
+
+def waits(checks, folder):
+    """The program without a command."""
+    status, shown, printed = play(checks.program, [], [(f"{AWAITED}\n", "\x04")], folder)
+    checks.check("no command", (status, shown, printed), (0, [AWAITED], ""))
+
+
+def main():
+    parser = argparse.ArgumentParser(description="Plays an operator at a terminal who makes mistakes.")
+    parser.add_argument("--program", default=PROGRAM, help="the program (default: %(default)s)")
+    options = parser.parse_args()
+    checks = Checks(os.path.abspath(options.program))
+    folder = tempfile.mkdtemp(prefix="brestore-terminal-")
+    try:
+        for plays in (restores, extracts, waits):
+            plays(checks, folder)
+    finally:
+        shutil.rmtree(folder)
+    return 1 if checks.failed else 0
+
+
+if __name__ == "__main__":
+    sys.exit(main())
