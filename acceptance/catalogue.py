@@ -131,7 +131,7 @@ def delivers(checks, folder):
 
 # The jobs of the catalogue, from the table of File: of the Full three files of 7 bytes and two folders, of the Differential one of
 # 13 bytes, of the Incremental one of 24.
-LISTED = [
+JOB_LINES = [
     "1 F T 2026-11-21 23:15:33 peer-fd Peer 5 21 Vol-0001\n",
     "2 D T 2026-11-21 23:15:38 peer-fd Peer 1 13 Vol-0001\n",
     "3 I T 2026-11-21 23:15:45 peer-fd Peer 1 24 Vol-0001\n",
@@ -139,7 +139,7 @@ LISTED = [
 
 
 def listed(marks):
-    return "".join(f"{mark} {job}" for mark, job in zip(marks, LISTED) if mark != " ")
+    return "".join(f"{mark} {job}" for mark, job in zip(marks, JOB_LINES) if mark != " ")
 
 
 def lists(checks, folder):
@@ -151,9 +151,11 @@ def lists(checks, folder):
     for name, only, marks in [
         ("all jobs", {}, "---"),
         ("jobs of a client", {"client": "peer-fd"}, "---"),
+        ("jobs of a file set", {"fileset": "Peer"}, "---"),
         ("jobs of another client", {"client": "other"}, "   "),
         ("jobs of another file set", {"fileset": "peer"}, "   "),
         ("jobs before a moment", {"before": "2026-11-21 23:15:45"}, "-- "),
+        ("jobs of a client before a moment", {"client": "peer-fd", "before": "2026-11-21 23:15:39"}, "-- "),
         ("jobs that are chosen", {**peer, "before": "2026-11-22 00:00:00"}, "***"),
         ("jobs that are chosen without the Incremental", {**peer, "before": "2026-11-21 23:15:45"}, "** "),
         ("the Full alone", {**peer, "before": "2026-11-21 23:15:34"}, "*  "),
@@ -161,24 +163,32 @@ def lists(checks, folder):
         checks.check(name, checks.jobs(db, **only), (0, listed(marks), ""))
     for name, only, marks, number in [
         ("jobs before the Full", {**peer, "before": "2026-11-21 23:15:33"}, "   ", 50),
-        ("no such client", {**peer, "client": "other", "before": "2026-11-22 00:00:00"}, "   ", 53),
-        ("no such file set", {**peer, "fileset": "other", "before": "2026-11-22 00:00:00"}, "   ", 54),
-        ("a client with a slash", {**peer, "client": "a/b", "before": "2026-11-22 00:00:00"}, "   ", 2),
-        ("no moment", {"before": "2026-11-22"}, "   ", 52),
+        ("jobs of a client that is not there", {**peer, "client": "other", "before": "2026-11-22 00:00:00"}, "   ", 53),
+        ("jobs of a file set that is not there", {**peer, "fileset": "other", "before": "2026-11-22 00:00:00"}, "   ", 54),
+        ("jobs of a client with a slash", {**peer, "client": "a/b", "before": "2026-11-22 00:00:00"}, "   ", 2),
+        ("jobs before a moment without a time", {"before": "2026-11-22"}, "   ", 52),
     ]:
         checks.check(name, checks.jobs(db, **only), (1, listed(marks), f"refused {number}\n"))
     sqlite3(db, "UPDATE Job SET JobStatus = 'E' WHERE JobId = 2;")
-    checks.check("a Differential that failed", checks.jobs(db, **peer, before="2026-11-22 00:00:00"), (0, listed("*-*").replace("2 D T", "2 D E"), ""))
+    checks.check("jobs with a Differential that failed", checks.jobs(db, **peer, before="2026-11-22 00:00:00"), (0, listed("*-*").replace("2 D T", "2 D E"), ""))
     sqlite3(db, "UPDATE JobMedia SET JobId = 1, VolIndex = 2 WHERE JobId = 3; INSERT INTO Media VALUES (2, 'Vol 2', 'File');")
     sqlite3(db, "UPDATE JobMedia SET MediaId = 2 WHERE JobId = 1 AND VolIndex = 2;")
     text = listed("---").replace("2 D T", "2 D E").replace("5 21 Vol-0001", "5 21 Vol-0001,Vol\\x202").replace("1 24 Vol-0001", "1 24 -")
     checks.check("a job on two volumes and one on none", checks.jobs(db), (0, text, ""))
-    checks.check("a catalogue that is not there", checks.jobs(missing), (1, "", "refused 45\n"))
+    sqlite3(db, "UPDATE Job SET StartTime = 253402300799 WHERE JobId = 1; UPDATE Job SET StartTime = 0 WHERE JobId = 2;")
+    text = text.replace("2026-11-21 23:15:33", "9999-12-31 23:59:59").replace("2026-11-21 23:15:38", "1970-01-01 00:00:00")
+    checks.check("jobs of the last moment and of the first", checks.jobs(db), (0, text, ""))
+    sqlite3(db, "UPDATE Version SET VersionId = 3;")
+    checks.check("jobs of a catalogue of version 3", checks.jobs(db), (1, "", "refused 47\n"))
+    checks.check("and a moment without a time", checks.jobs(db, before="2026-11-22"), (1, "", "refused 52\n"))
+    checks.check("jobs of a catalogue that is not there", checks.jobs(missing), (1, "", "refused 45\n"))
     checks.check("and is not made", os.path.exists(missing), False)
     old = os.path.join(folder, "old_list.db")
     with open(VERSION_1_SQL) as text:
         sqlite3(old, text.read())
     checks.check("jobs of a catalogue of version 1", checks.jobs(old), (1, "", "refused 48\n"))
+    checks.migrate(old)
+    checks.check("once it is migrated", checks.jobs(old), (0, listed("---"), ""))
 
 
 def refuses(checks, folder):
@@ -277,6 +287,7 @@ def makes(checks, folder):
     checks.check("its tables", names, TABLES)
     checks.check("its version", sqlite3(db, "SELECT * FROM Version;"), "2\n")
     checks.check("has no job", checks.console(db), (1, "", "refused 53\n"))
+    checks.check("and lists none", checks.jobs(db), (0, "", ""))
 
 
 def main():

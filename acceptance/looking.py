@@ -1,10 +1,10 @@
 #!/usr/bin/env python3
-"""Looks at catalogues by `brestore console`, and compares what lies there before and after.
+"""Looks at catalogues by `brestore console` and `brestore jobs`, and compares what lies there before and after.
 
     acceptance/looking.py                      needs sqlite3, and the program in crates/brestore/out
     acceptance/looking.py --program FILE       another program
 
-`console` must leave each file as it was and make none, also in a folder that it can't write, on an empty file and on one that is no
+Both must leave each file as it was and make none, also in a folder that it can't write, on an empty file and on one that is no
 database. It must wait while another program writes, for five seconds at most, and must refuse a journal that has to be rolled back and a
 log that was not put into the file. After `serve` and `migrate` ended, a copy of the catalogue's file alone must have all jobs, by the
 real sqlite3. After a `serve` that was killed it must once `serve` ran again. The status is 1 if something is not as expected.
@@ -24,7 +24,7 @@ from pathlib import Path
 # Nothing is left beside the script.
 sys.dont_write_bytecode = True
 sys.path.insert(0, os.path.join(os.path.dirname(os.path.dirname(os.path.abspath(__file__))), "tools"))
-from catalogue import FILES, JOBS, VERSION_1_SQL, VOLUMES, ConsoleChecks, answers
+from catalogue import FILES, JOBS, VERSION_1_SQL, VOLUMES, ConsoleChecks, answers, listed
 from catalogue import sqlite3 as by_sqlite3
 from common import ORDER_SQL, PROGRAM
 
@@ -32,6 +32,8 @@ REFUSED = (1, "", "refused 45\n")
 NOBODY = ["setpriv", "--reuid=65534", "--regid=65534", "--clear-groups"]
 TEXT = answers()["2026-11-21 23:15:46"]
 SHOWN = (0, TEXT, "")
+PEER = ["--client", "peer-fd", "--fileset", "Peer", "--before", "2026-11-21 23:15:46"]
+CHOSEN = (0, listed("***"), "")
 # From the first refusal to the last try, and what the program and a busy machine may add.
 LONGEST, SLACK = 5, 5
 
@@ -86,20 +88,25 @@ class Writer:
 
 
 class LookChecks(ConsoleChecks):
-    def look(self, name, db, expected, prefix=(), is_still=True):
-        """Looks at a catalogue. What is printed must be this, and if nobody else is at work nothing may change beside it. Returns the
-        seconds that it took."""
+    def still(self, name, db, words, expected, prefix=(), is_still=True):
+        """Runs a command over a catalogue. What is printed must be this, and if nobody else is at work nothing may change beside it.
+        Returns the seconds that it took."""
         before = contents(os.path.dirname(db))
-        words = ["console", "--db", db, "--volumes", VOLUMES, "--client", "peer-fd", "--fileset", "Peer"]
         start = time.monotonic()
-        ran = subprocess.run(
-            [*prefix, self.program, *words, "--before", "2026-11-21 23:15:46"], input="mark *\ndone\n", capture_output=True, text=True
-        )
+        ran = subprocess.run([*prefix, self.program, *words], input="mark *\ndone\n", capture_output=True, text=True)
         took = time.monotonic() - start
         self.check(name, (ran.returncode, ran.stdout, ran.stderr), expected)
         if is_still:
             self.check("and leaves no trace", contents(os.path.dirname(db)) == before, True)
         return took
+
+    def look(self, name, db, expected, prefix=(), is_still=True):
+        """Looks at a catalogue by `console`, which must print this."""
+        return self.still(name, db, ["console", "--db", db, "--volumes", VOLUMES, *PEER], expected, prefix, is_still)
+
+    def list(self, name, db, expected, prefix=(), is_still=True):
+        """Looks at a catalogue by `jobs`, which must print this."""
+        return self.still(f"{name}, by its jobs", db, ["jobs", "--db", db, *PEER], expected, prefix, is_still)
 
     def serve(self, db, volumes, script):
         ran = subprocess.run([self.program, "serve", "--db", db, "--volumes", volumes], input=script, capture_output=True)
@@ -119,10 +126,13 @@ def only_reads(checks, folder):
     """Files and folders that can't be written, and files that are no catalogue."""
     db = new_catalogue(folder)
     checks.look("a catalogue", db, SHOWN)
+    checks.list("a catalogue", db, CHOSEN)
     os.chmod(db, 0o444)
     os.chmod(os.path.dirname(db), 0o555)
     os.chmod(folder, 0o755)
-    checks.look("a catalogue that can't be written", db, SHOWN, NOBODY if os.getuid() == 0 else ())
+    prefix = NOBODY if os.getuid() == 0 else ()
+    checks.look("a catalogue that can't be written", db, SHOWN, prefix)
+    checks.list("a catalogue that can't be written", db, CHOSEN, prefix)
     os.chmod(os.path.dirname(db), 0o755)
     link = os.path.join(folder, "link.db")
     os.symlink(db, link)
@@ -138,6 +148,7 @@ def only_reads(checks, folder):
         other = os.path.join(tempfile.mkdtemp(dir=folder), "c.db")
         Path(other).write_bytes(data)
         checks.look(name, other, expected)
+        checks.list(name, other, expected)
 
 
 # More rows than fit into a small cache, so that they are written to the file within the transaction.
@@ -158,6 +169,12 @@ def waits(checks, folder):
             took = checks.look(f"a catalogue soon after {begin}", db, SHOWN, is_still=False)
             checks.check("and waits until it is free", 0.9 <= took <= LONGEST, True)
             timer.join()
+    with Writer(db, f"BEGIN IMMEDIATE; PRAGMA cache_size = 1; CREATE TABLE Notes(Note); {NOTES}") as writer:
+        timer = threading.Timer(1, writer.tell, ["ROLLBACK;"])
+        timer.start()
+        took = checks.list("a catalogue that is free after a second", db, CHOSEN, is_still=False)
+        checks.check("and waits until it is free", 0.9 <= took <= LONGEST, True)
+        timer.join()
     with Writer(db, "BEGIN; SELECT count(*) FROM Job;"):
         checks.look("a catalogue that another program reads", db, SHOWN)
 
@@ -183,8 +200,9 @@ def log(checks, folder):
     db = new_catalogue(folder)
     with Writer(db, "PRAGMA journal_mode = WAL; INSERT INTO Client(Name) VALUES ('venus-fd');"):
         left = copied(db, "-wal")
-        took = checks.look("a catalogue with a log", left, REFUSED)
-        checks.check("and waits for five seconds", LONGEST - 1 <= took <= LONGEST + SLACK, True)
+        for look in (checks.look, checks.list):
+            took = look("a catalogue with a log", left, REFUSED)
+            checks.check("and waits for five seconds", LONGEST - 1 <= took <= LONGEST + SLACK, True)
     checks.check("the log is gone once its program ended", os.path.exists(db + "-wal"), False)
     checks.look("and is shown then", db, SHOWN)
     Path(left + "-wal").write_bytes(b"")
@@ -219,6 +237,7 @@ def ends(checks, folder):
     old = new_catalogue(folder, VERSION_1_SQL)
     checks.check("serve on a catalogue of version 1", checks.serve(old, volumes, JOB), (1, b"", b"refused 48\n"))
     checks.look("which is refused so afterwards", old, (1, "", "refused 48\n"))
+    checks.list("which is refused so afterwards", old, (1, "", "refused 48\n"))
 
 
 def running(program, db, volumes, script, lines):

@@ -35,6 +35,7 @@ fn sized(text: &[u8], last: u8) -> Option<u64>
 }
 
 /// Returns the size that a text spells: a number of bytes in decimal, or of the unit K, M or G after it.
+#[tactic(auto, unfolding(crate::specs::Size::size_spelled))]
 pub(crate) fn read_size(text: &[u8]) -> Option<u64>
     ensures { result ≡ size_spelled text.now }
 {

@@ -30,7 +30,7 @@ fn jobs_in<C: Catalogue>(
 ) -> Result<History, CatalogueFault>
     ensures jobs { IfOk result (λ history. AreJobs (C.jobs_at catalogue.now db.now) history) }
 {
-    // A file that is not there would be made.
+    // No catalogue is asked for a file that is not there.
     if fs::metadata(rt, db).is_err() {
         return Err(CatalogueFault::Unreadable);
     }

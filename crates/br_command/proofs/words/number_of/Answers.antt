@@ -1,4 +1,4 @@
-use Rattle.std.proofs.Common.{◌≡◌, ◌≤◌, ◌∙◌, None, Some, ap, arith, codes, option_and_then, rules, sym}
+use Rattle.std.proofs.Common.{◌≡◌, ◌∙◌, None, Some, ap, arith, codes, option_and_then, rules, sym}
 use Rattle.clap.specs.Matches.{found_of}
 use Rattle.br_command.specs.Words.{number_asked}
 use Rattle.br_command.proofs.WordsLaws.{bounds_kept, bounds_missed, in_bounds, number_read}
