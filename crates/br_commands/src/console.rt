@@ -23,10 +23,11 @@ use br_listing::tell_chosen;
 use br_options::{ConsoleOptions, Target};
 use br_plan::Request;
 use br_request::{RequestFault, read_request};
-use br_setup::{CLEAN, Catalogue, CatalogueFault, HostDrive, REFUSED, drives_over, refuse_start};
+use br_setup::{
+    CLEAN, Catalogue, CatalogueFault, HostDrive, REFUSED, drives_over, prompted, refuse_start,
+};
 use br_sink::Sink;
 use br_tar::TarSink;
-use br_terminal::prompted;
 use br_volume::Drive;
 use std::alloc::{AllocError, Global};
 use std::fs::{self, File};

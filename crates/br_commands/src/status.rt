@@ -1,4 +1,4 @@
-use br_terminal::tell_refusals;
+use br_setup::tell_refusals;
 use std::io;
 
 /// The exit status for a fault of the program's own files and streams.

@@ -3,7 +3,7 @@
 use br_history::History;
 use br_jobs::{Filter, marked_lines};
 use br_plan::Request;
-use br_terminal::is_shown;
+use br_setup::is_shown;
 use std::io;
 use std::str;
 

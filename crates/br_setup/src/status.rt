@@ -2,7 +2,7 @@
 ghost use Rattle.std.specs.Prelude.{◌≡◌, IfOk};
 ghost use Rattle.std.specs.Result.{IsErr};
 
-use br_terminal::tell_refusal;
+use crate::words::tell_refusal;
 use std::io::{self, ErrorKind};
 
 /// The exit status if all was carried out.
