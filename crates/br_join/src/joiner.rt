@@ -261,7 +261,7 @@ impl Joiner {
     }
 
     /// Returns the hits that were taken, in order of file and place, and the names of the plan, if
-    /// there is one.
+    /// there is one. Their data are let go, so that there is room for those of one file.
     ///
     /// # Errors
     ///
@@ -277,7 +277,8 @@ impl Joiner {
             mut hits,
             room: _room,
         } = self;
-        let listed = hits.take_out()?;
+        let mut no_room = Room::new(0);
+        let listed = no_room.fit(hits.take_out()?);
         Ok((listed, names))
     }
 }
