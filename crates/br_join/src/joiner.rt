@@ -261,15 +261,15 @@ impl Joiner {
     }
 
     /// Returns the hits that were taken, in order of file and place, and the names of the plan, if
-    /// there is one.
+    /// there is one. Their data are let go, so that there is room for those of one file.
     ///
     /// # Errors
     ///
     /// `AllocError` if memory runs out. Then the hits are lost.
     pub fn into_hits(self) -> Result<(Vec<Hit>, Option<Names>), AllocError>
         ensures listed { IfOk result (λ r. AreListed r.0.items) }
-        ensures same { IfOk result (λ r. hits_of r.0.items ≡ self.entry.hits) }
-        ensures names { IfOk result (λ r. r.1 ≡ self.entry.names) }
+        ensures same { IfOk result (λ r. hits_of r.0.items ≡ self.hits) }
+        ensures names { IfOk result (λ r. r.1 ≡ self.names) }
     {
         let Joiner {
             pieces: _pieces,
@@ -277,7 +277,8 @@ impl Joiner {
             mut hits,
             room: _room,
         } = self;
-        let listed = hits.take_out()?;
+        let mut no_room = Room::new(0);
+        let listed = no_room.fit(hits.take_out()?);
         Ok((listed, names))
     }
 }
