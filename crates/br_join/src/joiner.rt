@@ -261,7 +261,8 @@ impl Joiner {
     }
 
     /// Returns the hits that were taken, in order of file and place, and the names of the plan, if
-    /// there is one. Their data are let go, so that there is room for those of one file.
+    /// there is one. Their data are let go, but for attributes and digests, so that there is room for
+    /// the data of one file.
     ///
     /// # Errors
     ///
