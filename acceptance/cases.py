@@ -5,7 +5,8 @@
 
 Without an executable it is crates/brestore/out/brestore, which tools/prove_all makes. Each case is run once for its
 manifest alone, once by sixteen drives, and once with `--into` and a new folder. The folder is then compared with the expected
-manifest: each file's length and digest, and each folder. A run into the same folder has to be refused and to change nothing.
+manifest: each file's length and digest, and each folder. A run into the same folder has to be refused and to change nothing. All but
+the last is done again with `--memory 0` and `--memory 64K`, so that data are read again, and must give the same.
 A last run, with `--newest` and `--complete`, has to leave the newest copies in a second folder, and to report nothing. Then a
 volume is cut before a session that the bootstrap asks for: `--complete` has to report it. The status is 0 if each case has the expected exit status, standard output and standard error, byte for byte, and the
 folder has what it should and nothing else. README.md lists the cases.
@@ -23,6 +24,9 @@ sys.dont_write_bytecode = True
 sys.path.insert(0, os.path.join(os.path.dirname(os.path.dirname(os.path.abspath(__file__))), "tools"))
 from common import CASES, PROGRAM, SETS
 from delivered import delivery, newest_copies, tree_of
+
+# Room in memory for no data, and for some.
+MEMORIES = ("0", "64K")
 
 
 def unpack(volumes, folder):
@@ -58,6 +62,18 @@ def newest_faults(words, into, expected):
     return wrong if tree_of(into) == tree else wrong + ["the newest copies"]
 
 
+def read_again_faults(words, folder, expected, tree):
+    """Returns what of deliveries differs whose bytes are read again from the volumes."""
+    wrong = []
+    for memory in MEMORIES:
+        into = folder / f"into-{memory}"
+        into.mkdir()
+        found = differences([*words, "--memory", memory, "--drives", "3", "--into", into], *expected)
+        wrong += [f"{name} of a delivery with --memory {memory}" for name in found]
+        wrong += [] if tree_of(into) == tree else [f"the files delivered with --memory {memory}"]
+    return wrong
+
+
 def cut_faults(executable, folder):
     """Returns what differs after the volume of two sessions and a third is cut before the third, which the bootstrap asks for."""
     case, volumes = Path(CASES) / "order-written", folder / "cut"
@@ -88,9 +104,13 @@ def faults(executable, case, folder):
     wrong += newest_faults(words, folder / case.name / "newest", (status, manifest, refusals))
     many = differences([*words, "--drives", "16"], status, manifest, refusals)
     wrong += [f"{name} with 16 drives" for name in many]
+    for memory in MEMORIES:
+        few = differences([*words, "--memory", memory], status, manifest, refusals)
+        wrong += [f"{name} with --memory {memory}" for name in few]
     tree, stop = delivery(manifest)
     if stop is not None:
         status, refusals = 1, refusals + b"refused %d\n" % stop
+    wrong += read_again_faults(words, folder / case.name, (status, manifest, refusals), tree)
     words += ["--into", into]
     wrong += [f"{name} of a delivery" for name in differences(words, status, manifest, refusals)]
     if tree:

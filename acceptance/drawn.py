@@ -103,6 +103,7 @@ class Trial:
         self.put_volumes(volumes)
         words = ["extract", "--bsr", self.write("x.bsr", text), "--volumes", os.path.join(self.folder, "volumes")]
         words += ["--drives", str(dice.choice((2, 3, 16)))] if dice.random() < 0.5 else []
+        words += ["--memory", dice.choice(("0", "5", "1K"))] if dice.random() < 0.5 else []
         status, manifest, refusals = extracted(text, volumes)
         tree = {}
         if delivers:
@@ -172,6 +173,7 @@ class Trial:
         words = ["console", "--db", catalogue, "--volumes", os.path.join(self.folder, "volumes"), "--client", asked[0].decode()]
         words += ["--fileset", asked[1].decode(), "--before", before]
         words += ["--drives", "3"] if dice.random() < 0.3 else []
+        words += ["--memory", dice.choice(("0", "5", "1K"))] if dice.random() < 0.3 else []
         jobs.sort(key=lambda job: job["id"])
         self.compare(self.run(words, self.write("lines", text)), consoled(jobs, volumes, (*asked, moment), text))
 
