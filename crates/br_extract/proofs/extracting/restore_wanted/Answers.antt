@@ -6,10 +6,11 @@ use Rattle.std.proofs.lemmas.Result.{err_from_is_err_and}
 use Rattle.br_model.specs.Bootstrap.{Group}
 use Rattle.br_model.specs.Manifest.{manifest}
 use Rattle.br_model.specs.Meaning.{pieces_of}
-use Rattle.br_model.specs.Restored.{Restored}
+use Rattle.br_model.specs.Volume.{Volume}
 use Rattle.br_join.specs.Outcome.{restored}
 use Rattle.br_engine.specs.Again.{CanGive, EndsLike}
 use Rattle.br_engine.specs.Delivering.{in_sink}
+use Rattle.br_engine.specs.Restoring.{AllStand}
 use Rattle.br_engine.specs.declared.fault.ExtractFault.TheVariants.{Memory}
 use Rattle.br_engine.proofs.AgainLaws.{nothing_written, only_grow, stand_midst, stay_on}
 use Rattle.br_engine.proofs.DeliverLaws.{delivers_refused, free_is_no_drive, free_is_no_line, gives_free}
@@ -86,7 +87,8 @@ returns-clause-extracts g c =
     let kept = map restored (left_by prepared.flags made.outcomes.items) in
     let wanted : kept ≡ _ = rw c.deref.ensures.value at c.in_ok-prepared.ensures.flags in
     let given = CanGive shows failures second groups made.gathered kept in
-    let midst = λ volumes stands.
+    let midst : (volumes : List Volume) → AllStand (map shows first) (map shows third) (pieces_of groups) volumes
+        → AllStand (map shows first) (map shows second) (pieces_of groups) volumes = λ volumes stands.
     stand_midst (pieces_of groups) volumes (map shows first) (map shows second) (map shows third) stands
     (only_grow shows failures first second c.in_ok-made.ensures.places) (only_grow shows failures second third c.deliver_made-end.ensures.places) in
     let done : Extracted = record { end = c.deliver_made-end.result; missing = prepared.missing } in
@@ -95,8 +97,8 @@ returns-clause-extracts g c =
     (λ volumes stands. gives_delivered shows failures second groups made.gathered c.args.wanted.copies os kept wanted (c.in_ok-made.ensures.again volumes (midst volumes stands)))
     (subst (λ os. Appends before after (manifest (map restored os))) c.deref-2.ensures.value c.in_ok-write_manifest.ensures.written)
     wanted
-    (subst (λ (gs : List Group). EndsLike (CanGive shows failures second gs made.gathered kept) had has kept c.deliver_made-end.result) c.groups.ensures.same
-    (subst (λ os. EndsLike (CanGive shows failures second c.groups.result.now made.gathered (map restored os)) had has (map restored os) c.deliver_made-end.result) c.keep_delivered.ensures
+    (subst (λ (gs : List Group). EndsLike (CanGive shows failures second gs made.gathered kept) had has kept c.deliver_made-end.result) c.groups-groups.ensures.same
+    (subst (λ os. EndsLike (CanGive shows failures second c.groups-groups.result.now made.gathered (map restored os)) had has (map restored os) c.deliver_made-end.result) c.keep_delivered.ensures
     c.deliver_made-end.ensures.ends))
     (rw c.deref.ensures.value at c.in_ok-prepared.ensures.missing)
 
