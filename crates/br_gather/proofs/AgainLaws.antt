@@ -49,6 +49,10 @@ all_made hits (Some names) = all_planned hits _
 
 -- ---- files that are like others
 
+-- the file of one outcome is one file
+pub same_file : (one other : Item) → ◌≡◌ {A = Outcome} (Ok one) (Ok other) → one ≡ other
+same_file one other e = cc
+
 -- one file more
 pub like_more : (xs ys : List Item) (x y : Item) → AllZip IsLike xs ys → IsLike x y → AllZip IsLike (xs ++ x ∷ []) (ys ++ y ∷ [])
 like_more [] [] x y z like = (like, tt)

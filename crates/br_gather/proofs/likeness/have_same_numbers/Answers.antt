@@ -1,4 +1,4 @@
-use Rattle.std.proofs.Common.{◌≡◌, ap, sym, ◌∙◌}
+use Rattle.std.proofs.Common.{ap, sym, ◌∙◌}
 use Rattle.br_model.specs.File.{Item}
 use Rattle.br_gather.proofs.StatLaws.{same_stat, stat_itself}
 use Rattle.br_gather.proofs.likeness.have_same_numbers.Goals as goal
