@@ -1,5 +1,6 @@
 ghost use Rattle.std.specs.Prelude.{◌≡◌, ◌<◌, length, map, Err, OnErr, IfOk};
 ghost use Rattle.std.specs.List.{AllByRecursion, AllZip};
+ghost use Rattle.br_again.specs.declared.fault.AgainFault.TheVariants.{Failed};
 ghost use Rattle.br_model.specs.Meaning.{hits_of};
 ghost use Rattle.br_join.specs.Outcome.{restored};
 ghost use Rattle.br_reread.specs.Many.{GoOn, HaveFailed};
@@ -28,9 +29,12 @@ pub struct Gathered {
 
 impl Model for Gathered {
     ghost use Rattle.br_join.specs.Runs.{AreListed};
+    ghost use Rattle.br_gather.specs.Code.{coded_gathered};
     ghost use Rattle.br_gather.specs.Gathered as model;
 
     ghost Value = { model.Gathered };
+
+    ghost coded = { coded_gathered };
 
     ghost view = { λ g. record { hits = g.hits.items; names = g.names } };
 
