@@ -13,8 +13,6 @@ mod host;
 mod looking;
 mod mem;
 mod sight;
-#[cfg(test)]
-mod tests;
 
 pub use beside::Beside;
 pub use fault::LookFault;

@@ -1,5 +1,5 @@
-//! Tests of the catalogue: what is stored, refused, loaded and migrated, and what is left of it, and of the
-//! volumes beside it, if its disk stops. A crate with tests is proved twice; this one has nothing else to
+//! Tests of the catalogue: what is stored, refused, loaded, looked at and migrated, and what is left of it, and
+//! of the volumes beside it, if its disk stops. A crate with tests is proved twice; this one has nothing else to
 //! prove.
 #![tactic(auto)]
 
@@ -11,6 +11,8 @@ mod drafts;
 mod jobs;
 #[cfg(test)]
 mod left;
+#[cfg(test)]
+mod looking_tests;
 #[cfg(test)]
 mod migration_tests;
 #[cfg(test)]

@@ -1,5 +1,5 @@
 //! Files in memory that are looked at.
-use crate::{Beside, LookFault, MemSight, fold, look};
+use br_look::{Beside, LookFault, MemSight, fold, look};
 use sqlite::{Connection, Error as SqlError, ErrorCode, Files, Options};
 use sqlite_disk::Memory;
 use std::alloc::Global;
