@@ -26,7 +26,7 @@ use Rattle.br_engine.specs.Fault.{OfPiece}
 use Rattle.br_engine.specs.Outputs.{InSink}
 use Rattle.br_engine.specs.Restoring.{AllStand, Told, restored_files}
 use Rattle.br_engine.specs.declared.fault.ExtractFault.{ExtractFault}
-use Rattle.br_engine.specs.declared.fault.ExtractFault.TheVariants.{Memory, Bootstrap, Piece, Io, NoEnd}
+use Rattle.br_engine.specs.declared.fault.ExtractFault.TheVariants as fault
 use Rattle.br_engine.specs.declared.outputs.RestoreEnd.{RestoreEnd}
 use Rattle.br_engine.proofs.LikeLaws.{same_manifest}
 
@@ -111,9 +111,9 @@ stay_on shows failures xs ys zs p q =
     zip_trans _ _ _ (λ a b c first next. (grows_more (shows a) (shows b) (shows c) first.0 next.0, omega (arith, first.1, next.1))) xs ys zs p q
 
 -- a writer that was not asked has what it had
-pub nothing_written : (before : Option (List ℕ)) (fault : ExtractFault) → WritesNothing before before fault
-nothing_written before Memory = Keeps-refl before
-nothing_written before (Bootstrap fault) = Keeps-refl before
-nothing_written before (Piece fault) = Keeps-refl before
-nothing_written before (Io fault) = tt
-nothing_written before (NoEnd turns) = Keeps-refl before
+pub nothing_written : (before : Option (List ℕ)) (f : ExtractFault) → WritesNothing before before f
+nothing_written before fault.Memory = Keeps-refl before
+nothing_written before (fault.Bootstrap why) = Keeps-refl before
+nothing_written before (fault.Piece why) = Keeps-refl before
+nothing_written before (fault.Io why) = tt
+nothing_written before (fault.NoEnd turns) = Keeps-refl before

@@ -43,15 +43,17 @@ no_cause_again stop rs count is = elim is.number [
 
 -- ---- what was put
 
-like_both : (xs ys as bs : List Item) → AllZip IsLike xs as → AllZip IsLike ys bs → AllZip IsLike (xs ++ ys) (as ++ bs)
-like_both [] ys [] bs p q = q
-like_both [] ys (a ∷ as) bs p q = absurd p
-like_both (x ∷ xs) ys [] bs p q = absurd p
-like_both (x ∷ xs) ys (a ∷ as) bs p q = (p.0, like_both xs ys as bs p.1 q)
+like_both : (xs ys us vs : List Item) → AllZip IsLike xs us → AllZip IsLike ys vs → AllZip IsLike (xs ++ ys) (us ++ vs)
+like_both [] ys [] vs p q = q
+like_both [] ys (u ∷ us) vs p q = absurd p
+like_both (x ∷ xs) ys [] vs p q = absurd p
+like_both (x ∷ xs) ys (u ∷ us) vs p q = (p.0, like_both xs ys us vs p.1 q)
 
 take_behind : {X : Type 0} (xs ys : List X) (n : ℕ) → take (length xs + n) (xs ++ ys) ≡ xs ++ take n ys
-take_behind [] ys n = refl
-take_behind (x ∷ xs) ys n = ap (λ (zs : List _). x ∷ zs) (take_behind xs ys n)
+take_behind [] ys n = ap (λ (k : ℕ). take k ys) (omega arith)
+take_behind (x ∷ xs) ys n =
+    let more : length (x ∷ xs) + n ≡ suc (length xs + n) = omega arith in
+    ap (λ (k : ℕ). take k (x ∷ (xs ++ ys))) more ∙ ap (λ (zs : List _). x ∷ zs) (take_behind xs ys n)
 
 -- nothing was put of no files
 pub none_put : (given : Type 0) (has : Option (List Item)) → PutsLike {A = Unit {0}} given [] has has (Ok tt)

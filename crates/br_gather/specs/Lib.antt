@@ -1,3 +1,4 @@
 pub mod Again
+pub mod Code
 pub mod Gathered
 pub mod Given

@@ -28,9 +28,12 @@ pub struct Gathered {
 
 impl Model for Gathered {
     ghost use Rattle.br_join.specs.Runs.{AreListed};
+    ghost use Rattle.br_gather.specs.Code.{coded_gathered};
     ghost use Rattle.br_gather.specs.Gathered as model;
 
     ghost Value = { model.Gathered };
+
+    ghost coded = { coded_gathered };
 
     ghost view = { λ g. record { hits = g.hits.items; names = g.names } };
 
