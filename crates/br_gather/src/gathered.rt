@@ -1,5 +1,6 @@
 ghost use Rattle.std.specs.Prelude.{◌≡◌, ◌<◌, length, map, Err, OnErr, IfOk};
 ghost use Rattle.std.specs.List.{AllByRecursion, AllZip};
+ghost use Rattle.br_again.specs.declared.fault.AgainFault.TheVariants.{Failed};
 ghost use Rattle.br_model.specs.Meaning.{hits_of};
 ghost use Rattle.br_join.specs.Outcome.{restored};
 ghost use Rattle.br_reread.specs.Many.{GoOn, HaveFailed};
