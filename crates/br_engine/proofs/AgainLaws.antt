@@ -1,23 +1,30 @@
 -- What drives read again over all volumes that they may be taken to show.
 use Rattle.std.proofs.Common.{◌≡◌, ◌<◌, ◌≤◌, ℕ, List, [], ◌∷◌, map, Option, Some, None, Result, Ok, Err, refl, ap, sym, subst, ◌∙◌, inl, inr, arith}
+use Rattle.std.specs.Prelude.{option_map}
 use Rattle.std.specs.Io.KnownBytes.{Appends}
 use Rattle.std.proofs.KnownBytes.{Keeps-refl}
 use Rattle.std.specs.List.{AllByRecursion, AllZip}
 use Rattle.br_model.specs.Answer.{refused_as}
 use Rattle.br_model.specs.Bootstrap.{Group}
 use Rattle.br_model.specs.Manifest.{manifest}
-use Rattle.br_model.specs.Meaning.{Hit, Piece, hits_of, meaning, pieces_of}
-use Rattle.br_model.specs.Restored.{Planned, Restored}
+use Rattle.br_model.specs.Meaning.{Hit, Hits, Piece, hits_of, meaning, pieces_of}
+use Rattle.br_model.specs.Restored.{HitList, Names, Planned, Restored, files, files_listed, planned_in}
 use Rattle.br_model.specs.Volume.{Volume, Extends}
+use Rattle.br_model.proofs.ListLaws.{all_weaker}
 use Rattle.br_model.proofs.MeaningLaws.{meaning_has_hits_lem}
 use Rattle.br_volume.specs.Drive.{OnlyGrows}
 use Rattle.br_volume.proofs.ExtendLaws.{extends_more, grows_more}
 use Rattle.br_again.specs.Stands.{HitsStand, StandingStays}
-use Rattle.br_join.specs.Runs.{AreListed}
+use Rattle.br_join.specs.Runs.{AreListed, files_of}
+use Rattle.br_join.proofs.SortLaws.{listed_is}
 use Rattle.br_pool.specs.Pool.{StandsTold}
 use Rattle.br_pool.proofs.ListLaws.{zip_trans}
-use Rattle.br_reread.specs.Many.{Driven, RereadingMany, driven_by}
-use Rattle.br_gather.specs.Given.{GivesHits}
+use Rattle.br_reread.specs.Many.{Driven, GoOn, GoesOn, HaveFailed, RereadingMany, driven_by}
+use Rattle.br_reread.proofs.GoOnLaws.{given_on}
+use Rattle.br_gather.specs.Again.{IsMadeOf}
+use Rattle.br_gather.specs.Gathered.{Gathered}
+use Rattle.br_gather.specs.Given.{GivesHit, GivesHits}
+use Rattle.br_gather.proofs.AgainLaws.{all_made}
 use Rattle.br_gather.proofs.MeantLaws.{ShowsThem, meant_given}
 use Rattle.br_engine.specs.Again.{EndsLike}
 use Rattle.br_engine.specs.Delivering.{Delivers}
@@ -86,6 +93,72 @@ module _ {D : Type 0} (shows : D → Option (List Volume)) (failures : D → ℕ
   reread stand stays groups volumes xs ys hs all grown means sorted =
       meant_given stand stays meaning_has_hits_lem groups volumes (record { drives = driven_by shows failures ys; groups = groups }) hs sorted
       means refl (show_them (pieces_of groups) volumes xs ys all (only_grow xs ys grown))
+
+  -- what drives did that read again, each in its place
+  in_place : (xs ys : List D) → AllZip GoesOn (driven_by shows failures xs) (driven_by shows failures ys)
+      → AllZip (λ (x y : D). OnlyGrows (shows x) (shows y) × (failures x ≤ failures y)) xs ys
+  in_place [] [] z = tt
+  in_place [] (y ∷ ys) z = absurd z
+  in_place (x ∷ xs) [] z = absurd z
+  in_place (x ∷ xs) (y ∷ ys) z = (z.0, in_place xs ys z.1)
+
+  have_failed : (xs ys : List D) → AllZip (λ (x y : Driven). x.failures < y.failures) (driven_by shows failures xs) (driven_by shows failures ys)
+      → AllZip (λ (x y : D). failures x < failures y) xs ys
+  have_failed [] [] z = tt
+  have_failed [] (y ∷ ys) z = absurd z
+  have_failed (x ∷ xs) [] z = absurd z
+  have_failed (x ∷ xs) (y ∷ ys) z = (z.0, have_failed xs ys z.1)
+
+  pub stay_driven : (m n : RereadingMany) (xs ys : List D) → m.drives ≡ driven_by shows failures xs → driven_by shows failures ys ≡ n.drives → GoOn m n
+      → AllZip (λ (x y : D). OnlyGrows (shows x) (shows y) × (failures x ≤ failures y)) xs ys
+  stay_driven m n xs ys e f on =
+      in_place xs ys (subst (λ (ds : List Driven). AllZip GoesOn ds (driven_by shows failures ys)) e (subst (λ (ds : List Driven). AllZip GoesOn m.drives ds) (sym f) on.1))
+
+  pub fail_driven : (m n : RereadingMany) (xs ys : List D) → m.drives ≡ driven_by shows failures xs → driven_by shows failures ys ≡ n.drives → HaveFailed m n
+      → AllZip (λ (x y : D). failures x < failures y) xs ys
+  fail_driven m n xs ys e f failed =
+      have_failed xs ys
+      (subst (λ (ds : List Driven). AllZip (λ (x y : Driven). x.failures < y.failures) ds (driven_by shows failures ys)) e
+      (subst (λ (ds : List Driven). AllZip (λ (x y : Driven). x.failures < y.failures) m.drives ds) (sym f) failed))
+
+  -- drives that failed after they had stayed in their places
+  pub fail_later : (xs ys zs : List D) → AllZip (λ (x y : D). OnlyGrows (shows x) (shows y) × (failures x ≤ failures y)) xs ys
+      → AllZip (λ (x y : D). failures x < failures y) ys zs → AllZip (λ (x y : D). failures x < failures y) xs zs
+  fail_later xs ys zs p q = zip_trans _ _ _ (λ a b c first next. omega (arith, first.1, next)) xs ys zs p q
+
+-- ---- what is made of what was gathered
+
+-- hits that were given are given still
+pub hits_kept : StandingStays → (a b : RereadingMany) (hits : List Hit) → GoOn a b → GivesHits a hits → GivesHits b hits
+hits_kept stays a b hits on given = all_weaker (GivesHit a) (GivesHit b) (λ h one. given_on stays a b h.spot h.fragment.bytes on one) hits given
+
+-- the files of listed hits are those of their set
+files_are : (hits : List Hit) (names : Option Names) → AreListed hits → files_of hits names ≡ files (hits_of hits) (option_map planned_in names)
+unfolding files
+files_are hits names sorted = ap (λ (es : HitList). files_listed es (option_map planned_in names)) (sym (listed_is hits sorted))
+
+-- drives that read again as those of before, of these groups
+pub many_is : (m : RereadingMany) (ds : List Driven) (gs : List Group) → m.drives ≡ ds → m.groups ≡ gs → record { drives = ds; groups = gs } ≡ m
+many_is m ds gs e f i = record { drives = e (~ i); groups = f (~ i) }
+
+module _ (m : RereadingMany) (g : Gathered) (hits : Hits) (names : Option Names) (rs : List Restored) (ds : List Driven) (gs : List Group)
+    (same : hits_of g.hits ≡ hits) (named : g.names ≡ names) (sorted : AreListed g.hits) (driven : m.drives ≡ ds) (grouped : m.groups ≡ gs)
+    (made : GivesHits m g.hits → rs ≡ files_of g.hits g.names)
+    (given : (found : List Hit) → hits_of found ≡ hits → AreListed found → GivesHits (record { drives = ds; groups = gs }) found) where
+  given_now : GivesHits m g.hits
+  given_now = subst (λ (n : RereadingMany). GivesHits n g.hits) (many_is m ds gs driven grouped) (given g.hits same sorted)
+
+  -- they are the files of what was taken
+  pub files_made : rs ≡ files hits (option_map planned_in names)
+  files_made = made given_now ∙ files_are g.hits g.names sorted ∙ (λ i. files (same i) (option_map planned_in (named i)))
+
+  -- and they can be made once more
+  pub made_again : StandingStays → (n : RereadingMany) (es : List Driven) → GoOn m n → es ≡ n.drives
+      → GivesHits (record { drives = es; groups = gs }) g.hits × AllByRecursion (IsMadeOf g.hits) rs
+  made_again stays n es on later = (
+    subst (λ (k : RereadingMany). GivesHits k g.hits) (sym (many_is n es gs (sym later) (on.0 ∙ grouped))) (hits_kept stays m n g.hits on given_now),
+    subst (AllByRecursion (IsMadeOf g.hits)) (sym (made given_now)) (all_made g.hits g.names),
+  )
 
 -- ---- what is delivered
 

@@ -162,10 +162,10 @@ pub with_items : List Restored → List Item → List Restored
 with_items [] items = []
 with_items (r ∷ rs) items = replaced r r.outcome items (with_items rs)
 
-items_fault : (o : Restored) (os : List Restored) (f : Fault) → o.outcome ≡ Err f → items_of (o ∷ os) ≡ items_of os
+pub items_fault : (o : Restored) (os : List Restored) (f : Fault) → o.outcome ≡ Err f → items_of (o ∷ os) ≡ items_of os
 items_fault o os f e = rw e refl
 
-items_file : (o : Restored) (os : List Restored) (item : Item) → o.outcome ≡ Ok item → items_of (o ∷ os) ≡ item ∷ items_of os
+pub items_file : (o : Restored) (os : List Restored) (item : Item) → o.outcome ≡ Ok item → items_of (o ∷ os) ≡ item ∷ items_of os
 items_file o os item e = rw e refl
 
 with_fault : (o : Restored) (os : List Restored) (f : Fault) (items : List Item) → o.outcome ≡ Err f → with_items (o ∷ os) items ≡ o ∷ with_items os items

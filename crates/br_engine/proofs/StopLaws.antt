@@ -1,10 +1,13 @@
 -- Where a delivery stops whose files are made once more, and what was put by then.
-use Rattle.std.proofs.Common.{◌≡◌, ◌≤◌, ◌<◌, ◌+◌, ℕ, zero, suc, List, [], ◌∷◌, ◌++◌, length, map, take, Option, Result, Ok, Err, refl, ap, sym, subst, arith, ◌∙◌, inl, inr, length-append}
+use Rattle.std.proofs.Common.{◌≡◌, ◌≤◌, ◌<◌, ◌+◌, ℕ, zero, suc, Bool, cond, List, [], ◌∷◌, ◌++◌, length, map, take, Option, Result, Ok, Err, refl, ap, sym, subst, arith, ◌∙◌, inl, inr, length-append}
+use Rattle.std.specs.Prelude.{IfErr, count_by, is_ok}
 use Rattle.std.specs.List.{AllZip}
+use Rattle.std.proofs.lemmas.List.Sums.{sum_by-cons}
 use Rattle.br_model.specs.Answer.{IsRefusal}
 use Rattle.br_model.specs.Delivery.{Stop, delivery}
-use Rattle.br_model.specs.File.{Item}
+use Rattle.br_model.specs.File.{Fault, Item, Outcome as Made}
 use Rattle.br_model.specs.Name.{FileKey}
+use Rattle.br_model.specs.Manifest.{totals_of}
 use Rattle.br_model.specs.Restored.{Restored}
 use Rattle.br_join.specs.declared.item.Outcome.{Outcome}
 use Rattle.br_gather.specs.Again.{IsLike}
@@ -14,7 +17,8 @@ use Rattle.br_sink.proofs.DeliveryLaws.{apart_taken, fewer_items, more_behind, n
 use Rattle.br_again.specs.declared.fault.AgainFault.{AgainFault}
 use Rattle.br_again.specs.declared.fault.AgainFault.TheVariants as again
 use Rattle.br_engine.specs.Again.{IsStopAgain, PutsLike, again_number}
-use Rattle.br_engine.proofs.LikeLaws.{like_length, like_take}
+use Rattle.br_engine.specs.Delivering.{items_of}
+use Rattle.br_engine.proofs.LikeLaws.{items_fault, items_file, like_length, like_take}
 
 -- ---- the stop
 
@@ -110,6 +114,10 @@ stop_of_sink made items stop like below = record {
   within = subst (λ (n : ℕ). stop.done < n) (like_length made items like) below.within;
 }
 
+pub stops_of_sink : {A : Type 0} (made items : List Item) (r : Result A Stop) → AllZip IsLike made items → IfErr r (IsStopBelow (length made)) → IfErr r (IsStopAgain (length items))
+stops_of_sink made items (Ok a) like below = tt
+stops_of_sink made items (Err stop) like below = stop_of_sink made items stop like below
+
 -- no file was made once more
 pub stop_of_again : (items : List Item) (fault : AgainFault) → 0 < length items → IsStopAgain (length items) (record { number = again_number fault; done = 0 })
 stop_of_again items again.Memory some = record { number = inl refl; within = some }
@@ -118,3 +126,30 @@ stop_of_again items again.Changed some = record { number = inr (inr refl); withi
 
 pub put_none : {A : Type 0} (given : Type 0) (items : List Item) (has : Option (List Item)) (number : ℕ) → PutsLike {A = A} given items has has (Err (record { number = number; done = 0 }))
 put_none given items has number = record { put = []; like = tt; same = λ _. refl; more = none_more has }
+
+-- what is put if less has to be given
+pub puts_if : {A : Type 0} (given less : Type 0) (items : List Item) (had has : Option (List Item)) (r : Result A Stop) → (given → less) → PutsLike less items had has r
+    → PutsLike given items had has r
+puts_if given less items had has r so puts = record { put = puts.put; like = puts.like; same = λ g. puts.same (so g); more = puts.more }
+
+-- ---- the files among outcomes
+
+counted : (rs : List Restored) → count_by (λ (r : Restored). is_ok r.outcome) rs ≡ length (items_of rs)
+counted [] = refl
+counted (r ∷ rs) = sum_by-cons (λ (r : Restored). cond (is_ok r.outcome) 1 0) r rs ∙ go r.outcome refl (counted rs)
+  where
+    go : (a : Made) → r.outcome ≡ a → count_by (λ (r : Restored). is_ok r.outcome) rs ≡ length (items_of rs)
+        → cond (is_ok r.outcome) 1 0 + count_by (λ (r : Restored). is_ok r.outcome) rs ≡ length (items_of (r ∷ rs))
+    go (Ok item) e more =
+        let one : ◌≡◌ {A = ℕ} (cond (is_ok r.outcome) 1 0) 1 = rw e refl in
+        let longer = ap length (items_file r rs item e) in
+        omega (arith, one, more, longer)
+    go (Err f) e more =
+        let none : ◌≡◌ {A = ℕ} (cond (is_ok r.outcome) 1 0) 0 = rw e refl in
+        let same = ap length (items_fault r rs f e) in
+        omega (arith, none, more, same)
+
+-- their number is that of the totals
+pub files_counted : (rs : List Restored) → (totals_of rs).files ≡ length (items_of rs)
+unfolding totals_of
+files_counted rs = counted rs
