@@ -268,8 +268,8 @@ impl Joiner {
     /// `AllocError` if memory runs out. Then the hits are lost.
     pub fn into_hits(self) -> Result<(Vec<Hit>, Option<Names>), AllocError>
         ensures listed { IfOk result (λ r. AreListed r.0.items) }
-        ensures same { IfOk result (λ r. hits_of r.0.items ≡ self.entry.hits) }
-        ensures names { IfOk result (λ r. r.1 ≡ self.entry.names) }
+        ensures same { IfOk result (λ r. hits_of r.0.items ≡ self.hits) }
+        ensures names { IfOk result (λ r. r.1 ≡ self.names) }
     {
         let Joiner {
             pieces: _pieces,
