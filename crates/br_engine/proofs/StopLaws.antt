@@ -1,19 +1,21 @@
 -- Where a delivery stops whose files are made once more, and what was put by then.
-use Rattle.std.proofs.Common.{◌≡◌, ◌≤◌, ◌<◌, ◌+◌, ℕ, zero, suc, Bool, cond, List, [], ◌∷◌, ◌++◌, length, map, take, Option, Result, Ok, Err, refl, ap, sym, subst, arith, ◌∙◌, inl, inr, length-append}
+use Rattle.std.proofs.Common.{◌≡◌, ◌≤◌, ◌<◌, ◌+◌, ℕ, zero, suc, Bool, cond, List, [], ◌∷◌, ◌++◌, length, map, take, drop, Option, Result, Ok, Err, refl, ap, sym, subst, arith, ◌∙◌, inl, inr, length-append, append-assoc}
 use Rattle.std.specs.Prelude.{IfErr, count_by, is_ok}
 use Rattle.std.specs.List.{AllZip}
-use Rattle.std.proofs.lemmas.List.Sums.{sum_by-cons}
+use Rattle.std.proofs.lemmas.List.{length-map, take-append-drop}
+use Rattle.std.proofs.lemmas.List.Sums.{count_by-le-length, sum_by-cons}
 use Rattle.br_model.specs.Answer.{IsRefusal}
 use Rattle.br_model.specs.Delivery.{Stop, delivery}
 use Rattle.br_model.specs.File.{Fault, Item, Outcome as Made}
 use Rattle.br_model.specs.Name.{FileKey}
 use Rattle.br_model.specs.Manifest.{totals_of}
 use Rattle.br_model.specs.Restored.{Restored}
+use Rattle.br_join.specs.Outcome.{restored}
 use Rattle.br_join.specs.declared.item.Outcome.{Outcome}
 use Rattle.br_gather.specs.Again.{IsLike}
 use Rattle.br_sink.specs.Delivery.{AreApart, IsStopBelow, IsStopIn, StandApart, items_in, items_put, stop_cause}
 use Rattle.br_sink.specs.Sink.{HasMore}
-use Rattle.br_sink.proofs.DeliveryLaws.{apart_taken, fewer_items, more_behind, none_more, taken_items}
+use Rattle.br_sink.proofs.DeliveryLaws.{apart_taken, fewer_items, items_of_both, more_behind, none_more, taken_items}
 use Rattle.br_again.specs.declared.fault.AgainFault.{AgainFault}
 use Rattle.br_again.specs.declared.fault.AgainFault.TheVariants as again
 use Rattle.br_engine.specs.Again.{IsStopAgain, PutsLike, again_number}
@@ -153,3 +155,54 @@ counted (r ∷ rs) = sum_by-cons (λ (r : Restored). cond (is_ok r.outcome) 1 0)
 pub files_counted : (rs : List Restored) → (totals_of rs).files ≡ length (items_of rs)
 unfolding totals_of
 files_counted rs = counted rs
+
+-- no more than the outcomes
+pub few_items : (os : List (FileKey × Outcome)) → length (items_in os) ≤ length os
+few_items os =
+    let c = counted (map restored os) in
+    let l = count_by-le-length (λ (r : Restored). is_ok r.outcome) (map restored os) in
+    let m = length-map restored os in
+    omega (arith, c, l, m)
+
+-- ---- outcomes that come next
+
+take_both : {X : Type 0} (a n : ℕ) (xs : List X) → take (a + n) xs ≡ take a xs ++ take n (drop a xs)
+take_both zero n xs = ap (λ (k : ℕ). take k xs) (omega arith)
+take_both (suc a) n [] =
+    let more : suc a + n ≡ suc (a + n) = omega arith in
+    ap (λ (k : ℕ). take k []) more ∙ sym (take_of_none n)
+  where
+    take_of_none : (n : ℕ) → take {A = _} n [] ≡ []
+    take_of_none zero = refl
+    take_of_none (suc n) = refl
+take_both (suc a) n (x ∷ xs) =
+    let more : suc a + n ≡ suc (a + n) = omega arith in
+    ap (λ (k : ℕ). take k (x ∷ xs)) more ∙ ap (λ (ys : List _). x ∷ ys) (take_both a n xs)
+
+length_taken : {X : Type 0} (n : ℕ) (xs : List X) → n ≤ length xs → length (take n xs) ≡ n
+length_taken zero xs few = refl
+length_taken (suc n) [] few = absurd (omega (arith, few))
+length_taken (suc n) (x ∷ xs) few = ap suc (length_taken n xs (omega (arith, few)))
+
+-- as many as there are in the next window
+pub window_len : {X : Type 0} (place n : ℕ) (xs window : List X) → window ≡ take n (drop place xs) → n ≤ length (drop place xs) → length window ≡ n
+window_len place n xs window is few = ap length is ∙ length_taken n (drop place xs) few
+
+-- those up to it and those in it
+pub taken_window : {X : Type 0} (place n : ℕ) (xs window : List X) → window ≡ take n (drop place xs) → n ≤ length (drop place xs)
+    → take (place + length window) xs ≡ take place xs ++ window
+taken_window place n xs window is few =
+    ap (λ (k : ℕ). take (place + k) xs) (window_len place n xs window is few) ∙ take_both place n xs ∙ ap (λ (ys : List _). take place xs ++ ys) (sym is)
+
+-- their files
+pub items_window : (place n : ℕ) (os window : List (FileKey × Outcome)) → window ≡ take n (drop place os) → n ≤ length (drop place os)
+    → items_in (take (place + length window) os) ≡ items_in (take place os) ++ items_in window
+items_window place n os window is few = ap items_in (taken_window place n os window is few) ∙ items_of_both (take place os) window
+
+-- and all files
+pub items_around : (place n : ℕ) (os window : List (FileKey × Outcome)) → window ≡ take n (drop place os) → n ≤ length (drop place os)
+    → items_in os ≡ items_in (take place os) ++ (items_in window ++ items_in (drop (place + length window) os))
+items_around place n os window is few =
+    ap items_in (sym (take-append-drop (place + length window) os)) ∙ items_of_both (take (place + length window) os) (drop (place + length window) os)
+    ∙ ap (λ (is : List Item). is ++ items_in (drop (place + length window) os)) (items_window place n os window is few)
+    ∙ append-assoc (items_in (take place os)) (items_in window) (items_in (drop (place + length window) os))

@@ -101,15 +101,16 @@ fn put_windows<D: Drive, S: Sink>(
     ensures failed { IfErr result (λ stop. stop.number ≡ 80 → S.failures sink.old < S.failures sink.new) }
 {
     standing_stays();
-    let mut rest = outcomes;
+    let mut place = 0;
     let mut done = 0;
-    while !rest.is_empty() {
-        let (window, after) = rest.split_at(window_len(rest));
+    while place < outcomes.len() {
+        let rest = &outcomes[place..];
+        let (window, _) = rest.split_at(window_len(rest));
         if let Err(stop) = put_window(rt, source, many, window, sink) {
             return Err(SinkStop::new(stop.cause(), done + stop.done()));
         }
         done += totals(window).files;
-        rest = after;
+        place += window.len();
     }
     Ok(())
 }
