@@ -79,8 +79,10 @@ some_put given had has os stop puts refused is =
       same = λ given. with_same os puts.put n (puts.same given);
       ends = (
         tt,
-        subst (IsRefusal (stop_cause stop)) (sym (same_delivery rs os like)) refused,
-        same_stop rs os stop like is,
-        subst (λ (is : List Item). HasMore is had has) (sym of_rs) puts.more,
+        (
+          subst (IsRefusal (stop_cause stop)) (sym (same_delivery rs os like)) refused,
+          same_stop rs os stop like is,
+          subst (λ (is : List Item). HasMore is had has) (sym of_rs) puts.more,
+        ),
       );
     }
