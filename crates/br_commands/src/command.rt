@@ -14,7 +14,8 @@ use std::sync::Wait;
 use std::thread::Threads;
 
 /// What an operator at a terminal reads who gives no command.
-const SCRIPT_AWAITED: &str = "brestore: reads a script from standard input. `brestore --help` lists the commands; Ctrl-D ends the input.";
+const SCRIPT_AWAITED: &str =
+    "brestore: reads a script from standard input. `brestore --help` lists the commands; Ctrl-D ends the input.";
 
 /// Does what a command asks for, in as many threads as `threads` starts. Returns the exit status: 0 if
 /// nothing was refused and every outcome is a file; 1 otherwise; 3 if the program's own files or streams

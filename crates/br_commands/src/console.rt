@@ -24,7 +24,7 @@ use br_options::{ConsoleOptions, Target};
 use br_plan::Request;
 use br_request::{RequestFault, read_request};
 use br_setup::{
-    CLEAN, Catalogue, CatalogueFault, HostDrive, REFUSED, drives_over, prompted, refuse_start,
+    CLEAN, Catalogue, CatalogueFault, HostDrive, REFUSED, drives_over, refuse_start, with_prompt,
 };
 use br_sink::Sink;
 use br_tar::TarSink;
@@ -37,7 +37,8 @@ use std::thread::Threads;
 use thiserror::Error;
 
 /// What an operator at a terminal reads before the first line.
-const GREETING: &str = "Mark files with `mark NAME`, or all with `mark *`. `ls` lists, `cd NAME` goes into a folder.
+const GREETING: &str =
+    "Mark files with `mark NAME`, or all with `mark *`. `ls` lists, `cd NAME` goes into a folder.
 `done` restores what is marked, and `quit` restores nothing.";
 
 /// Returns the exit status of a run that was not refused.
@@ -99,10 +100,7 @@ fn report_stream<R: Eprint>(rt: &R, fault: &ConsoleFault) -> io::Result<()> {
 }
 
 /// Prints how a run ended to standard error. Returns the exit status.
-fn report(
-    rt: &HostRuntime,
-    run: Result<ConsoleRun, ConsoleFault>,
-) -> io::Result<u8> {
+fn report(rt: &HostRuntime, run: Result<ConsoleRun, ConsoleFault>) -> io::Result<u8> {
     let ending = console_ending(rt.alloc(), &run)?;
     if let Err(fault) = &run {
         report_stream(rt, fault)?;
@@ -526,6 +524,6 @@ pub(crate) fn restore_marked<C: Catalogue>(
 ) -> io::Result<u8>
     requires few { AreFew given.now.drives }
 {
-    let mut reader = BufReader::new(rt.alloc(), prompted(rt, GREETING, rt.reader()))?;
+    let mut reader = BufReader::new(rt.alloc(), with_prompt(rt, GREETING, rt.reader()))?;
     restore_by_lines(rt, threads, catalogue, given, &mut reader)
 }

@@ -4,11 +4,11 @@ use br_history::History;
 use br_jobs::{Filter, marked_lines};
 use br_plan::Request;
 use br_setup::is_shown;
-use std::io;
-use std::str;
+use std::{io, str};
 
 /// The fields of a line of a job: the number of its files and its volumes.
 const FILES: usize = 8;
+
 const VOLUMES: usize = 10;
 
 /// Returns true if a field of a line is this word.
@@ -21,7 +21,9 @@ fn tell_job(rt: &HostRuntime, line: &[u8]) -> io::Result<()> {
     let shown = String::from_utf8_lossy(rt.alloc(), line)?;
     eprintln!(rt; "chosen: {shown}")?;
     if has_word(line, FILES, b"0") && !has_word(line, VOLUMES, b"-") {
-        eprintln!(rt; "  This job has no files in the catalogue, so none can be marked: use its bootstrap.")?;
+        eprintln!(rt;
+            "  This job has no files in the catalogue, so none can be marked: use its bootstrap."
+        )?;
     }
     Ok(())
 }

@@ -40,7 +40,7 @@ impl<I: Read> Read for Prompted<'_, I> {
 
 /// Returns the reader with prompts and with a line before the first one, if standard input and standard error
 /// are terminals.
-pub fn prompted<'r, I: Read>(
+pub fn with_prompt<'r, I: Read>(
     rt: &'r HostRuntime,
     greeting: &'static str,
     input: I,
