@@ -1,3 +1,4 @@
 mod GivenLaws
+mod StatLaws
 pub mod AgainLaws
 pub mod MeantLaws

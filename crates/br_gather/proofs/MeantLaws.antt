@@ -1,18 +1,16 @@
 -- The hits that a bootstrap means are read again by each drive that shows its volumes.
-use Rattle.std.proofs.Common.{◌≡◌, ℕ, Bool, cond, List, [], ◌∷◌, map, Option, Some, None, Ok, refl, ap, sym, subst, ◌∙◌}
-use Rattle.std.specs.Prelude.{Contains, flat_map, slice_get}
+use Rattle.std.proofs.Common.{◌≡◌, ℕ, cond, List, [], ◌∷◌, Option, Some, Ok, refl, ap, sym, subst, ◌∙◌}
+use Rattle.std.specs.Prelude.{Contains, flat_map}
 use Rattle.std.specs.List.{AllByRecursion}
 use Rattle.std.specs.List.Sorted.{IsStrictlySortedBy}
 use Rattle.std.specs.Cmp.{tied_itself}
-use Rattle.std.specs.FinMap.{find, get, get-from_entries}
+use Rattle.std.specs.FinMap.{find, get-from_entries}
 use Rattle.std.specs.Ordering.{is_eq, ordering_reverse}
 use Rattle.std.specs.declared.cmp.Ordering.{Ordering}
 use Rattle.std.specs.declared.cmp.Ordering.TheVariants.{Less}
-use Rattle.br_model.specs.Answer.{◌>>=◌}
-use Rattle.br_model.specs.Block.{Fragment}
 use Rattle.br_model.specs.Bootstrap.{Group}
 use Rattle.br_model.specs.Volume.{Volume, Extends}
-use Rattle.br_model.specs.Meaning.{Hit, Hits, HasHit, IsHit, Piece, MeaningHasHits, bound_of, groups_on, hit_cmp, hits_among, hits_in, hits_of, hits_on, is_covered, just_groups, meaning}
+use Rattle.br_model.specs.Meaning.{Hit, HasHit, IsHit, Piece, MeaningHasHits, bound_of, groups_on, hit_cmp, hits_among, hits_in, hits_of, hits_on, is_covered, just_groups, meaning}
 use Rattle.br_model.proofs.FoundLaws.{block_has_hit}
 use Rattle.br_model.proofs.FoundSetLaws.{number_is_on}
 use Rattle.br_model.proofs.HitLaws.{hit_cmp_total}

@@ -5,6 +5,25 @@ ghost use Rattle.br_gather.specs.Again.{AreAlike, IsLike};
 
 use br_join::{FileBytes, Item};
 
+/// Returns whether two files have the same path and the same link.
+fn have_same_names(one: &Item, other: &Item) -> bool
+    ensures path { result ≡ true → one.now.path ≡ other.now.path }
+    ensures link { result ≡ true → one.now.link ≡ other.now.link }
+    ensures same { one.now ≡ other.now → result ≡ true }
+{
+    one.path.bytes() == other.path.bytes() && one.link == other.link
+}
+
+/// Returns whether two files have the same numbers, and as many records of both were passed over.
+fn have_same_numbers(one: &Item, other: &Item) -> bool
+    ensures kind { result ≡ true → one.now.kind ≡ other.now.kind }
+    ensures stat { result ≡ true → one.now.stat ≡ other.now.stat }
+    ensures skipped { result ≡ true → one.now.skipped ≡ other.now.skipped }
+    ensures same { one.now ≡ other.now → result ≡ true }
+{
+    one.kind == other.kind && one.skipped == other.skipped && one.stat == other.stat
+}
+
 /// Returns whether two bodies have as many bytes and the same digest.
 fn are_alike(one: &FileBytes, other: &FileBytes) -> bool
     ensures alike { result ≡ true → AreAlike one.now other.now }
@@ -18,10 +37,7 @@ pub(crate) fn is_like(one: &Item, other: &Item) -> bool
     ensures like { result ≡ true → IsLike one.now other.now }
     ensures same { one.now ≡ other.now → result ≡ true }
 {
-    one.path.bytes() == other.path.bytes()
-        && one.kind == other.kind
-        && one.stat == other.stat
-        && one.link == other.link
-        && one.skipped == other.skipped
+    have_same_names(one, other)
+        && have_same_numbers(one, other)
         && are_alike(&one.bytes, &other.bytes)
 }

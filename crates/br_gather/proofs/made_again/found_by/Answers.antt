@@ -2,7 +2,7 @@ use Rattle.std.proofs.Common.{◌≡◌, ◌++◌, ◌∷◌, [], List, map, sym
 use Rattle.std.specs.Option.{option_copied}
 use Rattle.br_model.specs.Meaning.{Hit}
 use Rattle.br_model.specs.Restored.{Restored, files_found}
-use Rattle.br_reread.proofs.GoOnLaws.{failed_on, go_itself, go_more}
+use Rattle.br_reread.proofs.GoOnLaws.{go_itself, go_more}
 use Rattle.br_join.specs.Outcome.{restored}
 use Rattle.br_join.specs.Runs.{listed}
 use Rattle.br_join.proofs.FilesLaws.{found_turn, none_found, none_left, listed_behind, more_files}

@@ -5,7 +5,7 @@ use Rattle.std.proofs.lemmas.Map.Iter.{rest_more}
 use Rattle.br_model.specs.Name.{FileKey}
 use Rattle.br_model.specs.Block.{Fragment}
 use Rattle.br_model.specs.Restored.{Restored, fragments_for, outcome_of, under_name}
-use Rattle.br_reread.proofs.GoOnLaws.{failed_on, go_itself, go_more}
+use Rattle.br_reread.proofs.GoOnLaws.{go_itself, go_more}
 use Rattle.br_join.specs.Outcome.{restored}
 use Rattle.br_join.specs.Runs.{listed}
 use Rattle.br_join.proofs.FilesLaws.{fragments_in_run, planned_of, planned_files_are, more_files}
