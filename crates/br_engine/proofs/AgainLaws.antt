@@ -149,7 +149,7 @@ files_are hits names sorted = ap (λ (es : HitList). files_listed es (option_map
 
 -- drives that read again as those of before, of these groups
 pub many_is : (m : RereadingMany) (ds : List Driven) (gs : List Group) → m.drives ≡ ds → m.groups ≡ gs → record { drives = ds; groups = gs } ≡ m
-many_is m ds gs e f i = record { drives = e (~ i); groups = f (~ i) }
+many_is m ds gs e f i = record { drives = sym e i; groups = sym f i }
 
 module _ (m : RereadingMany) (g : Gathered) (hits : Hits) (names : Option Names) (rs : List Restored) (ds : List Driven) (gs : List Group)
     (same : hits_of g.hits ≡ hits) (named : g.names ≡ names) (sorted : AreListed g.hits) (driven : m.drives ≡ ds) (grouped : m.groups ≡ gs)

@@ -1,8 +1,8 @@
 -- Where a delivery stops whose files are made once more, and what was put by then.
-use Rattle.std.proofs.Common.{◌≡◌, ◌≤◌, ◌<◌, ◌+◌, ℕ, zero, suc, Bool, cond, List, [], ◌∷◌, ◌++◌, length, map, take, drop, Option, Result, Ok, Err, refl, ap, sym, subst, arith, ◌∙◌, inl, inr, length-append, append-assoc}
+use Rattle.std.proofs.Common.{◌≡◌, ◌≤◌, ◌<◌, ◌+◌, ℕ, zero, suc, Bool, cond, List, [], ◌∷◌, ◌++◌, length, map, take, drop, Option, Result, Ok, Err, refl, ap, sym, subst, arith, ◌∙◌, inl, inr, length-append}
 use Rattle.std.specs.Prelude.{IfErr, count_by, is_ok}
 use Rattle.std.specs.List.{AllZip}
-use Rattle.std.proofs.lemmas.List.{length-map, take-append-drop}
+use Rattle.std.proofs.lemmas.List.{append_assoc, length-map, take-append-drop}
 use Rattle.std.proofs.lemmas.List.Sums.{count_by-le-length, sum_by-cons}
 use Rattle.br_model.specs.Answer.{IsRefusal}
 use Rattle.br_model.specs.Delivery.{Stop, delivery}
@@ -134,6 +134,26 @@ pub puts_if : {A : Type 0} (given less : Type 0) (items : List Item) (had has : 
     → PutsLike given items had has r
 puts_if given less items had has r so puts = record { put = puts.put; like = puts.like; same = λ g. puts.same (so g); more = puts.more }
 
+take_whole : {X : Type 0} (xs : List X) → take (length xs) xs ≡ xs
+take_whole [] = refl
+take_whole (x ∷ xs) = ap (λ (ys : List _). x ∷ ys) (take_whole xs)
+
+-- a stop among the first outcomes is one among all
+pub puts_fewer : (given less : Type 0) (os : List (FileKey × Outcome)) (place : ℕ) (had has : Option (List Item)) (stop : Stop) → (given → less)
+    → IsStopAgain (length (items_in (take place os))) stop → PutsLike {A = Unit {0}} less (items_in (take place os)) had has (Err stop)
+    → PutsLike {A = Unit {0}} given (items_in os) had has (Err stop)
+puts_fewer given less os place had has stop so below puts =
+    let e = taken_items os place stop.done (omega (arith, below.within)) in
+    record { put = puts.put; like = subst (AllZip IsLike puts.put) (sym e) puts.like; same = λ g. puts.same (so g) ∙ sym e; more = puts.more }
+
+-- all files before one that conflicts
+pub puts_before : (given less : Type 0) (os : List (FileKey × Outcome)) (place files number : ℕ) (had has : Option (List Item)) → (given → less) → StandApart os place files
+    → PutsLike {A = Unit {0}} less (items_in (take place os)) had has (Ok tt) → PutsLike {A = Unit {0}} given (items_in os) had has (Err (record { number = number; done = files }))
+puts_before given less os place files number had has so stands puts =
+    let e : take files (items_in os) ≡ items_in (take place os) =
+    ap (λ (n : ℕ). take n (items_in os)) stands.many ∙ taken_items os place (length (items_in (take place os))) (omega arith) ∙ take_whole (items_in (take place os)) in
+    record { put = puts.put; like = subst (AllZip IsLike puts.put) (sym e) puts.like; same = λ g. puts.same (so g) ∙ sym e; more = puts.more }
+
 -- ---- the files among outcomes
 
 counted : (rs : List Restored) → count_by (λ (r : Restored). is_ok r.outcome) rs ≡ length (items_of rs)
@@ -161,25 +181,25 @@ pub few_items : (os : List (FileKey × Outcome)) → length (items_in os) ≤ le
 few_items os =
     let c = counted (map restored os) in
     let l = count_by-le-length (λ (r : Restored). is_ok r.outcome) (map restored os) in
-    let m = length-map restored os in
+    let m = length-map os restored in
     omega (arith, c, l, m)
 
 -- ---- outcomes that come next
+
+take_none : {X : Type 0} (n : ℕ) → ◌≡◌ {A = List X} (take n []) []
+take_none zero = refl
+take_none (suc n) = refl
 
 take_both : {X : Type 0} (a n : ℕ) (xs : List X) → take (a + n) xs ≡ take a xs ++ take n (drop a xs)
 take_both zero n xs = ap (λ (k : ℕ). take k xs) (omega arith)
 take_both (suc a) n [] =
     let more : suc a + n ≡ suc (a + n) = omega arith in
-    ap (λ (k : ℕ). take k []) more ∙ sym (take_of_none n)
-  where
-    take_of_none : (n : ℕ) → take {A = _} n [] ≡ []
-    take_of_none zero = refl
-    take_of_none (suc n) = refl
+    ap (λ (k : ℕ). take k []) more ∙ sym (take_none n)
 take_both (suc a) n (x ∷ xs) =
     let more : suc a + n ≡ suc (a + n) = omega arith in
     ap (λ (k : ℕ). take k (x ∷ xs)) more ∙ ap (λ (ys : List _). x ∷ ys) (take_both a n xs)
 
-length_taken : {X : Type 0} (n : ℕ) (xs : List X) → n ≤ length xs → length (take n xs) ≡ n
+pub length_taken : {X : Type 0} (n : ℕ) (xs : List X) → n ≤ length xs → length (take n xs) ≡ n
 length_taken zero xs few = refl
 length_taken (suc n) [] few = absurd (omega (arith, few))
 length_taken (suc n) (x ∷ xs) few = ap suc (length_taken n xs (omega (arith, few)))
@@ -205,4 +225,4 @@ pub items_around : (place n : ℕ) (os window : List (FileKey × Outcome)) → w
 items_around place n os window is few =
     ap items_in (sym (take-append-drop (place + length window) os)) ∙ items_of_both (take (place + length window) os) (drop (place + length window) os)
     ∙ ap (λ (is : List Item). is ++ items_in (drop (place + length window) os)) (items_window place n os window is few)
-    ∙ append-assoc (items_in (take place os)) (items_in window) (items_in (drop (place + length window) os))
+    ∙ append_assoc (items_in (take place os)) (items_in window) (items_in (drop (place + length window) os))

@@ -12,7 +12,7 @@ use Rattle.br_sink.specs.Delivery.{IsStopIn, items_in, stop_cause}
 use Rattle.br_sink.proofs.DeliveryLaws.{delivered, in_the_way_is, memory_stop, way_refused}
 use Rattle.br_engine.specs.Again.{CanMake, IsStopAgain, PutsLike}
 use Rattle.br_engine.proofs.AgainLaws.{make_taken}
-use Rattle.br_engine.proofs.StopLaws.{again_below, no_cause_again, puts_all, puts_before, puts_fewer, puts_if}
+use Rattle.br_engine.proofs.StopLaws.{again_below, puts_before, puts_fewer}
 use Rattle.br_engine.proofs.again.deliver_again.Goals as goal
 
 pub returns-in_default-clause-stopped : goal.returns-in_default-clause-stopped
@@ -27,15 +27,33 @@ returns-in_default-clause-on g c = go_itself c.args.many.now
 -- ---- the delivery stops at a file that is put
 
 pub returns-in_err-put_windows-clause-put : goal.returns-in_err-put_windows-clause-put
-returns-in_err-put_windows-clause-put g c = ?
+returns-in_err-put_windows-clause-put g c =
+    let p = err_from_is_err_and c.from_residual.result c.from_residual.ensures.1 in
+    let os = c.args.outcomes.now in
+    let m = c.args.many.now in
+    let gathered = c.args.source.now.gathered.now in
+    rw (p.1, p.2)
+    (puts_fewer (CanMake m gathered (map restored os)) (CanMake m gathered (map restored (take c.in-Ok.place os))) os c.in-Ok.place (g.S.Sink.has c.args.sink.now)
+    (g.S.Sink.has c.put_windows.new.sink) c.in_err-put_windows.field-0.0 (make_taken m gathered c.in-Ok.place os) c.in_err-put_windows.ensures.stopped c.in_err-put_windows.ensures.put)
 
 pub returns-in_err-put_windows-clause-stopped : goal.returns-in_err-put_windows-clause-stopped
-returns-in_err-put_windows-clause-stopped g c = ?
+returns-in_err-put_windows-clause-stopped g c =
+    let p = err_from_is_err_and c.from_residual.result c.from_residual.ensures.1 in
+    rw (p.1, p.2) (again_below c.args.outcomes.now c.in-Ok.place c.in-Ok.files c.in-Ok.ensures.apart c.in_err-put_windows.field-0.0 c.in_err-put_windows.ensures.stopped)
 
 -- ---- or at one whose path conflicts
 
 pub returns-then-place-outcomes-clause-put : goal.returns-then-place-outcomes-clause-put
-returns-then-place-outcomes-clause-put g c = ?
+returns-then-place-outcomes-clause-put g c =
+    let os = c.args.outcomes.now in
+    let m = c.args.many.now in
+    let gathered = c.args.source.now.gathered.now in
+    let first = g.S.Sink.has c.args.sink.now in
+    let second = g.S.Sink.has c.put_windows.new.sink in
+    let given = CanMake m gathered (map restored os) in
+    subst (λ (stop : Stop). PutsLike {A = Unit {0}} given (items_in os) first second (Err stop)) (sym c.new-then-place-outcomes.ensures)
+    (puts_before given (CanMake m gathered (map restored (take c.in-Ok.place os))) os c.in-Ok.place c.in-Ok.files 81 first second (make_taken m gathered c.in-Ok.place os)
+    c.in-Ok.ensures.apart c.in_ok-put_windows.ensures.put)
 
 pub returns-then-place-outcomes-clause-all : goal.returns-then-place-outcomes-clause-all
 returns-then-place-outcomes-clause-all g c =

@@ -1,4 +1,4 @@
-use Rattle.std.proofs.Common.{◌≡◌, List, Vec, Some, map, ap, subst, ◌∙◌}
+use Rattle.std.proofs.Common.{◌≡◌, List, Vec, Some, Ok, Err, map, ap, subst, ◌∙◌}
 use Rattle.std.specs.Global.{Global}
 use Rattle.br_join.specs.Outcome.{restored}
 use Rattle.br_reread.specs.Many.{RereadingMany, driven_by}
@@ -27,7 +27,7 @@ returns-in-Ok-clause-ends g c =
     let second = g.S.Sink.has c.deliver_again-delivered.new.sink in
     let given = CanMake (record { drives = ds; groups = gs }) gathered rs in
     all_put given first second rs c.end_of.result
-    (puts_if given (CanMake m gathered rs) (items_in c.args.outcomes.now) first second c.deliver_again-delivered.result
+    (puts_if given (CanMake m gathered rs) (items_in c.args.outcomes.now) first second (Ok c.in-Ok.field-0)
     (subst (λ (k : RereadingMany). CanMake k gathered rs) (many_is m ds gs e c.new-many.ensures.groups)) c.in-Ok.ensures.put)
     c.in-Ok.ensures.all c.end_of.ensures
 
