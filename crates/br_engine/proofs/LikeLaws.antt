@@ -1,18 +1,17 @@
 -- Files that differ at most in bytes with the same digest: they have one manifest, and one delivery.
-use Rattle.std.proofs.Common.{◌≡◌, ◌≤◌, ◌<◌, ◌+◌, ℕ, zero, suc, Bool, true, false, cond, List, [], ◌∷◌, ◌++◌, length, map, take, drop, filter_map, Option, Some, None, Result, Ok, Err, refl, ap, sym, subst, arith, ◌∙◌}
-use Rattle.std.specs.Prelude.{codes, count_by, decimal, flat_map, is_ok, not, sum_by}
-use Rattle.std.specs.List.{AllByRecursion, AllZip, join_with_byte, list_all, list_any}
-use Rattle.md5.specs.Md5.{md5}
-use Rattle.br_model.specs.Answer.{◌>>=◌}
+use Rattle.std.proofs.Common.{◌≡◌, ◌<◌, ◌+◌, ℕ, zero, suc, Bool, cond, List, [], ◌∷◌, ◌++◌, length, map, take, drop, Result, Ok, Err, refl, ap, sym, subst, ◌∙◌}
+use Rattle.std.specs.Prelude.{◌&&◌, codes, count_by, decimal, flat_map, is_ok, not, sum_by}
+use Rattle.std.specs.List.{AllZip, join_with_byte, list_any}
+use Rattle.std.proofs.lemmas.List.Sums.{sum_by-cons}
 use Rattle.br_model.specs.Attribute.{stat_numbers}
-use Rattle.br_model.specs.Delivery.{Stop, delivery, in_the_way, item_of, put_behind}
+use Rattle.br_model.specs.Delivery.{Stop, delivery, in_the_way, put_behind}
 use Rattle.br_model.specs.File.{Fault, Item, Outcome}
-use Rattle.br_model.specs.Manifest.{Totals, file_line, item_fields, key_fields, manifest, outcome_fields, skipped_in, totals_of}
+use Rattle.br_model.specs.Manifest.{file_line, item_fields, key_fields, manifest, outcome_fields, skipped_in, totals_of}
 use Rattle.br_model.specs.Name.{FileKey}
 use Rattle.br_model.specs.Restored.{Restored}
 use Rattle.br_model.specs.Text.{escaped, hexadecimal, line, signed_decimal}
 use Rattle.br_gather.specs.Again.{IsLike}
-use Rattle.br_sink.specs.Delivery.{AreApart, IsStopIn}
+use Rattle.br_sink.specs.Delivery.{IsStopIn}
 use Rattle.br_engine.specs.Again.{IsFileLike, IsOutcomeLike}
 use Rattle.br_engine.specs.Delivering.{items_of}
 use Rattle.br_engine.specs.Outputs.{are_files}
@@ -71,21 +70,19 @@ same_skipped r o like = go r o r.outcome o.outcome refl refl like.1
     go r o (Ok a) (Err y) e f l = absurd l
     go r o (Err x) (Ok b) e f l = absurd l
 
-same_count : (t : Bool → Bool) (rs os : List Restored) → AllZip IsFileLike rs os → count_by (λ (r : Restored). t (is_ok r.outcome)) rs ≡ count_by (λ (r : Restored). t (is_ok r.outcome)) os
-same_count t [] [] like = refl
-same_count t [] (o ∷ os) like = absurd like
-same_count t (r ∷ rs) [] like = absurd like
-same_count t (r ∷ rs) (o ∷ os) like = λ i. cond (t (same_ok r o like.0 i)) (suc (same_count t rs os like.1 i)) (same_count t rs os like.1 i)
+same_sum : (f : Restored → ℕ) → ((r o : Restored) → IsFileLike r o → f r ≡ f o) → (rs os : List Restored) → AllZip IsFileLike rs os → sum_by f rs ≡ sum_by f os
+same_sum f each [] [] like = refl
+same_sum f each [] (o ∷ os) like = absurd like
+same_sum f each (r ∷ rs) [] like = absurd like
+same_sum f each (r ∷ rs) (o ∷ os) like = sum_by-cons f r rs ∙ (λ i. each r o like.0 i + same_sum f each rs os like.1 i) ∙ sym (sum_by-cons f o os)
 
-same_sum : (rs os : List Restored) → AllZip IsFileLike rs os → sum_by skipped_in rs ≡ sum_by skipped_in os
-same_sum [] [] like = refl
-same_sum [] (o ∷ os) like = absurd like
-same_sum (r ∷ rs) [] like = absurd like
-same_sum (r ∷ rs) (o ∷ os) like = λ i. same_skipped r o like.0 i + same_sum rs os like.1 i
+same_count : (t : Bool → Bool) (rs os : List Restored) → AllZip IsFileLike rs os
+    → count_by (λ (r : Restored). t (is_ok r.outcome)) rs ≡ count_by (λ (r : Restored). t (is_ok r.outcome)) os
+same_count t rs os like = same_sum (λ (r : Restored). cond (t (is_ok r.outcome)) 1 0) (λ r o one. ap (λ (b : Bool). cond (t b) 1 0) (same_ok r o one)) rs os like
 
 pub same_totals : (rs os : List Restored) → AllZip IsFileLike rs os → totals_of rs ≡ totals_of os
 unfolding totals_of
-same_totals rs os like = λ i. record { files = same_count (λ b. b) rs os like i; faults = same_count not rs os like i; skipped = same_sum rs os like i }
+same_totals rs os like = λ i. record { files = same_count (λ b. b) rs os like i; faults = same_count not rs os like i; skipped = same_sum skipped_in same_skipped rs os like i }
 
 pub same_manifest : (rs os : List Restored) → AllZip IsFileLike rs os → manifest rs ≡ manifest os
 unfolding manifest
@@ -95,7 +92,7 @@ pub same_files : (rs os : List Restored) → AllZip IsFileLike rs os → are_fil
 same_files [] [] like = refl
 same_files [] (o ∷ os) like = absurd like
 same_files (r ∷ rs) [] like = absurd like
-same_files (r ∷ rs) (o ∷ os) like = λ i. cond (same_ok r o like.0 i) (same_files rs os like.1 i) false
+same_files (r ∷ rs) (o ∷ os) like = λ i. same_ok r o like.0 i && same_files rs os like.1 i
 
 -- ---- the delivery
 
@@ -164,81 +161,91 @@ pub with_items : List Restored → List Item → List Restored
 with_items [] items = []
 with_items (r ∷ rs) items = replaced r r.outcome items (with_items rs)
 
-items_fault : (o : Restored) (os : List Restored) (f : Fault) → o.outcome ≡ Err f → items_of (o ∷ os) ≡ items_of os
+pub items_fault : (o : Restored) (os : List Restored) (f : Fault) → o.outcome ≡ Err f → items_of (o ∷ os) ≡ items_of os
 items_fault o os f e = rw e refl
 
-items_file : (o : Restored) (os : List Restored) (item : Item) → o.outcome ≡ Ok item → items_of (o ∷ os) ≡ item ∷ items_of os
+pub items_file : (o : Restored) (os : List Restored) (item : Item) → o.outcome ≡ Ok item → items_of (o ∷ os) ≡ item ∷ items_of os
 items_file o os item e = rw e refl
 
 with_fault : (o : Restored) (os : List Restored) (f : Fault) (items : List Item) → o.outcome ≡ Err f → with_items (o ∷ os) items ≡ o ∷ with_items os items
+unfolding with_items replaced
 with_fault o os f items e = rw e refl
 
 with_last : (o : Restored) (os : List Restored) (item : Item) → o.outcome ≡ Ok item → with_items (o ∷ os) [] ≡ o ∷ with_items os []
+unfolding with_items replaced
 with_last o os item e = rw e refl
 
 with_file : (o : Restored) (os : List Restored) (item i : Item) (items : List Item) → o.outcome ≡ Ok item
     → with_items (o ∷ os) (i ∷ items) ≡ record { key = o.key; outcome = Ok i } ∷ with_items os items
+unfolding with_items replaced
 with_file o os item i items e = rw e refl
 
 with_none : (os : List Restored) → with_items os [] ≡ os
+unfolding with_items
 with_none [] = refl
-with_none (o ∷ os) = go o.outcome refl
+with_none (o ∷ os) = go o.outcome refl (with_none os)
   where
-    go : (a : Outcome) → o.outcome ≡ a → with_items (o ∷ os) [] ≡ o ∷ os
-    go (Err f) e = with_fault o os f [] e ∙ ap (λ (rs : List Restored). o ∷ rs) (with_none os)
-    go (Ok item) e = with_last o os item e ∙ ap (λ (rs : List Restored). o ∷ rs) (with_none os)
+    go : (a : Outcome) → o.outcome ≡ a → with_items os [] ≡ os → with_items (o ∷ os) [] ≡ o ∷ os
+    go (Err f) e more = with_fault o os f [] e ∙ ap (λ (rs : List Restored). o ∷ rs) more
+    go (Ok item) e more = with_last o os item e ∙ ap (λ (rs : List Restored). o ∷ rs) more
 
 -- they are like these
 pub with_like : (os : List Restored) (items : List Item) (n : ℕ) → AllZip IsLike items (take n (items_of os)) → AllZip IsFileLike (with_items os items) os
+unfolding with_items
 with_like [] items n like = tt
-with_like (o ∷ os) items n like = go o.outcome refl items n like
+with_like (o ∷ os) items n like = go o.outcome refl items n like (λ items n like. with_like os items n like)
   where
     go : (a : Outcome) → o.outcome ≡ a → (items : List Item) (n : ℕ) → AllZip IsLike items (take n (items_of (o ∷ os)))
+        → ((items : List Item) (n : ℕ) → AllZip IsLike items (take n (items_of os)) → AllZip IsFileLike (with_items os items) os)
         → AllZip IsFileLike (with_items (o ∷ os) items) (o ∷ os)
-    go (Err f) e items n like =
+    go (Err f) e items n like more =
         subst (λ (rs : List Restored). AllZip IsFileLike rs (o ∷ os)) (sym (with_fault o os f items e))
-        (file_itself o, with_like os items n (subst (λ (is : List Item). AllZip IsLike items (take n is)) (items_fault o os f e) like))
-    go (Ok item) e [] n like = subst (λ (rs : List Restored). AllZip IsFileLike rs (o ∷ os)) (sym (with_none (o ∷ os))) (all_themselves (o ∷ os))
-    go (Ok item) e (i ∷ items) zero like = absurd like
-    go (Ok item) e (i ∷ items) (suc n) like =
+        (file_itself o, more items n (subst (λ (is : List Item). AllZip IsLike items (take n is)) (items_fault o os f e) like))
+    go (Ok item) e [] n like more = subst (λ (rs : List Restored). AllZip IsFileLike rs (o ∷ os)) (sym (with_none (o ∷ os))) (all_themselves (o ∷ os))
+    go (Ok item) e (i ∷ items) zero like more = absurd like
+    go (Ok item) e (i ∷ items) (suc n) like more =
         let l = subst (λ (is : List Item). AllZip IsLike (i ∷ items) (take (suc n) is)) (items_file o os item e) like in
         subst (λ (rs : List Restored). AllZip IsFileLike rs (o ∷ os)) (sym (with_file o os item i items e))
-        ((refl, subst (λ (a : Outcome). IsOutcomeLike (Ok i) a) (sym e) l.0), with_like os items n l.1)
+        ((refl, subst (λ (a : Outcome). IsOutcomeLike (Ok i) a) (sym e) l.0), more items n l.1)
 
 -- the files of them are those, and after them the others of these
 pub with_put : (os : List Restored) (items : List Item) (n : ℕ) → AllZip IsLike items (take n (items_of os))
     → items_of (with_items os items) ≡ items ++ drop (length items) (items_of os)
+unfolding with_items
 with_put [] [] n like = refl
 with_put [] (i ∷ items) zero like = absurd like
 with_put [] (i ∷ items) (suc n) like = absurd like
-with_put (o ∷ os) items n like = go o.outcome refl items n like
+with_put (o ∷ os) items n like = go o.outcome refl items n like (λ items n like. with_put os items n like)
   where
     go : (a : Outcome) → o.outcome ≡ a → (items : List Item) (n : ℕ) → AllZip IsLike items (take n (items_of (o ∷ os)))
+        → ((items : List Item) (n : ℕ) → AllZip IsLike items (take n (items_of os)) → items_of (with_items os items) ≡ items ++ drop (length items) (items_of os))
         → items_of (with_items (o ∷ os) items) ≡ items ++ drop (length items) (items_of (o ∷ os))
-    go (Err f) e items n like =
+    go (Err f) e items n like more =
         ap items_of (with_fault o os f items e) ∙ items_fault o (with_items os items) f e
-        ∙ with_put os items n (subst (λ (is : List Item). AllZip IsLike items (take n is)) (items_fault o os f e) like)
+        ∙ more items n (subst (λ (is : List Item). AllZip IsLike items (take n is)) (items_fault o os f e) like)
         ∙ ap (λ (is : List Item). items ++ drop (length items) is) (sym (items_fault o os f e))
-    go (Ok item) e [] n like = ap items_of (with_none (o ∷ os))
-    go (Ok item) e (i ∷ items) zero like = absurd like
-    go (Ok item) e (i ∷ items) (suc n) like =
+    go (Ok item) e [] n like more = ap items_of (with_none (o ∷ os))
+    go (Ok item) e (i ∷ items) zero like more = absurd like
+    go (Ok item) e (i ∷ items) (suc n) like more =
         let l = subst (λ (is : List Item). AllZip IsLike (i ∷ items) (take (suc n) is)) (items_file o os item e) like in
-        ap items_of (with_file o os item i items e) ∙ ap (λ (is : List Item). i ∷ is) (with_put os items n l.1)
+        ap items_of (with_file o os item i items e) ∙ ap (λ (is : List Item). i ∷ is) (more items n l.1)
         ∙ ap (λ (is : List Item). i ∷ items ++ drop (suc (length items)) is) (sym (items_file o os item e))
 
 -- if they are the first files of these, nothing is replaced
 pub with_same : (os : List Restored) (items : List Item) (n : ℕ) → items ≡ take n (items_of os) → with_items os items ≡ os
+unfolding with_items
 with_same [] items n same = refl
-with_same (o ∷ os) items n same = go o.outcome refl items n same
+with_same (o ∷ os) items n same = go o.outcome refl items n same (λ items n same. with_same os items n same)
   where
-    go : (a : Outcome) → o.outcome ≡ a → (items : List Item) (n : ℕ) → items ≡ take n (items_of (o ∷ os)) → with_items (o ∷ os) items ≡ o ∷ os
-    go (Err f) e items n same =
-        with_fault o os f items e ∙ ap (λ (rs : List Restored). o ∷ rs) (with_same os items n (same ∙ ap (take n) (items_fault o os f e)))
-    go (Ok item) e [] n same = with_none (o ∷ os)
-    go (Ok item) e (i ∷ items) zero same = absurd cc
-    go (Ok item) e (i ∷ items) (suc n) same =
+    go : (a : Outcome) → o.outcome ≡ a → (items : List Item) (n : ℕ) → items ≡ take n (items_of (o ∷ os))
+        → ((items : List Item) (n : ℕ) → items ≡ take n (items_of os) → with_items os items ≡ os) → with_items (o ∷ os) items ≡ o ∷ os
+    go (Err f) e items n same more =
+        with_fault o os f items e ∙ ap (λ (rs : List Restored). o ∷ rs) (more items n (same ∙ ap (take n) (items_fault o os f e)))
+    go (Ok item) e [] n same more = with_none (o ∷ os)
+    go (Ok item) e (i ∷ items) zero same more = absurd cc
+    go (Ok item) e (i ∷ items) (suc n) same more =
         let both : i ∷ items ≡ item ∷ take n (items_of os) = same ∙ ap (take (suc n)) (items_file o os item e) in
         let first : i ≡ item = cc in
         let rest : items ≡ take n (items_of os) = cc in
-        with_file o os item i items e
-        ∙ (λ t. record { key = o.key; outcome = (ap (λ (x : Item). Ok {E = Fault} x) first ∙ sym e) t } ∷ with_same os items n rest t)
+        let okay : ◌≡◌ {A = Outcome} (Ok i) (Ok item) = ap Ok first in
+        with_file o os item i items e ∙ (λ t. record { key = o.key; outcome = (okay ∙ sym e) t } ∷ more items n rest t)

@@ -1,20 +1,27 @@
 -- Where a delivery stops whose files are made once more, and what was put by then.
-use Rattle.std.proofs.Common.{◌≡◌, ◌≤◌, ◌<◌, ◌+◌, ℕ, zero, suc, List, [], ◌∷◌, ◌++◌, length, map, take, Option, Result, Ok, Err, refl, ap, sym, subst, arith, ◌∙◌, inl, inr, length-append}
+use Rattle.std.proofs.Common.{◌≡◌, ◌≤◌, ◌<◌, ◌+◌, ◌-◌, ℕ, zero, suc, cond, List, [], ◌∷◌, ◌++◌, length, map, take, drop, Option, Result, Ok, Err, refl, ap, sym, subst, arith, ◌∙◌, inl, inr}
+use Rattle.std.specs.Prelude.{IfErr, count_by, is_ok}
 use Rattle.std.specs.List.{AllZip}
+use Rattle.std.proofs.lemmas.List.{append_assoc, length-map, take-append-drop}
+use Rattle.std.proofs.lemmas.List.Sums.{count_by-le-length, sum_by-cons}
 use Rattle.br_model.specs.Answer.{IsRefusal}
 use Rattle.br_model.specs.Delivery.{Stop, delivery}
+use Rattle.br_model.specs.File as file
 use Rattle.br_model.specs.File.{Item}
 use Rattle.br_model.specs.Name.{FileKey}
+use Rattle.br_model.specs.Manifest.{totals_of}
 use Rattle.br_model.specs.Restored.{Restored}
+use Rattle.br_join.specs.Outcome.{restored}
 use Rattle.br_join.specs.declared.item.Outcome.{Outcome}
 use Rattle.br_gather.specs.Again.{IsLike}
 use Rattle.br_sink.specs.Delivery.{AreApart, IsStopBelow, IsStopIn, StandApart, items_in, items_put, stop_cause}
 use Rattle.br_sink.specs.Sink.{HasMore}
-use Rattle.br_sink.proofs.DeliveryLaws.{apart_taken, fewer_items, more_behind, none_more, taken_items}
+use Rattle.br_sink.proofs.DeliveryLaws.{apart_taken, fewer_items, items_of_both, more_behind, none_more, taken_items}
 use Rattle.br_again.specs.declared.fault.AgainFault.{AgainFault}
 use Rattle.br_again.specs.declared.fault.AgainFault.TheVariants as again
 use Rattle.br_engine.specs.Again.{IsStopAgain, PutsLike, again_number}
-use Rattle.br_engine.proofs.LikeLaws.{like_length, like_take}
+use Rattle.br_engine.specs.Delivering.{items_of}
+use Rattle.br_engine.proofs.LikeLaws.{items_fault, items_file, like_length, like_take}
 
 -- ---- the stop
 
@@ -43,15 +50,17 @@ no_cause_again stop rs count is = elim is.number [
 
 -- ---- what was put
 
-like_both : (xs ys as bs : List Item) → AllZip IsLike xs as → AllZip IsLike ys bs → AllZip IsLike (xs ++ ys) (as ++ bs)
-like_both [] ys [] bs p q = q
-like_both [] ys (a ∷ as) bs p q = absurd p
-like_both (x ∷ xs) ys [] bs p q = absurd p
-like_both (x ∷ xs) ys (a ∷ as) bs p q = (p.0, like_both xs ys as bs p.1 q)
+like_both : (xs ys us vs : List Item) → AllZip IsLike xs us → AllZip IsLike ys vs → AllZip IsLike (xs ++ ys) (us ++ vs)
+like_both [] ys [] vs p q = q
+like_both [] ys (u ∷ us) vs p q = absurd p
+like_both (x ∷ xs) ys [] vs p q = absurd p
+like_both (x ∷ xs) ys (u ∷ us) vs p q = (p.0, like_both xs ys us vs p.1 q)
 
 take_behind : {X : Type 0} (xs ys : List X) (n : ℕ) → take (length xs + n) (xs ++ ys) ≡ xs ++ take n ys
-take_behind [] ys n = refl
-take_behind (x ∷ xs) ys n = ap (λ (zs : List _). x ∷ zs) (take_behind xs ys n)
+take_behind [] ys n = ap (λ (k : ℕ). take k ys) (omega arith)
+take_behind (x ∷ xs) ys n =
+    let more : length (x ∷ xs) + n ≡ suc (length xs + n) = omega arith in
+    ap (λ (k : ℕ). take k (x ∷ (xs ++ ys))) more ∙ ap (λ (zs : List _). x ∷ zs) (take_behind xs ys n)
 
 -- nothing was put of no files
 pub none_put : (given : Type 0) (has : Option (List Item)) → PutsLike {A = Unit {0}} given [] has has (Ok tt)
@@ -108,6 +117,10 @@ stop_of_sink made items stop like below = record {
   within = subst (λ (n : ℕ). stop.done < n) (like_length made items like) below.within;
 }
 
+pub stops_of_sink : {A : Type 0} (made items : List Item) (r : Result A Stop) → AllZip IsLike made items → IfErr r (IsStopBelow (length made)) → IfErr r (IsStopAgain (length items))
+stops_of_sink made items (Ok a) like below = tt
+stops_of_sink made items (Err stop) like below = stop_of_sink made items stop like below
+
 -- no file was made once more
 pub stop_of_again : (items : List Item) (fault : AgainFault) → 0 < length items → IsStopAgain (length items) (record { number = again_number fault; done = 0 })
 stop_of_again items again.Memory some = record { number = inl refl; within = some }
@@ -116,3 +129,116 @@ stop_of_again items again.Changed some = record { number = inr (inr refl); withi
 
 pub put_none : {A : Type 0} (given : Type 0) (items : List Item) (has : Option (List Item)) (number : ℕ) → PutsLike {A = A} given items has has (Err (record { number = number; done = 0 }))
 put_none given items has number = record { put = []; like = tt; same = λ _. refl; more = none_more has }
+
+-- what is put if less has to be given
+pub puts_if : {A : Type 0} (given less : Type 0) (items : List Item) (had has : Option (List Item)) (r : Result A Stop) → (given → less) → PutsLike less items had has r
+    → PutsLike given items had has r
+puts_if given less items had has r so puts = record { put = puts.put; like = puts.like; same = λ g. puts.same (so g); more = puts.more }
+
+pub take_whole : {X : Type 0} (xs : List X) → take (length xs) xs ≡ xs
+take_whole [] = refl
+take_whole (x ∷ xs) = ap (λ (ys : List _). x ∷ ys) (take_whole xs)
+
+-- a stop among the first outcomes is one among all
+pub puts_fewer : (given less : Type 0) (os : List (FileKey × Outcome)) (place : ℕ) (had has : Option (List Item)) (stop : Stop) → (given → less)
+    → IsStopAgain (length (items_in (take place os))) stop → PutsLike {A = Unit {0}} less (items_in (take place os)) had has (Err stop)
+    → PutsLike {A = Unit {0}} given (items_in os) had has (Err stop)
+puts_fewer given less os place had has stop so below puts =
+    let e = taken_items os place stop.done (omega (arith, below.within)) in
+    record { put = puts.put; like = subst (AllZip IsLike puts.put) (sym e) puts.like; same = λ g. puts.same (so g) ∙ sym e; more = puts.more }
+
+-- all files before one that conflicts
+pub puts_before : (given less : Type 0) (os : List (FileKey × Outcome)) (place files number : ℕ) (had has : Option (List Item)) → (given → less) → StandApart os place files
+    → PutsLike {A = Unit {0}} less (items_in (take place os)) had has (Ok tt) → PutsLike {A = Unit {0}} given (items_in os) had has (Err (record { number = number; done = files }))
+puts_before given less os place files number had has so stands puts =
+    let e : take files (items_in os) ≡ items_in (take place os) =
+    ap (λ (n : ℕ). take n (items_in os)) stands.many ∙ taken_items os place (length (items_in (take place os))) (omega arith) ∙ take_whole (items_in (take place os)) in
+    record { put = puts.put; like = subst (AllZip IsLike puts.put) (sym e) puts.like; same = λ g. puts.same (so g) ∙ sym e; more = puts.more }
+
+-- ---- the files among outcomes
+
+counted : (rs : List Restored) → count_by (λ (r : Restored). is_ok r.outcome) rs ≡ length (items_of rs)
+counted [] = refl
+counted (r ∷ rs) = sum_by-cons (λ (r : Restored). cond (is_ok r.outcome) 1 0) r rs ∙ go r.outcome refl (counted rs)
+  where
+    go : (a : file.Outcome) → r.outcome ≡ a → count_by (λ (r : Restored). is_ok r.outcome) rs ≡ length (items_of rs)
+        → cond (is_ok r.outcome) 1 0 + count_by (λ (r : Restored). is_ok r.outcome) rs ≡ length (items_of (r ∷ rs))
+    go (Ok item) e more =
+        let one : ◌≡◌ {A = ℕ} (cond (is_ok r.outcome) 1 0) 1 = rw e refl in
+        let longer = ap length (items_file r rs item e) in
+        omega (arith, one, more, longer)
+    go (Err f) e more =
+        let none : ◌≡◌ {A = ℕ} (cond (is_ok r.outcome) 1 0) 0 = rw e refl in
+        let same = ap length (items_fault r rs f e) in
+        omega (arith, none, more, same)
+
+-- their number is that of the totals
+pub files_counted : (rs : List Restored) → (totals_of rs).files ≡ length (items_of rs)
+unfolding totals_of
+files_counted rs = counted rs
+
+-- no more than the outcomes
+pub few_items : (os : List (FileKey × Outcome)) → length (items_in os) ≤ length os
+few_items os =
+    let c = counted (map restored os) in
+    let l = count_by-le-length (λ (r : Restored). is_ok r.outcome) (map restored os) in
+    let m = length-map os restored in
+    omega (arith, c, l, m)
+
+-- ---- outcomes that come next
+
+take_none : {X : Type 0} (n : ℕ) → ◌≡◌ {A = List X} (take n []) []
+take_none zero = refl
+take_none (suc n) = refl
+
+take_both : {X : Type 0} (a n : ℕ) (xs : List X) → take (a + n) xs ≡ take a xs ++ take n (drop a xs)
+take_both zero n xs = ap (λ (k : ℕ). take k xs) (omega arith)
+take_both (suc a) n [] =
+    let more : suc a + n ≡ suc (a + n) = omega arith in
+    ap (λ (k : ℕ). take k []) more ∙ sym (take_none n)
+take_both (suc a) n (x ∷ xs) =
+    let more : suc a + n ≡ suc (a + n) = omega arith in
+    ap (λ (k : ℕ). take k (x ∷ xs)) more ∙ ap (λ (ys : List _). x ∷ ys) (take_both a n xs)
+
+pub length_taken : {X : Type 0} (n : ℕ) (xs : List X) → n ≤ length xs → length (take n xs) ≡ n
+length_taken zero xs few = refl
+length_taken (suc n) [] few = absurd (omega (arith, few))
+length_taken (suc n) (x ∷ xs) few = ap suc (length_taken n xs (omega (arith, few)))
+
+pub taken_few : {X : Type 0} (n : ℕ) (xs : List X) → length (take n xs) ≤ length xs
+taken_few zero xs = omega arith
+taken_few (suc n) [] = omega arith
+taken_few (suc n) (x ∷ xs) = let few = taken_few n xs in omega (arith, few)
+
+-- all that are left
+pub rest_is : {X : Type 0} (place : ℕ) (xs : List X) → take (length xs - place) (drop place xs) ≡ drop place xs
+rest_is zero xs =
+    let all : length xs - 0 ≡ length xs = omega arith in
+    ap (λ (k : ℕ). take k xs) all ∙ take_whole xs
+rest_is (suc place) [] = take_none _
+rest_is (suc place) (x ∷ xs) =
+    let less : length (x ∷ xs) - suc place ≡ length xs - place = omega arith in
+    ap (λ (k : ℕ). take k (drop place xs)) less ∙ rest_is place xs
+
+-- as many as there are in the next window
+pub window_len : {X : Type 0} (place n : ℕ) (xs window : List X) → window ≡ take n (drop place xs) → n ≤ length (drop place xs) → length window ≡ n
+window_len place n xs window is few = ap length is ∙ length_taken n (drop place xs) few
+
+-- those up to it and those in it
+pub taken_window : {X : Type 0} (place n : ℕ) (xs window : List X) → window ≡ take n (drop place xs) → n ≤ length (drop place xs)
+    → take (place + length window) xs ≡ take place xs ++ window
+taken_window place n xs window is few =
+    ap (λ (k : ℕ). take (place + k) xs) (window_len place n xs window is few) ∙ take_both place n xs ∙ ap (λ (ys : List _). take place xs ++ ys) (sym is)
+
+-- their files
+pub items_window : (place n : ℕ) (os window : List (FileKey × Outcome)) → window ≡ take n (drop place os) → n ≤ length (drop place os)
+    → items_in (take (place + length window) os) ≡ items_in (take place os) ++ items_in window
+items_window place n os window is few = ap items_in (taken_window place n os window is few) ∙ items_of_both (take place os) window
+
+-- and all files
+pub items_around : (place n : ℕ) (os window : List (FileKey × Outcome)) → window ≡ take n (drop place os) → n ≤ length (drop place os)
+    → items_in os ≡ items_in (take place os) ++ (items_in window ++ items_in (drop (place + length window) os))
+items_around place n os window is few =
+    ap items_in (sym (take-append-drop (place + length window) os)) ∙ items_of_both (take (place + length window) os) (drop (place + length window) os)
+    ∙ ap (λ (is : List Item). is ++ items_in (drop (place + length window) os)) (items_window place n os window is few)
+    ∙ append_assoc (items_in (take place os)) (items_in window) (items_in (drop (place + length window) os))

@@ -8,7 +8,7 @@ ghost use Rattle.br_sink.specs.Delivery.{AreApart, IsStopIn, items_in, stop_caus
 ghost use Rattle.br_sink.specs.Fault.{cause_number};
 ghost use Rattle.br_engine.specs.Again.{CanMake, DeliversAll, IsStopAgain, PutsLike, again_number};
 
-use br_again::AgainFault;
+use br_again::{AgainFault, standing_stays};
 use br_gather::Gathered;
 use br_join::Outcome;
 use br_reread::OverMany;
@@ -73,7 +73,8 @@ fn put_window<D: Drive, S: Sink>(
     window: &[(FileKey, Outcome)],
     sink: &mut S,
 ) -> Result<(), SinkStop>
-    ensures put { PutsLike (CanMake many.old source.now.gathered.now (map restored window.now)) (items_in window.now) (S.has sink.old) (S.has sink.new) result }
+    ensures put { PutsLike (CanMake many.old source.now.gathered.now (map restored window.now)) (items_in window.now)
+        (S.has sink.old) (S.has sink.new) result }
     ensures stopped { IfErr result (IsStopAgain (length (items_in window.now))) }
     ensures on { GoOn many.old many.new }
     ensures counted { S.failures sink.old ≤ S.failures sink.new }
@@ -94,21 +95,24 @@ fn put_windows<D: Drive, S: Sink>(
     outcomes: &[(FileKey, Outcome)],
     sink: &mut S,
 ) -> Result<(), SinkStop>
-    ensures put { PutsLike (CanMake many.old source.now.gathered.now (map restored outcomes.now)) (items_in outcomes.now) (S.has sink.old) (S.has sink.new) result }
+    ensures put { PutsLike (CanMake many.old source.now.gathered.now (map restored outcomes.now)) (items_in outcomes.now)
+        (S.has sink.old) (S.has sink.new) result }
     ensures stopped { IfErr result (IsStopAgain (length (items_in outcomes.now))) }
     ensures on { GoOn many.old many.new }
     ensures counted { S.failures sink.old ≤ S.failures sink.new }
     ensures failed { IfErr result (λ stop. stop.number ≡ 80 → S.failures sink.old < S.failures sink.new) }
 {
-    let mut rest = outcomes;
+    standing_stays();
+    let mut place = 0;
     let mut done = 0;
-    while !rest.is_empty() {
-        let (window, after) = rest.split_at(window_len(rest));
+    while place < outcomes.len() {
+        let rest = &outcomes[place..];
+        let (window, _) = rest.split_at(window_len(rest));
         if let Err(stop) = put_window(rt, source, many, window, sink) {
             return Err(SinkStop::new(stop.cause(), done + stop.done()));
         }
         done += totals(window).files;
-        rest = after;
+        place += window.len();
     }
     Ok(())
 }
@@ -126,7 +130,8 @@ pub(crate) fn deliver_again<D: Drive, S: Sink>(
     outcomes: &[(FileKey, Outcome)],
     sink: &mut S,
 ) -> Result<(), SinkStop>
-    ensures put { PutsLike (CanMake many.old source.now.gathered.now (map restored outcomes.now)) (items_in outcomes.now) (S.has sink.old) (S.has sink.new) result }
+    ensures put { PutsLike (CanMake many.old source.now.gathered.now (map restored outcomes.now)) (items_in outcomes.now)
+        (S.has sink.old) (S.has sink.new) result }
     ensures all { DeliversAll result (map restored outcomes.now) }
     ensures stopped { IfErr result (IsStopIn (items_in outcomes.now)) }
     ensures on { GoOn many.old many.new }

@@ -47,7 +47,6 @@ fn made_of<D: Drive>(
     ensures failed { OnlyIfAllFail D.failures drives.old.items drives.new.items IsNoDriveLeft result }
     ensures free { IfErr result IsUnmade }
 {
-    hits_stand();
     standing_stays();
     let gathered = Gathered::of(joiner)?;
     let taken = mem::replace(drives, Vec::new(alloc));
@@ -93,6 +92,8 @@ pub fn restore_within<D: Drive + Send>(
             gathered: None,
         });
     }
+    hits_stand();
+    standing_stays();
     made_of(budget.alloc, joiner, bootstrap.groups(), drives)
 }
 
@@ -122,6 +123,27 @@ fn deliver_by<D: Drive, S: Sink>(
     }
 }
 
+/// Delivers the files among the outcomes as `deliver_by`, if there is a sink.
+fn deliver_from<D: Drive, S: Sink>(
+    rt: &(impl Threads + Sync),
+    source: &Source<'_>,
+    groups: &[Group],
+    drives: &mut Vec<D>,
+    outcomes: &[(FileKey, Outcome)],
+    sink: &mut Option<S>,
+) -> RestoreEnd
+    ensures ends { EndsLike (CanGive D.shows D.failures drives.old.items groups.now (Some source.now.gathered.now) (map restored outcomes.now))
+        (option_map S.has sink.old) (option_map S.has sink.new) (map restored outcomes.now) result }
+    ensures places { StayInPlace D.shows D.failures drives.old.items drives.new.items }
+    ensures counted { SinkCounts (option_map S.failures sink.old) (option_map S.failures sink.new) }
+    ensures failed { StopsByFailure (option_map S.failures sink.old) (option_map S.failures sink.new) result }
+{
+    match sink {
+        None => end_of(outcomes),
+        Some(sink) => deliver_by(rt, source, groups, drives, outcomes, sink),
+    }
+}
+
 /// Delivers the files of a restore in their order, if there is a sink. Those that are not in memory are
 /// made once more, and compared with what was made before. Returns the end of the restore.
 pub fn deliver_made<D: Drive, S: Sink>(
@@ -138,11 +160,11 @@ pub fn deliver_made<D: Drive, S: Sink>(
     ensures counted { SinkCounts (option_map S.failures sink.old) (option_map S.failures sink.new) }
     ensures failed { StopsByFailure (option_map S.failures sink.old) (option_map S.failures sink.new) result }
 {
-    match (&made.gathered, sink) {
-        (Some(gathered), Some(sink)) => {
+    match &made.gathered {
+        None => deliver_files(rt, alloc, &made.outcomes, sink),
+        Some(gathered) => {
             let source = Source { alloc, gathered };
-            deliver_by(rt, &source, groups, drives, &made.outcomes, sink)
+            deliver_from(rt, &source, groups, drives, &made.outcomes, sink)
         }
-        (_, sink) => deliver_files(rt, alloc, &made.outcomes, sink),
     }
 }

@@ -1,4 +1,4 @@
-use Rattle.std.proofs.Common.{◌≡◌, List, map, refl, subst}
+use Rattle.std.proofs.Common.{List, map, subst}
 use Rattle.std.specs.Prelude.{option_map}
 use Rattle.std.specs.Io.KnownBytes.{Appends}
 use Rattle.std.proofs.lemmas.Result.{err_from_is_err_and}
@@ -6,9 +6,11 @@ use Rattle.br_model.specs.Bootstrap.{Group}
 use Rattle.br_model.specs.Meaning.{pieces_of}
 use Rattle.br_model.specs.Restored.{planned_in}
 use Rattle.br_model.specs.Manifest.{manifest}
+use Rattle.br_model.specs.Volume.{Volume}
 use Rattle.br_join.specs.Outcome.{restored}
 use Rattle.br_engine.specs.Again.{CanGive, EndsLike}
 use Rattle.br_engine.specs.Delivering.{in_sink}
+use Rattle.br_engine.specs.Restoring.{AllStand}
 use Rattle.br_engine.proofs.AgainLaws.{delivers_like, nothing_written, only_grow, stand_midst, stay_on}
 use Rattle.br_engine.proofs.DeliverLaws.{delivers_refused, free_is_no_drive, free_is_no_line, gives_free}
 use Rattle.br_engine.proofs.delivering.restore_into.Goals as goal
@@ -66,14 +68,15 @@ returns-clause-delivers g c =
     let made = c.in_ok-made.made in
     let os = map restored made.outcomes.items in
     let given = CanGive shows failures second groups made.gathered os in
-    let midst = λ volumes stands.
+    let midst : (volumes : List Volume) → AllStand (map shows first) (map shows third) (pieces_of groups) volumes
+    → AllStand (map shows first) (map shows second) (pieces_of groups) volumes = λ volumes stands.
     stand_midst (pieces_of groups) volumes (map shows first) (map shows second) (map shows third) stands
     (only_grow shows failures first second c.in_ok-made.ensures.places) (only_grow shows failures second third c.deliver_made.ensures.places) in
     delivers_like (map shows first) (map shows third) groups names before after had has os c.deliver_made.result given
     (λ volumes stands. c.in_ok-made.ensures.files volumes (midst volumes stands))
     (λ volumes stands. c.in_ok-made.ensures.again volumes (midst volumes stands))
     (subst (λ os. Appends before after (manifest (map restored os))) c.deref.ensures.value c.in_ok-write_manifest.ensures.written)
-    (subst (λ (gs : List Group). EndsLike (CanGive shows failures second gs made.gathered os) had has os c.deliver_made.result) c.groups.ensures.same c.deliver_made.ensures.ends)
+    (subst (λ (gs : List Group). EndsLike (CanGive shows failures second gs made.gathered os) had has os c.deliver_made.result) c.groups-groups.ensures.same c.deliver_made.ensures.ends)
 
 pub returns-clause-places : goal.returns-clause-places
 returns-clause-places g c =

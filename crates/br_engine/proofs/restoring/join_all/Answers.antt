@@ -29,7 +29,7 @@ returns-in-Ok-run_pool_streaming-clause-hits g c =
     joined_found earlier later c.args.bootstrap.now pieces hits (c.deref-2.ensures.value ∙ c.in-Ok.ensures)
     (subst (λ (held : Hits). StreamsOver earlier later pieces held hits (Ok tt)) begun_with c.in-Ok-run_pool_streaming.ensures.hits)
 
-pub returns-in-Err-clause-hits : goal.returns-in-Err-clause-hits
-returns-in-Err-clause-hits g c =
+pub returns-clause-hits : goal.returns-clause-hits
+returns-clause-hits g c =
     joined_refused (map g.D.Drive.shows c.args.drives.now.items) (map g.D.Drive.shows c.run_pool_streaming.new.drives.items) c.args.bootstrap.now
     c.deref-2.result.now c.in-Ok-with_room.joiner.hits c.run_pool_streaming.new.joiner.hits c.in-Err.fault (c.deref-2.ensures.value ∙ c.in-Ok.ensures) c.in-Err.ensures.hits

@@ -1,4 +1,4 @@
-use Rattle.std.proofs.Common.{◌≡◌, map, subst}
+use Rattle.std.proofs.Common.{◌≡◌, Option, map, subst}
 use Rattle.std.specs.Prelude.{IfOk, option_map}
 use Rattle.std.proofs.lemmas.Result.{err_from_is_err_and}
 use Rattle.br_model.specs.Restored.{Names, files, planned_in}
