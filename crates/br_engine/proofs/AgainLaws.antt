@@ -4,13 +4,12 @@ use Rattle.std.specs.Prelude.{IfErr, IfOk, option_map}
 use Rattle.std.specs.Io.KnownBytes.{Appends}
 use Rattle.std.proofs.KnownBytes.{Keeps-refl}
 use Rattle.std.specs.List.{AllByRecursion, AllZip}
-use Rattle.br_model.specs.Answer.{refused_as}
 use Rattle.br_model.specs.Bootstrap.{Group}
 use Rattle.br_model.specs.Manifest.{manifest}
 use Rattle.br_model.specs.Meaning.{Hit, Hits, Piece, hits_of, meaning, pieces_of}
 use Rattle.br_model.specs.Name.{FileKey}
 use Rattle.br_model.specs.Restored.{HitList, Names, Planned, Restored, files, files_listed, planned_in}
-use Rattle.br_model.specs.Volume.{Volume, Extends}
+use Rattle.br_model.specs.Volume.{Volume}
 use Rattle.br_model.proofs.ListLaws.{all_weaker}
 use Rattle.br_model.proofs.MeaningLaws.{meaning_has_hits_lem}
 use Rattle.br_volume.specs.Drive.{OnlyGrows}
@@ -35,9 +34,9 @@ use Rattle.br_gather.proofs.MeantLaws.{ShowsThem, meant_given}
 use Rattle.br_engine.specs.Again.{CanGive, CanMake, CanReread, EndsLike, GivesAgain, MadeOver, MakesOver}
 use Rattle.br_engine.specs.Delivering.{Delivers}
 use Rattle.br_engine.specs.Extracting.{GivesOver, OverVolumes, WritesNothing}
-use Rattle.br_engine.specs.Fault.{IsNoDriveLeft, IsUnmade, OfAgain, OfPiece, fault_number}
+use Rattle.br_engine.specs.Fault.{IsNoDriveLeft, IsUnmade, OfAgain, fault_number}
 use Rattle.br_engine.specs.Outputs.{InSink}
-use Rattle.br_engine.specs.Restoring.{AllStand, JoinsOver, Told, restored_files}
+use Rattle.br_engine.specs.Restoring.{AllStand, JoinsOver, Told}
 use Rattle.br_engine.specs.declared.fault.ExtractFault.{ExtractFault}
 use Rattle.br_engine.specs.declared.fault.ExtractFault.TheVariants as fault
 use Rattle.br_engine.specs.declared.outputs.RestoreEnd.{RestoreEnd}

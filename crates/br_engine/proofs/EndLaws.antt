@@ -1,13 +1,12 @@
 -- How a restore ends whose files were made once more.
-use Rattle.std.proofs.Common.{◌≡◌, ◌≤◌, ◌<◌, ℕ, zero, suc, Bool, cond, List, [], ◌∷◌, ◌++◌, length, map, take, drop, Option, Some, None, Result, Ok, Err, refl, ap, sym, subst, arith, ◌∙◌, append-nil}
-use Rattle.std.specs.List.{AllByRecursion, AllZip}
+use Rattle.std.proofs.Common.{◌≡◌, ◌≤◌, ℕ, zero, suc, Bool, cond, List, [], ◌∷◌, ◌++◌, length, take, drop, Option, Some, Ok, Err, refl, ap, sym, subst, arith, ◌∙◌, append-nil}
+use Rattle.std.specs.List.{AllZip}
 use Rattle.br_model.specs.Answer.{IsRefusal}
-use Rattle.br_model.specs.Delivery.{Stop, delivery}
+use Rattle.br_model.specs.Delivery.{Stop}
 use Rattle.br_model.specs.File.{Item}
-use Rattle.br_model.specs.Manifest.{totals_of}
 use Rattle.br_model.specs.Restored.{Restored}
 use Rattle.br_gather.specs.Again.{IsLike}
-use Rattle.br_sink.specs.Delivery.{IsStopIn, items_put, stop_cause}
+use Rattle.br_sink.specs.Delivery.{IsStopIn, stop_cause}
 use Rattle.br_sink.specs.Sink.{HasMore}
 use Rattle.br_engine.specs.Again.{DeliversAll, EndsLike, PutsLike}
 use Rattle.br_engine.specs.Delivering.{EndsWith, items_of}
@@ -15,11 +14,8 @@ use Rattle.br_engine.specs.Outputs.{InSink, end_of_files}
 use Rattle.br_engine.specs.declared.outputs.RestoreEnd.{RestoreEnd}
 use Rattle.br_engine.specs.declared.outputs.RestoreEnd.TheVariants.{AllFiles, SomeFaults, Stopped}
 use Rattle.br_engine.proofs.DeliverLaws.{ends_whole}
+use Rattle.br_engine.proofs.StopLaws.{length_taken, take_whole}
 use Rattle.br_engine.proofs.LikeLaws.{all_themselves, like_length, same_delivery, same_files, same_stop, same_totals, with_items, with_like, with_put, with_same}
-
-take_whole : {X : Type 0} (xs : List X) → take (length xs) xs ≡ xs
-take_whole [] = refl
-take_whole (x ∷ xs) = ap (λ (ys : List _). x ∷ ys) (take_whole xs)
 
 drop_whole : {X : Type 0} (xs : List X) (n : ℕ) → length xs ≤ n → drop n xs ≡ []
 drop_whole [] zero few = refl
@@ -30,11 +26,6 @@ drop_whole (x ∷ xs) (suc n) few = drop_whole xs n (omega (arith, few))
 take_front : {X : Type 0} (xs ys : List X) → take (length xs) (xs ++ ys) ≡ xs
 take_front [] ys = refl
 take_front (x ∷ xs) ys = ap (λ (zs : List _). x ∷ zs) (take_front xs ys)
-
-length_taken : {X : Type 0} (n : ℕ) (xs : List X) → n ≤ length xs → length (take n xs) ≡ n
-length_taken zero xs few = refl
-length_taken (suc n) [] few = absurd (omega (arith, few))
-length_taken (suc n) (x ∷ xs) few = ap suc (length_taken n xs (omega (arith, few)))
 
 -- nothing was made once more
 pub ends_like_itself : (given : Type 0) (had has : InSink) (os : List Restored) (end : RestoreEnd) → EndsWith had has os end → EndsLike given had has os end

@@ -1,18 +1,17 @@
 -- Files that differ at most in bytes with the same digest: they have one manifest, and one delivery.
-use Rattle.std.proofs.Common.{◌≡◌, ◌≤◌, ◌<◌, ◌+◌, ℕ, zero, suc, Bool, true, false, cond, List, [], ◌∷◌, ◌++◌, length, map, take, drop, filter_map, Option, Some, None, Result, Ok, Err, refl, ap, sym, subst, arith, ◌∙◌}
+use Rattle.std.proofs.Common.{◌≡◌, ◌<◌, ◌+◌, ℕ, zero, suc, Bool, cond, List, [], ◌∷◌, ◌++◌, length, map, take, drop, Result, Ok, Err, refl, ap, sym, subst, ◌∙◌}
 use Rattle.std.specs.Prelude.{◌&&◌, codes, count_by, decimal, flat_map, is_ok, not, sum_by}
 use Rattle.std.specs.List.{AllZip, join_with_byte, list_any}
 use Rattle.std.proofs.lemmas.List.Sums.{sum_by-cons}
-use Rattle.br_model.specs.Answer.{◌>>=◌}
 use Rattle.br_model.specs.Attribute.{stat_numbers}
-use Rattle.br_model.specs.Delivery.{Stop, delivery, in_the_way, item_of, put_behind}
+use Rattle.br_model.specs.Delivery.{Stop, delivery, in_the_way, put_behind}
 use Rattle.br_model.specs.File.{Fault, Item, Outcome}
-use Rattle.br_model.specs.Manifest.{Totals, file_line, item_fields, key_fields, manifest, outcome_fields, skipped_in, totals_of}
+use Rattle.br_model.specs.Manifest.{file_line, item_fields, key_fields, manifest, outcome_fields, skipped_in, totals_of}
 use Rattle.br_model.specs.Name.{FileKey}
 use Rattle.br_model.specs.Restored.{Restored}
 use Rattle.br_model.specs.Text.{escaped, hexadecimal, line, signed_decimal}
 use Rattle.br_gather.specs.Again.{IsLike}
-use Rattle.br_sink.specs.Delivery.{AreApart, IsStopIn}
+use Rattle.br_sink.specs.Delivery.{IsStopIn}
 use Rattle.br_engine.specs.Again.{IsFileLike, IsOutcomeLike}
 use Rattle.br_engine.specs.Delivering.{items_of}
 use Rattle.br_engine.specs.Outputs.{are_files}

@@ -1,12 +1,13 @@
 -- Where a delivery stops whose files are made once more, and what was put by then.
-use Rattle.std.proofs.Common.{◌≡◌, ◌≤◌, ◌<◌, ◌+◌, ℕ, zero, suc, Bool, cond, List, [], ◌∷◌, ◌++◌, length, map, take, drop, Option, Result, Ok, Err, refl, ap, sym, subst, arith, ◌∙◌, inl, inr, length-append}
+use Rattle.std.proofs.Common.{◌≡◌, ◌≤◌, ◌<◌, ◌+◌, ◌-◌, ℕ, zero, suc, cond, List, [], ◌∷◌, ◌++◌, length, map, take, drop, Option, Result, Ok, Err, refl, ap, sym, subst, arith, ◌∙◌, inl, inr}
 use Rattle.std.specs.Prelude.{IfErr, count_by, is_ok}
 use Rattle.std.specs.List.{AllZip}
 use Rattle.std.proofs.lemmas.List.{append_assoc, length-map, take-append-drop}
 use Rattle.std.proofs.lemmas.List.Sums.{count_by-le-length, sum_by-cons}
 use Rattle.br_model.specs.Answer.{IsRefusal}
 use Rattle.br_model.specs.Delivery.{Stop, delivery}
-use Rattle.br_model.specs.File.{Fault, Item, Outcome as Made}
+use Rattle.br_model.specs.File as file
+use Rattle.br_model.specs.File.{Item}
 use Rattle.br_model.specs.Name.{FileKey}
 use Rattle.br_model.specs.Manifest.{totals_of}
 use Rattle.br_model.specs.Restored.{Restored}
@@ -134,7 +135,7 @@ pub puts_if : {A : Type 0} (given less : Type 0) (items : List Item) (had has : 
     → PutsLike given items had has r
 puts_if given less items had has r so puts = record { put = puts.put; like = puts.like; same = λ g. puts.same (so g); more = puts.more }
 
-take_whole : {X : Type 0} (xs : List X) → take (length xs) xs ≡ xs
+pub take_whole : {X : Type 0} (xs : List X) → take (length xs) xs ≡ xs
 take_whole [] = refl
 take_whole (x ∷ xs) = ap (λ (ys : List _). x ∷ ys) (take_whole xs)
 
@@ -160,7 +161,7 @@ counted : (rs : List Restored) → count_by (λ (r : Restored). is_ok r.outcome)
 counted [] = refl
 counted (r ∷ rs) = sum_by-cons (λ (r : Restored). cond (is_ok r.outcome) 1 0) r rs ∙ go r.outcome refl (counted rs)
   where
-    go : (a : Made) → r.outcome ≡ a → count_by (λ (r : Restored). is_ok r.outcome) rs ≡ length (items_of rs)
+    go : (a : file.Outcome) → r.outcome ≡ a → count_by (λ (r : Restored). is_ok r.outcome) rs ≡ length (items_of rs)
         → cond (is_ok r.outcome) 1 0 + count_by (λ (r : Restored). is_ok r.outcome) rs ≡ length (items_of (r ∷ rs))
     go (Ok item) e more =
         let one : ◌≡◌ {A = ℕ} (cond (is_ok r.outcome) 1 0) 1 = rw e refl in
@@ -203,6 +204,21 @@ pub length_taken : {X : Type 0} (n : ℕ) (xs : List X) → n ≤ length xs → 
 length_taken zero xs few = refl
 length_taken (suc n) [] few = absurd (omega (arith, few))
 length_taken (suc n) (x ∷ xs) few = ap suc (length_taken n xs (omega (arith, few)))
+
+pub taken_few : {X : Type 0} (n : ℕ) (xs : List X) → length (take n xs) ≤ length xs
+taken_few zero xs = omega arith
+taken_few (suc n) [] = omega arith
+taken_few (suc n) (x ∷ xs) = let few = taken_few n xs in omega (arith, few)
+
+-- all that are left
+pub rest_is : {X : Type 0} (place : ℕ) (xs : List X) → take (length xs - place) (drop place xs) ≡ drop place xs
+rest_is zero xs =
+    let all : length xs - 0 ≡ length xs = omega arith in
+    ap (λ (k : ℕ). take k xs) all ∙ take_whole xs
+rest_is (suc place) [] = take_none _
+rest_is (suc place) (x ∷ xs) =
+    let less : length (x ∷ xs) - suc place ≡ length xs - place = omega arith in
+    ap (λ (k : ℕ). take k (drop place xs)) less ∙ rest_is place xs
 
 -- as many as there are in the next window
 pub window_len : {X : Type 0} (place n : ℕ) (xs window : List X) → window ≡ take n (drop place xs) → n ≤ length (drop place xs) → length window ≡ n

@@ -73,7 +73,8 @@ fn put_window<D: Drive, S: Sink>(
     window: &[(FileKey, Outcome)],
     sink: &mut S,
 ) -> Result<(), SinkStop>
-    ensures put { PutsLike (CanMake many.old source.now.gathered.now (map restored window.now)) (items_in window.now) (S.has sink.old) (S.has sink.new) result }
+    ensures put { PutsLike (CanMake many.old source.now.gathered.now (map restored window.now)) (items_in window.now)
+        (S.has sink.old) (S.has sink.new) result }
     ensures stopped { IfErr result (IsStopAgain (length (items_in window.now))) }
     ensures on { GoOn many.old many.new }
     ensures counted { S.failures sink.old ≤ S.failures sink.new }
@@ -94,7 +95,8 @@ fn put_windows<D: Drive, S: Sink>(
     outcomes: &[(FileKey, Outcome)],
     sink: &mut S,
 ) -> Result<(), SinkStop>
-    ensures put { PutsLike (CanMake many.old source.now.gathered.now (map restored outcomes.now)) (items_in outcomes.now) (S.has sink.old) (S.has sink.new) result }
+    ensures put { PutsLike (CanMake many.old source.now.gathered.now (map restored outcomes.now)) (items_in outcomes.now)
+        (S.has sink.old) (S.has sink.new) result }
     ensures stopped { IfErr result (IsStopAgain (length (items_in outcomes.now))) }
     ensures on { GoOn many.old many.new }
     ensures counted { S.failures sink.old ≤ S.failures sink.new }
@@ -128,7 +130,8 @@ pub(crate) fn deliver_again<D: Drive, S: Sink>(
     outcomes: &[(FileKey, Outcome)],
     sink: &mut S,
 ) -> Result<(), SinkStop>
-    ensures put { PutsLike (CanMake many.old source.now.gathered.now (map restored outcomes.now)) (items_in outcomes.now) (S.has sink.old) (S.has sink.new) result }
+    ensures put { PutsLike (CanMake many.old source.now.gathered.now (map restored outcomes.now)) (items_in outcomes.now)
+        (S.has sink.old) (S.has sink.new) result }
     ensures all { DeliversAll result (map restored outcomes.now) }
     ensures stopped { IfErr result (IsStopIn (items_in outcomes.now)) }
     ensures on { GoOn many.old many.new }

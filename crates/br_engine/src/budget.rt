@@ -1,3 +1,5 @@
+ghost use Rattle.std.specs.Prelude.{◌≡◌, ◌^◌, ◌-◌};
+
 use std::alloc::Global;
 
 /// The memory of a restore.
@@ -12,7 +14,9 @@ pub struct Budget {
 
 impl Budget {
     /// Returns the budget that has room for all data.
-    pub fn unbounded(alloc: Global) -> Budget {
+    pub fn unbounded(alloc: Global) -> Budget
+        ensures { result.room ≡ 2 ^ 64 - 1 }
+    {
         Budget {
             alloc,
             room: u64::MAX,

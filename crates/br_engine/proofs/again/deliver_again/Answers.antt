@@ -1,16 +1,14 @@
-use Rattle.std.proofs.Common.{rules, ◌≡◌, ◌<◌, List, Ok, Err, length, map, take, ap, sym, subst, ◌∙◌}
+use Rattle.std.proofs.Common.{rules, ◌≡◌, ◌<◌, List, Err, length, map, take, sym, subst}
 use Rattle.std.proofs.lemmas.List.{take_all}
 use Rattle.std.proofs.lemmas.Result.{err_from_is_err_and}
 use Rattle.br_model.specs.Answer.{IsRefusal}
 use Rattle.br_model.specs.Delivery.{Stop, delivery}
 use Rattle.br_model.specs.File.{Item}
-use Rattle.br_model.specs.Name.{FileKey}
 use Rattle.br_join.specs.Outcome.{restored}
-use Rattle.br_join.specs.declared.item.Outcome.{Outcome}
 use Rattle.br_reread.proofs.GoOnLaws.{go_itself}
 use Rattle.br_sink.specs.Delivery.{IsStopIn, items_in, stop_cause}
 use Rattle.br_sink.proofs.DeliveryLaws.{delivered, in_the_way_is, memory_stop, way_refused}
-use Rattle.br_engine.specs.Again.{CanMake, IsStopAgain, PutsLike}
+use Rattle.br_engine.specs.Again.{CanMake, PutsLike}
 use Rattle.br_engine.proofs.AgainLaws.{make_taken}
 use Rattle.br_engine.proofs.StopLaws.{again_below, puts_before, puts_fewer}
 use Rattle.br_engine.proofs.again.deliver_again.Goals as goal

@@ -1,7 +1,5 @@
-use Rattle.std.proofs.Common.{List, Result, map, subst, sym}
+use Rattle.std.proofs.Common.{List, map, subst}
 use Rattle.std.specs.Prelude.{IfErr, length}
-use Rattle.br_model.specs.Delivery.{Stop}
-use Rattle.br_model.specs.File.{Item}
 use Rattle.br_join.specs.Outcome.{restored}
 use Rattle.br_join.specs.declared.item.Outcome.{Outcome}
 use Rattle.br_model.specs.Name.{FileKey}

@@ -1,14 +1,15 @@
-use Rattle.std.proofs.Common.{rules, ◌≡◌, ◌≤◌, ◌<◌, ◌+◌, ℕ, List, ◌++◌, Ok, Err, refl, length, map, take, drop, ap, sym, subst, ◌∙◌, arith, length-append}
-use Rattle.std.proofs.lemmas.List.{length-take-le}
+use Rattle.std.proofs.Common.{rules, ◌≡◌, ◌≤◌, ◌+◌, List, ◌++◌, Ok, Err, refl, length, map, take, drop, ap, sym, subst, ◌∙◌, arith, length-append}
 use Rattle.br_model.specs.Delivery.{Stop}
 use Rattle.br_model.specs.Manifest.{Totals}
 use Rattle.br_model.specs.File.{Item}
+use Rattle.br_model.specs.Name.{FileKey}
 use Rattle.br_join.specs.Outcome.{restored}
+use Rattle.br_join.specs.declared.item.Outcome.{Outcome}
 use Rattle.br_reread.proofs.GoOnLaws.{go_itself, go_more}
 use Rattle.br_sink.specs.Delivery.{items_in}
 use Rattle.br_engine.specs.Again.{CanMake, IsStopAgain, PutsLike}
 use Rattle.br_engine.proofs.AgainLaws.{make_window}
-use Rattle.br_engine.proofs.StopLaws.{few_items, files_counted, items_around, items_window, length_taken, none_put, puts_if, puts_more, puts_stop, taken_window}
+use Rattle.br_engine.proofs.StopLaws.{few_items, files_counted, items_around, items_window, length_taken, none_put, puts_if, puts_more, puts_stop, rest_is, taken_few, taken_window}
 use Rattle.br_engine.proofs.again.put_windows.Goals as goal
 
 pub loop-place-init : goal.loop-place-init
@@ -28,10 +29,12 @@ overflow_add-done g c =
     let l = c.loop-place.invariant in
     let window = c.split_at.result.0.now in
     let n = c.window_len.result in
-    let is : window ≡ take n (drop place os) = c.split_at.ensures.front in
-    let few = c.window_len.ensures.within in
+    let rest = rest_is place os in
+    let is : window ≡ take n (drop place os) = c.split_at.ensures.front ∙ ap (take n) rest in
+    let within = c.window_len.ensures.within in
+    let few : n ≤ length (drop place os) = subst (λ (os : List (FileKey × Outcome)). n ≤ length os) rest within in
     let as_many = ap length (taken_window place n os window is few) ∙ length-append (take place os) window in
-    let taken = length-take-le (place + length window) os in
+    let taken = taken_few (place + length window) os in
     let before = length_taken place os l.within in
     let below = c.in-Err.ensures.stopped.within in
     let fewer = few_items window in
@@ -47,8 +50,10 @@ returns-in-Err-clause-put g c =
     let l = c.loop-place.invariant in
     let window = c.split_at.result.0.now in
     let n = c.window_len.result in
-    let is : window ≡ take n (drop place os) = c.split_at.ensures.front in
-    let few = c.window_len.ensures.within in
+    let rest = rest_is place os in
+    let is : window ≡ take n (drop place os) = c.split_at.ensures.front ∙ ap (take n) rest in
+    let within = c.window_len.ensures.within in
+    let few : n ≤ length (drop place os) = subst (λ (os : List (FileKey × Outcome)). n ≤ length os) rest within in
     let stop = c.in-Err.stop in
     let below = c.in-Err.ensures.stopped in
     let gathered = c.args.source.now.gathered.now in
@@ -75,7 +80,10 @@ returns-in-Err-clause-stopped g c =
     let l = c.loop-place.invariant in
     let window = c.split_at.result.0.now in
     let n = c.window_len.result in
-    let is : window ≡ take n (drop place os) = c.split_at.ensures.front in
+    let rest = rest_is place os in
+    let is : window ≡ take n (drop place os) = c.split_at.ensures.front ∙ ap (take n) rest in
+    let within = c.window_len.ensures.within in
+    let few : n ≤ length (drop place os) = subst (λ (os : List (FileKey × Outcome)). n ≤ length os) rest within in
     let stop = c.in-Err.stop in
     let below = c.in-Err.ensures.stopped in
     let xs = items_in (take place os) in
@@ -83,7 +91,7 @@ returns-in-Err-clause-stopped g c =
     let zs = items_in (drop (place + length window) os) in
     let done : Stop = record { number = stop.number; done = length xs + stop.done } in
     let new : c.new.result ≡ done = c.new.ensures ∙ (λ i. record { number = c.cause.ensures i; done = l.done i + c.done.ensures i }) in
-    let around = ap length (items_around place n os window is c.window_len.ensures.within) ∙ length-append xs (ys ++ zs) in
+    let around = ap length (items_around place n os window is few) ∙ length-append xs (ys ++ zs) in
     let rest = length-append ys zs in
     subst (IsStopAgain (length (items_in os))) (sym new) (record { number = below.number; within = omega (arith, below.within, around, rest) })
 
@@ -99,10 +107,12 @@ overflow_add-done-in-loop-place g c =
     let l = c.loop-place.invariant in
     let window = c.split_at.result.0.now in
     let n = c.window_len.result in
-    let is : window ≡ take n (drop place os) = c.split_at.ensures.front in
-    let few = c.window_len.ensures.within in
+    let rest = rest_is place os in
+    let is : window ≡ take n (drop place os) = c.split_at.ensures.front ∙ ap (take n) rest in
+    let within = c.window_len.ensures.within in
+    let few : n ≤ length (drop place os) = subst (λ (os : List (FileKey × Outcome)). n ≤ length os) rest within in
     let as_many = ap length (taken_window place n os window is few) ∙ length-append (take place os) window in
-    let taken = length-take-le (place + length window) os in
+    let taken = taken_few (place + length window) os in
     let before = length_taken place os l.within in
     let files = ap (λ (t : Totals). t.files) (c.done-in-loop-place.view_is ∙ c.totals.ensures) ∙ files_counted (map restored window) in
     let fewer = few_items window in
@@ -116,10 +126,12 @@ loop-place-preserved g c =
     let l = c.loop-place.invariant in
     let window = c.split_at.result.0.now in
     let n = c.window_len.result in
-    let is : window ≡ take n (drop place os) = c.split_at.ensures.front in
-    let few = c.window_len.ensures.within in
+    let rest = rest_is place os in
+    let is : window ≡ take n (drop place os) = c.split_at.ensures.front ∙ ap (take n) rest in
+    let within = c.window_len.ensures.within in
+    let few : n ≤ length (drop place os) = subst (λ (os : List (FileKey × Outcome)). n ≤ length os) rest within in
     let as_many = ap length (taken_window place n os window is few) ∙ length-append (take place os) window in
-    let taken = length-take-le (place + length window) os in
+    let taken = taken_few (place + length window) os in
     let before = length_taken place os l.within in
     let gathered = c.args.source.now.gathered.now in
     let given = CanMake c.args.many.now gathered (map restored os) in

@@ -1,4 +1,4 @@
-use Rattle.std.proofs.Common.{◌≡◌, List, map, refl, subst}
+use Rattle.std.proofs.Common.{List, map, subst}
 use Rattle.std.specs.Prelude.{option_map}
 use Rattle.std.specs.Io.KnownBytes.{Appends}
 use Rattle.std.proofs.lemmas.Result.{err_from_is_err_and}
@@ -69,7 +69,7 @@ returns-clause-delivers g c =
     let os = map restored made.outcomes.items in
     let given = CanGive shows failures second groups made.gathered os in
     let midst : (volumes : List Volume) → AllStand (map shows first) (map shows third) (pieces_of groups) volumes
-        → AllStand (map shows first) (map shows second) (pieces_of groups) volumes = λ volumes stands.
+    → AllStand (map shows first) (map shows second) (pieces_of groups) volumes = λ volumes stands.
     stand_midst (pieces_of groups) volumes (map shows first) (map shows second) (map shows third) stands
     (only_grow shows failures first second c.in_ok-made.ensures.places) (only_grow shows failures second third c.deliver_made.ensures.places) in
     delivers_like (map shows first) (map shows third) groups names before after had has os c.deliver_made.result given

@@ -1,4 +1,4 @@
-use Rattle.std.proofs.Common.{◌≡◌, List, Vec, Some, Ok, Err, map, ap, subst, ◌∙◌}
+use Rattle.std.proofs.Common.{◌≡◌, Vec, Ok, Err, map, ap, subst, ◌∙◌}
 use Rattle.std.specs.Global.{Global}
 use Rattle.br_join.specs.Outcome.{restored}
 use Rattle.br_reread.specs.Many.{RereadingMany, driven_by}

@@ -1,8 +1,6 @@
-use Rattle.std.proofs.Common.{◌≡◌, List, Vec, Err, Result, map, ap, sym, subst, ◌∙◌}
+use Rattle.std.proofs.Common.{◌≡◌, Vec, Err, map, ap, subst, ◌∙◌}
 use Rattle.std.specs.Global.{Global}
 use Rattle.std.proofs.lemmas.Result.{err_from_is_err_and}
-use Rattle.br_again.specs.declared.fault.AgainFault.{AgainFault}
-use Rattle.br_again.specs.declared.fault.AgainFault.TheVariants.{Failed}
 use Rattle.br_join.specs.Outcome.{restored}
 use Rattle.br_join.specs.Runs.{AreListed}
 use Rattle.br_pool.proofs.WorkedLaws.{all_kept}

@@ -1,4 +1,4 @@
-use Rattle.std.proofs.Common.{◌≡◌, List, Ok, Option, Result, map, subst}
+use Rattle.std.proofs.Common.{◌≡◌, List, Ok, Option, map, subst}
 use Rattle.std.specs.Prelude.{IfOk, option_map}
 use Rattle.std.proofs.lemmas.Result.{err_from_is_err_and}
 use Rattle.br_model.specs.Bootstrap.{Group}
@@ -57,9 +57,9 @@ returns-clause-again g c =
     made_gives shows failures c.hits_stand.ensures c.standing_stays.ensures c.args.bootstrap.now c.args.drives.now.items second third
     c.in_ok-joiner.ensures.places c.made_of.ensures.places joining c.in_ok-joiner.ensures.hits c.made_of.result
     (subst
-        (λ (gs : List Group). IfOk c.made_of.result
-        (λ (m : Made). CanReread shows failures second gs joining.hits → CanGive shows failures third gs m.gathered (map restored m.outcomes.items)))
-        c.groups.ensures.same c.made_of.ensures.again)
+    (λ (gs : List Group). IfOk c.made_of.result
+    (λ (m : Made). CanReread shows failures second gs joining.hits → CanGive shows failures third gs m.gathered (map restored m.outcomes.items)))
+    c.groups.ensures.same c.made_of.ensures.again)
 
 pub returns-clause-places : goal.returns-clause-places
 returns-clause-places g c =
