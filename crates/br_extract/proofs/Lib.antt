@@ -1,1 +1,2 @@
+mod BackLaws
 pub mod WantedLaws

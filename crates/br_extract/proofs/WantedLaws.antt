@@ -1,31 +1,36 @@
 -- What is delivered of the outcomes of a restore, and what came of it.
-use Rattle.std.proofs.Common.{◌≡◌, ℕ, Bool, true, false, cond, List, [], ◌∷◌, ◌&&◌, map, Option, Some, None, Result, Ok, Err, refl, sym, ap, subst, ◌∙◌}
-use Rattle.std.specs.Prelude.{is_ok, filter, not}
-use Rattle.std.specs.List.{list_all}
+use Rattle.std.proofs.Common.{◌≡◌, ℕ, Bool, true, false, cond, List, [], ◌∷◌, ◌&&◌, Option, Some, None, Result, Ok, Err, refl, sym, ap, subst, ◌∙◌}
+use Rattle.std.specs.Prelude.{is_ok, filter}
+use Rattle.std.specs.List.{AllZip, list_all}
 use Rattle.std.specs.Io.KnownBytes.{Appends}
 use Rattle.br_model.specs.Answer.{IsRefusal}
 use Rattle.br_model.specs.Bootstrap.{Group}
 use Rattle.br_model.specs.BootstrapText.{read_bootstrap}
 use Rattle.br_model.specs.File.{Outcome}
 use Rattle.br_model.specs.Manifest.{manifest}
+use Rattle.br_model.specs.Meaning.{pieces_of}
 use Rattle.br_model.specs.Name.{FileKey}
 use Rattle.br_model.specs.Restored.{Restored}
+use Rattle.br_model.specs.Volume.{Volume}
 use Rattle.br_newest.specs.Newest.{Copy, copies_of, copy_of, is_current, is_newest, newest}
+use Rattle.br_engine.specs.Again.{EndsLike, IsFileLike}
 use Rattle.br_engine.specs.Delivering.{Delivers, EndsWith, IsPut}
 use Rattle.br_engine.specs.Extracting.{OverText, OverVolumes, Said}
 use Rattle.br_engine.specs.Fault.{cause}
 use Rattle.br_engine.specs.Outputs.{EndTells, InSink, are_files}
-use Rattle.br_engine.specs.Restoring.{Told}
+use Rattle.br_engine.specs.Restoring.{AllStand, Told}
 use Rattle.br_engine.specs.declared.outputs.RestoreEnd.{RestoreEnd}
 use Rattle.br_engine.specs.declared.outputs.RestoreEnd.TheVariants.{AllFiles, SomeFaults, Stopped}
 use Rattle.br_engine.specs.declared.fault.ExtractFault.{ExtractFault}
 use Rattle.br_engine.proofs.ExtractLaws.{over_text}
+use Rattle.br_engine.proofs.LikeLaws.{same_manifest}
 use Rattle.br_options.specs.declared.options.Copies.{Copies}
 use Rattle.br_options.specs.declared.options.Copies.TheVariants.{All, Newest}
 use Rattle.br_options.specs.declared.options.Wanted.{Wanted}
 use Rattle.br_extract.specs.Wanted.{IsReport, delivered, reported}
 use Rattle.br_extract.specs.Extracting.{Extracts}
 use Rattle.br_extract.specs.declared.extracting.Extracted.{Extracted}
+use Rattle.br_extract.proofs.BackLaws.{in_places, same_report}
 
 -- ---- the newest copies
 
@@ -67,6 +72,20 @@ pub extracts_files : (wanted : Wanted) (over : Said → Type 0) (reports : List 
 extracts_files wanted over reports before after had has rs kept done given written is ends told =
     let same : are_files kept ≡ are_files rs = ap are_files is ∙ delivered_are_files wanted.copies rs in
     (rs, (given, written), end_of_all done.end kept rs same ends.0, subst (λ xs. IsPut had has done.end xs) is ends.1, told)
+
+-- The same if the files are like those that are wanted, and are these if they can be given: then the others of all outcomes stay in their
+-- places.
+pub extracts_like : (wanted : Wanted) (earlier later : Told) (groups : List Group) (before after : Option (List ℕ)) (had has : InSink) (os kept : List Restored) (done : Extracted)
+    (given : Type 0) → OverVolumes earlier later groups None (λ expected. expected ≡ Ok os)
+    → ((volumes : List Volume) → AllStand earlier later (pieces_of groups) volumes → given) → Appends before after (manifest os) → kept ≡ delivered wanted.copies os
+    → EndsLike given had has kept done.end → done.missing.items ≡ reported wanted.gaps groups os
+    → Extracts wanted (λ holds. OverVolumes earlier later groups None holds) (λ rs lines. lines ≡ reported wanted.gaps groups rs) before after had has (Ok done)
+extracts_like wanted earlier later groups before after had has os kept done given made can written is like told =
+    let all = in_places wanted.copies os like.rs (subst (AllZip IsFileLike like.rs) is like.like) in
+    extracts_files wanted (λ holds. OverVolumes earlier later groups None holds) (λ rs lines. lines ≡ reported wanted.gaps groups rs) before after had has
+    all.rs like.rs done (λ volumes stands. made volumes stands ∙ ap Ok (sym (all.same (like.same (can volumes stands) ∙ is))))
+    (subst (Appends before after) (sym (same_manifest all.rs os all.like)) written) all.wanted like.ends
+    (told ∙ sym (same_report wanted.gaps groups all.rs os all.like))
 
 -- a refusal is as that of any restore
 pub extracts_refused : (wanted : Wanted) (over : Said → Type 0) (reports : List Restored → List ℕ → Type 0) (before after : Option (List ℕ)) (had has : InSink)

@@ -1,33 +1,35 @@
-use Rattle.std.proofs.Common.{◌≡◌, None, map, subst}
+use Rattle.std.proofs.Common.{◌≡◌, List, None, map, subst}
 use Rattle.std.specs.Prelude.{option_map}
 use Rattle.std.proofs.KnownBytes.{Keeps-refl}
 use Rattle.std.specs.Io.KnownBytes.{Appends}
 use Rattle.std.proofs.lemmas.Result.{err_from_is_err_and}
+use Rattle.br_model.specs.Bootstrap.{Group}
 use Rattle.br_model.specs.Manifest.{manifest}
+use Rattle.br_model.specs.Meaning.{pieces_of}
+use Rattle.br_model.specs.Volume.{Volume}
 use Rattle.br_join.specs.Outcome.{restored}
+use Rattle.br_engine.specs.Again.{CanGive, EndsLike}
 use Rattle.br_engine.specs.Delivering.{in_sink}
-use Rattle.br_engine.specs.Extracting.{OverVolumes}
-use Rattle.br_engine.specs.declared.fault.ExtractFault.TheVariants.{Memory, Piece}
-use Rattle.br_engine.proofs.ExtractLaws.{gives_files, gives_refused}
+use Rattle.br_engine.specs.Restoring.{AllStand}
+use Rattle.br_engine.specs.declared.fault.ExtractFault.TheVariants.{Memory}
+use Rattle.br_engine.proofs.AgainLaws.{nothing_written, only_grow, stand_midst, stay_on}
 use Rattle.br_engine.proofs.DeliverLaws.{delivers_refused, free_is_no_drive, free_is_no_line, gives_free}
-use Rattle.br_extract.specs.Wanted.{left_by, reported}
+use Rattle.br_extract.specs.Wanted.{left_by}
 use Rattle.br_extract.specs.declared.extracting.Extracted.{Extracted}
-use Rattle.br_extract.proofs.WantedLaws.{extracts_files}
+use Rattle.br_extract.proofs.BackLaws.{gives_delivered}
+use Rattle.br_extract.proofs.WantedLaws.{extracts_like}
 use Rattle.br_extract.proofs.extracting.restore_wanted.Goals as goal
 
 -- ---- nothing is restored
 
-pub returns-in_err-outcomes-clause-extracts : goal.returns-in_err-outcomes-clause-extracts
-returns-in_err-outcomes-clause-extracts g c =
+pub returns-in_err-made-clause-extracts : goal.returns-in_err-made-clause-extracts
+returns-in_err-made-clause-extracts g c =
     let p = err_from_is_err_and c.from_residual.result c.from_residual.ensures.1 in
-    let earlier = map g.D.Drive.shows c.args.drives.now.items in
-    let later = map g.D.Drive.shows c.restore.new.drives.items in
-    let groups = c.args.bootstrap.now in
     let before = g.W.Write.contents c.args.out.now.writer in
-    let why = c.in_err-outcomes.field-0.0 in
+    let fault = c.in_err-made.field-0.0 in
     rw (p.1, p.2)
-    (delivers_refused earlier later groups None before before (in_sink g.S.Sink.has c.args.out.now) (Piece why)
-    (gives_refused earlier later groups None why c.in_err-outcomes.ensures.files) (Keeps-refl before))
+    (delivers_refused (map g.D.Drive.shows c.args.drives.now.items) (map g.D.Drive.shows c.restore_within.new.drives.items) c.args.bootstrap.now None before before
+    (in_sink g.S.Sink.has c.args.out.now) fault c.in_err-made.ensures.files (nothing_written before fault))
 
 -- ---- memory runs out before the manifest
 
@@ -35,7 +37,7 @@ pub returns-in_err-prepared-clause-extracts : goal.returns-in_err-prepared-claus
 returns-in_err-prepared-clause-extracts g c =
     let p = err_from_is_err_and c.from_residual-in_err-prepared.result c.from_residual-in_err-prepared.ensures.1 in
     let earlier = map g.D.Drive.shows c.args.drives.now.items in
-    let later = map g.D.Drive.shows c.restore.new.drives.items in
+    let later = map g.D.Drive.shows c.restore_within.new.drives.items in
     let groups = c.args.bootstrap.now in
     let before = g.W.Write.contents c.args.out.now.writer in
     rw (p.1, p.2)
@@ -48,7 +50,7 @@ pub returns-in_err-write_manifest-clause-extracts : goal.returns-in_err-write_ma
 returns-in_err-write_manifest-clause-extracts g c =
     let p = err_from_is_err_and c.from_residual-in_err-write_manifest.result c.from_residual-in_err-write_manifest.ensures.1 in
     let earlier = map g.D.Drive.shows c.args.drives.now.items in
-    let later = map g.D.Drive.shows c.restore.new.drives.items in
+    let later = map g.D.Drive.shows c.restore_within.new.drives.items in
     let groups = c.args.bootstrap.now in
     let fault = c.in_err-write_manifest.field-0.0 in
     rw (p.1, p.2)
@@ -69,20 +71,38 @@ returns-in_err-write_manifest-clause-failed g c =
 
 pub returns-clause-extracts : goal.returns-clause-extracts
 returns-clause-extracts g c =
-    let earlier = map g.D.Drive.shows c.args.drives.now.items in
-    let later = map g.D.Drive.shows c.restore.new.drives.items in
+    let shows = g.D.Drive.shows in
+    let failures = g.D.Drive.failures in
+    let first = c.args.drives.now.items in
+    let second = c.restore_within.new.drives.items in
+    let third = c.deliver_made-end.new.drives.items in
     let groups = c.args.bootstrap.now in
     let before = g.W.Write.contents c.args.out.now.writer in
     let after = g.W.Write.contents c.write_manifest.new.writer in
     let had = in_sink g.S.Sink.has c.args.out.now in
-    let has = option_map g.S.Sink.has c.deliver_flagged-end.new.sink in
-    let outcomes = c.in_ok-outcomes.outcomes in
+    let has = option_map g.S.Sink.has c.deliver_made-end.new.sink in
+    let made = c.in_ok-made.made in
     let prepared = c.in_ok-prepared.prepared in
-    let done : Extracted = record { end = c.deliver_flagged-end.result; missing = prepared.missing } in
-    extracts_files c.args.wanted (λ holds. OverVolumes earlier later groups None holds) (λ rs lines. lines ≡ reported c.args.wanted.gaps groups rs) before after had has
-    (map restored outcomes.items) (map restored (left_by prepared.flags outcomes.items)) done
-    (gives_files earlier later groups None outcomes c.in_ok-outcomes.ensures.files)
+    let os = map restored made.outcomes.items in
+    let kept = map restored (left_by prepared.flags made.outcomes.items) in
+    let wanted : kept ≡ _ = rw c.deref.ensures.value at c.in_ok-prepared.ensures.flags in
+    let given = CanGive shows failures second groups made.gathered kept in
+    let midst : (volumes : List Volume) → AllStand (map shows first) (map shows third) (pieces_of groups) volumes
+    → AllStand (map shows first) (map shows second) (pieces_of groups) volumes = λ volumes stands.
+    stand_midst (pieces_of groups) volumes (map shows first) (map shows second) (map shows third) stands
+    (only_grow shows failures first second c.in_ok-made.ensures.places) (only_grow shows failures second third c.deliver_made-end.ensures.places) in
+    let done : Extracted = record { end = c.deliver_made-end.result; missing = prepared.missing } in
+    extracts_like c.args.wanted (map shows first) (map shows third) groups before after had has os kept done given
+    (λ volumes stands. c.in_ok-made.ensures.files volumes (midst volumes stands))
+    (λ volumes stands. gives_delivered shows failures second groups made.gathered c.args.wanted.copies os kept wanted (c.in_ok-made.ensures.again volumes (midst volumes stands)))
     (subst (λ os. Appends before after (manifest (map restored os))) c.deref-2.ensures.value c.in_ok-write_manifest.ensures.written)
-    (rw c.deref.ensures.value at c.in_ok-prepared.ensures.flags)
-    c.deliver_flagged-end.ensures.ends
+    wanted
+    (subst (λ (gs : List Group). EndsLike (CanGive shows failures second gs made.gathered kept) had has kept c.deliver_made-end.result) c.groups-groups.ensures.same
+    (subst (λ os. EndsLike (CanGive shows failures second c.groups-groups.result.now made.gathered (map restored os)) had has (map restored os) c.deliver_made-end.result) c.keep_delivered.ensures
+    c.deliver_made-end.ensures.ends))
     (rw c.deref.ensures.value at c.in_ok-prepared.ensures.missing)
+
+pub returns-clause-places : goal.returns-clause-places
+returns-clause-places g c =
+    stay_on g.D.Drive.shows g.D.Drive.failures c.args.drives.now.items c.restore_within.new.drives.items c.deliver_made-end.new.drives.items c.in_ok-made.ensures.places
+    c.deliver_made-end.ensures.places
