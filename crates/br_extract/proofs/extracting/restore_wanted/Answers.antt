@@ -1,4 +1,4 @@
-use Rattle.std.proofs.Common.{◌≡◌, List, None, ap, map, subst, ◌∙◌}
+use Rattle.std.proofs.Common.{◌≡◌, List, None, map, subst}
 use Rattle.std.specs.Prelude.{option_map}
 use Rattle.std.proofs.KnownBytes.{Keeps-refl}
 use Rattle.std.specs.Io.KnownBytes.{Appends}
@@ -88,7 +88,7 @@ returns-clause-extracts g c =
     let wanted : kept ≡ _ = rw c.deref.ensures.value at c.in_ok-prepared.ensures.flags in
     let given = CanGive shows failures second groups made.gathered kept in
     let midst : (volumes : List Volume) → AllStand (map shows first) (map shows third) (pieces_of groups) volumes
-        → AllStand (map shows first) (map shows second) (pieces_of groups) volumes = λ volumes stands.
+    → AllStand (map shows first) (map shows second) (pieces_of groups) volumes = λ volumes stands.
     stand_midst (pieces_of groups) volumes (map shows first) (map shows second) (map shows third) stands
     (only_grow shows failures first second c.in_ok-made.ensures.places) (only_grow shows failures second third c.deliver_made-end.ensures.places) in
     let done : Extracted = record { end = c.deliver_made-end.result; missing = prepared.missing } in

@@ -1,4 +1,4 @@
-use Rattle.std.proofs.Common.{subst, sym, map, ap, ◌∙◌}
+use Rattle.std.proofs.Common.{sym, ap, ◌∙◌}
 use mathlib.Core.List.{map-map}
 use Rattle.std.proofs.lemmas.Result.{IfOk-weaker}
 use Rattle.br_join.specs.Outcome.{restored}
