@@ -52,7 +52,8 @@ impl Extracted {
 ///
 /// - `Piece` for a volume that can't be read, or if no drive is left; then nothing is written.
 /// - `Memory` if memory ran out before the manifest; then nothing is written.
-/// - `Io` if the writer failed, which may have taken a part of the manifest.
+/// - `Io` if the writer failed, which may have taken a part of the manifest, or if a volume was changed
+///   while it was read.
 ///
 /// After an error nothing is put into the sink.
 pub fn restore_wanted<D: Drive + Send, W: Flush, S: Sink>(
