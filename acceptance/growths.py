@@ -452,6 +452,20 @@ def into_a_stream(given, folder):
     return restore_of(given, folder, "order-written", delivers="--tar")
 
 
+def read_again(given, folder):
+    """A restore whose data are read again for the digests."""
+    return restore_of(given, folder, "swap-inc", "--memory", "0", "--drives", "2")
+
+
+def read_again_into_a_folder(given, folder):
+    """The same, and once more for the delivery."""
+    return restore_of(given, folder, "order-written", "--memory", "0", delivers="--into")
+
+
+def read_again_into_a_stream(given, folder):
+    return restore_of(given, folder, "order-written", "--memory", "10", delivers="--tar")
+
+
 def own_restore(given, folder, volume, delivers):
     """A restore of all that is on one volume."""
     volumes = Path(folder, "volumes")
@@ -553,7 +567,7 @@ def whole_restore(given, folder):
 
 
 EACH = (first_script, two_volumes, empty_bootstrap, two_jobs, refused_jobs, kept_jobs, restored, restored_by_drives, with_sparse_files)
-EACH += (into_a_folder, into_a_stream, sparse_file, conflict, whole_restore, marks, marks_delivered, no_restore, migration)
+EACH += (into_a_folder, into_a_stream, read_again, read_again_into_a_folder, read_again_into_a_stream, sparse_file, conflict, whole_restore, marks, marks_delivered, no_restore, migration)
 
 
 def main():
