@@ -304,6 +304,7 @@ fn status_after(
     let given = ServeOptions {
         db: "c.db",
         volumes,
+        memory: u64::MAX,
     };
     let mut reader = b"".as_slice();
     Ok(serve_by_lines(rt, threads, &catalogue, &given, &mut reader)?)
