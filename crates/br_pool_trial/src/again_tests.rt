@@ -55,6 +55,14 @@ fn files_in(alloc: Global, out: &Outputs<Vec<u8>, MemSink>) -> Result<Option<usi
     Ok(Some(sink.items().len()))
 }
 
+/// Returns the number of a stop, and that of the files before it, if a delivery stopped.
+fn stop_of(end: &Result<RestoreEnd, ExtractFault>) -> Option<(u32, u64)> {
+    match end {
+        Ok(RestoreEnd::Stopped(stop)) => Some((stop.number(), stop.done())),
+        _ => None,
+    }
+}
+
 /// Returns whether these drives give the manifest and both files.
 fn give_both(
     rt: &(impl Threads + Wait + Sync),
@@ -107,12 +115,8 @@ fn no_drive_left_before_the_manifest_is_a_refusal(rt: HostRuntime) -> Result<(),
 fn no_drive_left_after_the_manifest_stops_the_delivery(rt: HostRuntime) -> Result<(), Fail> {
     for k in [21, 28] {
         let (end, out) = run(&rt, rt.alloc(), &[Some(k)])?;
-        let stop = match end {
-            Ok(RestoreEnd::Stopped(stop)) => Some((stop.number(), stop.done())),
-            _ => None,
-        };
         let files = files_in(rt.alloc(), &out)?;
-        assert_eq!(rt; (stop, files), (Some((70, 0)), Some(0)));
+        assert_eq!(rt; (stop_of(&end), files), (Some((70, 0)), Some(0)));
         assert!(rt; out.writer.as_slice() == MANIFEST);
     }
     assert!(rt; give_both(&rt, rt.alloc(), &[Some(29)])?);
@@ -168,14 +172,8 @@ fn run_turned(
 #[test]
 fn a_volume_that_was_changed_stops_the_delivery(rt: HostRuntime) -> Result<(), Fail> {
     let (end, out) = run_turned(&rt, rt.alloc(), 20, 63)?;
-    let stop = match end {
-        Ok(RestoreEnd::Stopped(stop)) => Some((stop.number(), stop.done())),
-        _ => None,
-    };
-    assert_eq!(rt;
-        (stop, files_in(rt.alloc(), &out)?),
-        (Some((70, 0)), Some(0))
-    );
+    let files = files_in(rt.alloc(), &out)?;
+    assert_eq!(rt; (stop_of(&end), files), (Some((70, 0)), Some(0)));
     assert!(rt; out.writer.as_slice() == MANIFEST);
     Ok(())
 }
