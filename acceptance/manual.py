@@ -24,18 +24,22 @@ from common import PROGRAM
 
 PAGE = os.path.join(ROOT, "share/man/man1/brestore.1")
 COMPLETIONS = os.path.join(ROOT, "share/bash-completion/completions/brestore")
-COMMANDS = ["console", "explain", "extract", "jobs", "migrate", "serve"]
+COMMANDS = ["check", "console", "explain", "extract", "jobs", "migrate", "serve"]
 # The folder in which lines are completed has a file and a folder.
 FILE, FOLDER = "jobs of mars.db", "volumes"
 # A line, of which the last word is completed, and the words that fit.
 LINES = [
     ("brestore ex", ["explain", "extract"]),
+    ("brestore ch", ["check"]),
     ("brestore ", ["--help", "--version", *COMMANDS]),
     ("brestore extract --n", ["--newest"]),
     ("brestore extract --bsr ", [FILE, FOLDER]),
     ("brestore extract --bsr x --volumes ", [FOLDER]),
     ("brestore extract --bsr x --volumes v --in", ["--into"]),
     ("brestore console --db j", [FILE]),
+    ("brestore check --", ["--bsr", "--help", "--volumes"]),
+    ("brestore check --bsr ", [FILE, FOLDER]),
+    ("brestore check --volumes ", [FOLDER]),
     ("brestore console --client ", []),
     ("brestore console --f", ["--fileset"]),
     ("brestore jobs --", ["--before", "--client", "--db", "--fileset", "--help"]),

@@ -137,6 +137,18 @@ def extracts(checks, folder):
     checks.check("a restore without a fault shows nothing", (status, shown), (0, []))
 
 
+def looks(checks, folder):
+    """Checks of bootstraps: findings go to standard output, and a line that is refused is explained."""
+    bsr = os.path.join(folder, "x.bsr")
+    with open(BOOTSTRAP) as text, open(bsr, "w") as more:
+        more.write("Job=1\n" + text.read())
+    status, shown, printed = play(checks.program, ["check", "--bsr", bsr, "--volumes", VOLUMES], [], folder)
+    checks.check("a bootstrap with a refused line", (status, shown, printed), (1, told(32, "refused 32 line 1"), ""))
+    words = ["check", "--bsr", BOOTSTRAP, "--volumes", os.path.join(folder, "nothing")]
+    status, shown, printed = play(checks.program, words, [], folder)
+    checks.check("findings", (status, shown, printed[:21]), (1, [], "volume 14 Vol-0001 0\n"))
+
+
 def waits(checks, folder):
     """The program without a command."""
     status, shown, printed = play(checks.program, [], [(f"{AWAITED}\n", "\x04")], folder)
@@ -150,7 +162,7 @@ def main():
     checks = Checks(os.path.abspath(options.program))
     folder = tempfile.mkdtemp(prefix="brestore-terminal-")
     try:
-        for plays in (restores, extracts, waits):
+        for plays in (restores, extracts, looks, waits):
             plays(checks, folder)
     finally:
         shutil.rmtree(folder)

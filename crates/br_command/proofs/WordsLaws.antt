@@ -27,14 +27,14 @@ use Rattle.clap.proofs.FaultLemmas.{first_fails}
 use Rattle.clap.proofs.WalkLemmas.{both, one_text-rows}
 use Rattle.clap.proofs.ValueTestLemmas.{Accepts-accepts, accepts-Accepts}
 use Rattle.clap.proofs.OnLiterals.{clap_on_literals}
-use Rattle.br_command.specs.Words.{Asked, asked_by, console_app, console_jobs_app, console_start_app, explain_app, extract_app, extracting_app, jobs_app, jobs_start_app, kind_by, listing_app, migrate_app, number_in, program_app, restoring_app, serve_app, serving_app, value_rule, words_asked, words_fault, words_kind}
+use Rattle.br_command.specs.Words.{Asked, asked_by, check_app, console_app, console_jobs_app, console_start_app, explain_app, extract_app, extracting_app, jobs_app, jobs_start_app, kind_by, listing_app, migrate_app, number_in, program_app, restoring_app, serve_app, serving_app, value_rule, words_asked, words_fault, words_kind}
 
 program_is_simple : is_simple program_app ≡ true
-unfolding program_app serving_app listing_app jobs_app jobs_start_app restoring_app extracting_app explain_app serve_app migrate_app extract_app console_start_app console_jobs_app console_app clap_on_literals
+unfolding program_app serving_app listing_app check_app jobs_app jobs_start_app restoring_app extracting_app explain_app serve_app migrate_app extract_app console_start_app console_jobs_app console_app clap_on_literals
 program_is_simple = refl
 
 program_is_free : is_simple_and_free program_app ≡ true
-unfolding program_app serving_app listing_app jobs_app jobs_start_app restoring_app extracting_app explain_app serve_app migrate_app extract_app console_start_app console_jobs_app console_app clap_on_literals
+unfolding program_app serving_app listing_app check_app jobs_app jobs_start_app restoring_app extracting_app explain_app serve_app migrate_app extract_app console_start_app console_jobs_app console_app clap_on_literals
 program_is_free = refl
 
 -- what clap finds in words is what the program's commands say of them

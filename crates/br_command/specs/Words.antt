@@ -32,13 +32,15 @@ pub data Goal : Type 0 where
 
 -- a command of the program: a script, and the memory for data; a script, a catalogue's file, the folder of the volumes and the memory; a
 -- bootstrap's file, the folder of the volumes, where the files go, the number of drives, the memory, and what else is done; a catalogue's
--- file, the folder of the volumes, client, file set and moment, where the files go, the number of drives and the memory; a catalogue's
--- file, and client, file set and moment of jobs, each if it is given; a catalogue's file; a number; all numbers
+-- file, the folder of the volumes, client, file set and moment, where the files go, the number of drives and the memory; a bootstrap's
+-- file and the folder of the volumes; a catalogue's file, and client, file set and moment of jobs, each if it is given; a catalogue's
+-- file; a number; all numbers
 pub data Asked : Type 0 where
   Serve : ℕ → Asked
   ServeFiles : Text → Text → ℕ → Asked
   Extract : Text → Text → Goal → ℕ → ℕ → Wanted → Asked
   Console : Text → Text → Text → Text → Text → Goal → ℕ → ℕ → Asked
+  Check : Text → Text → Asked
   Jobs : Text → Option Text → Option Text → Option Text → Asked
   Migrate : Text → Asked
   Explain : ℕ → Asked
@@ -58,6 +60,7 @@ asked (commands.ServeFiles o) = ServeFiles o.db.now o.volumes.now o.memory
 asked (commands.Extract o) = Extract o.bsr.now o.volumes.now (target o.target) o.drives o.memory o.wanted
 asked (commands.Console o) =
     Console o.db.now o.volumes.now o.client.now o.fileset.now o.before.now (target o.target) o.drives o.memory
+asked (commands.Check o) = Check o.bsr.now o.volumes.now
 asked (commands.Jobs o) = Jobs o.db.now (option_map (λ s. s.now) o.client) (option_map (λ s. s.now) o.fileset) (option_map (λ s. s.now) o.before)
 asked (commands.Migrate db) = Migrate db.now
 asked (commands.Explain number) = Explain number
@@ -145,6 +148,10 @@ jobs_start_app = with_rule (with_rule (new_app (codes "jobs")) (value_rule (code
 unfoldable pub jobs_app : App
 jobs_app = with_rule (with_rule jobs_start_app (value_rule (codes "fileset") false)) (value_rule (codes "before") false)
 
+-- `check --bsr FILE --volumes DIR`
+unfoldable pub check_app : App
+check_app = with_rule (with_rule (new_app (codes "check")) (value_rule (codes "bsr") true)) (value_rule (codes "volumes") true)
+
 -- the program with its version and the command `extract`
 unfoldable pub extracting_app : App
 extracting_app = with_subcommand (on_top (λ s. record s { has_version = true }) (new_app (codes "brestore"))) extract_app.top
@@ -153,9 +160,9 @@ extracting_app = with_subcommand (on_top (λ s. record s { has_version = true })
 unfoldable pub restoring_app : App
 restoring_app = with_subcommand extracting_app console_app.top
 
--- the program also has the command `jobs`
+-- the program also has the commands `check` and `jobs`
 unfoldable pub listing_app : App
-listing_app = with_subcommand restoring_app jobs_app.top
+listing_app = with_subcommand (with_subcommand restoring_app check_app.top) jobs_app.top
 
 -- the program also has the commands `explain` and `serve`
 unfoldable pub serving_app : App
@@ -261,6 +268,10 @@ console_asked rows =
     (first_of (codes "volumes") rows))
     (first_of (codes "db") rows)
 
+-- the command `check` by the values that were found for its options
+unfoldable pub check_asked : List Row → Option Asked
+check_asked rows = option_and_then (λ bsr. option_map (Check bsr) (first_of (codes "volumes") rows)) (first_of (codes "bsr") rows)
+
 -- the command `jobs` by the values that were found for its options
 unfoldable pub jobs_asked : List Row → Option Asked
 jobs_asked rows =
@@ -288,6 +299,7 @@ asked_by None = Some (Serve default_memory)
 asked_by (Some (name, rows)) =
     if bytes_eq name (codes "extract") then extract_asked rows
     else if bytes_eq name (codes "console") then console_asked rows
+    else if bytes_eq name (codes "check") then check_asked rows
     else if bytes_eq name (codes "jobs") then jobs_asked rows
     else if bytes_eq name (codes "explain") then explain_asked rows
     else if bytes_eq name (codes "serve") then serve_asked rows

@@ -11,15 +11,15 @@ ghost use Rattle.br_command.specs.Words.{AsksFor, MissesBy, asked, asked_by, wor
 ghost use Rattle.br_command.specs.Words.{console_asked, drives_asked, explain_asked, extract_asked, migrate_asked, number_asked, serve_asked, serve_by};
 ghost use Rattle.br_command.specs.Words.{target_asked};
 ghost use Rattle.br_command.specs.Words.{kind_by, kind_in, tar_target, target, target_by, with_target_rules};
-ghost use Rattle.br_command.specs.Words.{jobs_app, jobs_asked, jobs_start_app, listing_app};
+ghost use Rattle.br_command.specs.Words.{check_app, check_asked, jobs_app, jobs_asked, jobs_start_app, listing_app};
 ghost use Rattle.br_command.specs.Words.{console_app, console_jobs_app, console_start_app, explain_app, extract_app};
 ghost use Rattle.br_command.specs.Words.{drives_rule, extracting_app, migrate_app, number_rule, program_app, restoring_app, serve_app, serving_app};
 ghost use Rattle.br_command.specs.Words.{value_rule};
 
 use crate::size::read_size;
 use br_options::{
-    ConsoleOptions, Copies, ExtractOptions, Gaps, Invocation, JobsOptions, ServeOptions, Target,
-    Wanted,
+    CheckOptions, ConsoleOptions, Copies, ExtractOptions, Gaps, Invocation, JobsOptions,
+    ServeOptions, Target, Wanted,
 };
 use clap::builder::ValueParser;
 use clap::error::ErrorKind;
@@ -287,6 +287,17 @@ fn migrate_command<'a>(alloc: Global) -> Result<Command<'a>, AllocError>
         .arg(value_option(alloc, "db", "FILE", true, "The file of the catalogue"))
 }
 
+/// Returns `check` with its options.
+fn check_command<'a>(alloc: Global) -> Result<Command<'a>, AllocError>
+    ensures app { IfOk result (λ command. app_of command ≡ check_app) }
+    ensures local { IfOk result (λ command. (fields_of command).has_globals ≡ false) }
+{
+    Command::new(alloc, "check")
+        .about("Checks a bootstrap over its volumes, and restores nothing")
+        .arg(value_option(alloc, "bsr", "FILE", true, "The file of the bootstrap"))?
+        .arg(value_option(alloc, "volumes", "DIR", true, "The folder of the volumes"))
+}
+
 /// Returns an option of `jobs` that may be left out.
 fn jobs_option<'a>(alloc: Global, name: &'a str, value: &'a str, help: &'a str) -> Arg<'a>
     ensures rule { rule_of result ≡ value_rule name.entry.now false }
@@ -338,13 +349,14 @@ fn restoring<'a>(alloc: Global) -> Result<Command<'a>, AllocError>
     extracting(alloc)?.subcommand(console)
 }
 
-/// Returns the program with its commands that restore, and with `jobs`.
+/// Returns the program with its commands that restore, and with `check` and `jobs`.
 fn listing<'a>(alloc: Global) -> Result<Command<'a>, AllocError>
     ensures app { IfOk result (λ command. app_of command ≡ listing_app) }
     ensures local { IfOk result (λ command. (fields_of command).has_globals ≡ false) }
 {
+    let check = check_command(alloc)?;
     let jobs = jobs_command(alloc)?;
-    restoring(alloc)?.subcommand(jobs)
+    restoring(alloc)?.subcommand(check)?.subcommand(jobs)
 }
 
 /// Returns the program with its commands but `migrate`.
@@ -526,6 +538,17 @@ fn console_found<'a>(found: &ArgMatches<'a>) -> Option<Invocation<'a>>
     }))
 }
 
+/// Returns `check` with the options that were found, if both were.
+#[tactic(auto, unfolding(crate::specs::Words::check_asked))]
+fn check_found<'a>(found: &ArgMatches<'a>) -> Option<Invocation<'a>>
+    ensures asked { option_map asked result ≡ check_asked (rows_of (found_of found.now)) }
+    ensures drives { IfSome result HasDrives }
+{
+    let bsr = value_of(found, "bsr")?;
+    let volumes = value_of(found, "volumes")?;
+    Some(Invocation::Check(CheckOptions { bsr, volumes }))
+}
+
 /// Returns `jobs` with the options that were found, if all that are required were.
 #[tactic(auto, unfolding(crate::specs::Words::jobs_asked))]
 fn jobs_found<'a>(found: &ArgMatches<'a>) -> Option<Invocation<'a>>
@@ -609,6 +632,7 @@ fn invocation_of<'a>(matches: &ArgMatches<'a>) -> Option<Invocation<'a>>
         None => Some(Invocation::Serve(DEFAULT_MEMORY)),
         Some((name, found)) if name == "extract" => extract_found(found),
         Some((name, found)) if name == "console" => console_found(found),
+        Some((name, found)) if name == "check" => check_found(found),
         Some((name, found)) if name == "jobs" => jobs_found(found),
         Some((name, found)) if name == "explain" => explain_found(found),
         Some((name, found)) if name == "serve" => serve_found(found),
@@ -701,7 +725,7 @@ fn read_by<'a>(command: &mut Command<'a>, words: &'a [String]) -> Result<Invocat
 /// Reads the words of a command line, of which the first is the program's name.
 ///
 /// The commands are `extract --bsr FILE --volumes DIR`, `console --db FILE --volumes DIR --client NAME --fileset NAME
-/// --before MOMENT`, `jobs --db FILE [--client NAME] [--fileset NAME] [--before MOMENT]`, `migrate --db FILE`, `explain [N]`
+/// --before MOMENT`, `check --bsr FILE --volumes DIR`, `jobs --db FILE [--client NAME] [--fileset NAME] [--before MOMENT]`, `migrate --db FILE`, `explain [N]`
 /// and `serve`. The first two also take `--into DIR` or `--tar FILE`, and `--drives N`; the first takes `--newest` and `--complete`;
 /// the last takes `--db FILE` and `--volumes DIR`, both or neither. All that restore take `--memory SIZE`: bytes, or a number with K,
 /// M or G. No command is the same as `serve`.

@@ -1,7 +1,7 @@
 use br_command::read_words;
 use br_options::{
-    ConsoleOptions, Copies, ExtractOptions, Gaps, Invocation, JobsOptions, ServeOptions, Target,
-    Wanted,
+    CheckOptions, ConsoleOptions, Copies, ExtractOptions, Gaps, Invocation, JobsOptions,
+    ServeOptions, Target, Wanted,
 };
 use clap::error::ErrorKind;
 use std::alloc::Global;
@@ -252,6 +252,21 @@ fn a_migration_is_asked_for(rt: HostRuntime) -> Result<(), Fail> {
 }
 
 #[test]
+fn a_check_is_asked_for(rt: HostRuntime) -> Result<(), Fail> {
+    let lines = [
+        "brestore check --bsr x.bsr --volumes sets/V",
+        "brestore check --volumes=sets/V --bsr=x.bsr",
+    ];
+    let check = Invocation::Check(CheckOptions {
+        bsr: "x.bsr",
+        volumes: "sets/V",
+    });
+    let other = first_other(rt.alloc(), &lines, &check)?;
+    assert_eq!(rt; other, None);
+    Ok(())
+}
+
+#[test]
 fn a_list_of_jobs_is_asked_for(rt: HostRuntime) -> Result<(), Fail> {
     let all = JobsOptions {
         db: "j.db",
@@ -453,7 +468,7 @@ fn drives_are_named_once_and_if_volumes_are_read(rt: HostRuntime) -> Result<(), 
     Ok(())
 }
 
-const REFUSED: [&str; 41] = [
+const REFUSED: [&str; 45] = [
     "brestore x",
     "brestore --bsr x",
     "brestore serve x",
@@ -483,6 +498,10 @@ const REFUSED: [&str; 41] = [
     "brestore console --db j.db --volumes d --client mars --fileset home --before 2026-11-22 --bsr x",
     "brestore console --db j.db --volumes d --client mars --fileset home --before 2026-11-22 --into=",
     "brestore console --db j.db --volumes d --client mars --fileset home --into e",
+    "brestore check",
+    "brestore check --bsr x",
+    "brestore check --volumes d",
+    "brestore check --bsr x --volumes d --into e",
     "brestore jobs",
     "brestore jobs --client mars",
     "brestore jobs j.db",
@@ -513,6 +532,7 @@ fn help_is_given(rt: HostRuntime) -> Result<(), Fail> {
         ("brestore console --help", ErrorKind::DisplayHelp),
         ("brestore explain --help", ErrorKind::DisplayHelp),
         ("brestore serve --help", ErrorKind::DisplayHelp),
+        ("brestore check --help", ErrorKind::DisplayHelp),
         ("brestore jobs --help", ErrorKind::DisplayHelp),
         ("brestore migrate --help", ErrorKind::DisplayHelp),
         ("brestore --version", ErrorKind::DisplayVersion),

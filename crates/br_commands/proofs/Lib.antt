@@ -1,1 +1,2 @@
+mod FreeLaws
 pub mod TarLaws

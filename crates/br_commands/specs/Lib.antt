@@ -2,6 +2,7 @@ pub mod Asked
 pub mod Tasks
 pub mod Starting
 pub mod Ending
+pub mod Checking
 pub mod ConsoleEnding
 pub mod TarEnding
 pub mod Migrating

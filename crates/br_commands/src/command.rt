@@ -1,6 +1,7 @@
 //! The commands by their options.
 ghost use Rattle.br_options.specs.Options.{HasDrives};
 
+use crate::checking::check_files;
 use crate::console::restore_marked;
 use crate::explaining::{explain_all, explain_number};
 use crate::extract::extract_files;
@@ -40,6 +41,7 @@ pub fn run_command<C: Catalogue>(
         Invocation::ServeFiles(options) => serve_files(rt, threads, catalogue, options),
         Invocation::Extract(options) => extract_files(rt, threads, options),
         Invocation::Console(options) => restore_marked(rt, threads, catalogue, options),
+        Invocation::Check(options) => check_files(rt, options),
         Invocation::Jobs(options) => list(rt, catalogue, options),
         Invocation::Migrate(db) => migrate_catalogue(rt, catalogue, db),
         Invocation::Explain(number) => explain_number(rt, *number),

@@ -61,7 +61,7 @@ pub fn extract_ending(
 }
 
 /// Prints to standard error that a stream failed, if one did. An error for memory is returned.
-fn report_stream<R: Eprint>(rt: &R, fault: &ExtractFault) -> io::Result<()> {
+pub(crate) fn report_stream<R: Eprint>(rt: &R, fault: &ExtractFault) -> io::Result<()> {
     match fault {
         ExtractFault::Io(e) if e.kind() == ErrorKind::OutOfMemory => {
             Err(ErrorKind::OutOfMemory.into())
@@ -93,7 +93,7 @@ pub(crate) struct BootstrapFile<'p> {
 
 impl<'p> BootstrapFile<'p> {
     /// Reads the file with this path, as far as it can be a bootstrap.
-    fn read<R: Files + AllocGlobal>(
+    pub(crate) fn read<R: Files + AllocGlobal>(
         rt: &R,
         path: &'p str,
     ) -> Result<BootstrapFile<'p>, ExtractStartFault>
@@ -102,6 +102,13 @@ impl<'p> BootstrapFile<'p> {
         let mut file = File::open(rt, path)?;
         let text = read_text(rt.alloc(), &mut file)?;
         Ok(BootstrapFile { path, text })
+    }
+
+    /// Returns the text of the file.
+    pub(crate) fn text(&self) -> &[u8]
+        ensures { result.now ≡ self.now.text.items }
+    {
+        &self.text
     }
 }
 
@@ -202,7 +209,7 @@ fn set_up_over<'r, 'p, S: Drop>(
 }
 
 /// Prints why no restore began to standard error. Returns the exit status.
-fn refuse(rt: &HostRuntime, bsr: &str, fault: ExtractStartFault) -> io::Result<u8> {
+pub(crate) fn refuse(rt: &HostRuntime, bsr: &str, fault: ExtractStartFault) -> io::Result<u8> {
     match fault {
         ExtractStartFault::Folder(fault) => refuse_start(rt, fault.number()),
         ExtractStartFault::Tar(fault) => refuse_start(rt, fault.number()),

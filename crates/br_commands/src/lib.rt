@@ -4,6 +4,7 @@
 //! caller's, as a `Catalogue` of br_setup; `serve` is in br_serving.
 #![tactic(auto)]
 
+mod checking;
 mod command;
 mod console;
 mod explaining;
@@ -13,6 +14,7 @@ mod migrating;
 mod status;
 mod tar;
 
+pub use checking::{CheckTask, check_ending, check_over, set_up_check};
 pub use command::run_command;
 pub use console::{
     ConsoleSetup, ConsoleStartFault, ConsoleTask, console_ending, console_over, restore_by_lines,

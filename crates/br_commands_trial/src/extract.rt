@@ -292,7 +292,7 @@ fn a_bootstrap_may_have_thousands_of_groups(rt: HostRuntime) -> Result<(), Fail>
 
 /// No catalogue at all.
 #[derive(Drop)]
-struct NoCatalogue;
+pub(crate) struct NoCatalogue;
 
 impl Catalogue for NoCatalogue {
     ghost use Rattle.std.specs.Prelude.{None, ⊤};

@@ -4,6 +4,6 @@
 mod options;
 
 pub use options::{
-    ConsoleOptions, Copies, ExtractOptions, Gaps, Invocation, JobsOptions, ServeOptions, Target,
-    Wanted,
+    CheckOptions, ConsoleOptions, Copies, ExtractOptions, Gaps, Invocation, JobsOptions,
+    ServeOptions, Target, Wanted,
 };

@@ -51,6 +51,15 @@ pub struct ExtractOptions<'a> {
     pub wanted: Wanted,
 }
 
+/// The options of `check`.
+#[derive(Clone, Copy, Debug, PartialEq, Eq)]
+pub struct CheckOptions<'a> {
+    /// The file of the bootstrap.
+    pub bsr: &'a str,
+    /// The folder of the volumes.
+    pub volumes: &'a str,
+}
+
 /// The options of `console`.
 #[derive(Clone, Copy, Debug, PartialEq, Eq)]
 pub struct ConsoleOptions<'a> {
@@ -104,6 +113,8 @@ pub enum Invocation<'a> {
     Extract(ExtractOptions<'a>),
     /// Runs a console session over the jobs of a catalogue, and restores what was marked.
     Console(ConsoleOptions<'a>),
+    /// Checks a bootstrap over the volumes of a folder.
+    Check(CheckOptions<'a>),
     /// Lists the jobs of a catalogue.
     Jobs(JobsOptions<'a>),
     /// Makes the catalogue of version 1 in this file one of version 2.

@@ -32,7 +32,7 @@ fn volumes_of(case: &mut Case, field: &str) -> Volumes {
 }
 
 /// Makes the drive of a kind: one that grows by tails, or one that fails from its k-th call on.
-fn drive_of(case: &mut Case, kind: &str, volumes: &str, tails: &str) -> MemDrive {
+pub(crate) fn drive_of(case: &mut Case, kind: &str, volumes: &str, tails: &str) -> MemDrive {
     let (volumes, tails) = (volumes_of(case, volumes), volumes_of(case, tails));
     match kind {
         "growing" => MemDrive::growing(volumes, tails),

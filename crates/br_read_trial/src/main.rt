@@ -1,4 +1,4 @@
-//! Runs rows over the formats that a restore reads, what a bootstrap asks for and is missing, the
+//! Runs rows over the formats that a restore reads, what a bootstrap asks for and is missing, checks of it, the
 //! sessions that write them, drives and stores over memory, bytes that are read again, for their digest
 //! and when they are written, and the table of refusals. It prints the rows that gave something else than wanted.
 #![tactic(auto)]
@@ -8,6 +8,7 @@ mod attributes;
 mod blocks;
 mod bodies;
 mod bootstraps;
+mod checks;
 mod lacking;
 mod names;
 mod parts;
@@ -25,6 +26,7 @@ fn run(case: &mut Case, fields: &[&str]) {
         ["block", call @ ..] => blocks::run(case, call),
         ["bootstrap", call @ ..] => bootstraps::run(case, call),
         ["missing", call @ ..] => lacking::run(case, call),
+        ["check", call @ ..] => checks::run(case, call),
         ["volume", call @ ..] => volumes::run(case, call),
         ["again", call @ ..] => again::run(case, call),
         ["body", names, kind, volumes, later, changed, parts @ ..] => {

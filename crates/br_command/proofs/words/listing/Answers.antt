@@ -1,13 +1,14 @@
 use Rattle.std.proofs.lemmas.Result.{IfOk-weaker}
 use Rattle.br_command.specs.Words.{listing_app}
-use Rattle.br_command.proofs.WordsLaws.{one_command}
+use Rattle.br_command.proofs.WordsLaws.{two_commands}
 use Rattle.br_command.proofs.words.listing.Goals as goal
 
 pub returns-clause-app : goal.returns-clause-app
 unfolding listing_app
 returns-clause-app c =
-    IfOk-weaker c.subcommand.result _ _
+    IfOk-weaker c.subcommand-2.result _ _
     (λ last added.
-    one_command c.in_ok-restoring.field-0 last c.in_ok-jobs.jobs _ _
-    c.in_ok-restoring.ensures.app added c.in_ok-jobs.ensures.app c.in_ok-jobs.ensures.local)
-    c.subcommand.ensures
+    two_commands c.in_ok-restoring.field-0 c.in_ok-subcommand.field-0 last c.in_ok-check.check c.in_ok-jobs.jobs _ _ _
+    c.in_ok-restoring.ensures.app c.in_ok-subcommand.ensures added c.in_ok-check.ensures.app c.in_ok-check.ensures.local
+    c.in_ok-jobs.ensures.app c.in_ok-jobs.ensures.local)
+    c.subcommand-2.ensures

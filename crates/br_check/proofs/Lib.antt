@@ -1,0 +1,4 @@
+mod SearchLaws
+mod CopyLaws
+mod LabelLaws
+mod CheckLaws

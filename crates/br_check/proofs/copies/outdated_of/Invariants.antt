@@ -1,0 +1,15 @@
+use Rattle.std.proofs.Common.{◌≡◌, ◌++◌, List, flat_map, map}
+use Rattle.std.specs.Slice.Iter.{iter_rest}
+use Rattle.br_model.specs.Name.{FileKey}
+use Rattle.br_newest.specs.Newest.{AreNoted}
+use Rattle.br_records.specs.Shown.{outlined}
+use Rattle.br_records.specs.declared.outline.Sketch.{Sketch}
+use Rattle.br_check.specs.Copies.{outdated_at}
+use Rattle.br_check.specs.Findings.{copies_of}
+use Rattle.br_check.proofs.copies.outdated_of.Given as goal
+
+-- of the files after those that are left, the copies of which there are newer ones
+abbrev pub invariant-loop-sketch : goal.invariant-loop-sketch
+invariant-loop-sketch l =
+    (done : List (FileKey × Sketch)) × AreNoted l.old (flat_map (outdated_at (copies_of (map outlined l.all))) (map outlined done))
+    × (iter_rest l.sketch-iterator.iter ++ done ≡ l.all)

@@ -1,0 +1,7 @@
+use Rattle.std.proofs.Common.{◌≡◌, take, map}
+use Rattle.br_records.specs.Shown.{outlined}
+use Rattle.br_check.specs.Check.{keys_of}
+use Rattle.br_check.proofs.run.keys_in.Given as goal
+
+abbrev pub invariant-loop-sketch : goal.invariant-loop-sketch
+invariant-loop-sketch l = l.keys.items ≡ keys_of (map outlined (take l.sketch-index l.sketches))

@@ -1,0 +1,110 @@
+-- The lines of what a check finds.
+use Rattle.std.specs.Prelude.{ℕ, ◌==◌, if◌then◌else◌, List, [], ◌∷◌, ◌++◌, filter, flat_map, sum_by, decimal, codes, Ok, Err, Bool}
+use Rattle.std.specs.List.{list_any}
+use Rattle.br_model.specs.File.{Fault}
+use Rattle.br_model.specs.Name.{FileKey}
+use Rattle.br_model.specs.Text.{line, escaped}
+use Rattle.br_match.specs.Fault.{cause_number}
+use Rattle.br_match.specs.declared.fault.PieceFault.{PieceFault}
+use Rattle.br_match.specs.declared.fault.PieceFault.TheVariants.{Memory, Block}
+use Rattle.br_newest.specs.Newest.{Copy, is_of, is_outdated}
+use Rattle.br_records.specs.Outline.{Foreseen, Outlined}
+use Rattle.br_check.specs.Search.{Searched}
+
+-- ---- volumes
+
+-- the line of a volume that can't be searched: the number of the refusal, the volume, and the address
+abbrev pub fault_line : PieceFault → List ℕ
+fault_line Memory = []
+fault_line (Block why volume address) = line (codes "volume " ++ decimal (cause_number why) ++ 32 ∷ escaped volume ++ 32 ∷ decimal address)
+
+-- the line of what was found of a piece, if its volume can't be searched
+abbrev pub volume_line : Searched → List ℕ
+volume_line (Ok found) = []
+volume_line (Err why) = fault_line why
+
+-- ---- files
+
+-- session and index, each after a blank
+abbrev pub key_text : FileKey → List ℕ
+key_text key = 32 ∷ decimal key.session.id ++ 32 ∷ decimal key.session.time ++ 32 ∷ decimal key.index
+
+-- the stream of 65, after a blank
+abbrev pub stream_text : Fault → List ℕ
+stream_text f = if f.number == 65 then 32 ∷ decimal f.stream else []
+
+-- the line of a file that can't be restored
+abbrev pub refused_line : FileKey → Fault → List ℕ
+refused_line key f = line (codes "file " ++ decimal f.number ++ key_text key ++ stream_text f)
+
+-- the line of a file, if it can't be restored
+abbrev pub file_line : Outlined → List ℕ
+file_line o = line_of o.outline
+  where
+    line_of : Foreseen → List ℕ
+    line_of (Ok outline) = []
+    line_of (Err f) = refused_line o.key f
+
+-- ---- paths that come more than once
+
+-- a file as a copy of its path; a fault is none
+abbrev pub copies_at : Outlined → List Copy
+copies_at o = of_outline o.outline
+  where
+    of_outline : Foreseen → List Copy
+    of_outline (Ok outline) = record { key = o.key; path = outline.path } ∷ []
+    of_outline (Err f) = []
+
+-- the files as copies of their paths
+abbrev pub copies_of : List Outlined → List Copy
+copies_of os = flat_map copies_at os
+
+-- the copies of which there are newer ones
+abbrev pub outdated : List Copy → List Copy
+outdated copies = filter (is_outdated copies) copies
+
+-- the line of a copy
+abbrev pub named_line : List ℕ → Copy → List ℕ
+named_line word c = line (word ++ key_text c.key ++ 32 ∷ escaped c.path)
+
+-- the line of a copy by whether there is a newer one, and whether there is an older one
+abbrev pub line_by : Bool → Bool → Copy → List ℕ
+line_by is_old has_old c = if is_old then named_line (codes "older") c else if has_old then named_line (codes "newest") c else []
+
+-- the line of a copy whose path comes more than once: it is older than another, or it is the newest
+abbrev pub copy_line : List Copy → Copy → List ℕ
+copy_line copies c = line_by (is_outdated copies c) (list_any (is_of c.path) (outdated copies)) c
+
+-- the line of a file whose path comes more than once among the copies
+abbrev pub lines_at : List Copy → Outlined → List ℕ
+lines_at copies o = flat_map (copy_line copies) (copies_at o)
+
+-- the lines of all files whose paths come more than once
+abbrev pub copy_lines : List Outlined → List ℕ
+copy_lines os = flat_map (lines_at (copies_of os)) os
+
+-- ---- what would be restored
+
+-- the bytes of a file, none of one that can't be restored
+abbrev pub bytes_of : Outlined → ℕ
+bytes_of o = size_of o.outline
+  where
+    size_of : Foreseen → ℕ
+    size_of (Ok outline) = outline.size
+    size_of (Err f) = 0
+
+-- 1 for a file, 0 for what can't be restored
+abbrev pub files_at : Outlined → ℕ
+files_at o = number_of o.outline
+  where
+    number_of : Foreseen → ℕ
+    number_of (Ok outline) = 1
+    number_of (Err f) = 0
+
+-- the number of files
+abbrev pub files_in : List Outlined → ℕ
+files_in os = sum_by files_at os
+
+-- their bytes together
+abbrev pub bytes_in : List Outlined → ℕ
+bytes_in os = sum_by bytes_of os

@@ -1,0 +1,97 @@
+-- The name in the label of a volume. (Bacula's Developer's Guide, "Storage Media Output Format", "Volume Label Format".)
+use Rattle.std.specs.Prelude.{◌≡◌, ◌⊎◌, ℕ, ◌<◌, nat_le, Bool, ◌&&◌, ◌==◌, if◌then◌else◌, List, [], ◌∷◌, ◌++◌, length, take, drop, find, flat_map, bytes_eq, codes, Option, Some, None, nat_abs, Result, Ok, Err, ⊤}
+use Rattle.std.specs.Int.{is_negative}
+use Rattle.std.specs.List.{position, AllZip}
+use Rattle.br_model.specs.Block.{Fragment, fragments_of, read_block}
+use Rattle.br_model.specs.Meaning.{Piece}
+use Rattle.br_model.specs.Text.{line, escaped}
+use Rattle.br_model.specs.Volume.{Volume, volume_bytes}
+use Rattle.br_volume.specs.Drive.{OnlyGrows}
+
+-- what a label begins with
+unfoldable pub mark : List ℕ
+mark = codes "Bacula 1.0 immortal" ++ 10 ∷ 0 ∷ []
+
+-- bytes up to a place, or all of them
+abbrev pub up_to : Option ℕ → List ℕ → List ℕ
+up_to None bytes = bytes
+up_to (Some at) bytes = take at bytes
+
+-- bytes up to the first zero, or all of them
+abbrev pub before_zero : List ℕ → List ℕ
+before_zero bytes = up_to (position (λ b. b == 0) bytes) bytes
+
+-- the name in a label that begins with the mark: after that, the version of four bytes and four times of eight bytes it goes up to a zero
+abbrev pub marked_name : List ℕ → Option (List ℕ)
+marked_name label = if bytes_eq (take 21 label) mark then Some (before_zero (drop 57 label)) else None
+
+-- the name in a label; one that ends before it has none
+unfoldable pub name_in : List ℕ → Option (List ℕ)
+name_in label = if nat_le 57 (length label) then marked_name label else None
+
+-- the record of FileIndex -2 is the label of a volume
+abbrev pub is_label : Fragment → Bool
+is_label f = is_negative f.index && nat_abs f.index == 2
+
+-- the name in a label, if there is one
+abbrev pub name_of : Option Fragment → Option (List ℕ)
+name_of None = None
+name_of (Some f) = name_in f.bytes
+
+-- the name in the label of a block
+unfoldable pub name_in_block : List ℕ → Option (List ℕ)
+name_in_block block = name_of (find is_label (fragments_of block))
+
+-- the name in the label of a block that is whole
+abbrev pub name_read : Result (List ℕ) ℕ → Option (List ℕ)
+name_read (Ok block) = name_in_block block
+name_read (Err why) = None
+
+-- the name in the label of the volume that begins with these bytes
+unfoldable pub name_at : List ℕ → Option (List ℕ)
+name_at bytes = name_read (read_block bytes)
+
+-- the line of a volume whose label has this name
+abbrev pub other_line : List ℕ → List ℕ → List ℕ
+other_line volume name = line (codes "label " ++ escaped volume ++ 32 ∷ escaped name)
+
+-- the same, if it is the name of another volume
+abbrev pub named_line : List ℕ → List ℕ → List ℕ
+named_line volume name = if bytes_eq name volume then [] else other_line volume name
+
+-- the same, if the label has a name
+abbrev pub line_by : List ℕ → Option (List ℕ) → List ℕ
+line_by volume None = []
+line_by volume (Some name) = named_line volume name
+
+-- the line of a volume, if it is there and the label in its first 65,536 bytes names another volume
+abbrev pub label_line : List ℕ → Option (List ℕ) → List ℕ
+label_line volume None = []
+label_line volume (Some bytes) = line_by volume (name_at (take 65536 bytes))
+
+-- What is said of a volume over the volumes that a drive shows, where it tells them, by the failures of the drive before and after: the line
+-- of the volume, or nothing if the drive failed.
+abbrev pub TellsLabel : Option (List Volume) → ℕ → ℕ → List ℕ → List ℕ → Type 0
+TellsLabel None failures later volume told = ⊤
+TellsLabel (Some volumes) failures later volume told =
+    (told ≡ label_line volume (volume_bytes volumes volume)) ⊎ ((told ≡ []) × (failures < later))
+
+-- the same of volumes that the drive showed meanwhile
+pub record TellsBetween (earlier later : Option (List Volume)) (failures failed : ℕ) (volume told : List ℕ) : Type 0 where
+  pub shown : Option (List Volume)
+  pub grew : OnlyGrows earlier shown
+  pub grows : OnlyGrows shown later
+  pub tells : TellsLabel shown failures failed volume told
+
+-- what is said of the volume of each piece
+abbrev pub TellLabels : Option (List Volume) → Option (List Volume) → ℕ → ℕ → List Piece → List (List ℕ) → Type 0
+TellLabels earlier later failures failed pieces told = AllZip (λ (p : Piece) t. TellsBetween earlier later failures failed p.volume t) pieces told
+
+-- what is said of a volume was appended
+abbrev pub AppendsLabel : Option (List Volume) → ℕ → ℕ → List ℕ → List ℕ → List ℕ → Type 0
+AppendsLabel shown failures failed volume before after = (told : List ℕ) × TellsLabel shown failures failed volume told × (after ≡ before ++ told)
+
+-- what is said of the volume of each piece was appended
+abbrev pub AppendsLabels : Option (List Volume) → Option (List Volume) → ℕ → ℕ → List Piece → List ℕ → List ℕ → Type 0
+AppendsLabels earlier later failures failed pieces before after =
+    (told : List (List ℕ)) × TellLabels earlier later failures failed pieces told × (after ≡ before ++ flat_map (λ line. line) told)

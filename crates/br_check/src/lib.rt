@@ -1,0 +1,16 @@
+//! A check of a bootstrap over its volumes: what a restore would meet, without the bytes of its files.
+//!
+//! `check` reads each block that the bootstrap asks for, and keeps record headers and attributes alone.
+//! It returns a line for each finding, and the number of the files and of their bytes.
+//!
+//! Any call that returns a `Result` may also fail because memory ran out.
+#![tactic(auto)]
+
+mod copies;
+mod findings;
+mod label;
+mod light;
+mod run;
+mod search;
+
+pub use run::{Checked, check};

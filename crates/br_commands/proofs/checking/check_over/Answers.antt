@@ -1,0 +1,17 @@
+use Rattle.std.proofs.Common.{ap, sym, ◌∙◌}
+use Rattle.std.proofs.lemmas.Result.{err_from_is_err_and}
+use Rattle.br_model.specs.BootstrapText.{read_bootstrap}
+use Rattle.br_commands.proofs.FreeLaws.{free_is_refusal}
+use Rattle.br_commands.proofs.checking.check_over.Goals as goal
+
+pub returns-in_err-show_checked-clause-checks : goal.returns-in_err-show_checked-clause-checks
+returns-in_err-show_checked-clause-checks g c =
+    let p = err_from_is_err_and c.from_residual-in_err-show_checked.result c.from_residual-in_err-show_checked.ensures.1 in
+    rw (p.1, p.2) (free_is_refusal _ c.in_err-show_checked.field-0.0 c.in_err-show_checked.ensures.free)
+
+pub returns-clause-checks : goal.returns-clause-checks
+returns-clause-checks g c = (
+  c.in_ok-bootstrap.bootstrap,
+  ap read_bootstrap (sym c.text.ensures) ∙ c.in_ok-bootstrap.ensures.exact,
+  (c.in_ok-checked.checked, c.in_ok-checked.ensures.checked, c.in_ok-show_checked.ensures.written, c.status_of.ensures),
+)

@@ -1,0 +1,128 @@
+//! The command `check`.
+ghost use Rattle.std.specs.Prelude.{◌≡◌, IfErr, IfOk, OnOk};
+ghost use Rattle.std.specs.Io.KnownBytes.{Appends};
+ghost use Rattle.br_check.specs.Check.{checked_text};
+ghost use Rattle.br_engine.specs.Fault.{IsFree};
+ghost use Rattle.br_volume.specs.Drive.{OnlyGrows};
+ghost use Rattle.br_commands.specs.Checking.{ChecksTask, checked_status, run_refusal, run_status};
+
+use crate::extract::{BootstrapFile, ExtractStartFault, refuse, report_stream};
+use crate::status::{BAD_STREAM, Ending};
+use br_bsr::read_bootstrap;
+use br_check::{Checked, check};
+use br_engine::{ExtractFault, Flush, show};
+use br_folder::FolderDrive;
+use br_options::CheckOptions;
+use br_setup::{CLEAN, HostDrive, REFUSED};
+use br_volume::Drive;
+use std::alloc::{AllocError, Global};
+use std::io;
+
+/// Returns the exit status by what was found.
+fn status_of(checked: &Checked) -> u8
+    ensures { result ≡ checked_status checked.now }
+{
+    if checked.is_clean() { CLEAN } else { REFUSED }
+}
+
+/// Writes what a check found and flushes it.
+fn show_checked<W: Flush>(
+    alloc: Global,
+    writer: &mut W,
+    checked: &Checked,
+) -> Result<(), ExtractFault>
+    ensures written { OnOk result (Appends (W.contents writer.old) (W.contents writer.new) (checked_text checked.now)) }
+    ensures flushed { OnOk result (W.is_flushed writer.new) }
+    ensures free { IfErr result IsFree }
+{
+    let mut text = Vec::new(alloc);
+    checked.push_text(&mut text)?;
+    show(writer, &text)?;
+    Ok(())
+}
+
+/// The bootstrap to check, and the drive to read its volumes by.
+#[derive(Drop)]
+pub struct CheckTask<'p, D> {
+    bootstrap: BootstrapFile<'p>,
+    drive: D,
+}
+
+/// Reads the bootstrap, and makes the drive over the folder of the volumes.
+pub fn set_up_check<'r, 'p>(
+    rt: &'r HostRuntime,
+    given: &CheckOptions<'p>,
+) -> Result<CheckTask<'p, HostDrive<'r>>, ExtractStartFault>
+    ensures bootstrap { IfOk result (λ task. task.bootstrap.path.now ≡ given.now.bsr.now) }
+    ensures volumes { IfOk result (λ task. task.drive.path ≡ given.now.volumes.now) }
+{
+    let bootstrap = BootstrapFile::read(rt, given.bsr)?;
+    let drive = FolderDrive::new(rt.alloc(), rt, given.volumes)?;
+    Ok(CheckTask { bootstrap, drive })
+}
+
+/// Carries out a task: checks the bootstrap over the volumes of the drive, and writes a line for each finding,
+/// and then the number of files that would be restored and of their bytes. Returns the exit status.
+///
+/// # Errors
+///
+/// The refusal of a line of the bootstrap, before anything is read or written. `Memory` if memory ran out,
+/// and `Io` if the writer failed.
+pub fn check_over<D: Drive, W: Flush>(
+    alloc: Global,
+    task: &mut CheckTask<'_, D>,
+    writer: &mut W,
+) -> Result<u8, ExtractFault>
+    ensures checks { ChecksTask D.shows D.failures W.contents task.old task.new writer.old writer.new result }
+    ensures grows { OnlyGrows (D.shows task.old.drive) (D.shows task.new.drive) }
+    ensures flushed { OnOk result (W.is_flushed writer.new) }
+{
+    let bootstrap = read_bootstrap(alloc, task.bootstrap.text())?;
+    let checked = check(alloc, &bootstrap, &mut task.drive)?;
+    show_checked(alloc, writer, &checked)?;
+    Ok(status_of(&checked))
+}
+
+/// Returns the exit status and the refusal line for this result.
+pub fn check_ending(alloc: Global, run: &Result<u8, ExtractFault>) -> Result<Ending, AllocError>
+    ensures status { IfOk result (λ ending. ending.status ≡ run_status run.now) }
+    ensures refusal { IfOk result (λ ending. ending.refusal.items ≡ run_refusal run.now) }
+{
+    let mut refusal = Vec::new(alloc);
+    let status = match run {
+        Ok(status) => *status,
+        Err(ExtractFault::Io(_) | ExtractFault::NoEnd(_)) => BAD_STREAM,
+        Err(fault) => {
+            fault.push_line(&mut refusal)?;
+            REFUSED
+        }
+    };
+    Ok(Ending { status, refusal })
+}
+
+/// Prints how a check ended to standard error. Returns the exit status.
+fn report(rt: &HostRuntime, run: Result<u8, ExtractFault>) -> io::Result<u8> {
+    let ending = check_ending(rt.alloc(), &run)?;
+    if let Err(fault) = &run {
+        report_stream(rt, fault)?;
+    }
+    ending.print(rt)
+}
+
+/// Checks the bootstrap in a file over the volumes in a folder. Prints a line for each finding, and then the
+/// number of files that would be restored and of their bytes. Restores nothing.
+///
+/// Returns the exit status: 0 if nothing was found; 1 if something was found or a line of the bootstrap was
+/// refused; 3 if the bootstrap could not be read or standard output failed.
+///
+/// # Errors
+///
+/// If memory ran out or standard error failed.
+pub(crate) fn check_files(rt: &HostRuntime, given: &CheckOptions<'_>) -> io::Result<u8> {
+    let mut task = match set_up_check(rt, given) {
+        Ok(task) => task,
+        Err(fault) => return refuse(rt, given.bsr, fault),
+    };
+    let run = check_over(rt.alloc(), &mut task, &mut io::writer(rt));
+    report(rt, run)
+}

@@ -1,0 +1,33 @@
+//! Checks of bootstraps over volumes in memory.
+
+use crate::again::drive_of;
+use br_bsr::{Bootstrap, read_bootstrap};
+use br_check::check;
+use br_trial_rows::Case;
+use br_volume::MemDrive;
+
+/// Prints what a check of a bootstrap finds, and whether it finds nothing.
+fn push_checked(case: &mut Case, bootstrap: &Bootstrap, drive: &mut MemDrive) {
+    match check(case.alloc(), bootstrap, drive) {
+        Ok(checked) => {
+            let mut text = Vec::new(case.alloc());
+            case.done(checked.push_text(&mut text));
+            case.lines(&text);
+            case.test(checked.is_clean());
+        }
+        Err(_fault) => case.fail("out of memory"),
+    }
+}
+
+/// Runs a call: a kind of drive, its volumes, the tails by which it grows, and the text of a bootstrap.
+pub(crate) fn run(case: &mut Case, call: &[&str]) {
+    let [kind, volumes, tails, text] = call else {
+        return case.fail("a drive and a bootstrap are needed");
+    };
+    let mut drive = drive_of(case, kind, volumes, tails);
+    let text = case.text_of(text);
+    match read_bootstrap(case.alloc(), &text) {
+        Ok(bootstrap) => push_checked(case, &bootstrap, &mut drive),
+        Err(_fault) => case.fail("the bootstrap is refused"),
+    }
+}

@@ -1,0 +1,158 @@
+-- What an outline says of its file.
+use Rattle.std.proofs.Common.{◌≡◌, ℕ, ◌+◌, ◌-◌, ◌^◌, ◌≤◌, Bool, true, false, ◌||◌, ◌&&◌, not, cond, ltb, List, [], ◌∷◌, ◌++◌, length, take, drop, replicate, Result, Ok, Err, refl, sym, ap, ◌∙◌, inl, inr, arith}
+use Rattle.std.specs.Prelude.{filter, count_by}
+use Rattle.std.specs.Int.{w64, from_be_bytes}
+use Rattle.std.proofs.lemmas.Bool.{ltb-false, or_parts}
+use Rattle.std.proofs.lemmas.List.{length-append, length-replicate}
+use Rattle.br_model.specs.Answer.{◌>>=◌, refused_as, refuse_if}
+use Rattle.br_model.specs.Attribute.{Attributes}
+use Rattle.br_model.specs.Record.{Record}
+use Rattle.br_model.specs.File.{Extent, Fault, Outcome, attributes_of, bytes_from, checks_digest, content, digest_fits, extent_end, extent_of, extents_from, fault, file_bytes, has_bytes, is_data, is_skipped, is_stream, unsupported}
+use Rattle.br_model.proofs.AnswerLaws.{bind_ok, chosen, ok_is, err_is_not_ok}
+use Rattle.br_records.specs.Outline.{Foreseen, Foresees, OutlinesForesee, end_after, end_from, outline, size_of}
+
+-- ---- an extent begins at the end so far, or past it
+
+address : Record → ℕ
+address r = from_be_bytes w64 (take 8 r.bytes)
+
+placed : ℕ → Record → Result Extent ℕ
+placed end r =
+    cond (is_stream 2 r) (Ok (record { start = end; bytes = r.bytes }))
+    (cond (ltb (length r.bytes) 8 || ltb (address r) end) (Err 67) (Ok (record { start = address r; bytes = drop 8 r.bytes })))
+
+fitted : Extent → Result Extent ℕ
+fitted e = cond (ltb (2 ^ 30) (extent_end e)) (Err 68) (Ok e)
+
+is_placed : (end : ℕ) (r : Record) → extent_of end r ≡ (placed end r >>= fitted)
+unfolding extent_of placed fitted address
+is_placed end r = refl
+
+placed_rises : (end : ℕ) (r : Record) (e : Extent) → placed end r ≡ Ok e → end ≤ e.start
+unfolding placed
+placed_rises end r e is =
+    elim (chosen (is_stream 2 r) (Ok (record { start = end; bytes = r.bytes })) (cond (ltb (length r.bytes) 8 || ltb (address r) end) (Err 67) (Ok (record { start = address r; bytes = drop 8 r.bytes }))) (Ok e) is) [
+      | inl p ↦
+          let same : end ≡ e.start = ap (λ (x : Extent). x.start) (ok_is (record { start = end; bytes = r.bytes }) e p.1) in
+          omega (arith, same)
+      | inr p ↦
+          elim (chosen (ltb (length r.bytes) 8 || ltb (address r) end) (Err 67) (Ok (record { start = address r; bytes = drop 8 r.bytes })) (Ok e) p.1) [
+            | inl q ↦ absurd (err_is_not_ok 67 e q.1)
+            | inr q ↦
+                let same : address r ≡ e.start = ap (λ (x : Extent). x.start) (ok_is (record { start = address r; bytes = drop 8 r.bytes }) e q.1) in
+                let tests = or_parts (ltb (length r.bytes) 8) (ltb (address r) end) q.0 in
+                omega (arith, same, ltb-false (address r) end tests.1)
+          ]
+    ]
+
+extent_rises : (end : ℕ) (r : Record) (e : Extent) → extent_of end r ≡ Ok e → end ≤ e.start
+unfolding fitted
+extent_rises end r e is =
+    let steps = bind_ok (placed end r) fitted e (sym (is_placed end r) ∙ is) in
+    elim (chosen (ltb (2 ^ 30) (extent_end steps.0)) (Err 68) (Ok steps.0) (Ok e) steps.2) [
+      | inl p ↦ absurd (err_is_not_ok 68 e p.1)
+      | inr p ↦
+          let same : steps.0.start ≡ e.start = ap (λ (x : Extent). x.start) (ok_is steps.0 e p.1) in
+          omega (arith, same, placed_rises end r steps.0 steps.1)
+    ]
+
+-- ---- the end of the bytes
+
+-- the end is that of the extents from an address on
+abbrev SameEnd : ℕ → Result ℕ ℕ → Result (List Extent) ℕ → Type 0
+SameEnd at (Ok n) (Ok es) = at + length (bytes_from at es) ≡ n
+SameEnd at (Ok n) (Err m) = ⊥
+SameEnd at (Err n) (Ok es) = ⊥
+SameEnd at (Err n) (Err m) = n ≡ m
+
+-- one extent more
+one_more : (at : ℕ) (e : Extent) → at ≤ e.start → (x : Result ℕ ℕ) (y : Result (List Extent) ℕ) → SameEnd (extent_end e) x y → SameEnd at x (y >>= λ more. Ok (e ∷ more))
+unfolding bytes_from
+one_more at e rises (Ok n) (Ok es) h =
+    omega (arith, h, rises, length-append (replicate (e.start - at) 0 ++ e.bytes) (bytes_from (extent_end e) es), length-append (replicate (e.start - at) 0) e.bytes, length-replicate {A = ℕ} (e.start - at) 0)
+one_more at e rises (Ok n) (Err m) h = absurd h
+one_more at e rises (Err n) (Ok es) h = absurd h
+one_more at e rises (Err n) (Err m) h = h
+
+-- a record that is data
+data_more : (at : ℕ) (r : Record) (rs : List Record) → ((n : ℕ) → SameEnd n (end_from n rs) (extents_from n (filter is_data rs)))
+    → (x : Result Extent ℕ) → extent_of at r ≡ x
+    → SameEnd at ((x >>= λ e. Ok (extent_end e)) >>= λ n. end_from n rs) (x >>= λ e. (extents_from (extent_end e) (filter is_data rs) >>= λ more. Ok (e ∷ more)))
+data_more at r rs next (Ok e) is = one_more at e (extent_rises at r e is) (end_from (extent_end e) rs) (extents_from (extent_end e) (filter is_data rs)) (next (extent_end e))
+data_more at r rs next (Err n) is = refl
+
+-- a record more, by whether it is data
+record_more : (at : ℕ) (r : Record) (rs : List Record) → ((n : ℕ) → SameEnd n (end_from n rs) (extents_from n (filter is_data rs)))
+    → (b : Bool)
+    → SameEnd at (cond (not b) (Ok at) (extent_of at r >>= λ e. Ok (extent_end e)) >>= λ n. end_from n rs) (extents_from at (cond b (r ∷ filter is_data rs) (filter is_data rs)))
+unfolding extents_from
+record_more at r rs next true = data_more at r rs next (extent_of at r) refl
+record_more at r rs next false = next at
+
+same_end : (at : ℕ) (rs : List Record) → SameEnd at (end_from at rs) (extents_from at (filter is_data rs))
+unfolding end_from end_after extents_from bytes_from
+same_end at [] = omega arith
+same_end at (r ∷ rs) = record_more at r rs (λ n. same_end n rs) (is_data r)
+
+-- ---- the number of bytes
+
+abbrev SameSize : Result ℕ ℕ → Result (List ℕ) ℕ → Type 0
+SameSize (Ok n) (Ok bytes) = n ≡ length bytes
+SameSize (Ok n) (Err m) = ⊥
+SameSize (Err n) (Ok bytes) = ⊥
+SameSize (Err n) (Err m) = n ≡ m
+
+all_of : (x : Result ℕ ℕ) (y : Result (List Extent) ℕ) → SameEnd 0 x y → SameSize x (y >>= λ es. Ok (bytes_from 0 es))
+all_of (Ok n) (Ok es) h = omega (arith, h)
+all_of (Ok n) (Err m) h = absurd h
+all_of (Err n) (Ok es) h = absurd h
+all_of (Err n) (Err m) h = h
+
+size_by : (rs : List Record) (b : Bool) → SameSize (cond (not b) (Ok 0) (end_from 0 rs)) (cond (not b) (Ok []) (extents_from 0 (filter is_data rs) >>= λ es. Ok (bytes_from 0 es)))
+size_by rs true = all_of (end_from 0 rs) (extents_from 0 (filter is_data rs)) (same_end 0 rs)
+size_by rs false = refl
+
+same_size : (kind : ℕ) (rs : List Record) → SameSize (size_of kind rs) (file_bytes kind rs)
+unfolding size_of file_bytes
+same_size kind rs = size_by rs (has_bytes kind)
+
+-- ---- the file
+
+abbrev outlined_by : Attributes → Result ℕ ℕ → Foreseen
+outlined_by a x = refused_as fault x >>= λ size. Ok (record { path = a.path; kind = a.kind; size = size })
+
+abbrev made_by : Attributes → List Record → Result (List ℕ) ℕ → Outcome
+made_by a records y = refused_as fault y >>= λ bytes. (refuse_if (checks_digest a.kind records && not (digest_fits (filter (is_stream 3) records) bytes)) (fault 66) >>= λ _. Ok (record {
+  path = a.path;
+  kind = a.kind;
+  stat = a.stat;
+  link = a.link;
+  bytes = bytes;
+  skipped = count_by (is_skipped a.kind (checks_digest a.kind records)) records;
+}))
+
+by_digest : (a : Attributes) (records : List Record) (n : ℕ) (bytes : List ℕ) (skipped : ℕ) → n ≡ length bytes → (differs : Bool)
+    → Foresees (Ok (record { path = a.path; kind = a.kind; size = n })) (refuse_if differs (fault 66) >>= λ _. Ok (record { path = a.path; kind = a.kind; stat = a.stat; link = a.link; bytes = bytes; skipped = skipped }))
+by_digest a records n bytes skipped same true = refl
+by_digest a records n bytes skipped same false = (refl, refl, same)
+
+by_size : (a : Attributes) (records : List Record) (x : Result ℕ ℕ) (y : Result (List ℕ) ℕ) → SameSize x y → Foresees (outlined_by a x) (made_by a records y)
+by_size a records (Ok n) (Ok bytes) h =
+    by_digest a records n bytes (count_by (is_skipped a.kind (checks_digest a.kind records)) records) h (checks_digest a.kind records && not (digest_fits (filter (is_stream 3) records) bytes))
+by_size a records (Ok n) (Err m) h = absurd h
+by_size a records (Err n) (Ok bytes) h = absurd h
+by_size a records (Err n) (Err m) h = ap fault (sym h)
+
+by_stream : (a : Attributes) (records : List Record) (u : Result (Unit {0}) Fault)
+    → Foresees (u >>= λ _. outlined_by a (size_of a.kind records)) (u >>= λ _. made_by a records (file_bytes a.kind records))
+by_stream a records (Ok u) = by_size a records (size_of a.kind records) (file_bytes a.kind records) (same_size a.kind records)
+by_stream a records (Err f) = refl
+
+by_attributes : (records : List Record) (x : Result Attributes Fault)
+    → Foresees (x >>= λ a. (unsupported records >>= λ _. outlined_by a (size_of a.kind records))) (x >>= λ a. (unsupported records >>= λ _. made_by a records (file_bytes a.kind records)))
+by_attributes records (Ok a) = by_stream a records (unsupported records)
+by_attributes records (Err f) = refl
+
+pub outlines_foresee_lem : OutlinesForesee
+unfolding outline content
+outlines_foresee_lem index records = by_attributes records (refused_as fault (attributes_of index (filter (is_stream 1) records)))

@@ -1,0 +1,12 @@
+-- The data of a record, as far as its place in the file goes.
+use Rattle.std.specs.Prelude.{ℕ, ◌^◌, nat_lt, if◌then◌else◌, Err, ◌+◌, List, length, drop, Result, Ok}
+use Rattle.br_model.specs.File as model
+use Rattle.br_records.specs.declared.data.Extent.{Extent}
+
+-- the extent of these bytes
+abbrev pub shown_extent : List ℕ → Extent → model.Extent
+shown_extent bytes e = record { start = e.start; bytes = drop e.skip bytes }
+
+-- the extent of bytes from an address on, 68 if the file would be too large
+abbrev pub fitting : ℕ → List ℕ → Result model.Extent model.Fault
+fitting start bytes = if nat_lt (2 ^ 30) (start + length bytes) then Err (model.fault 68) else Ok (record { start = start; bytes = bytes })

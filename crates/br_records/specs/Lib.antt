@@ -1,0 +1,7 @@
+pub mod Making
+pub mod Opening
+pub mod Records
+pub mod Runs
+pub mod Data
+pub mod Outline
+pub mod Shown

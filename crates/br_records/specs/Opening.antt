@@ -1,0 +1,25 @@
+-- A record that is open, as the model sees it.
+use Rattle.std.specs.Prelude.{ℕ, ◌-◌, List, take, drop, Option, Some, None, Result}
+use Rattle.br_model.specs.Meaning.{Hit}
+use Rattle.br_model.specs.Record.{Begun, Record, join_from}
+use Rattle.br_records.specs.Records.{bytes_in, fragments_in, prefixed}
+use Rattle.br_records.specs.declared.records.Open.{Open}
+
+-- with the index of its file, and the bytes that came
+abbrev pub begun : ℕ → List ℕ → Open → Begun
+begun index bytes open_one = record { index = index; stream = open_one.stream; bytes = bytes; left = open_one.left }
+
+-- the same, if a record is open
+abbrev pub begun_from : ℕ → List ℕ → Option Open → Option Begun
+begun_from index bytes None = None
+begun_from index bytes (Some open_one) = Some (begun index bytes open_one)
+
+-- the bytes of the hits from one place to another
+abbrev pub bytes_between : ℕ → ℕ → List Hit → List ℕ
+bytes_between first i hits = bytes_in (take (i - first) (drop first hits))
+
+-- records that were joined, and after them those of the hits from a place on, if the open record
+-- begins at `first`
+abbrev pub joined_from : List Hit → ℕ → List Record → Option Open → ℕ → ℕ → Result (List Record) ℕ
+joined_from hits index records opened first i =
+    prefixed records (join_from (begun_from index (bytes_between first i hits) opened) (fragments_in (drop i hits)))

@@ -1,0 +1,17 @@
+-- Hits of one file, as the fragments and the bytes that they are.
+use Rattle.std.specs.Prelude.{ℕ, List, ◌++◌, map, flat_map, Result, Ok, Err}
+use Rattle.br_model.specs.Block.{Fragment}
+use Rattle.br_model.specs.Meaning.{Hit}
+
+-- the fragments that were hit
+abbrev pub fragments_in : List Hit → List Fragment
+fragments_in hits = map (λ (h : Hit). h.fragment) hits
+
+-- the bytes of the fragments, one after another
+abbrev pub bytes_in : List Hit → List ℕ
+bytes_in hits = flat_map (λ (h : Hit). h.fragment.bytes) hits
+
+-- a list that was read, after what was read before it
+abbrev pub prefixed : {A E : Type 0} → List A → Result (List A) E → Result (List A) E
+prefixed front (Ok more) = Ok (front ++ more)
+prefixed front (Err e) = Err e

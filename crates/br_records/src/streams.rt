@@ -1,0 +1,90 @@
+ghost use Rattle.std.specs.Prelude.{◌≡◌, length, filter, find};
+ghost use Rattle.std.specs.Option.{option_copied};
+ghost use Rattle.br_model.specs.Answer.{AnswersAlways};
+ghost use Rattle.br_model.specs.File as model;
+ghost use Rattle.br_records.specs.Making.{file_fault};
+
+use crate::making_fault::FileFault;
+use crate::records::FileRecord;
+
+/// The stream of a file's attributes.
+pub(crate) const ATTRIBUTES: u32 = 1;
+
+/// The stream of plain data.
+pub(crate) const DATA: u32 = 2;
+
+/// The stream of the data's MD5 digest.
+pub(crate) const DIGEST: u32 = 3;
+
+/// The stream of sparse data: an address of eight bytes, the highest first, and the bytes from
+/// there on.
+pub(crate) const SPARSE_DATA: u32 = 6;
+
+/// The stream of a program's name, which is passed over.
+const PROGRAM_NAME: u32 = 10;
+
+/// Returns whether a file of this type has bytes: types 2 and 3 do.
+pub(crate) fn has_bytes(kind: u32) -> bool
+    ensures { result ≡ model.has_bytes kind }
+{
+    kind == 2 || kind == 3
+}
+
+impl FileRecord<'_> {
+    /// Returns whether the record is data.
+    pub(crate) fn is_data(&self) -> bool
+        ensures { result ≡ model.is_data self.now }
+    {
+        self.is_stream(DATA) || self.is_stream(SPARSE_DATA)
+    }
+
+    /// Returns whether the record is passed over: one of stream 10, or of 1000 to 1999.
+    fn is_passed_over(&self) -> bool
+        ensures { result ≡ model.is_passed_over self.now }
+    {
+        self.is_stream(PROGRAM_NAME) || (1000 <= self.stream() && self.stream() <= 1999)
+    }
+
+    /// Returns whether the record's stream is supported.
+    fn is_supported(&self) -> bool
+        ensures { result ≡ model.is_supported self.now }
+    {
+        self.is_stream(ATTRIBUTES)
+            || self.is_data()
+            || self.is_stream(DIGEST)
+            || self.is_passed_over()
+    }
+}
+
+/// Returns the first record of a stream.
+pub(crate) fn first_in<'r, 'h>(
+    stream: u32,
+    records: &'r [FileRecord<'h>],
+) -> Option<&'r FileRecord<'h>>
+    ensures { option_copied result ≡ find (model.is_stream stream) records.now }
+{
+    records.iter().find(|record| record.is_stream(stream))
+}
+
+/// Returns the number of records of a stream.
+pub(crate) fn count_in(stream: u32, records: &[FileRecord<'_>]) -> usize
+    ensures { result ≡ length (filter (model.is_stream stream) records.now) }
+{
+    records
+        .iter()
+        .filter(|record| record.is_stream(stream))
+        .count()
+}
+
+/// Returns `Unsupported` with the first stream that is not supported.
+#[tactic(auto, unfolding(br_model::specs::File::unsupported))]
+pub(crate) fn refuse_unsupported(records: &[FileRecord<'_>]) -> Result<(), FileFault>
+    ensures { AnswersAlways (λ _. tt) file_fault result (model.unsupported records.now) }
+{
+    for record in records {
+        if !record.is_supported() {
+            return Err(FileFault::Unsupported(record.stream()));
+        }
+    }
+    Ok(())
+}
