@@ -131,6 +131,11 @@ def checks_flipped(checks, folder):
         (volumes / NAME).write_bytes(flipped(whole, place))
         lines, total = found(manifest.replace(line, changed))
         checks.check(name, checks.run(case / "x.bsr", volumes), (1 if lines else 0, "".join(lines) + total, ""))
+    last = at + len(f"2 3 {path}") - 1
+    (volumes / NAME).write_bytes(whole[:last] + b"\xff" + whole[last + 1 :])
+    _, total = found(manifest)
+    odd = f"name 1 1795302931 2 {path[:-1]}\\xff\n"
+    checks.check("a path that is not UTF-8", checks.run(case / "x.bsr", volumes), (1, odd + total, ""))
     (volumes / NAME).write_bytes(flipped(whole, 206 + 12))
     status, out, _ = checks.run(case / "x.bsr", volumes)
     checks.check("a block of another level", (status, out.splitlines()[0]), (1, f"volume 10 {NAME} 206"))

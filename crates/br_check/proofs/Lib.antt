@@ -2,3 +2,4 @@ mod SearchLaws
 mod CopyLaws
 mod LabelLaws
 mod CheckLaws
+mod NameLaws

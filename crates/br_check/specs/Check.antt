@@ -8,7 +8,7 @@ use Rattle.br_model.specs.Text.{line}
 use Rattle.br_model.specs.Volume.{Volume}
 use Rattle.br_missing.specs.Lines.{report}
 use Rattle.br_records.specs.Outline.{Outlined, outlines_found}
-use Rattle.br_check.specs.Findings.{bytes_in, copy_lines, file_line, files_in, volume_line}
+use Rattle.br_check.specs.Findings.{bytes_in, copy_lines, file_line, files_in, name_line, volume_line}
 use Rattle.br_check.specs.Label.{TellLabels}
 use Rattle.br_check.specs.Search.{AreSearched, Searched, set_found}
 use Rattle.br_check.specs.declared.run.Checked.{Checked}
@@ -21,9 +21,10 @@ outlines_of results = outlines_found (entries (set_found results))
 abbrev pub keys_of : List Outlined → List FileKey
 keys_of os = map (λ (o : Outlined). o.key) os
 
--- the lines of what files a bootstrap asks for and does not get, of files that can't be restored, and of paths that come more than once
+-- the lines of what files a bootstrap asks for and does not get, of files that can't be restored, of those that a folder can't take, and of
+-- paths that come more than once
 abbrev pub lines_of : List Group → List Outlined → List ℕ
-lines_of groups os = report groups (keys_of os) ++ flat_map file_line os ++ copy_lines os
+lines_of groups os = report groups (keys_of os) ++ flat_map file_line os ++ flat_map name_line os ++ copy_lines os
 
 -- A check says of what was found of each piece: which volumes can't be searched, what there is to say of labels, and the lines of the files;
 -- and how many files would be restored, and their bytes.

@@ -1,14 +1,15 @@
 -- The lines of what a check finds.
-use Rattle.std.specs.Prelude.{ℕ, ◌==◌, if◌then◌else◌, List, [], ◌∷◌, ◌++◌, filter, flat_map, sum_by, decimal, codes, Ok, Err, Bool}
+use Rattle.std.specs.Prelude.{ℕ, ◌==◌, ◌&&◌, ◌||◌, not, if◌then◌else◌, List, [], ◌∷◌, ◌++◌, filter, flat_map, sum_by, decimal, codes, Ok, Err, Bool}
 use Rattle.std.specs.List.{list_any}
-use Rattle.br_model.specs.File.{Fault}
-use Rattle.br_model.specs.Name.{FileKey}
+use Rattle.std.specs.Str.{is_utf8}
+use Rattle.br_model.specs.File.{Fault, has_bytes}
+use Rattle.br_model.specs.Name.{FileKey, is_directory}
 use Rattle.br_model.specs.Text.{line, escaped}
 use Rattle.br_match.specs.Fault.{cause_number}
 use Rattle.br_match.specs.declared.fault.PieceFault.{PieceFault}
 use Rattle.br_match.specs.declared.fault.PieceFault.TheVariants.{Memory, Block}
 use Rattle.br_newest.specs.Newest.{Copy, is_of, is_outdated}
-use Rattle.br_records.specs.Outline.{Foreseen, Outlined}
+use Rattle.br_records.specs.Outline.{Foreseen, Outline, Outlined}
 use Rattle.br_check.specs.Search.{Searched}
 
 -- ---- volumes
@@ -44,6 +45,32 @@ file_line o = line_of o.outline
     line_of : Foreseen → List ℕ
     line_of (Ok outline) = []
     line_of (Err f) = refused_line o.key f
+
+-- ---- names that a folder can't take
+
+-- a restore into a folder writes files of this type
+abbrev pub is_on_disk : ℕ → Bool
+is_on_disk kind = has_bytes kind || kind == 5
+
+-- a path under which a folder can't take what is of this type: it is not UTF-8, or it is that of a folder and the file has bytes
+abbrev pub is_no_name : ℕ → List ℕ → Bool
+is_no_name kind path = is_on_disk kind && (not (is_utf8 path) || (has_bytes kind && is_directory path))
+
+-- the line of a file that a folder can't take
+abbrev pub no_name_line : FileKey → List ℕ → List ℕ
+no_name_line key path = line (codes "name" ++ key_text key ++ 32 ∷ escaped path)
+
+-- the line of a file with an outline, if a folder can't take it
+abbrev pub name_by : FileKey → Outline → List ℕ
+name_by key o = if is_no_name o.kind o.path then no_name_line key o.path else []
+
+-- the line of a file, if a folder can't take it; a fault is none
+abbrev pub name_line : Outlined → List ℕ
+name_line o = line_of o.outline
+  where
+    line_of : Foreseen → List ℕ
+    line_of (Ok outline) = name_by o.key outline
+    line_of (Err f) = []
 
 -- ---- paths that come more than once
 

@@ -10,6 +10,7 @@ mod copies;
 mod findings;
 mod label;
 mod light;
+mod names;
 mod run;
 mod search;
 

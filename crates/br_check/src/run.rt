@@ -10,6 +10,7 @@ ghost use Rattle.br_volume.specs.Drive.{OnlyGrows};
 use crate::copies::push_copies;
 use crate::findings::{push_files, push_volumes};
 use crate::label::push_labels;
+use crate::names::push_names;
 use crate::search::search;
 use br_bsr::{Bootstrap, Group};
 use br_match::{Found, Hit, PieceFault};
@@ -98,7 +99,7 @@ fn keys_in(alloc: Global, sketches: &[(FileKey, Sketch)]) -> Result<Vec<FileKey>
 }
 
 /// Appends the lines of files: those that the bootstrap asks for and does not get, those that can't be
-/// restored, and those whose paths come more than once.
+/// restored, those that a folder can't take, and those whose paths come more than once.
 fn push_lines(
     alloc: Global,
     text: &mut Vec<u8>,
@@ -111,6 +112,7 @@ fn push_lines(
     let missing = report(alloc, groups, keys)?;
     text.extend_from_slice(&missing)?;
     push_files(text, sketches)?;
+    push_names(text, sketches)?;
     push_copies(alloc, text, sketches)
 }
 
@@ -180,7 +182,8 @@ fn checked_of(
 
 /// Checks a bootstrap over the volumes of a drive. Each finding is a line: the volumes that can't be
 /// searched, all of them; those whose labels name other volumes; the indexes that the bootstrap asks for and
-/// that are not there; the files that can't be restored; and the copies of paths that come more than once.
+/// that are not there; the files that can't be restored; those that a folder can't take; and the copies of
+/// paths that come more than once.
 ///
 /// What was found on a volume that can't be searched to its end does not count. The digests of files are
 /// not compared.
