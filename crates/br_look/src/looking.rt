@@ -1,7 +1,8 @@
 //! A catalogue's file, copied into memory and shown from there.
-ghost use Rattle.std.specs.Prelude.{◌≡◌, ◌<◌, length, false, Some, IfOk, IfSome, IsTrue, OnOk};
+ghost use Rattle.std.specs.Prelude.{◌≡◌, ◌<◌, length, Some, IfOk, IfSome, IsTrue, OnOk};
 ghost use Rattle.sqlite_disk.specs.Memory.{memory_bytes, memory_is_usable};
-ghost use Rattle.sqlite.specs.Files.{file_state};
+ghost use Rattle.sqlite.specs.Files.{file_state, IsOpened};
+ghost use Rattle.sqlite.specs.Held.{IsNew};
 ghost use Rattle.sqlite.specs.State.{HasCleanDisk};
 ghost use Rattle.sqlite.specs.Start.{FindsIn};
 ghost use Rattle.br_look.specs.Scene.{IsFront};
@@ -134,7 +135,8 @@ fn read_settled<O: Sight>(alloc: Global, sight: &mut O) -> Result<Vec<u8>, LookF
 /// Opens the bytes of a database's file that has no log.
 fn open_copy(alloc: Global, bytes: &[u8]) -> Result<Connection<FileStore<Memory>>, LookFault>
     ensures shows { IfOk result (λ conn. HasCleanDisk (file_state conn) → FindsIn (alone bytes.now) (file_state conn)) }
-    ensures idle { IfOk result (λ conn. conn.in_transaction ≡ false) }
+    ensures opened { IfOk result (λ conn. HasCleanDisk (file_state conn) → IsOpened conn) }
+    ensures fresh { IfOk result IsNew }
 {
     let files = Files {
         log: Memory::new(alloc),
@@ -160,7 +162,8 @@ pub fn look<O: Sight>(
     ensures same { O.told sight.new ≡ O.told sight.old }
     ensures settled { OnOk result (IsSettled (O.told sight.old)) }
     ensures shows { IfOk result (λ conn. HasCleanDisk (file_state conn) → ShowsFile (O.told sight.old) (file_state conn)) }
-    ensures idle { IfOk result (λ conn. conn.in_transaction ≡ false) }
+    ensures opened { IfOk result (λ conn. HasCleanDisk (file_state conn) → IsOpened conn) }
+    ensures fresh { IfOk result IsNew }
 {
     let bytes = read_settled(alloc, sight)?;
     open_copy(alloc, &bytes)

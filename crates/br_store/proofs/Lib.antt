@@ -21,3 +21,4 @@ pub mod Replaced
 pub mod Moves
 pub mod PutVersion
 pub mod Migrated
+pub mod Opened

@@ -1,6 +1,7 @@
 -- The tables of a sound database in a store ascend.
 use Rattle.std.proofs.Common.{◌≡◌, inl, inr, Bool, true, false, IsTrue, List, [], ◌∷◌, filter, refl, sym, ap, subst, subst₂, ◌∙◌}
 use Rattle.std.specs.List.{AllByRecursion, AllZip}
+use Rattle.sqlite.specs.Schema.{Schema}
 use Rattle.sqlite.specs.Tree.{Trees}
 use Rattle.sqlite.specs.Table.{Table as Declared}
 use Rattle.sqlite.specs.View.{View, IsShaped, IsOrdered}
@@ -31,18 +32,18 @@ rising_in v db trees sound listed ordered =
     let laid = laid_out listed (objects_rise v listed ordered) are in
     shaped v db.trees trees ordered db.schema.tables laid.tables
 
-pub stands_in : (v : View) (db : Database) → db.trees ≡ v.trees → IsStoreSchema db.schema → IsDatabase db → IsListed (v.trees catalog_tree) v.shape v.reals → IsOrdered v.shape v.trees → HasTables db
-stands_in v db trees schema sound listed ordered =
+-- a sound database with the catalogue's tables, if its rows ascend
+pub has_tables : (db : Database) → IsStoreSchema db.schema → IsDatabase db → AreRising db → HasTables db
+has_tables db schema sound rising =
     let l = layout_of db.schema in
     let b = beside_of db.schema in
-    let are = subst₂ (λ (t : Trees) s. AreListed (t catalog_tree) s) trees schema.0 sound.lists.listed in
-    let laid = laid_out listed (objects_rise v listed ordered) are in
+    let Rises : Declared → Type 0 = λ t. IsShaped Table (db.trees t.tree) in
     let now = sym (layout_is l b db schema.0 sound) in
-    let all = all_front (λ (t : Declared). IsShaped Table (db.trees t.tree)) (tables_at l) b.others (shaped v db.trees trees ordered (schema_at l b).tables laid.tables) in
+    let all = all_front Rises (tables_at l) b.others (subst (λ (s : Schema). AllByRecursion Rises s.tables) schema.0 rising) in
     record {
       schema = schema_is l b db schema.0 sound;
       sound = sound;
-      shaped = subst (λ (m : Layout). AllByRecursion (λ (t : Declared). IsShaped Table (db.trees t.tree)) (tables_at m)) now all;
+      shaped = subst (λ (m : Layout). AllByRecursion Rises (tables_at m)) now all;
       known = subst IsLayout now schema.1;
     }
 

@@ -5,19 +5,27 @@ use Rattle.sqlite.specs.Schema.{Schema}
 use Rattle.sqlite.specs.Tree.{Trees}
 use Rattle.sqlite.specs.Effect.{Database}
 use Rattle.sqlite.specs.Held.{Held, state}
-use Rattle.sqlite.specs.State.{State, HasCleanDisk, Survives}
+use Rattle.sqlite.specs.State.{State, HasCleanDisk, Opens, Survives}
 use Rattle.sqlite_trees.specs.declared.store.Store.{Ghosts}
 use Rattle.br_model.specs.Job.{JobRows}
 use Rattle.br_rows.specs.Inserted.{Adds}
 use Rattle.br_store.specs.Held.{HasTables, rows_in}
 use Rattle.br_store.specs.Made.{HasEmptied}
-use Rattle.br_store.specs.Old.{HasOld, IsMigrated}
+use Rattle.br_store.specs.Old.{AreRising, HasOld, IsMigrated}
 
 -- ---- premises
 
 -- the claim holds of a database if its disk has returned what was written to it
 abbrev pub WhileClean : {S : Type 0} → Ghosts S → Held S → (State → Type 0) → Type 0
 WhileClean g held claim = HasCleanDisk (state g held) → claim (state g held)
+
+-- The connection was just opened. No transaction is open and, if the disk has returned what was
+-- written to it, the database is open, all that is seen is committed, and the rows of each table
+-- ascend.
+pub record IsJustOpened {S : Type 0} (g : Ghosts S) (h : Held S) : Type 0 where
+  pub idle : h.in_transaction ≡ false
+  pub opens : WhileClean g h Opens
+  pub rising : WhileClean g h (λ is. AreRising is.now)
 
 -- the claim holds of the database before and after the call if the disk has returned what was
 -- written to it

@@ -2,14 +2,12 @@
 
 ghost use Rattle.std.specs.Prelude.{◌≡◌, false, IsTrue, IfOk, IfErr, OnOk, OnErr};
 ghost use Rattle.sqlite.specs.Held.{state};
-ghost use Rattle.sqlite.specs.Effect.{IsDatabase};
-ghost use Rattle.sqlite.specs.State.{HasCleanDisk, IsUnchanged, Opens, Survives};
-ghost use Rattle.br_schema.specs.Tables.{IsStoreSchema, no_schema};
-ghost use Rattle.br_store.specs.Calls.{CommitsNothing, IsReadable, IsSame, OnCleanDisk, StaysIdle, WhileClean};
+ghost use Rattle.sqlite.specs.State.{HasCleanDisk, IsUnchanged, Survives};
+ghost use Rattle.br_schema.specs.Tables.{no_schema};
+ghost use Rattle.br_store.specs.Calls.{CommitsNothing, IsJustOpened, IsReadable, IsSame, OnCleanDisk, StaysIdle, WhileClean};
 ghost use Rattle.br_store.specs.Held.{IsCatalogue, HasTables, rows_in};
 ghost use Rattle.br_rows.specs.Fault.{IsStoreFault};
 ghost use Rattle.br_store.specs.Made.{Finds, IsMade, IsOpenFault, is_first};
-ghost use Rattle.br_store.specs.Old.{AreRising};
 
 use crate::queries::versions;
 use crate::tables::make_tables;
@@ -37,42 +35,25 @@ pub fn create<S: Alter>(conn: &mut Connection<S>) -> Result<(), Error>
     tx.commit()
 }
 
-/// Opens the store of this connection again: the same database, with the rows of each table in
-/// ascending order.
-fn opened<S: Alter + Drop>(alloc: Global, conn: Connection<S>) -> Result<Connection<S>, Error>
-    ensures tables { IfOk result (λ c. WhileClean S.Store c (λ is. IsStoreSchema is.now.schema → HasTables is.now)) }
-    ensures rising { IfOk result (λ c. WhileClean S.Store c (λ is. AreRising is.now)) }
-    ensures opens { IfOk result (λ c. WhileClean S.Store c Opens) }
-    ensures found { IfOk result (λ c. WhileClean S.Store c (λ is.
-        IsDatabase is.now × (is.now.trees ≡ (state S.Store conn).committed.trees))) }
-    ensures fresh { IfOk result (λ c. WhileClean S.Store c (λ is.
-        (state S.Store conn).committed.schema ≡ no_schema → IsDatabase (record { schema = no_schema; trees = is.now.trees }))) }
-    ensures idle { IfOk result (λ c. c.in_transaction ≡ false) }
-{
-    let _schema = conn.schema();
-    let store = conn.into_store();
-    if store.is_broken() {
-        return Err(Error::SqliteFailure(ErrorCode::Closed));
-    }
-    match Connection::over(alloc, store) {
-        Ok(conn) => Ok(conn),
-        Err((error, _)) => Err(error),
-    }
-}
-
-/// Opens the store of this connection again: the same database, of which it is then known that the
-/// rows of each table ascend. `migrate` needs that.
+/// Opens the store of this connection again: the same database, just opened, as `Store::open` and
+/// `migrate` need it. The rows are tested again.
 pub fn reopened<S: Alter + Drop>(
     alloc: Global,
     conn: Connection<S>,
 ) -> Result<Connection<S>, StoreFault>
-    ensures rising { IfOk result (λ c. WhileClean S.Store c (λ is. AreRising is.now)) }
-    ensures opens { IfOk result (λ c. WhileClean S.Store c Opens) }
+    ensures opened { IfOk result (λ c. IsJustOpened S.Store c) }
     ensures found { IfOk result (λ c. WhileClean S.Store c (λ is. is.now.trees ≡ (state S.Store conn).committed.trees)) }
-    ensures idle { IfOk result (λ c. c.in_transaction ≡ false) }
     ensures cause { IfErr result (λ e. IsStoreFault e) }
 {
-    Ok(opened(alloc, conn)?)
+    let _schema = conn.schema();
+    let store = conn.into_store();
+    if store.is_broken() {
+        return Err(StoreFault::Store(Error::SqliteFailure(ErrorCode::Closed)));
+    }
+    match Connection::over(alloc, store) {
+        Ok(conn) => Ok(conn),
+        Err((error, _)) => Err(StoreFault::Store(error)),
+    }
 }
 
 /// Refuses a catalogue whose version is the one row 1.
@@ -125,9 +106,9 @@ fn current<S: Alter + Drop>(mut conn: Connection<S>) -> Result<Connection<S>, St
 /// Opens a catalogue: makes the tables in a database with no table, and refuses a catalogue of
 /// version 1 and a database that does not begin with the tables.
 pub(crate) fn opened_or_made<S: Alter + Drop>(
-    alloc: Global,
     conn: Connection<S>,
 ) -> Result<Connection<S>, StoreFault>
+    requires { IsJustOpened S.Store conn }
     ensures catalogue { IfOk result (λ c. IsCatalogue S.Store c) }
     ensures open { IfOk result (λ c. WhileClean S.Store c (λ is. IsTrue is.is_open)) }
     ensures settled { IfOk result (λ c. WhileClean S.Store c (λ is. is.now ≡ is.committed)) }
@@ -137,7 +118,7 @@ pub(crate) fn opened_or_made<S: Alter + Drop>(
     ensures current { IfOk result (λ c. WhileClean S.Store c (λ is. is_first (rows_in is.now.trees).versions ≡ false)) }
     ensures cause { IfErr result (λ e. IsOpenFault e) }
 {
-    let mut conn = opened(alloc, conn)?;
+    let mut conn = conn;
     if is_empty(conn.schema()) {
         create(&mut conn)?;
         return Ok(conn);

@@ -7,7 +7,7 @@ ghost use Rattle.br_schema.specs.Tables.{no_schema};
 ghost use Rattle.br_rows.specs.Fault.{IsStoreFault, cause};
 ghost use Rattle.br_rows.specs.Load.{read_history};
 ghost use Rattle.br_rows.specs.Rows.{no_rows};
-ghost use Rattle.br_store.specs.Calls.{AddsJob, CommitsNothing, IsCommitted, IsDurable, IsReadable, IsSame};
+ghost use Rattle.br_store.specs.Calls.{AddsJob, CommitsNothing, IsCommitted, IsDurable, IsJustOpened, IsReadable, IsSame};
 ghost use Rattle.br_store.specs.Calls.{MayCommit, OnCleanDisk, WhileClean};
 ghost use Rattle.br_store.specs.Held.{IsCatalogue, HasTables, rows_in};
 ghost use Rattle.br_store.specs.Made.{Finds, IsOpenFault, is_first};
@@ -51,6 +51,7 @@ impl<S: Alter + Drop> Store<S> {
     /// `Store`, with its cause, if the database fails or does not have the tables of a catalogue;
     /// `OldCatalogue` if it is of version 1, and has to be migrated.
     pub fn open(alloc: Global, conn: Connection<S>) -> Result<Store<S>, StoreFault>
+        requires { IsJustOpened S.Store conn }
         ensures open { IfOk result (λ s. WhileClean S.Store s (λ is. IsTrue is.is_open)) }
         ensures finds { IfOk result (λ s. WhileClean S.Store s (λ is. Finds (state S.Store conn).committed is.now)) }
         ensures fresh { IfOk result (λ s. WhileClean S.Store s (λ is.
@@ -60,7 +61,7 @@ impl<S: Alter + Drop> Store<S> {
         ensures current { IfOk result (λ s. WhileClean S.Store s (λ is. is_first (rows_in is.now.trees).versions ≡ false)) }
         ensures cause { IfErr result (λ e. IsOpenFault e) }
     {
-        let conn = opened_or_made(alloc, conn)?;
+        let conn = opened_or_made(conn)?;
         Ok(Store { conn, alloc })
     }
 }

@@ -2,7 +2,7 @@
 ghost use Rattle.std.specs.Prelude.{◌≡◌, false, IfSome};
 
 use br_history::History;
-use br_store::Store;
+use br_store::{Store, StoreFault};
 use sqlite::{Alter, Connection, Error, FileStore, Files, Options};
 use sqlite_disk::{Fuse, Memory};
 use sqlite_trees::store::Reopen;
@@ -59,11 +59,19 @@ pub(crate) fn reopened<S: Alter + Reopen + Drop>(
     }
 }
 
+/// Opens the catalogue in a database that rows may have been written to.
+pub(crate) fn catalogue<S: Alter + Drop>(
+    alloc: Global,
+    conn: Connection<S>,
+) -> Result<Store<S>, StoreFault> {
+    Store::open(alloc, br_store::reopened(alloc, conn)?)
+}
+
 /// Loads the jobs that a stop leaves in a catalogue.
 pub(crate) fn history_after<S: Alter + Reopen + Drop>(
     alloc: Global,
     conn: Connection<S>,
 ) -> Result<History, Fail> {
-    let mut store = Store::open(alloc, reopened(alloc, conn)?)?;
+    let mut store = catalogue(alloc, reopened(alloc, conn)?)?;
     Ok(store.load_history()?)
 }

@@ -1,4 +1,5 @@
 //! Catalogues of version 1 that are made catalogues of version 2.
+use crate::disk::catalogue;
 use crate::jobs::{both_shown, job, loaded};
 use br_store::{Store, reopened};
 use sqlite::{Alter, Connection, MemStore};
@@ -63,7 +64,7 @@ fn migrated<S: Alter + Drop>(
 
 /// Returns the number with which a database is not opened as a catalogue, or 0 if it is.
 fn refusal(alloc: Global, conn: Connection<MemStore>) -> u32 {
-    match Store::open(alloc, conn) {
+    match catalogue(alloc, conn) {
         Ok(_) => 0,
         Err(fault) => fault.number(),
     }
@@ -79,7 +80,7 @@ fn migrated_twice(alloc: Global) -> Result<([End; 2], Connection<MemStore>), Fai
 /// Migrates it twice. Returns both ends, and shows the jobs that are there then.
 fn jobs_of_two(alloc: Global) -> Result<([End; 2], String), Fail> {
     let (ends, conn) = migrated_twice(alloc)?;
-    let mut store = Store::open(alloc, conn)?;
+    let mut store = catalogue(alloc, conn)?;
     Ok((ends, loaded(alloc, &mut store)?))
 }
 
@@ -98,7 +99,7 @@ fn a_catalogue_of_version_1_is_migrated_once(rt: HostRuntime) -> Result<(), Fail
 fn a_migrated_catalogue_takes_jobs(rt: HostRuntime) -> Result<(), Fail> {
     let alloc = rt.alloc();
     let (_, conn) = migrated(alloc, old_with(alloc, "")?)?;
-    let mut store = Store::open(alloc, conn)?;
+    let mut store = catalogue(alloc, conn)?;
     store.insert_job(&job(alloc, 3, 5, b"/a/three")?)?;
     assert_eq!(rt; store.load_history()?.len(), 3);
     Ok(())

@@ -1,13 +1,13 @@
 //! Two jobs are committed to a catalogue whose disk stops at each call in turn.
 ghost use Rattle.std.specs.Prelude.{◌≡◌, false};
 
-use crate::disk::{Stopping, history_after, open_stopping, reopened};
+use crate::disk::{Stopping, catalogue, history_after, open_stopping, reopened};
 use crate::drafts::{Job, saved_job};
 use crate::left::shown;
 use br_keeper::Keeper;
 use br_kept::StoredJobs;
 use br_schema::is_empty;
-use br_store::{Store, create};
+use br_store::create;
 use br_volume::MemStore;
 use sqlite::{Alter, Connection};
 use sqlite_trees::store::Reopen;
@@ -137,7 +137,7 @@ fn run_with<R: Wait>(rt: &R, alloc: Global, file: Stopping, calls: u64) -> Resul
     let Some(conn) = open_stopping(alloc, file, calls) else {
         return Ok(stopped_early(alloc));
     };
-    match Store::open(alloc, conn) {
+    match catalogue(alloc, conn) {
         Ok(store) => run_over(rt, alloc, StoredJobs::new(store)),
         Err(_) => Ok(stopped_early(alloc)),
     }

@@ -1,5 +1,5 @@
 //! A catalogue of version 1 is migrated on a disk that stops at each call in turn.
-use crate::disk::{Disk, Stopping, open_stopping, reopened as reopened_after};
+use crate::disk::{Disk, Stopping, catalogue, open_stopping, reopened as reopened_after};
 use crate::migration_tests::OLD;
 use br_history::{History, JobRows};
 use br_schema::is_old;
@@ -70,9 +70,9 @@ fn found_after<S: Alter + Reopen + Drop>(
     if is_old(conn.schema()) {
         let mut conn = reopened(alloc, conn)?;
         let _ = Store::migrate(alloc, &mut conn)?;
-        Ok((1, Store::open(alloc, conn)?))
+        Ok((1, catalogue(alloc, conn)?))
     } else {
-        Ok((2, Store::open(alloc, conn)?))
+        Ok((2, catalogue(alloc, conn)?))
     }
 }
 

@@ -1,5 +1,5 @@
 //! The catalogue: jobs that are stored, refused and loaded, and what a crash leaves.
-use crate::disk::{Disk, Stopping, history_after, open_stopping};
+use crate::disk::{Disk, Stopping, catalogue, history_after, open_stopping};
 use crate::jobs::{both_shown, job, loaded};
 use crate::migration_tests::old_with;
 use br_history::JobRows;
@@ -9,7 +9,7 @@ use std::alloc::Global;
 use std::test::Fail;
 
 fn empty(alloc: Global) -> Result<Store<MemStore>, Fail> {
-    Ok(Store::open(alloc, Connection::open_in_memory(alloc)?)?)
+    Ok(catalogue(alloc, Connection::open_in_memory(alloc)?)?)
 }
 
 /// Returns the number with which a job is refused, or 0 if it is taken.
@@ -84,7 +84,7 @@ fn a_catalogue_may_have_thousands_of_jobs(rt: HostRuntime) -> Result<(), Fail> {
 
 /// Returns the number with which a database or its load is refused, or 0 if it is loaded.
 fn refusal(alloc: Global, conn: Connection<MemStore>) -> u32 {
-    match Store::open(alloc, conn) {
+    match catalogue(alloc, conn) {
         Ok(mut store) => refused(&mut store),
         Err(fault) => fault.number(),
     }
@@ -194,7 +194,7 @@ fn catalogues_of_version_1_are_refused(rt: HostRuntime) -> Result<(), Fail> {
 /// Inserts a job and crashes. Returns the number of jobs afterwards, or none if there was no
 /// catalogue.
 fn insert_and_crash(alloc: Global, conn: Connection<Disk>) -> Result<Option<usize>, Fail> {
-    let Ok(mut store) = Store::open(alloc, conn) else {
+    let Ok(mut store) = catalogue(alloc, conn) else {
         return Ok(None);
     };
     let _ = insert(alloc, &mut store, 2, 7, b"/a/two")?;

@@ -9,8 +9,10 @@
 //! The words of the command line are read by clap, and catalogues by SQLite; what the commands do is in br_commands.
 #![tactic(auto)]
 
-ghost use Rattle.std.specs.Prelude.{◌≡◌};
+ghost use Rattle.std.specs.Prelude.{◌≡◌, IfOk};
+ghost use Rattle.sqlite.specs.Files.{over_files};
 ghost use Rattle.br_rows.specs.Fault.{fault_number};
+ghost use Rattle.br_store.specs.Calls.{IsJustOpened};
 ghost use Rattle.br_look.specs.Look.{look_number};
 ghost use Rattle.br_setup.specs.Setup.{catalogue_number};
 
@@ -20,7 +22,7 @@ use br_history::History;
 use br_kept::StoredJobs;
 use br_look::{HostSight, LookFault, fold, look};
 use br_setup::{CLEAN, Catalogue, CatalogueFault, REFUSED, tell_refusal};
-use br_store::{Store, StoreFault, reopened};
+use br_store::{Store, StoreFault};
 use sqlite::{Alter, Connection, File, FileStore};
 use std::alloc::Global;
 use std::io::{self, ErrorKind};
@@ -58,20 +60,24 @@ fn catalogue_fault(fault: StoreFault) -> CatalogueFault
 
 /// Opens the catalogue in a file, or makes one without jobs in a file that is empty or not there.
 fn open(rt: &HostRuntime, db: &str) -> Result<Store<FileStore<File>>, StoreFault> {
-    let conn = Connection::open(rt, db)?;
+    let conn = open_file(rt, db)?;
     Store::open(rt.alloc(), conn)
 }
 
 /// Loads the jobs of a catalogue.
-fn load_from<S: Alter + Drop>(alloc: Global, conn: Connection<S>) -> Result<History, StoreFault> {
+fn load_from<S: Alter + Drop>(alloc: Global, conn: Connection<S>) -> Result<History, StoreFault>
+    requires { IsJustOpened S.Store conn }
+{
     Store::open(alloc, conn)?.load_history()
 }
 
 /// Loads the jobs in the file of a catalogue. Only reads the file.
 fn load(rt: &HostRuntime, db: &str) -> Result<History, CatalogueFault> {
     let mut sight = HostSight::new(rt, db).map_err(look_fault)?;
-    let conn = look(rt.alloc(), &mut sight).map_err(look_fault)?;
-    load_from(rt.alloc(), conn).map_err(catalogue_fault)
+    match look(rt.alloc(), &mut sight) {
+        Ok(conn) => load_from(rt.alloc(), conn).map_err(catalogue_fault),
+        Err(fault) => Err(look_fault(fault)),
+    }
 }
 
 /// Puts all that was committed to a catalogue into its file.
@@ -83,7 +89,9 @@ fn close(conn: Connection<FileStore<File>>) -> Result<(), CatalogueFault> {
 }
 
 /// Opens the database in a file.
-fn open_file(rt: &HostRuntime, db: &str) -> Result<Connection<FileStore<File>>, StoreFault> {
+fn open_file(rt: &HostRuntime, db: &str) -> Result<Connection<FileStore<File>>, StoreFault>
+    ensures { IfOk result (λ c. IsJustOpened over_files c) }
+{
     Ok(Connection::open(rt, db)?)
 }
 
@@ -101,8 +109,7 @@ fn end_migration(
 /// Makes the catalogue of version 1 in a file one of version 2. Returns the number of its jobs. Afterwards the file alone is the
 /// catalogue, also if it was refused.
 fn migrate(rt: &HostRuntime, db: &str) -> Result<u64, CatalogueFault> {
-    let found = open_file(rt, db).map_err(catalogue_fault)?;
-    match reopened(rt.alloc(), found) {
+    match open_file(rt, db) {
         Ok(mut conn) => {
             let migrated = Store::migrate(rt.alloc(), &mut conn);
             end_migration(conn, migrated)
