@@ -1,5 +1,2 @@
 mod PartLaws
-pub mod GivenLaws
 mod WrittenLaws
-mod ReadLaws
-mod CopyLaws

@@ -1,3 +1,3 @@
 pub mod Parts
 pub mod Written
-pub mod Copied
+pub mod Content

@@ -2,12 +2,12 @@
 ghost use Rattle.std.specs.Prelude.{◌≡◌, ◌++◌, [], length, IfOk, OnErr, OnOk};
 ghost use Rattle.std.specs.Io.KnownBytes.{Appends};
 ghost use Rattle.md5.specs.Md5.{md5};
-ghost use Rattle.br_body.specs.Parts.{GivesParts, KeepsGiving, joined};
+ghost use Rattle.br_body.specs.Content.{content_bytes};
+ghost use Rattle.br_body.specs.Parts.{joined};
 ghost use Rattle.br_body.specs.Written.{AppendsFront};
 
-use crate::fault::WriteFault;
 use crate::part::{Part, push_part};
-use br_again::{AgainFault, Fetch, InMemory};
+use crate::read_bytes::ReadBytes;
 use md5::{Digest, Md5};
 use std::alloc::{AllocError, Global};
 use std::io;
@@ -15,11 +15,19 @@ use std::io::Write;
 use std::marker::Model;
 use std::sync::ArcSlice;
 
-/// The bytes of a restored file, in parts that are shared with the fragments in which they were
-/// found, with their number and their MD5 digest, which is computed once.
+/// The bytes of a file, in memory or not.
+#[derive(Debug, Drop)]
+pub(crate) enum Content {
+    /// Parts that are shared with the fragments in which they were found.
+    Held(Vec<Part>),
+    /// Bytes that were read part by part, and left where they were read.
+    Left(ReadBytes),
+}
+
+/// The bytes of a restored file, with their number and their MD5 digest, which is computed once.
 #[derive(Debug, Drop)]
 pub struct FileBytes {
-    parts: Vec<Part>,
+    content: Content,
     len: usize,
     digest: [u8; 16],
 }
@@ -27,67 +35,13 @@ pub struct FileBytes {
 impl Model for FileBytes {
     ghost use Rattle.std.specs.Prelude.{◌≡◌, ℕ, List, length};
     ghost use Rattle.md5.specs.Md5.{md5};
-    ghost use Rattle.br_body.specs.Parts.{joined};
+    ghost use Rattle.br_body.specs.Content.{content_bytes};
 
     ghost Value = { List ℕ };
 
-    ghost view = { λ b. joined b.parts.items };
+    ghost view = { λ b. content_bytes b.content };
 
-    ghost invariant = { λ b. (b.len ≡ length (joined b.parts.items)) × (b.digest ≡ md5 (joined b.parts.items)) };
-}
-
-/// Returns the MD5 digest of the bytes of the parts, which `fetch` gives, one part after another.
-///
-/// # Errors
-///
-/// Those of `fetch`.
-fn digest_of<F: Fetch>(fetch: &mut F, parts: &[Part]) -> Result<[u8; 16], AgainFault>
-    ensures given { IfOk result (λ digest. GivesParts F.gives fetch.old parts.now → digest ≡ md5 (joined parts.now)) }
-    ensures keeps { KeepsGiving F.gives fetch.old fetch.new }
-{
-    let mut hasher = Md5::new();
-    for part in parts {
-        part.digest(fetch, &mut hasher)?;
-    }
-    Ok(hasher.finalize())
-}
-
-/// Writes the bytes of the parts, which `fetch` gives, one part after another, or if that fails the
-/// first of them.
-///
-/// # Errors
-///
-/// Those of `fetch` and of the writer.
-fn write_parts<F: Fetch, W: Write>(
-    fetch: &mut F,
-    writer: &mut W,
-    parts: &[Part],
-) -> Result<(), WriteFault>
-    ensures all { OnOk result (GivesParts F.gives fetch.old parts.now
-        → Appends (W.contents writer.old) (W.contents writer.new) (joined parts.now)) }
-    ensures front { OnErr result (GivesParts F.gives fetch.old parts.now
-        → AppendsFront (W.contents writer.old) (W.contents writer.new) (joined parts.now)) }
-    ensures keeps { KeepsGiving F.gives fetch.old fetch.new }
-{
-    for part in parts {
-        part.write_to(fetch, writer)?;
-    }
-    Ok(())
-}
-
-/// Appends copies of the bytes of the parts, which `fetch` gives.
-///
-/// # Errors
-///
-/// Those of `fetch`, and `Memory` if memory runs out.
-fn push_all<F: Fetch>(fetch: &mut F, bytes: &mut Vec<u8>, parts: &[Part]) -> Result<(), AgainFault>
-    ensures given { OnOk result (GivesParts F.gives fetch.old parts.now → bytes.new.items ≡ bytes.old.items ++ joined parts.now) }
-    ensures keeps { KeepsGiving F.gives fetch.old fetch.new }
-{
-    for part in parts {
-        part.push_to(fetch, bytes)?;
-    }
-    Ok(())
+    ghost invariant = { λ b. (b.len ≡ length (content_bytes b.content)) × (b.digest ≡ md5 (content_bytes b.content)) };
 }
 
 /// Returns the MD5 digest of the bytes of the parts, one part after another.
@@ -95,25 +49,26 @@ fn push_all<F: Fetch>(fetch: &mut F, bytes: &mut Vec<u8>, parts: &[Part]) -> Res
 /// # Errors
 ///
 /// `AllocError` if bytes are not in memory.
-fn digest_in_memory(parts: &[Part]) -> Result<[u8; 16], AllocError>
+fn digest_of(parts: &[Part]) -> Result<[u8; 16], AllocError>
     ensures { IfOk result (λ digest. digest ≡ md5 (joined parts.now)) }
 {
-    match digest_of(&mut InMemory, parts) {
-        Ok(digest) => Ok(digest),
-        Err(_) => Err(AllocError),
+    let mut hasher = Md5::new();
+    for part in parts {
+        part.digest(&mut hasher)?;
     }
+    Ok(hasher.finalize())
 }
 
 /// Writes the bytes of the parts, one part after another, or if that fails the first of them. It
 /// fails with `OutOfMemory` at the first bytes that are not in memory.
-fn write_in_memory<W: Write>(writer: &mut W, parts: &[Part]) -> io::Result<()>
+fn write_parts<W: Write>(writer: &mut W, parts: &[Part]) -> io::Result<()>
     ensures all { OnOk result (Appends (W.contents writer.old) (W.contents writer.new) (joined parts.now)) }
     ensures front { OnErr result (AppendsFront (W.contents writer.old) (W.contents writer.new) (joined parts.now)) }
 {
-    match write_parts(&mut InMemory, writer, parts) {
-        Ok(()) => Ok(()),
-        Err(fault) => Err(fault.into_io()),
+    for part in parts {
+        part.write_to(writer)?;
     }
+    Ok(())
 }
 
 /// Appends copies of the bytes of the parts.
@@ -121,13 +76,13 @@ fn write_in_memory<W: Write>(writer: &mut W, parts: &[Part]) -> io::Result<()>
 /// # Errors
 ///
 /// `AllocError` if memory runs out, or bytes are not in memory.
-fn push_in_memory(bytes: &mut Vec<u8>, parts: &[Part]) -> Result<(), AllocError>
+fn push_all(bytes: &mut Vec<u8>, parts: &[Part]) -> Result<(), AllocError>
     ensures { OnOk result (bytes.new.items ≡ bytes.old.items ++ joined parts.now) }
 {
-    match push_all(&mut InMemory, bytes, parts) {
-        Ok(()) => Ok(()),
-        Err(_) => Err(AllocError),
+    for part in parts {
+        part.push_to(bytes)?;
     }
+    Ok(())
 }
 
 /// Returns parts that share the bytes of these.
@@ -147,6 +102,53 @@ fn let_go_all(parts: &mut [Part])
 {
     for i in 0..parts.len() {
         parts[i].let_go();
+    }
+}
+
+impl Content {
+    /// Writes the bytes, or if that fails the first of them. It fails with `OutOfMemory` at the first
+    /// bytes that are not in memory.
+    fn write_to<W: Write>(&self, writer: &mut W) -> io::Result<()>
+        ensures all { OnOk result (Appends (W.contents writer.old) (W.contents writer.new) (content_bytes self.now)) }
+        ensures front { OnErr result (AppendsFront (W.contents writer.old) (W.contents writer.new) (content_bytes self.now)) }
+    {
+        match self {
+            Content::Held(parts) => write_parts(writer, parts),
+            Content::Left(_) => Err(io::Error::from(AllocError)),
+        }
+    }
+
+    /// Appends copies of the bytes.
+    ///
+    /// # Errors
+    ///
+    /// `AllocError` if memory runs out, or bytes are not in memory.
+    fn push_to(&self, bytes: &mut Vec<u8>) -> Result<(), AllocError>
+        ensures { OnOk result (bytes.new.items ≡ bytes.old.items ++ content_bytes self.now) }
+    {
+        match self {
+            Content::Held(parts) => push_all(bytes, parts),
+            Content::Left(_) => Err(AllocError),
+        }
+    }
+
+    /// Returns the same bytes, which are shared.
+    fn share(&self, alloc: Global) -> Result<Content, AllocError>
+        ensures { IfOk result (λ content. content_bytes content ≡ content_bytes self.now) }
+    {
+        match self {
+            Content::Held(parts) => Ok(Content::Held(shared(alloc, parts)?)),
+            Content::Left(read) => Ok(Content::Left(read.copy())),
+        }
+    }
+
+    /// Leaves the bytes of fragments on their volumes.
+    fn let_go(&mut self)
+        ensures { content_bytes self.new ≡ content_bytes self.old }
+    {
+        if let Content::Held(parts) = self {
+            let_go_all(parts);
+        }
     }
 }
 
@@ -177,8 +179,25 @@ impl FileBytes {
         requires { len ≡ length (joined parts.items) }
         ensures { IfOk result (λ file. file ≡ joined parts.items) }
     {
-        let digest = digest_in_memory(&parts)?;
-        Ok(FileBytes { parts, len, digest })
+        let digest = digest_of(&parts)?;
+        Ok(FileBytes {
+            content: Content::Held(parts),
+            len,
+            digest,
+        })
+    }
+
+    /// Returns these bytes, `len` in number, with this digest.
+    pub(crate) fn of_content(content: Content, len: usize, digest: [u8; 16]) -> FileBytes
+        requires len { len ≡ length (content_bytes content) }
+        requires digest { digest ≡ md5 (content_bytes content) }
+        ensures { result ≡ content_bytes content }
+    {
+        FileBytes {
+            content,
+            len,
+            digest,
+        }
     }
 
     /// Returns the number of bytes.
@@ -201,7 +220,7 @@ impl FileBytes {
         ensures all { OnOk result (Appends (W.contents writer.old) (W.contents writer.new) self.now) }
         ensures front { OnErr result (AppendsFront (W.contents writer.old) (W.contents writer.new) self.now) }
     {
-        write_in_memory(writer, &self.parts)
+        self.content.write_to(writer)
     }
 
     /// Returns a copy of the bytes.
@@ -209,7 +228,7 @@ impl FileBytes {
         ensures { IfOk result (λ bytes. bytes.items ≡ self.now) }
     {
         let mut bytes = Vec::with_capacity(alloc, self.len)?;
-        push_in_memory(&mut bytes, &self.parts)?;
+        self.content.push_to(&mut bytes)?;
         Ok(bytes)
     }
 
@@ -218,7 +237,7 @@ impl FileBytes {
         ensures { IfOk result (λ file. file ≡ self.now) }
     {
         Ok(FileBytes {
-            parts: shared(alloc, &self.parts)?,
+            content: self.content.share(alloc)?,
             len: self.len,
             digest: self.digest,
         })
@@ -229,6 +248,6 @@ impl FileBytes {
     pub fn let_go(&mut self)
         ensures { self.new ≡ self.old }
     {
-        let_go_all(&mut self.parts);
+        self.content.let_go();
     }
 }

@@ -1,13 +1,12 @@
-//! A part of the bytes of a file: zeros, or bytes that are given.
-ghost use Rattle.std.specs.Prelude.{◌≡◌, ℕ, List, ◌++◌, drop, length, replicate, IfOk, OnErr, OnOk, Ok};
+//! A part of the bytes of a file: zeros, bytes that were made, or the data of a fragment.
+ghost use Rattle.std.specs.Prelude.{◌≡◌, ℕ, List, ◌++◌, drop, replicate, IfOk, OnErr, OnOk};
 ghost use Rattle.std.specs.Io.KnownBytes.{Appends};
 ghost use Rattle.md5.specs.Md5.{Holds};
-ghost use Rattle.br_body.specs.Parts.{GivesPart, KeepsGiving, part_bytes, joined};
+ghost use Rattle.br_body.specs.Parts.{part_bytes, joined};
 ghost use Rattle.br_body.specs.Written.{AppendsFront};
 
-use crate::fault::WriteFault;
 use crate::writing::{write_bytes, write_some};
-use br_again::{AgainFault, Data, Fetch, Spot};
+use br_again::Data;
 use md5::{Digest, Md5};
 use std::alloc::AllocError;
 use std::io;
@@ -24,35 +23,33 @@ pub enum Part {
     Zeros(usize),
     /// Bytes that were made, and of which no volume has a copy.
     Made(ArcSlice<u8>),
-    /// The data of the fragment at this place without the first `skip` bytes. They are shared with
-    /// the fragment.
-    Found { skip: usize, spot: Spot, kept: Data },
+    /// The data of a fragment without the first `skip` bytes. They are shared with the fragment.
+    Found { skip: usize, kept: Data },
 }
 
 /// Returns these bytes without the first `skip`.
-pub(crate) fn without_first(bytes: &[u8], skip: usize) -> &[u8]
+fn without_first(bytes: &[u8], skip: usize) -> &[u8]
     ensures { result.now ≡ drop skip bytes.now }
 {
     &bytes[skip.min(bytes.len())..]
 }
 
-/// Returns the bytes of the data of a fragment without the first `skip`, if `fetch` is ready to
-/// give them.
-pub(crate) fn given_from<'a, F: Fetch>(
-    fetch: &'a F,
-    spot: Spot,
-    kept: &'a Data,
-    skip: usize,
-) -> Result<&'a [u8], AgainFault>
-    ensures given { IfOk result (λ bytes. F.ready fetch.now spot.ordinal kept.now ≡ Ok kept.now.bytes → bytes.now ≡ drop skip kept.now.bytes) }
-    ensures sized { IfOk result (λ bytes. length bytes.now ≡ length (drop skip kept.now.bytes)) }
+/// Returns the data of a fragment without the first `skip` bytes.
+///
+/// # Errors
+///
+/// `AllocError` if they are not in memory.
+fn held_from(kept: &Data, skip: usize) -> Result<&[u8], AllocError>
+    ensures { IfOk result (λ bytes. bytes.now ≡ drop skip kept.now.bytes) }
 {
-    let bytes = fetch.bytes_of(spot.ordinal, kept)?;
-    Ok(without_first(bytes, skip))
+    match kept.held() {
+        Some(bytes) => Ok(without_first(bytes, skip)),
+        None => Err(AllocError),
+    }
 }
 
 /// Digests `count` zeros.
-pub(crate) fn digest_zeros(hasher: &mut Md5, count: usize)
+fn digest_zeros(hasher: &mut Md5, count: usize)
     ensures { (m : List ℕ) → Holds hasher.old m → Holds hasher.new (m ++ replicate count 0) }
 {
     let zeros = [0; ZEROS_LEN];
@@ -66,7 +63,7 @@ pub(crate) fn digest_zeros(hasher: &mut Md5, count: usize)
 }
 
 /// Writes `count` zeros, or if that fails the first of them.
-pub(crate) fn write_zeros<W: Write>(writer: &mut W, count: usize) -> io::Result<()>
+fn write_zeros<W: Write>(writer: &mut W, count: usize) -> io::Result<()>
     ensures all { OnOk result (Appends (W.contents writer.old) (W.contents writer.new) (replicate count 0)) }
     ensures front { OnErr result (AppendsFront (W.contents writer.old) (W.contents writer.new) (replicate count 0)) }
 {
@@ -81,56 +78,30 @@ pub(crate) fn write_zeros<W: Write>(writer: &mut W, count: usize) -> io::Result<
 }
 
 /// Digests the data of a fragment without the first `skip` bytes.
-fn digest_found<F: Fetch>(
-    fetch: &mut F,
-    hasher: &mut Md5,
-    spot: Spot,
-    kept: &Data,
-    skip: usize,
-) -> Result<(), AgainFault>
-    ensures given { OnOk result (F.gives fetch.old spot kept.now.bytes
-        → (m : List ℕ) → Holds hasher.old m → Holds hasher.new (m ++ drop skip kept.now.bytes)) }
-    ensures keeps { KeepsGiving F.gives fetch.old fetch.new }
+fn digest_found(hasher: &mut Md5, kept: &Data, skip: usize) -> Result<(), AllocError>
+    ensures { OnOk result ((m : List ℕ) → Holds hasher.old m → Holds hasher.new (m ++ drop skip kept.now.bytes)) }
 {
-    fetch.prepare(spot, kept)?;
-    let bytes = given_from(fetch, spot, kept, skip)?;
+    let bytes = held_from(kept, skip)?;
     hasher.update(bytes);
     Ok(())
 }
 
 /// Writes the data of a fragment without the first `skip` bytes, or if that fails the first of them.
-fn write_found<F: Fetch, W: Write>(
-    fetch: &mut F,
-    writer: &mut W,
-    spot: Spot,
-    kept: &Data,
-    skip: usize,
-) -> Result<(), WriteFault>
-    ensures all { OnOk result (F.gives fetch.old spot kept.now.bytes
-        → Appends (W.contents writer.old) (W.contents writer.new) (drop skip kept.now.bytes)) }
-    ensures front { OnErr result (F.gives fetch.old spot kept.now.bytes
-        → AppendsFront (W.contents writer.old) (W.contents writer.new) (drop skip kept.now.bytes)) }
-    ensures keeps { KeepsGiving F.gives fetch.old fetch.new }
+fn write_found<W: Write>(writer: &mut W, kept: &Data, skip: usize) -> io::Result<()>
+    ensures all { OnOk result (Appends (W.contents writer.old) (W.contents writer.new) (drop skip kept.now.bytes)) }
+    ensures front { OnErr result (AppendsFront (W.contents writer.old) (W.contents writer.new) (drop skip kept.now.bytes)) }
 {
-    fetch.prepare(spot, kept)?;
-    let bytes = given_from(fetch, spot, kept, skip)?;
-    write_bytes(writer, bytes)?;
-    Ok(())
+    match held_from(kept, skip) {
+        Ok(bytes) => write_bytes(writer, bytes),
+        Err(error) => Err(io::Error::from(error)),
+    }
 }
 
 /// Appends a copy of the data of a fragment without the first `skip` bytes.
-fn push_data<F: Fetch>(
-    fetch: &mut F,
-    bytes: &mut Vec<u8>,
-    spot: Spot,
-    kept: &Data,
-    skip: usize,
-) -> Result<(), AgainFault>
-    ensures given { OnOk result (F.gives fetch.old spot kept.now.bytes → bytes.new.items ≡ bytes.old.items ++ drop skip kept.now.bytes) }
-    ensures keeps { KeepsGiving F.gives fetch.old fetch.new }
+fn push_data(bytes: &mut Vec<u8>, kept: &Data, skip: usize) -> Result<(), AllocError>
+    ensures { OnOk result (bytes.new.items ≡ bytes.old.items ++ drop skip kept.now.bytes) }
 {
-    fetch.prepare(spot, kept)?;
-    let more = given_from(fetch, spot, kept, skip)?;
+    let more = held_from(kept, skip)?;
     bytes.extend_from_slice(more)?;
     Ok(())
 }
@@ -146,15 +117,13 @@ fn push_zeros(bytes: &mut Vec<u8>, count: usize) -> Result<(), AllocError>
 }
 
 impl Part {
-    /// Digests the bytes of the part, which `fetch` gives.
+    /// Digests the bytes of the part.
     ///
     /// # Errors
     ///
-    /// Those of `fetch`.
-    pub(crate) fn digest<F: Fetch>(&self, fetch: &mut F, hasher: &mut Md5) -> Result<(), AgainFault>
-        ensures given { OnOk result (GivesPart F.gives fetch.old self.now
-            → (m : List ℕ) → Holds hasher.old m → Holds hasher.new (m ++ part_bytes self.now)) }
-        ensures keeps { KeepsGiving F.gives fetch.old fetch.new }
+    /// `AllocError` if they are not in memory.
+    pub(crate) fn digest(&self, hasher: &mut Md5) -> Result<(), AllocError>
+        ensures { OnOk result ((m : List ℕ) → Holds hasher.old m → Holds hasher.new (m ++ part_bytes self.now)) }
     {
         match self {
             Part::Zeros(count) => {
@@ -165,50 +134,38 @@ impl Part {
                 hasher.update(bytes.as_slice());
                 Ok(())
             }
-            Part::Found { skip, spot, kept } => digest_found(fetch, hasher, *spot, kept, *skip),
+            Part::Found { skip, kept } => digest_found(hasher, kept, *skip),
         }
     }
 
-    /// Writes the bytes of the part, which `fetch` gives, or if that fails the first of them.
+    /// Writes the bytes of the part, or if that fails the first of them.
     ///
     /// # Errors
     ///
-    /// Those of `fetch` and of the writer.
-    pub(crate) fn write_to<F: Fetch, W: Write>(
-        &self,
-        fetch: &mut F,
-        writer: &mut W,
-    ) -> Result<(), WriteFault>
-        ensures all { OnOk result (GivesPart F.gives fetch.old self.now
-            → Appends (W.contents writer.old) (W.contents writer.new) (part_bytes self.now)) }
-        ensures front { OnErr result (GivesPart F.gives fetch.old self.now
-            → AppendsFront (W.contents writer.old) (W.contents writer.new) (part_bytes self.now)) }
-        ensures keeps { KeepsGiving F.gives fetch.old fetch.new }
+    /// Those of the writer, and `OutOfMemory` if the bytes are not in memory.
+    pub(crate) fn write_to<W: Write>(&self, writer: &mut W) -> io::Result<()>
+        ensures all { OnOk result (Appends (W.contents writer.old) (W.contents writer.new) (part_bytes self.now)) }
+        ensures front { OnErr result (AppendsFront (W.contents writer.old) (W.contents writer.new) (part_bytes self.now)) }
     {
         match self {
-            Part::Zeros(count) => Ok(write_zeros(writer, *count)?),
-            Part::Made(bytes) => Ok(write_bytes(writer, bytes)?),
-            Part::Found { skip, spot, kept } => write_found(fetch, writer, *spot, kept, *skip),
+            Part::Zeros(count) => write_zeros(writer, *count),
+            Part::Made(bytes) => write_bytes(writer, bytes),
+            Part::Found { skip, kept } => write_found(writer, kept, *skip),
         }
     }
 
-    /// Appends a copy of the bytes of the part, which `fetch` gives.
+    /// Appends a copy of the bytes of the part.
     ///
     /// # Errors
     ///
-    /// Those of `fetch`, and `Memory` if memory runs out.
-    pub(crate) fn push_to<F: Fetch>(
-        &self,
-        fetch: &mut F,
-        bytes: &mut Vec<u8>,
-    ) -> Result<(), AgainFault>
-        ensures given { OnOk result (GivesPart F.gives fetch.old self.now → bytes.new.items ≡ bytes.old.items ++ part_bytes self.now) }
-        ensures keeps { KeepsGiving F.gives fetch.old fetch.new }
+    /// `AllocError` if memory runs out, or the bytes are not in memory.
+    pub(crate) fn push_to(&self, bytes: &mut Vec<u8>) -> Result<(), AllocError>
+        ensures { OnOk result (bytes.new.items ≡ bytes.old.items ++ part_bytes self.now) }
     {
         match self {
-            Part::Zeros(count) => Ok(push_zeros(bytes, *count)?),
-            Part::Made(made) => Ok(bytes.extend_from_slice(made)?),
-            Part::Found { skip, spot, kept } => push_data(fetch, bytes, *spot, kept, *skip),
+            Part::Zeros(count) => push_zeros(bytes, *count),
+            Part::Made(made) => bytes.extend_from_slice(made),
+            Part::Found { skip, kept } => push_data(bytes, kept, *skip),
         }
     }
 
@@ -228,9 +185,8 @@ impl Part {
         match self {
             Part::Zeros(count) => Ok(Part::Zeros(*count)),
             Part::Made(bytes) => Ok(Part::Made(bytes.clone()?)),
-            Part::Found { skip, spot, kept } => Ok(Part::Found {
+            Part::Found { skip, kept } => Ok(Part::Found {
                 skip: *skip,
-                spot: *spot,
                 kept: kept.share()?,
             }),
         }
@@ -255,16 +211,11 @@ pub fn push_gap(parts: &mut Vec<Part>, zeros: usize) -> Result<(), AllocError>
     push_part(parts, Part::Zeros(zeros))
 }
 
-/// Appends the data of the fragment at this place, without the first `skip` bytes, to the parts of a
-/// file. They are shared.
-pub fn push_found(
-    parts: &mut Vec<Part>,
-    skip: usize,
-    spot: Spot,
-    kept: &Data,
-) -> Result<(), AllocError>
+/// Appends the data of a fragment, without the first `skip` bytes, to the parts of a file. They are
+/// shared.
+pub fn push_found(parts: &mut Vec<Part>, skip: usize, kept: &Data) -> Result<(), AllocError>
     ensures { OnOk result (joined parts.new.items ≡ joined parts.old.items ++ drop skip kept.now.bytes) }
 {
     let kept = kept.share()?;
-    push_part(parts, Part::Found { skip, spot, kept })
+    push_part(parts, Part::Found { skip, kept })
 }

@@ -1,136 +1,79 @@
-//! Reading parts: what is read of data that were let go counts from then on as what was found.
-ghost use Rattle.std.specs.Prelude.{◌≡◌, ℕ, List, [], ◌∷◌, ◌++◌, drop, length, IfOk, IfSome, OnOk};
-ghost use Rattle.md5.specs.Md5.{Holds, md5};
-ghost use Rattle.br_body.specs.Parts.{GivesPart, GivesParts, IsLike, KeepsGiving, part_bytes, joined};
+//! Reading the bytes of a file part by part: they are digested, and not kept.
+ghost use Rattle.std.specs.Prelude.{◌≡◌, ◌++◌, [], length, OnOk};
+ghost use Rattle.br_body.specs.Content.{content_bytes};
 
-use crate::part::{Part, digest_zeros, push_part, without_first};
-use br_again::{AgainFault, Data, Fetch, Spot};
+use crate::file_bytes::{Content, FileBytes};
+use crate::read_bytes::ReadBytes;
 use md5::{Digest, Md5};
-use std::alloc::AllocError;
+use std::alloc::{AllocError, Global};
+use std::marker::Model;
 
-/// Digests data that are held, without the first `skip` bytes, and shares them.
-fn read_held(hasher: &mut Md5, kept: &Data, skip: usize) -> Result<Data, AgainFault>
-    ensures digested { IfOk result (λ read. (m : List ℕ) → Holds hasher.old m → Holds hasher.new (m ++ drop skip read.bytes)) }
-    ensures same { IfOk result (λ read. read ≡ kept.now) }
+/// The bytes of a file that were read so far. They are digested, and left where they were read.
+#[derive(Drop)]
+pub struct Reading {
+    hasher: Md5,
+    len: usize,
+    read: ReadBytes,
+}
+
+impl Model for Reading {
+    ghost use Rattle.std.specs.Prelude.{◌≡◌, ℕ, List, length};
+    ghost use Rattle.md5.specs.Md5.{Holds};
+
+    ghost Value = { List ℕ };
+
+    ghost view = { λ r. r.read.bytes };
+
+    ghost invariant = { λ r. (r.len ≡ length r.read.bytes) × Holds r.hasher r.read.bytes };
+}
+
+/// Returns these bytes, `len` in number, as those of a file that are not in memory.
+fn left(alloc: Global, len: usize, read: ReadBytes) -> Content
+    requires { len ≡ length read.bytes }
+    ensures { content_bytes result ≡ read.bytes }
 {
-    match kept.held() {
-        None => Err(AgainFault::Memory),
-        Some(bytes) => {
-            hasher.update(without_first(bytes, skip));
-            Ok(kept.share()?)
-        }
+    if len == 0 {
+        Content::Held(Vec::new(alloc))
+    } else {
+        Content::Left(read)
     }
 }
 
-/// Digests the data of a fragment, which `fetch` gives if they are not held, without the first
-/// `skip` bytes. Returns the data as they were read.
-fn read_found<F: Fetch>(
-    fetch: &mut F,
-    hasher: &mut Md5,
-    spot: Spot,
-    kept: &Data,
-    skip: usize,
-) -> Result<Data, AgainFault>
-    ensures digested { IfOk result (λ read. (m : List ℕ) → Holds hasher.old m → Holds hasher.new (m ++ drop skip read.bytes)) }
-    ensures many { IfOk result (λ read. length read.bytes ≡ length kept.now.bytes) }
-    ensures same { IfOk result (λ read. F.gives fetch.old spot kept.now.bytes → read ≡ kept.now) }
-    ensures keeps { KeepsGiving F.gives fetch.old fetch.new }
-{
-    if kept.is_held() {
-        return read_held(hasher, kept, skip);
-    }
-    fetch.prepare(spot, kept)?;
-    let bytes = fetch.bytes_of(spot.ordinal, kept)?;
-    hasher.update(without_first(bytes, skip));
-    Ok(Data::left(bytes))
-}
-
-impl Part {
-    /// Returns the number of bytes.
-    fn len(&self) -> usize
-        ensures { result ≡ length (part_bytes self.now) }
+impl Reading {
+    /// Returns one that has read nothing yet.
+    pub fn new() -> Reading
+        ensures { result ≡ [] }
     {
-        match self {
-            Part::Zeros(count) => *count,
-            Part::Made(bytes) => bytes.len(),
-            Part::Found { skip, kept, .. } => kept.len().saturating_sub(*skip),
+        Reading {
+            hasher: Md5::new(),
+            len: 0,
+            read: ReadBytes::none(),
         }
     }
 
-    /// Digests the bytes of the part, which `fetch` gives. Returns the part with the bytes that were
-    /// read.
+    /// Takes the bytes that follow.
     ///
     /// # Errors
     ///
-    /// Those of `fetch`, and `Memory` if memory runs out.
-    fn read<F: Fetch>(&self, fetch: &mut F, hasher: &mut Md5) -> Result<Part, AgainFault>
-        ensures digested { IfOk result (λ part. (m : List ℕ) → Holds hasher.old m → Holds hasher.new (m ++ part_bytes part)) }
-        ensures many { IfOk result (λ part. length (part_bytes part) ≡ length (part_bytes self.now)) }
-        ensures same { IfOk result (λ part. GivesPart F.gives fetch.old self.now → IsLike part self.now) }
-        ensures keeps { KeepsGiving F.gives fetch.old fetch.new }
+    /// `AllocError` if the number of bytes is no `usize`.
+    pub fn push(&mut self, bytes: &[u8]) -> Result<(), AllocError>
+        ensures { OnOk result (self.new ≡ self.old ++ bytes.now) }
     {
-        match self {
-            Part::Zeros(count) => {
-                digest_zeros(hasher, *count);
-                Ok(Part::Zeros(*count))
-            }
-            Part::Made(bytes) => {
-                hasher.update(bytes.as_slice());
-                Ok(Part::Made(bytes.clone()?))
-            }
-            Part::Found { skip, spot, kept } => {
-                let kept = read_found(fetch, hasher, *spot, kept, *skip)?;
-                Ok(Part::Found {
-                    skip: *skip,
-                    spot: *spot,
-                    kept,
-                })
-            }
-        }
+        let Some(len) = self.len.checked_add(bytes.len()) else {
+            return Err(AllocError);
+        };
+        self.hasher.update(bytes);
+        self.len = len;
+        self.read = ReadBytes::and(&self.read, bytes);
+        Ok(())
     }
-}
 
-/// Appends a part that was read.
-fn push_read(read: &mut Vec<Part>, part: Part) -> Result<(), AllocError>
-    ensures { OnOk result (read.new.items ≡ read.old.items ++ part ∷ []) }
-{
-    read.push(part)?;
-    Ok(())
-}
-
-/// Returns the number of bytes of the parts; `None` if it is no `usize`.
-pub(crate) fn len_of(parts: &[Part]) -> Option<usize>
-    ensures { IfSome result (λ len. len ≡ length (joined parts.now)) }
-{
-    let mut len: usize = 0;
-    for part in parts {
-        len = len.checked_add(part.len())?;
+    /// Returns the bytes with their digest. They are not in memory.
+    pub fn finish(self, alloc: Global) -> FileBytes
+        ensures { result ≡ self }
+    {
+        let Reading { hasher, len, read } = self;
+        let digest = hasher.finalize();
+        FileBytes::of_content(left(alloc, len, read), len, digest)
     }
-    Some(len)
-}
-
-/// Digests the bytes of the parts, which `fetch` gives, one part after another. Appends the parts
-/// with the bytes that were read to `read`, and returns the digest of these.
-///
-/// # Errors
-///
-/// Those of `fetch`, and `Memory` if memory runs out.
-pub(crate) fn read_parts<F: Fetch>(
-    fetch: &mut F,
-    read: &mut Vec<Part>,
-    parts: &[Part],
-) -> Result<[u8; 16], AgainFault>
-    requires { read.old.items ≡ [] }
-    ensures digest { IfOk result (λ digest. digest ≡ md5 (joined read.new.items)) }
-    ensures many { OnOk result (length (joined read.new.items) ≡ length (joined parts.now)) }
-    ensures same { OnOk result (GivesParts F.gives fetch.old parts.now → joined read.new.items ≡ joined parts.now) }
-    ensures given { OnOk result (GivesParts F.gives fetch.old parts.now → GivesParts F.gives fetch.old read.new.items) }
-    ensures keeps { KeepsGiving F.gives fetch.old fetch.new }
-{
-    let mut hasher = Md5::new();
-    for part in parts {
-        let one = part.read(fetch, &mut hasher)?;
-        push_read(read, one)?;
-    }
-    Ok(hasher.finalize())
 }

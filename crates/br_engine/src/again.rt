@@ -29,7 +29,7 @@ pub(crate) struct Source<'g> {
 }
 
 /// Returns the number of bytes of an outcome.
-fn len_of(outcome: &Outcome) -> u64 {
+pub(crate) fn len_of(outcome: &Outcome) -> u64 {
     match outcome {
         Outcome::File(item) => item.bytes.len(),
         Outcome::Fault { .. } => 0,

@@ -6,7 +6,7 @@ ghost use Rattle.br_engine.specs.Again.{CanGive, CanReread, EndsLike, GivesAgain
 ghost use Rattle.br_engine.specs.Fault.{IsNoDriveLeft, IsNoLine, IsUnmade};
 ghost use Rattle.br_engine.specs.Outputs.{SinkCounts, StopsByFailure};
 
-use crate::again::{Source, deliver_again};
+use crate::again::{Source, deliver_again, len_of};
 use crate::budget::Budget;
 use crate::delivering::{deliver_files, end_of};
 use crate::fault::ExtractFault;
@@ -25,6 +25,10 @@ use std::mem;
 use std::sync::Wait;
 use std::thread::Threads;
 
+/// The length in bytes of the longest file that is delivered beside data that are held. A longer one
+/// is in memory as a whole, so that all data are let go before.
+const LONG_LEN: u64 = 64 * 1024 * 1024;
+
 /// The files of a restore, each with its outcome, in order of their keys.
 #[derive(Drop)]
 pub struct Made {
@@ -33,8 +37,25 @@ pub struct Made {
     gathered: Option<Gathered>,
 }
 
+/// Returns whether one of the files is longer than `LONG_LEN`.
+fn has_long_file(files: &[(FileKey, Outcome)]) -> bool {
+    files.iter().any(|file| len_of(&file.1) > LONG_LEN)
+}
+
+/// Returns the same, without data in memory if one of the files is longer than `LONG_LEN`.
+fn lighter(gathered: Gathered, files: &[(FileKey, Outcome)]) -> Gathered
+    ensures { result ≡ gathered }
+{
+    if has_long_file(files) {
+        gathered.let_go()
+    } else {
+        gathered
+    }
+}
+
 /// Makes the files of what a joiner took and did not hold. The drives read their data again.
-fn made_of<D: Drive>(
+fn made_of<D: Drive + Send>(
+    rt: &(impl Threads + Sync),
     alloc: Global,
     joiner: Joiner,
     groups: &[Group],
@@ -51,12 +72,13 @@ fn made_of<D: Drive>(
     let gathered = Gathered::of(joiner)?;
     let taken = mem::replace(drives, Vec::new(alloc));
     let mut many = OverMany::new(alloc, taken, groups);
-    let files = gathered.files(alloc, &mut many);
+    let files = gathered.files(rt, alloc, &mut many);
     let none = mem::replace(drives, many.into_drives());
     none.destroy_empty();
+    let outcomes = files?;
     Ok(Made {
-        outcomes: files?,
-        gathered: Some(gathered),
+        gathered: Some(lighter(gathered, &outcomes)),
+        outcomes,
     })
 }
 
@@ -94,7 +116,7 @@ pub fn restore_within<D: Drive + Send>(
     }
     hits_stand();
     standing_stays();
-    made_of(budget.alloc, joiner, bootstrap.groups(), drives)
+    made_of(rt, budget.alloc, joiner, bootstrap.groups(), drives)
 }
 
 /// Delivers the files among the outcomes into a sink. They are made once more of their source.

@@ -1,5 +1,5 @@
 -- What holds of each hit of a list.
-use Rattle.std.proofs.Common.{◌≡◌, ℕ, ◌<◌, List, [], ◌∷◌, ◌++◌, length, get_or, sym, subst}
+use Rattle.std.proofs.Common.{◌≡◌, ℕ, ◌<◌, List, [], ◌∷◌, ◌++◌, length, get_or, ap, sym, subst, ◌∙◌, append_assoc}
 use Rattle.std.specs.List.{All, AllByRecursion}
 use Rattle.std.proofs.lemmas.List.Elements.{All-from_recursion, All-get_or}
 use Rattle.br_model.specs.Meaning.{Hit}
@@ -7,6 +7,7 @@ use Rattle.br_again.specs.Stands.{StandingStays}
 use Rattle.br_reread.specs.Many.{GoOn, RereadingMany}
 use Rattle.br_reread.proofs.GoOnLaws.{given_on}
 use Rattle.br_gather.specs.Given.{GivesHit, GivesHits}
+use Rattle.br_gather.specs.Runs.{IsPart, Run}
 
 -- what holds of each, holds of each
 pub all_from : {X : Type 0} (P : X → Type 0) (xs : List X) → AllByRecursion P xs → All P xs
@@ -17,7 +18,7 @@ pub one_of : {X : Type 0} (P : X → Type 0) (xs : List X) (i : ℕ) (x : X) →
 one_of P xs i x within is all = subst P (sym is) (All-get_or P xs i x within (All-from_recursion P xs all))
 
 -- what holds of each element of a list holds of those after the first ones
-all_behind : {X : Type 0} (P : X → Type 0) (xs ys : List X) → AllByRecursion P (xs ++ ys) → AllByRecursion P ys
+pub all_behind : {X : Type 0} (P : X → Type 0) (xs ys : List X) → AllByRecursion P (xs ++ ys) → AllByRecursion P ys
 all_behind P [] ys all = all
 all_behind P (x ∷ xs) ys all = all_behind P xs ys all.1
 
@@ -25,11 +26,6 @@ all_behind P (x ∷ xs) ys all = all_behind P xs ys all.1
 all_before : {X : Type 0} (P : X → Type 0) (xs ys : List X) → AllByRecursion P (xs ++ ys) → AllByRecursion P xs
 all_before P [] ys all = tt
 all_before P (x ∷ xs) ys all = (all.0, all_before P xs ys all.1)
-
--- the hits after those of a file are given
-pub given_after : (m : RereadingMany) (all before run behind : List Hit) → before ++ (run ++ behind) ≡ all → GivesHits m all → GivesHits m behind
-given_after m all before run behind joined given =
-    all_behind (GivesHit m) run behind (all_behind (GivesHit m) before (run ++ behind) (subst (GivesHits m) (sym joined) given))
 
 -- the hits of a file are given
 pub given_run : (m : RereadingMany) (all before run behind : List Hit) → before ++ (run ++ behind) ≡ all → GivesHits m all → GivesHits m run
@@ -40,3 +36,24 @@ given_run m all before run behind joined given =
 pub hits_kept : StandingStays → (a b : RereadingMany) (hits : List Hit) → GoOn a b → GivesHits a hits → GivesHits b hits
 hits_kept stays a b [] on given = tt
 hits_kept stays a b (h ∷ hs) on given = (given_on stays a b h.spot h.fragment.bytes on given.0, hits_kept stays a b hs on given.1)
+
+-- ---- hits among hits
+
+-- these hits are the last ones
+abbrev pub AreBehind : List Hit → List Hit → Type 0
+AreBehind all rest = (front : List Hit) × (front ++ rest ≡ all)
+
+-- the hits of a file among the last ones are among all
+pub part_behind : (all rest before after : List Hit) (r : Run) → AreBehind all rest → before ++ (r.hits ++ after) ≡ rest → IsPart all r
+part_behind all rest before after r behind joined = record {
+  before = behind.0 ++ before;
+  after = after;
+  joined = append_assoc behind.0 before (r.hits ++ after) ∙ ap (λ (hs : List Hit). behind.0 ++ hs) joined ∙ behind.1;
+}
+
+-- the hits after them are the last ones
+pub behind_more : (all rest before run after : List Hit) → AreBehind all rest → before ++ (run ++ after) ≡ rest → AreBehind all after
+behind_more all rest before run after behind joined = (
+  behind.0 ++ (before ++ run),
+  append_assoc behind.0 (before ++ run) after ∙ ap (λ (hs : List Hit). behind.0 ++ hs) (append_assoc before run after ∙ joined) ∙ behind.1,
+)

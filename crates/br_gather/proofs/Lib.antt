@@ -1,4 +1,8 @@
 mod GivenLaws
+mod PlainLaws
+mod RunLaws
+mod SharingLaws
 mod StatLaws
+mod TurnLaws
 pub mod AgainLaws
 pub mod MeantLaws

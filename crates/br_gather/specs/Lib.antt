@@ -2,3 +2,5 @@ pub mod Again
 pub mod Code
 pub mod Gathered
 pub mod Given
+pub mod Runs
+pub mod Sharing

@@ -10,7 +10,8 @@ ghost use Rattle.br_gather.specs.Again.{IsLike, IsMadeOf};
 ghost use Rattle.br_gather.specs.Given.{GivesHits};
 
 use crate::again::made_once_more;
-use crate::made_again::files_by;
+use crate::light::lightened;
+use crate::making::files_by;
 use br_again::AgainFault;
 use br_join::{Joiner, Outcome};
 use br_match::Hit;
@@ -19,6 +20,7 @@ use br_types::{FileKey, Names};
 use br_volume::Drive;
 use std::alloc::{AllocError, Global};
 use std::marker::Model;
+use std::thread::Threads;
 
 /// The hits of a restore, in order of file and place, and the names of its plan, if it has one.
 #[derive(Drop)]
@@ -55,14 +57,27 @@ impl Gathered {
         Ok(Gathered { hits, names })
     }
 
+    /// Returns the same, without the data in memory that are bytes of files: they are read again each
+    /// time. Attributes and digests stay.
+    pub fn let_go(self) -> Gathered
+        ensures { result ≡ self }
+    {
+        Gathered {
+            hits: lightened(self.hits),
+            names: self.names,
+        }
+    }
+
     /// Makes the files, in order of key: the planned ones if there is a plan, else those that were found.
-    /// The data of one file at a time are in memory, and its bytes are let go again.
+    /// Each drive makes some of them, in a thread of its own. It has the data of one fragment at a time in
+    /// memory, or those of a file that has sparse data, and the bytes of the file are not kept.
     ///
     /// # Errors
     ///
-    /// Those of `many`, and `Memory` if memory runs out.
-    pub fn files<D: Drive>(
+    /// Those of `many`, and `Memory` if memory runs out. Of several it is the first in order of the files.
+    pub fn files<D: Drive + Send>(
         &self,
+        rt: &(impl Threads + Sync),
         alloc: Global,
         many: &mut OverMany<'_, D>,
     ) -> Result<Vec<(FileKey, Outcome)>, AgainFault>
@@ -70,7 +85,7 @@ impl Gathered {
         ensures on { GoOn many.old many.new }
         ensures failed { result ≡ Err Failed → HaveFailed many.old many.new }
     {
-        files_by(alloc, many, &self.hits, self.names.as_ref())
+        files_by(rt, alloc, many, &self.hits, self.names.as_ref())
     }
 
     /// Makes the files among these outcomes once more, in their order, and passes over the faults. Their

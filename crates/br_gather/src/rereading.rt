@@ -42,7 +42,7 @@ fn read_hit<D: Drive>(
 }
 
 /// Appends a hit.
-fn push_hit(hits: &mut Vec<Hit>, hit: Hit) -> Result<(), AllocError>
+pub(crate) fn push_hit(hits: &mut Vec<Hit>, hit: Hit) -> Result<(), AllocError>
     ensures { OnOk result (hits.new.items ≡ hits.old.items ++ hit ∷ []) }
 {
     hits.push(hit)?;

@@ -58,6 +58,14 @@ extent_rises end r e is =
           omega (arith, same, placed_rises end r steps.0 steps.1)
     ]
 
+-- plain data begin at the end so far
+pub plain_extent : (end : ℕ) (r : Record) → is_stream 2 r ≡ true
+    → extent_of end r ≡ cond (ltb (2 ^ 30) (end + length r.bytes)) (Err 68) (Ok (record { start = end; bytes = r.bytes }))
+unfolding placed fitted
+plain_extent end r is =
+    is_placed end r
+    ∙ ap (λ (b : Bool). cond b (Ok (record { start = end; bytes = r.bytes })) (cond (ltb (length r.bytes) 8 || ltb (address r) end) (Err 67) (Ok (record { start = address r; bytes = drop 8 r.bytes }))) >>= fitted) is
+
 -- ---- one record more
 
 module _ {A : Type 0} (g : List Extent → A) (end : ℕ) (r : Record) (rs : List Record) where

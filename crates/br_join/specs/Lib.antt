@@ -7,5 +7,7 @@ pub mod Making
 pub mod Opening
 pub mod Outcome
 pub mod Pieces
+pub mod Plain
 pub mod Records
 pub mod Runs
+pub mod Source

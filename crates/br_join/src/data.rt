@@ -5,6 +5,8 @@ ghost use Rattle.br_model.specs.File as model;
 ghost use Rattle.br_join.specs.Data.{fitting, laid, laid_from, shown_extent};
 ghost use Rattle.br_body.specs.Parts.{joined};
 ghost use Rattle.br_join.specs.Making.{cause};
+ghost use Rattle.br_join.specs.Plain.{bytes_of};
+ghost use Rattle.br_join.specs.Source.{bytes_by};
 
 use crate::making_fault::{FileFault, MakingFault};
 use crate::records::FileRecord;
@@ -17,6 +19,15 @@ const GREATEST_LEN: u64 = 1_073_741_824;
 
 /// The length in bytes of the address before sparse data.
 const ADDRESS_LEN: usize = 8;
+
+/// What gives the bytes of a file.
+#[derive(Debug, Drop)]
+pub(crate) enum Source {
+    /// The data of its records, which are in memory.
+    Records,
+    /// These bytes, the data of its records, of which none are sparse.
+    Read(FileBytes),
+}
 
 /// The place of a record's data in its file: the bytes without the first `skip`, from `start` to
 /// before `end`.
@@ -122,9 +133,10 @@ fn data_of(alloc: Global, records: &[FileRecord<'_>]) -> Result<FileBytes, Makin
     Ok(bytes)
 }
 
-/// Returns the bytes of a file of this type. Only files of types 2 and 3 have any.
+/// Returns the bytes of a file of this type, in the data of its records. Only files of types 2 and 3
+/// have any.
 #[tactic(auto, unfolding(br_model::specs::File::file_bytes))]
-pub(crate) fn file_bytes(
+fn file_bytes(
     alloc: Global,
     kind: u32,
     records: &[FileRecord<'_>],
@@ -136,4 +148,41 @@ pub(crate) fn file_bytes(
         return Ok(none);
     }
     data_of(alloc, records)
+}
+
+/// Returns the bytes of a file of this type, whose data are these, or `TooLarge`. Only files of types
+/// 2 and 3 have any.
+fn bytes_read(alloc: Global, kind: u32, plain: FileBytes) -> Result<FileBytes, MakingFault>
+    ensures { Answers (λ bytes. bytes) cause result (refused_as model.fault (bytes_of kind plain)) }
+{
+    if !has_bytes(kind) {
+        let none = FileBytes::empty(alloc)?;
+        return Ok(none);
+    }
+    if plain.len() > GREATEST_LEN {
+        return Err(MakingFault::File(FileFault::TooLarge));
+    }
+    Ok(plain)
+}
+
+impl Source {
+    /// Returns the bytes of a file of this type.
+    ///
+    /// # Errors
+    ///
+    /// `SparseBack` or `TooLarge` at the first data that does not fit.
+    #[tactic(auto, unfolding(crate::specs::Source::bytes_by))]
+    pub(crate) fn file_bytes(
+        self,
+        alloc: Global,
+        kind: u32,
+        records: &[FileRecord<'_>],
+    ) -> Result<FileBytes, MakingFault>
+        ensures { Answers (λ bytes. bytes) cause result (bytes_by self kind records.now) }
+    {
+        match self {
+            Source::Records => file_bytes(alloc, kind, records),
+            Source::Read(plain) => bytes_read(alloc, kind, plain),
+        }
+    }
 }

@@ -22,5 +22,5 @@ pub use br_body::FileBytes;
 pub use fault::{JoinFault, Refused};
 pub use item::{Item, Outcome};
 pub use joiner::Joiner;
-pub use making::outcome_of;
+pub use making::{outcome_of, outcome_with};
 pub use runs::{around, named};

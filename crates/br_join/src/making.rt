@@ -6,13 +6,17 @@ ghost use Rattle.br_model.specs.Meaning as meaning;
 ghost use Rattle.br_model.specs.Restored as model;
 ghost use Rattle.br_join.specs.Making.{cause, file_fault, making_fault, read_or_64};
 ghost use Rattle.br_join.specs.Outcome.{shown};
+ghost use Rattle.br_join.specs.Plain.{plain_bytes, plain_data};
+ghost use Rattle.br_join.specs.Runs.{fragments};
+ghost use Rattle.br_join.specs.Source.{content_by};
 
-use crate::data::file_bytes;
+use crate::data::Source;
 use crate::item::{Item, Outcome};
 use crate::making_fault::{FileFault, MakingFault};
 use crate::records::{FileRecord, records_of};
 use crate::streams::{
-    ATTRIBUTES, DIGEST, checks_digest, count_in, first_in, refuse_unsupported, skipped_in,
+    ATTRIBUTES, DIGEST, checks_digest, count_in, first_in, has_sparse_data, refuse_unsupported,
+    skipped_in,
 };
 use br_attr::{Attr, AttrFault};
 use br_body::FileBytes;
@@ -98,20 +102,25 @@ fn digest_fits(records: &[FileRecord<'_>], bytes: &FileBytes) -> Result<bool, Al
     }
 }
 
-/// Returns the file that its records make.
+/// Returns the file that its records make, with the bytes that `source` gives.
 ///
 /// # Errors
 ///
 /// `NoAttributes`, `BadAttributes`, `Unsupported`, then `SparseBack` or `TooLarge` for the first
 /// data that does not fit, then `DigestDiffers`.
-#[tactic(auto, unfolding(br_model::specs::File::content))]
-fn content(alloc: Global, index: FileIndex, records: &[FileRecord<'_>]) -> Result<Item, MakingFault>
-    ensures { Answers (λ item. item) cause result (file.content index records.now) }
+#[tactic(auto, unfolding(crate::specs::Source::content_by))]
+fn content(
+    alloc: Global,
+    index: FileIndex,
+    records: &[FileRecord<'_>],
+    source: Source,
+) -> Result<Item, MakingFault>
+    ensures { Answers (λ item. item) cause result (content_by index records.now source) }
 {
     let attr = attributes_of(alloc, index, records)?;
     refuse_unsupported(records)?;
     let (kind, path, stat, link) = attr.into_parts();
-    let bytes = file_bytes(alloc, kind, records)?;
+    let bytes = source.file_bytes(alloc, kind, records)?;
     let checked = checks_digest(kind, records);
     if checked && !digest_fits(records, &bytes)? {
         return Err(MakingFault::File(FileFault::DigestDiffers));
@@ -127,13 +136,48 @@ fn content(alloc: Global, index: FileIndex, records: &[FileRecord<'_>]) -> Resul
 }
 
 /// Returns the file that its fragments make, given in order of place.
-#[tactic(auto, unfolding(br_model::specs::Restored::outcome_of))]
+#[tactic(auto, unfolding(br_model::specs::Restored::outcome_of, br_model::specs::File::content, crate::specs::Source::bytes_by, crate::specs::Source::content_by))]
 fn file_of(alloc: Global, key: FileKey, hits: &[Hit]) -> Result<Item, MakingFault>
     requires { All (λ (h : meaning.Hit). h.key ≡ key) hits.now }
     ensures { Answers (λ item. item) cause result (model.outcome_of key (map (λ (h : meaning.Hit). h.fragment) hits.now)) }
 {
     let records = records_of(alloc, key.index, hits)?;
-    content(alloc, key.index, &records)
+    content(alloc, key.index, &records, Source::Records)
+}
+
+/// Returns the file that its records make, if none of its data are sparse and its plain data are
+/// `plain`.
+///
+/// # Errors
+///
+/// As `content`, and `Memory` if some of its data are sparse.
+fn plain_content(
+    alloc: Global,
+    index: FileIndex,
+    records: &[FileRecord<'_>],
+    plain: FileBytes,
+) -> Result<Item, MakingFault>
+    ensures { plain ≡ plain_data records.now → Answers (λ item. item) cause result (file.content index records.now) }
+{
+    if has_sparse_data(records) {
+        return Err(MakingFault::Memory);
+    }
+    content(alloc, index, records, Source::Read(plain))
+}
+
+/// Returns the file that its fragments make, given in order of place, if none of its data are sparse
+/// and its plain data are `plain`.
+fn file_with(
+    alloc: Global,
+    key: FileKey,
+    hits: &[Hit],
+    plain: FileBytes,
+) -> Result<Item, MakingFault>
+    requires { All (λ (h : meaning.Hit). h.key ≡ key) hits.now }
+    ensures { plain ≡ plain_bytes (fragments hits.now) → Answers (λ item. item) cause result (model.outcome_of key (fragments hits.now)) }
+{
+    let records = records_of(alloc, key.index, hits)?;
+    plain_content(alloc, key.index, &records, plain)
 }
 
 /// Returns the outcome with this fault.
@@ -162,6 +206,27 @@ pub fn outcome_of(alloc: Global, key: FileKey, hits: &[Hit]) -> Result<Outcome, 
     ensures { IfOk result (λ outcome. shown outcome ≡ model.outcome_of key (map (λ (h : meaning.Hit). h.fragment) hits.now)) }
 {
     match file_of(alloc, key, hits) {
+        Ok(item) => Ok(Outcome::File(item)),
+        Err(why) => no_file(why),
+    }
+}
+
+/// Returns the outcome of a file by its fragments, given in order of place, and by its plain data, of
+/// which the fragments need not be in memory.
+///
+/// # Errors
+///
+/// `AllocError` if memory runs out, other data of the fragments are not in memory, or some are sparse.
+pub fn outcome_with(
+    alloc: Global,
+    key: FileKey,
+    hits: &[Hit],
+    plain: FileBytes,
+) -> Result<Outcome, AllocError>
+    requires { All (λ (h : meaning.Hit). h.key ≡ key) hits.now }
+    ensures { IfOk result (λ outcome. plain ≡ plain_bytes (fragments hits.now) → shown outcome ≡ model.outcome_of key (fragments hits.now)) }
+{
+    match file_with(alloc, key, hits, plain) {
         Ok(item) => Ok(Outcome::File(item)),
         Err(why) => no_file(why),
     }

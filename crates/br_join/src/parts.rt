@@ -77,7 +77,7 @@ pub(crate) fn push_bytes(bytes: &mut Vec<u8>, skip: usize, parts: &[Hit]) -> Res
 fn share_one(file: &mut Vec<Part>, skip: usize, part: &Hit) -> Result<(), AllocError>
     ensures { OnOk result (joined file.new.items ≡ joined file.old.items ++ drop skip part.now.fragment.bytes) }
 {
-    push_found(file, skip, part.spot, &part.data)
+    push_found(file, skip, &part.data)
 }
 
 /// Appends the bytes of the fragments, without the first `skip`, to the parts of a file. They are

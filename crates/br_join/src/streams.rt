@@ -98,7 +98,7 @@ pub(crate) fn skipped_in(kind: u32, checked: bool, records: &[FileRecord<'_>]) -
 }
 
 /// Returns whether one of the records is sparse data.
-fn has_sparse_data(records: &[FileRecord<'_>]) -> bool
+pub(crate) fn has_sparse_data(records: &[FileRecord<'_>]) -> bool
     ensures { result ≡ list_any (model.is_stream 6) records.now }
 {
     records.iter().any(|record| record.is_stream(SPARSE_DATA))

@@ -83,10 +83,23 @@ fn data_are_read_again(rt: HostRuntime) -> Result<(), Fail> {
     Ok(())
 }
 
-/// Returns the first call from which one of two drives fails and a file is missing.
+/// Returns whether all is given if some of several drives fail from this call, whichever these are.
+fn others_take_over(
+    rt: &(impl Threads + Wait + Sync),
+    alloc: Global,
+    call: u64,
+) -> Result<bool, Fail> {
+    let first = give_both(rt, alloc, &[Some(call), None])?;
+    let second = give_both(rt, alloc, &[None, Some(call)])?;
+    let middle = give_both(rt, alloc, &[Some(call), None, Some(call)])?;
+    let last = give_both(rt, alloc, &[Some(call), Some(call), None])?;
+    Ok(first && second && middle && last)
+}
+
+/// Returns the first call from which some of several drives fail and a file is missing.
 fn first_call_missed(rt: &(impl Threads + Wait + Sync), alloc: Global) -> Result<FailsFrom, Fail> {
     for k in 1..30 {
-        if !give_both(rt, alloc, &[Some(k), None])? {
+        if !others_take_over(rt, alloc, k)? {
             return Ok(Some(k));
         }
     }
@@ -120,6 +133,34 @@ fn no_drive_left_after_the_manifest_stops_the_delivery(rt: HostRuntime) -> Resul
         assert!(rt; out.writer.as_slice() == MANIFEST);
     }
     assert!(rt; give_both(&rt, rt.alloc(), &[Some(29)])?);
+    Ok(())
+}
+
+/// Returns whether two drives that fail from this call give all, or the run ends with 70.
+fn end_with_70(rt: &(impl Threads + Wait + Sync), alloc: Global, call: u64) -> Result<bool, Fail> {
+    let (end, out) = run(rt, alloc, &[Some(call), Some(call)])?;
+    let files = files_in(alloc, &out)?;
+    Ok(match end {
+        Ok(RestoreEnd::AllFiles) => files == Some(2) && out.writer.as_slice() == MANIFEST,
+        Ok(RestoreEnd::Stopped(stop)) => stop.number() == 70 && out.writer.as_slice() == MANIFEST,
+        Ok(_) => false,
+        Err(fault) => fault.number() == Some(70) && out.writer.is_empty(),
+    })
+}
+
+/// Returns the first call from which both drives fail and the run ends in another way.
+fn first_end_missed(rt: &(impl Threads + Wait + Sync), alloc: Global) -> Result<FailsFrom, Fail> {
+    for k in 1..30 {
+        if !end_with_70(rt, alloc, k)? {
+            return Ok(Some(k));
+        }
+    }
+    Ok(None)
+}
+
+#[test]
+fn no_drive_left_of_two_is_70_at_any_call(rt: HostRuntime) -> Result<(), Fail> {
+    assert_eq!(rt; first_end_missed(&rt, rt.alloc())?, None);
     Ok(())
 }
 

@@ -6,12 +6,10 @@
 mod again;
 mod attributes;
 mod blocks;
-mod bodies;
 mod bootstraps;
 mod checks;
 mod lacking;
 mod names;
-mod parts;
 mod sessions;
 mod volumes;
 
@@ -29,9 +27,6 @@ fn run(case: &mut Case, fields: &[&str]) {
         ["check", call @ ..] => checks::run(case, call),
         ["volume", call @ ..] => volumes::run(case, call),
         ["again", call @ ..] => again::run(case, call),
-        ["body", names, kind, volumes, later, changed, parts @ ..] => {
-            bodies::run(case, names, [kind, volumes], [later, changed], parts)
-        }
         ["session", call @ ..] => sessions::run(case, call),
         _ => case.fail("there is no such call"),
     }

@@ -1,5 +1,5 @@
 -- Drives that go on, from one call to the next.
-use Rattle.std.proofs.Common.{◌≡◌, ◌<◌, ℕ, List, [], ◌∷◌, map, refl, sym, subst, arith, ◌∙◌}
+use Rattle.std.proofs.Common.{◌<◌, ℕ, List, [], ◌∷◌, refl, sym, subst, arith, ◌∙◌}
 use Rattle.std.specs.List.{AllByRecursion, AllZip}
 use Rattle.br_model.specs.Bootstrap.{Group}
 use Rattle.br_model.specs.Meaning.{Spot}
@@ -9,7 +9,7 @@ use Rattle.br_reread.specs.Over.{GivesOver}
 use Rattle.br_reread.specs.Many.{Driven, GivesMany, GoesOn, GoOn, HaveFailed, RereadingMany}
 use Rattle.br_reread.proofs.OverLaws.{gives_still}
 
-all_go : (xs : List Driven) → AllZip GoesOn xs xs
+pub all_go : (xs : List Driven) → AllZip GoesOn xs xs
 all_go [] = tt
 all_go (x ∷ xs) = ((grows_itself x.shown, omega arith), all_go xs)
 

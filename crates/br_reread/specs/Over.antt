@@ -4,15 +4,7 @@ use Rattle.br_model.specs.Block.{Fragment}
 use Rattle.br_model.specs.Bootstrap.{Group}
 use Rattle.br_model.specs.Meaning.{Spot}
 use Rattle.br_model.specs.Volume.{Volume}
-use Rattle.br_again.specs.Known.{KnownBlock}
 use Rattle.br_again.specs.Stands.{Stands, place_on}
-
--- what the drive shows, the number of its failures, the groups of the bootstrap, and the block that was read last
-pub record Rereading : Type 0 where
-  pub shown : Option (List Volume)
-  pub failures : ℕ
-  pub groups : List Group
-  pub known : Option KnownBlock
 
 -- a fragment at the place, on the volume of its group, has these bytes
 pub record IsFragmentOf (volumes : List Volume) (groups : List Group) (spot : Spot) (bytes : List ℕ) : Type 0 where

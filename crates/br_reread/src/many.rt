@@ -1,4 +1,4 @@
-ghost use Rattle.std.specs.Prelude.{◌≡◌, Err, IfOk};
+ghost use Rattle.std.specs.Prelude.{◌≡◌, [], length, Err, IfOk};
 ghost use Rattle.br_again.specs.declared.fault.AgainFault.TheVariants.{Failed};
 ghost use Rattle.br_reread.specs.Many.{GivesMany, GoOn, HaveFailed, driven_by};
 
@@ -8,6 +8,7 @@ use br_bsr::Group;
 use br_volume::Drive;
 use std::alloc::Global;
 use std::marker::Model;
+use std::mem;
 
 /// Reads data again from the volumes that its drives show, each of them all. One drive reads as long
 /// as it does not fail, and then the first of all that does not. The number of a group among the
@@ -51,6 +52,40 @@ impl<'b, D: Drive> OverMany<'b, D> {
         ensures { driven_by D.shows D.failures result.items ≡ self.entry.drives }
     {
         self.drives
+    }
+
+    /// Returns how many drives there are.
+    pub fn count(&self) -> usize
+        ensures { result ≡ length self.now.drives }
+    {
+        self.drives.len()
+    }
+
+    /// Returns the groups of the bootstrap.
+    pub fn groups(&self) -> &'b [Group]
+        ensures { result.now ≡ self.now.groups }
+    {
+        self.groups
+    }
+
+    /// Takes the drives out, each in its place.
+    pub fn take_drives(&mut self, alloc: Global) -> Vec<D>
+        ensures drives { driven_by D.shows D.failures result.items ≡ self.old.drives }
+        ensures none { self.new ≡ record { drives = []; groups = self.old.groups } }
+    {
+        self.again = Again::new(alloc);
+        mem::replace(&mut self.drives, Vec::new(alloc))
+    }
+
+    /// Puts drives in, after those that it had were taken out.
+    pub fn put_drives(&mut self, alloc: Global, drives: Vec<D>)
+        requires none { self.old.drives ≡ [] }
+        ensures { self.new ≡ record { drives = driven_by D.shows D.failures drives.items; groups = self.old.groups } }
+    {
+        self.at = 0;
+        self.again = Again::new(alloc);
+        let none = mem::replace(&mut self.drives, drives);
+        none.destroy_empty();
     }
 
     /// Returns the data in memory: they are shared if they are held, or else read again.

@@ -3,48 +3,29 @@ use Rattle.std.proofs.KnownBytes.{Appends-nil, Appends-trans}
 use Rattle.std.proofs.lemmas.List.{take_all}
 use Rattle.std.specs.Io.KnownBytes.{Appends}
 use Rattle.br_body.specs.declared.part.Part.{Part}
-use Rattle.br_body.specs.Parts.{GivesParts, joined}
+use Rattle.br_body.specs.Parts.{joined}
 use Rattle.br_body.specs.Written.{AppendsFront}
-use Rattle.br_body.proofs.GivenLaws.{keeps_on, part_at}
 use Rattle.br_body.proofs.PartLaws.{joined_around, joined_more}
 use Rattle.br_body.proofs.WrittenLaws.{front_more, on_err}
 use Rattle.br_body.proofs.file_bytes.write_parts.Goals as goal
 
 pub loop-part-init : goal.loop-part-init
-loop-part-init g c = (λ spot kept given. given, λ given. Appends-nil (g.W.Write.contents c.args.writer.now))
+loop-part-init g c = Appends-nil (g.W.Write.contents c.args.writer.now)
 
 pub returns-in_err-write_to-clause-front : goal.returns-in_err-write_to-clause-front
 returns-in_err-write_to-clause-front g c =
-    let parts = c.args.parts.now in
-    let i = c.loop-part.part-index in
-    let x = c.part-item.result in
-    let within = c.loop-part-test.true in
-    let is = c.part-item.is in
-    let before = c.loop-part.invariant in
-    let front : GivesParts g.F.Fetch.gives c.args.fetch.now parts → AppendsFront (g.W.Write.contents c.args.writer.now) (g.W.Write.contents c.write_to.new.writer) (joined parts) = λ given.
-    front_more _ _ _ _ _ _ _ (joined_around parts i x within is) (before.1 given)
-    (c.in_err-write_to.ensures.front (part_at g.F.Fetch.gives _ _ parts i x within is before.0 given)) in
+    let front : AppendsFront (g.W.Write.contents c.args.writer.now) (g.W.Write.contents c.write_to.new.writer) (joined c.args.parts.now) =
+    front_more _ _ _ _ _ _ _ (joined_around c.args.parts.now c.loop-part.part-index c.part-item.result c.loop-part-test.true c.part-item.is)
+    c.loop-part.invariant c.in_err-write_to.ensures.front in
     on_err _ front
-
-pub returns-in_err-write_to-clause-keeps : goal.returns-in_err-write_to-clause-keeps
-returns-in_err-write_to-clause-keeps g c = keeps_on g.F.Fetch.gives _ _ _ c.loop-part.invariant.0 c.write_to.ensures.keeps
 
 pub loop-part-preserved : goal.loop-part-preserved
 loop-part-preserved g c =
-    let parts = c.args.parts.now in
-    let i = c.loop-part.part-index in
-    let x = c.part-item.result in
-    let within = c.loop-part-test.true in
-    let is = c.part-item.is in
-    let before = c.loop-part.invariant in (
-      keeps_on g.F.Fetch.gives _ _ _ before.0 c.write_to.ensures.keeps,
-      λ given.
-          subst (λ (bytes : List ℕ). Appends (g.W.Write.contents c.args.writer.now) (g.W.Write.contents c.write_to.new.writer) bytes)
-          (sym (joined_more parts i x within is))
-          (Appends-trans _ _ _ _ _ (before.1 given) (c.in_ok-write_to.ensures.all (part_at g.F.Fetch.gives _ _ parts i x within is before.0 given))),
-    )
+    subst (λ (bytes : List ℕ). Appends (g.W.Write.contents c.args.writer.now) (g.W.Write.contents c.write_to.new.writer) bytes)
+    (sym (joined_more c.args.parts.now c.loop-part.part-index c.part-item.result c.loop-part-test.true c.part-item.is))
+    (Appends-trans _ _ _ _ _ c.loop-part.invariant c.in_ok-write_to.ensures.all)
 
 pub returns-clause-all : goal.returns-clause-all
-returns-clause-all g c = λ given.
+returns-clause-all g c =
     subst (λ (parts : List Part). Appends (g.W.Write.contents c.args.writer.now) (g.W.Write.contents c.loop-part.writer) (joined parts))
-    (take_all c.loop-part.part-index c.args.parts.now c.loop-part-test.false) (c.loop-part.invariant.1 given)
+    (take_all c.loop-part.part-index c.args.parts.now c.loop-part-test.false) c.loop-part.invariant

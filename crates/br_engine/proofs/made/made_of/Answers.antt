@@ -1,4 +1,4 @@
-use Rattle.std.proofs.Common.{◌≡◌, Vec, Err, map, ap, subst, ◌∙◌}
+use Rattle.std.proofs.Common.{◌≡◌, Vec, Err, Some, map, sym, ap, subst, ◌∙◌}
 use Rattle.std.specs.Global.{Global}
 use Rattle.std.proofs.lemmas.Result.{err_from_is_err_and}
 use Rattle.br_join.specs.Outcome.{restored}
@@ -6,6 +6,7 @@ use Rattle.br_join.specs.Runs.{AreListed}
 use Rattle.br_pool.proofs.WorkedLaws.{all_kept}
 use Rattle.br_reread.specs.Many.{driven_by}
 use Rattle.br_gather.specs.Gathered.{Gathered}
+use Rattle.br_engine.specs.Again.{CanGive}
 use Rattle.br_engine.proofs.AgainLaws.{fail_driven, files_made, made_again, only_failed, stay_driven}
 use Rattle.br_engine.proofs.made.made_of.Goals as goal
 
@@ -14,8 +15,8 @@ returns-in_err-gathered-clause-places g c = all_kept g.D.Drive.shows g.D.Drive.f
 
 -- ---- the files were not made
 
-pub returns-in_err-files-clause-places : goal.returns-in_err-files-clause-places
-returns-in_err-files-clause-places g c =
+pub returns-in_err-outcomes-clause-places : goal.returns-in_err-outcomes-clause-places
+returns-in_err-outcomes-clause-places g c =
     let shows = g.D.Drive.shows in
     let failures = g.D.Drive.failures in
     let m = c.new-many.result in
@@ -26,8 +27,8 @@ returns-in_err-files-clause-places g c =
     ap (λ (v : Vec g.row.D.Denot Global). driven_by shows failures v.items) c.replace-none.ensures.after ∙ c.into_drives.ensures in
     stay_driven shows failures m n c.args.drives.now.items c.replace-none.new.dest.items e f c.files-files.ensures.on
 
-pub returns-in_err-files-clause-failed : goal.returns-in_err-files-clause-failed
-returns-in_err-files-clause-failed g c =
+pub returns-in_err-outcomes-clause-failed : goal.returns-in_err-outcomes-clause-failed
+returns-in_err-outcomes-clause-failed g c =
     let shows = g.D.Drive.shows in
     let failures = g.D.Drive.failures in
     let m = c.new-many.result in
@@ -36,10 +37,10 @@ returns-in_err-files-clause-failed g c =
     c.new-many.ensures.drives ∙ ap (λ (v : Vec g.row.D.Denot Global). driven_by shows failures v.items) c.replace-taken.ensures.value in
     let f : driven_by shows failures c.replace-none.new.dest.items ≡ n.drives =
     ap (λ (v : Vec g.row.D.Denot Global). driven_by shows failures v.items) c.replace-none.ensures.after ∙ c.into_drives.ensures in
-    let p = err_from_is_err_and c.from_residual-in_err-files.result c.from_residual-in_err-files.ensures.1 in
+    let p = err_from_is_err_and c.from_residual-in_err-outcomes.result c.from_residual-in_err-outcomes.ensures.1 in
     rw p.1
     (λ is. fail_driven shows failures m n c.args.drives.now.items c.replace-none.new.dest.items e f
-    (c.in_err-files.ensures.failed (ap Err (only_failed c.in_err-files.field-0.0 p.0 p.2 is))))
+    (c.in_err-outcomes.ensures.failed (ap Err (only_failed c.in_err-outcomes.field-0.0 p.0 p.2 is))))
 
 -- ---- they were made
 
@@ -54,8 +55,8 @@ returns-clause-made g c = λ given.
     let f : driven_by shows failures c.replace-none.new.dest.items ≡ n.drives =
     ap (λ (v : Vec g.row.D.Denot Global). driven_by shows failures v.items) c.replace-none.ensures.after ∙ c.into_drives.ensures in
     let listed : AreListed c.in_ok-gathered.gathered.hits = subst (λ (v : Gathered). AreListed v.hits) c.gathered.view_is c.gathered.invariant in
-    files_made m c.in_ok-gathered.gathered c.args.joiner.hits c.args.joiner.names (map restored c.in_ok-files.field-0.items) (driven_by shows failures c.args.drives.now.items)
-    c.args.groups.now c.in_ok-gathered.ensures.hits c.in_ok-gathered.ensures.names listed e c.new-many.ensures.groups c.in_ok-files.ensures.files given
+    files_made m c.in_ok-gathered.gathered c.args.joiner.hits c.args.joiner.names (map restored c.in_ok-outcomes.outcomes.items) (driven_by shows failures c.args.drives.now.items)
+    c.args.groups.now c.in_ok-gathered.ensures.hits c.in_ok-gathered.ensures.names listed e c.new-many.ensures.groups c.in_ok-outcomes.ensures.files given
 
 pub returns-clause-again : goal.returns-clause-again
 returns-clause-again g c = λ given.
@@ -68,9 +69,10 @@ returns-clause-again g c = λ given.
     let f : driven_by shows failures c.replace-none.new.dest.items ≡ n.drives =
     ap (λ (v : Vec g.row.D.Denot Global). driven_by shows failures v.items) c.replace-none.ensures.after ∙ c.into_drives.ensures in
     let listed : AreListed c.in_ok-gathered.gathered.hits = subst (λ (v : Gathered). AreListed v.hits) c.gathered.view_is c.gathered.invariant in
-    made_again m c.in_ok-gathered.gathered c.args.joiner.hits c.args.joiner.names (map restored c.in_ok-files.field-0.items) (driven_by shows failures c.args.drives.now.items)
-    c.args.groups.now c.in_ok-gathered.ensures.hits c.in_ok-gathered.ensures.names listed e c.new-many.ensures.groups c.in_ok-files.ensures.files given
-    c.standing_stays.ensures n (driven_by shows failures c.replace-none.new.dest.items) c.files-files.ensures.on f
+    subst (λ (v : Gathered). CanGive shows failures c.replace-none.new.dest.items c.args.groups.now (Some v) (map restored c.in_ok-outcomes.outcomes.items)) (sym c.lighter.ensures)
+    (made_again m c.in_ok-gathered.gathered c.args.joiner.hits c.args.joiner.names (map restored c.in_ok-outcomes.outcomes.items) (driven_by shows failures c.args.drives.now.items)
+    c.args.groups.now c.in_ok-gathered.ensures.hits c.in_ok-gathered.ensures.names listed e c.new-many.ensures.groups c.in_ok-outcomes.ensures.files given
+    c.standing_stays.ensures n (driven_by shows failures c.replace-none.new.dest.items) c.files-files.ensures.on f)
 
 pub returns-clause-places : goal.returns-clause-places
 returns-clause-places g c =

@@ -1,4 +1,3 @@
-use Rattle.std.proofs.Common.{◌≡◌}
 use Rattle.std.proofs.lemmas.Result.{IfOk-weaker}
 use Rattle.br_reread.proofs.ManyLaws.{fail_after, have_still, stay_more}
 use Rattle.br_reread.proofs.reading.read_again.Goals as goal

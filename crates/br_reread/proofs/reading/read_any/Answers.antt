@@ -1,4 +1,4 @@
-use Rattle.std.proofs.Common.{◌≡◌, Err, ap, arith, ◌∙◌}
+use Rattle.std.proofs.Common.{Err, ap, arith, ◌∙◌}
 use Rattle.br_reread.proofs.ManyLaws.{all_failed, fail_more, have_still, stay, stay_more}
 use Rattle.br_reread.proofs.reading.read_any.Goals as goal
 

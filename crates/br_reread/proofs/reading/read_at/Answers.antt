@@ -1,4 +1,4 @@
-use Rattle.std.proofs.Common.{◌≡◌, arith, length, refl}
+use Rattle.std.proofs.Common.{arith, length, refl}
 use Rattle.std.proofs.lemmas.Option.{slice_get_read, slice_get_within}
 use Rattle.br_reread.proofs.ManyLaws.{fails_set, known_set, stay, stay_set}
 use Rattle.br_reread.proofs.reading.read_at.Goals as goal

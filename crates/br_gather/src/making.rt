@@ -1,0 +1,67 @@
+//! The files of hits, made by one drive or by several side by side.
+ghost use Rattle.std.specs.Prelude.{◌≡◌, map, Err, IfOk};
+ghost use Rattle.std.specs.Option.{option_copied};
+ghost use Rattle.br_again.specs.declared.fault.AgainFault.TheVariants.{Failed};
+ghost use Rattle.br_join.specs.Outcome.{restored};
+ghost use Rattle.br_join.specs.Runs.{AreListed, files_of};
+ghost use Rattle.br_reread.specs.Many.{GoOn, HaveFailed};
+ghost use Rattle.br_gather.specs.Given.{GivesHits};
+ghost use Rattle.br_gather.specs.Runs.{GivesRuns, file_of};
+
+use crate::runs::{Run, runs_of};
+use crate::sharing::made_side_by_side;
+use crate::work::make_left;
+use br_again::AgainFault;
+use br_join::Outcome;
+use br_match::Hit;
+use br_reread::OverMany;
+use br_types::{FileKey, Names};
+use br_volume::Drive;
+use std::alloc::Global;
+use std::thread::Threads;
+
+/// Makes the files: side by side, if there are several drives and several files.
+///
+/// # Errors
+///
+/// Those of `many`, and `Memory` if memory runs out.
+fn made_of<D: Drive + Send>(
+    rt: &(impl Threads + Sync),
+    alloc: Global,
+    many: &mut OverMany<'_, D>,
+    runs: &[Run<'_>],
+) -> Result<Vec<(FileKey, Outcome)>, AgainFault>
+    ensures files { IfOk result (λ made. GivesRuns many.old runs.now → map restored made.items ≡ map file_of runs.now) }
+    ensures on { GoOn many.old many.new }
+    ensures failed { result ≡ Err Failed → HaveFailed many.old many.new }
+{
+    if many.count() > 1 && runs.len() > 1 {
+        return made_side_by_side(rt, alloc, many, runs);
+    }
+    let mut made = Vec::new(alloc);
+    make_left(alloc, many, runs, &mut made)?;
+    Ok(made)
+}
+
+/// Makes the files of sorted hits: the planned ones if there is a plan, else those that were found.
+/// Each drive has the data of one file at a time in memory.
+///
+/// # Errors
+///
+/// Those of `many`, and `Memory` if memory runs out.
+#[tactic(auto, using(br_reread::proofs::GoOnLaws::go_itself))]
+pub(crate) fn files_by<D: Drive + Send>(
+    rt: &(impl Threads + Sync),
+    alloc: Global,
+    many: &mut OverMany<'_, D>,
+    hits: &[Hit],
+    names: Option<&Names>,
+) -> Result<Vec<(FileKey, Outcome)>, AgainFault>
+    requires { AreListed hits.now }
+    ensures files { IfOk result (λ made. GivesHits many.old hits.now → map restored made.items ≡ files_of hits.now (option_copied names.entry)) }
+    ensures on { GoOn many.old many.new }
+    ensures failed { result ≡ Err Failed → HaveFailed many.old many.new }
+{
+    let runs = runs_of(alloc, hits, names)?;
+    made_of(rt, alloc, many, &runs)
+}

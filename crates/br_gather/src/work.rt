@@ -1,0 +1,133 @@
+//! Files that are made one after another, begun by one drive and gone on with by others.
+ghost use Rattle.std.specs.Prelude.{◌≡◌, ◌++◌, ◌≤◌, [], length, map, reverse, Err, IfOk, OnOk};
+ghost use Rattle.std.specs.List.{AllByRecursion};
+ghost use Rattle.br_again.specs.declared.fault.AgainFault.TheVariants.{Failed};
+ghost use Rattle.br_join.specs.Outcome.{restored};
+ghost use Rattle.br_reread.specs.Many.{GoOn, HaveFailed};
+ghost use Rattle.br_gather.specs.Runs.{AreFirst, GivesRuns, file_of};
+ghost use Rattle.br_gather.specs.Sharing.{IsBegun, runs_in};
+
+use crate::made_again::{file_by, push_file};
+use crate::runs::Run;
+use br_again::{AgainFault, standing_stays};
+use br_join::Outcome;
+use br_reread::OverMany;
+use br_types::FileKey;
+use br_volume::Drive;
+use std::alloc::Global;
+
+/// Makes the files that are left: those after as many as are made.
+///
+/// # Errors
+///
+/// Those of `many`, and `Memory` if memory runs out. Then the files before the fault are made.
+#[tactic(auto, using(br_reread::proofs::GoOnLaws::go_itself, br_reread::proofs::GoOnLaws::go_more, br_reread::proofs::GoOnLaws::failed_on))]
+pub(crate) fn make_left<D: Drive>(
+    alloc: Global,
+    many: &mut OverMany<'_, D>,
+    runs: &[Run<'_>],
+    made: &mut Vec<(FileKey, Outcome)>,
+) -> Result<(), AgainFault>
+    ensures first { GivesRuns many.old runs.now → AreFirst runs.now (map restored made.old.items) → AreFirst runs.now (map restored made.new.items) }
+    ensures all { OnOk result (length runs.now ≤ length made.new.items) }
+    ensures on { GoOn many.old many.new }
+    ensures failed { result ≡ Err Failed → HaveFailed many.old many.new }
+{
+    standing_stays();
+    while let Some(next) = runs.get(made.len()) {
+        let outcome = file_by(alloc, many, next.key, next.path, next.hits)?;
+        push_file(made, next.key, outcome)?;
+    }
+    Ok(())
+}
+
+/// Files in order of key, the first of them that are made, and the fault that ended it, if one did.
+#[derive(Drop)]
+pub(crate) struct Work<'r, 'h> {
+    pub(crate) runs: &'r [Run<'h>],
+    pub(crate) made: Vec<(FileKey, Outcome)>,
+    pub(crate) end: Result<(), AgainFault>,
+}
+
+impl<'r, 'h> Work<'r, 'h> {
+    /// Returns the work of these files, of which none is made.
+    pub(crate) fn new(alloc: Global, runs: &'r [Run<'h>]) -> Work<'r, 'h>
+        ensures runs { result.runs.now ≡ runs.now }
+        ensures none { result.made.items ≡ [] }
+    {
+        Work {
+            runs,
+            made: Vec::new(alloc),
+            end: Ok(()),
+        }
+    }
+
+    /// Makes the files that are left, if a drive failed meanwhile.
+    ///
+    /// # Errors
+    ///
+    /// Those of `many`, and the fault that ended it, if no drive failed.
+    #[tactic(auto, using(br_reread::proofs::GoOnLaws::go_itself))]
+    fn finish<D: Drive>(
+        &mut self,
+        alloc: Global,
+        many: &mut OverMany<'_, D>,
+    ) -> Result<(), AgainFault>
+        ensures files { OnOk result (GivesRuns many.old self.old.runs.now → IsBegun self.old
+            → map restored self.new.made.items ≡ map file_of self.old.runs.now) }
+        ensures on { GoOn many.old many.new }
+        ensures failed { result ≡ Err Failed → HaveFailed many.old many.new }
+    {
+        match self.end {
+            Ok(()) => Ok(()),
+            Err(AgainFault::Failed) => make_left(alloc, many, self.runs, &mut self.made),
+            Err(AgainFault::Memory) => Err(AgainFault::Memory),
+            Err(AgainFault::Changed) => Err(AgainFault::Changed),
+        }
+    }
+}
+
+/// Finishes a work, and appends its files.
+///
+/// # Errors
+///
+/// Those of `Work::finish`, and `Memory` if memory runs out.
+fn push_work<D: Drive>(
+    alloc: Global,
+    many: &mut OverMany<'_, D>,
+    mut work: Work<'_, '_>,
+    made: &mut Vec<(FileKey, Outcome)>,
+) -> Result<(), AgainFault>
+    ensures files { OnOk result (GivesRuns many.old work.entry.runs.now → IsBegun work.entry
+        → map restored made.new.items ≡ map restored made.old.items ++ map file_of work.entry.runs.now) }
+    ensures on { GoOn many.old many.new }
+    ensures failed { result ≡ Err Failed → HaveFailed many.old many.new }
+{
+    work.finish(alloc, many)?;
+    made.append(&mut work.made)?;
+    Ok(())
+}
+
+/// Finishes works, the last one first, and returns their files.
+///
+/// # Errors
+///
+/// Those of `Work::finish`, and `Memory` if memory runs out.
+#[tactic(auto, using(br_reread::proofs::GoOnLaws::go_itself, br_reread::proofs::GoOnLaws::go_more, br_reread::proofs::GoOnLaws::failed_on))]
+pub(crate) fn finish_all<D: Drive>(
+    alloc: Global,
+    many: &mut OverMany<'_, D>,
+    mut works: Vec<Work<'_, '_>>,
+) -> Result<Vec<(FileKey, Outcome)>, AgainFault>
+    ensures files { IfOk result (λ made. GivesRuns many.old (runs_in (reverse works.entry.items)) → AllByRecursion IsBegun works.entry.items
+        → map restored made.items ≡ map file_of (runs_in (reverse works.entry.items))) }
+    ensures on { GoOn many.old many.new }
+    ensures failed { result ≡ Err Failed → HaveFailed many.old many.new }
+{
+    standing_stays();
+    let mut made = Vec::new(alloc);
+    while !works.is_empty() {
+        push_work(alloc, many, works.take_last(), &mut made)?;
+    }
+    Ok(made)
+}
