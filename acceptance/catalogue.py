@@ -191,26 +191,64 @@ def lists(checks, folder):
     checks.check("once it is migrated", checks.jobs(old), (0, listed("---"), ""))
 
 
+def renumbered(number):
+    """Returns statements that give the job 2 another number."""
+    return "".join(f"UPDATE {table} SET JobId = {number} WHERE JobId = 2;" for table in ("Job", "JobMedia", "File"))
+
+
+def span(end_file, number):
+    """Returns a statement that adds a span of this number to the job 2, at blocks from 5 * 2^32 on."""
+    return f"INSERT INTO JobMedia VALUES (4, 2, 1, 1, 1, 5, {end_file}, 0, 9, {number});"
+
+
+# Changes of the catalogue, and the number with which it is refused after each.
+REFUSED = [
+    ("a catalogue of version 3", "UPDATE Version SET VersionId = 3;", 47),
+    ("a catalogue of version 1 with tables of version 2", "UPDATE Version SET VersionId = 1;", 48),
+    ("two versions", "INSERT INTO Version VALUES (2);", 47),
+    ("version 1 beside version 2", "INSERT INTO Version VALUES (1);", 47),
+    ("no version", "DELETE FROM Version;", 47),
+    ("a span number that skips", "UPDATE JobMedia SET VolIndex = 2 WHERE JobId = 3;", 47),
+    ("a second span whose number skips", span(5, 3), 47),
+    ("a span that ends past the greatest address", span(4294967296, 2), 47),
+    ("a digest of 31 digits", "UPDATE File SET MD5 = substr(MD5, 2) WHERE FileId = 1;", 47),
+    ("a digest in capitals", "UPDATE File SET MD5 = upper(MD5) WHERE FileId = 1;", 47),
+    ("an index past the greatest one", "UPDATE File SET FileIndex = 2147483648 WHERE FileId = 1;", 47),
+    ("a job past the greatest number", renumbered(4294967296), 47),
+    ("a job of the number 0", renumbered(0), 47),
+    ("numbers that are twelve", "UPDATE File SET LStat = 'A A A A A A A A A A A A' WHERE FileId = 1;", 47),
+    ("a moment after the year 9999", "UPDATE Job SET StartTime = 253402300800 WHERE JobId = 1;", 47),
+    ("a row that points nowhere", "DELETE FROM Path WHERE PathId = 1;", 45),
+    ("a missing column", "ALTER TABLE Media DROP COLUMN MediaType;", 45),
+    ("a missing table", "DROP TABLE Media;", 45),
+    ("no files", "DROP TABLE File;", 45),
+]
+
+# Changes after which the same is restored.
+KEPT = [
+    ("a second span", span(5, 2)),
+    ("a job of the greatest number", renumbered(4294967295)),
+    ("another table", "CREATE TABLE Extra(Id INTEGER PRIMARY KEY);"),
+    ("an index", "CREATE INDEX FilesOfJobs ON File(JobId);"),
+    ("a view", "CREATE VIEW Names AS SELECT Filename FROM File;"),
+]
+
+
+def new_db(folder, sql, change=""):
+    """Makes a catalogue by a file of statements, and changes it."""
+    db = os.path.join(tempfile.mkdtemp(dir=folder), "other.db")
+    with open(sql) as text:
+        sqlite3(db, text.read() + change)
+    return db
+
+
 def refuses(checks, folder):
-    """Tries files that are no catalogue."""
-    for name, sql, number in [
-        ("a catalogue of version 3", "UPDATE Version SET VersionId = 3;", 47),
-        ("a catalogue of version 1 with tables of version 2", "UPDATE Version SET VersionId = 1;", 48),
-        ("two versions", "INSERT INTO Version VALUES (2);", 47),
-        ("a span number that skips", "UPDATE JobMedia SET VolIndex = 2 WHERE JobId = 3;", 47),
-        ("a digest of 31 digits", "UPDATE File SET MD5 = substr(MD5, 2) WHERE FileId = 1;", 47),
-        ("numbers that are twelve", "UPDATE File SET LStat = 'A A A A A A A A A A A A' WHERE FileId = 1;", 47),
-        ("a moment after the year 9999", "UPDATE Job SET StartTime = 253402300800 WHERE JobId = 1;", 47),
-        ("a row that points nowhere", "DELETE FROM Path WHERE PathId = 1;", 45),
-        ("a missing column", "ALTER TABLE Media DROP COLUMN MediaType;", 45),
-        ("a missing table", "DROP TABLE Media;", 45),
-    ]:
-        db = os.path.join(folder, "other.db")
-        with open(ORDER_SQL) as text:
-            sqlite3(db, text.read())
-        sqlite3(db, sql)
-        checks.check(name, checks.console(db), (1, "", f"refused {number}\n"))
-        os.remove(db)
+    """Tries catalogues that somebody changed, and files that are no catalogue."""
+    for name, change, number in REFUSED:
+        checks.check(name, checks.console(new_db(folder, ORDER_SQL, change)), (1, "", f"refused {number}\n"))
+    before, text = list(answers().items())[-1]
+    for name, change in KEPT:
+        checks.check(name, checks.console(new_db(folder, ORDER_SQL, change), before=before), (0, text, ""))
     old = os.path.join(folder, "old.db")
     with open(VERSION_1_SQL) as text:
         sqlite3(old, text.read())
@@ -237,6 +275,33 @@ JOIN Path USING (PathId) JOIN Filename USING (FilenameId) ORDER BY FileId;"""
 FILES = "SELECT FileId, FileIndex, JobId, hex(Path), hex(Filename), LStat, MD5 FROM File JOIN Path USING (PathId) ORDER BY FileId;"
 
 
+# Changes of the catalogue of version 1, and the number with which a migration is refused after each.
+NOT_MIGRATED = [
+    ("two versions", "INSERT INTO Version VALUES (1);", 47),
+    ("no version", "DELETE FROM Version;", 47),
+    ("version 2", "UPDATE Version SET VersionId = 2;", 47),
+    ("a version that is no number", "UPDATE Version SET VersionId = 'one';", 47),
+    ("numbers that are two", "UPDATE File SET LStat = '1 2' WHERE FileId = 1;", 47),
+    ("a digest that is no text", "UPDATE File SET MD5 = x'00' WHERE FileId = 1;", 47),
+    ("a name that is a text", "UPDATE Filename SET Name = 'f1' WHERE FilenameId = 1;", 47),
+    ("a name of several parts", "UPDATE Filename SET Name = x'612f2f62' WHERE FilenameId = 1;", 47),
+    ("a span number that skips", "UPDATE JobMedia SET VolIndex = 2 WHERE JobId = 3;", 47),
+    ("a row that points nowhere", "DELETE FROM Filename WHERE FilenameId = 1;", 45),
+    ("no files", "DROP TABLE File;", 45),
+    ("neither files nor names", "DROP TABLE File; DROP TABLE Filename;", 45),
+    ("another table", "CREATE TABLE Extra(Id INTEGER PRIMARY KEY);", 45),
+    ("an index", "CREATE INDEX FilesOfJobs ON File(JobId);", 45),
+    ("a view", "CREATE VIEW Names AS SELECT Name FROM Filename;", 45),
+]
+
+# Changes after which a migration leaves the same jobs.
+MIGRATED = [
+    ("a row that moves to the end", "UPDATE File SET FileId = 77 WHERE FileId = 6;"),
+    ("a name of no file", "INSERT INTO Filename VALUES (7, x'ff');"),
+    ("a version that is a text", "UPDATE Version SET VersionId = '1';"),
+]
+
+
 def migrates(checks, folder):
     """Migrates a catalogue of version 1, and restores from it."""
     db, copy = os.path.join(folder, "migrated.db"), os.path.join(folder, "copy.db")
@@ -258,21 +323,16 @@ def migrates(checks, folder):
     empty = os.path.join(folder, "nothing.db")
     open(empty, "w").close()
     checks.check("of an empty file", checks.migrate(empty), (1, "", "refused 47\n"))
-    for name, sql, number in [
-        ("two versions", "INSERT INTO Version VALUES (1);", 47),
-        ("a name that is a text", "UPDATE Filename SET Name = 'f1' WHERE FilenameId = 1;", 47),
-        ("a span number that skips", "UPDATE JobMedia SET VolIndex = 2 WHERE JobId = 3;", 47),
-        ("a row that points nowhere", "DELETE FROM Filename WHERE FilenameId = 1;", 45),
-    ]:
-        other = os.path.join(folder, "refused.db")
-        with open(VERSION_1_SQL) as text:
-            sqlite3(other, text.read() + sql)
+    checks.check("which stays without jobs", checks.console(empty), (1, "", "refused 53\n"))
+    for name, change, number in NOT_MIGRATED:
+        other = new_db(folder, VERSION_1_SQL, change)
         dump = sqlite3(other, ".dump")
         checks.check(f"a migration with {name}", checks.migrate(other), (1, "", f"refused {number}\n"))
         checks.check("changes nothing", sqlite3(other, ".dump"), dump)
-        for file in os.listdir(folder):
-            if file.startswith("refused.db"):
-                os.remove(os.path.join(folder, file))
+    for name, change in MIGRATED:
+        other = new_db(folder, VERSION_1_SQL, change)
+        checks.check(f"a migration with {name}", checks.migrate(other), (0, "migrated 3\n", ""))
+        checks.check("and a restore", checks.console(other, before=before), (0, text, ""))
 
 
 def makes(checks, folder):

@@ -47,8 +47,8 @@ def found(manifest):
 
 
 class BootstrapChecks(Checks):
-    def run(self, bsr, volumes):
-        words = [self.program, "check", "--bsr", bsr, "--volumes", volumes]
+    def run(self, bsr, volumes, *options):
+        words = [self.program, "check", "--bsr", bsr, "--volumes", volumes, *options]
         ran = subprocess.run(words, stdin=subprocess.DEVNULL, capture_output=True, text=True)
         return ran.returncode, ran.stdout, ran.stderr
 
@@ -63,6 +63,7 @@ def checks_cases(checks, folder):
         lines, total = found((case / "expected").read_text())
         expected = (1, "", refused) if refused else (1 if lines else 0, "".join(lines) + total, "")
         checks.check(case.name, checks.run(case / "x.bsr", volumes), expected)
+        checks.check("and its checksums", checks.run(case / "x.bsr", volumes, "--checksums"), expected)
         checks.check("and its volumes stay", {it.name: it.read_bytes() for it in volumes.iterdir()} == before, True)
 
 
@@ -141,6 +142,52 @@ def checks_flipped(checks, folder):
     checks.check("a block of another level", (status, out.splitlines()[0]), (1, f"volume 10 {NAME} 206"))
 
 
+def block_at(data, place):
+    """Returns the address of the block that contains a place, and the address after it."""
+    address = 0
+    while True:
+        end = address + int.from_bytes(data[address + 4 : address + 8], "big")
+        if place < end:
+            return address, end
+        address = end
+
+
+def checks_sums(checks, folder):
+    """Blocks of which one bit is another, with their checksums compared."""
+    case = Path(CASES) / "order-inc"
+    lines, total = found((case / "expected").read_text())
+    clean = "".join(lines) + total
+    volumes = new_volumes(folder)
+    whole = (volumes / NAME).read_bytes()
+    # A letter of a time in the attributes of a file, which nothing else compares.
+    place = whole.index(b"BrAiYS") + 1
+    address, end = block_at(whole, place)
+    unsigned = whole[:address] + bytes(4) + whole[address + 4 :]
+    differs = f"checksum {NAME} {address}\n{clean}"
+    for name, data, expected in [
+        ("a byte of a block with a checksum", flipped(whole, place), differs),
+        ("the last byte of the block", flipped(whole, end - 1), None),
+        ("the checksum itself", flipped(whole, address + 3), differs),
+        ("a block without a checksum", flipped(unsigned, place), clean),
+        ("the label, which the bootstrap does not ask for", flipped(whole, 200), clean),
+        ("a byte of each of two blocks", flipped(flipped(whole, place), len(whole) - 1), None),
+    ]:
+        (volumes / NAME).write_bytes(data)
+        status, out, _ = checks.run(case / "x.bsr", volumes, "--checksums")
+        if expected is None:
+            addresses = [block_at(whole, at)[0] for at in range(len(whole)) if data[at] != whole[at]]
+            told = [line for line in out.splitlines() if line.startswith("checksum ")]
+            checks.check(name, (status, told), (1, [f"checksum {NAME} {it}" for it in addresses]))
+        else:
+            checks.check(name, (status, out), (1 if expected != clean or lines else 0, expected))
+        plain = checks.run(case / "x.bsr", volumes)
+        checks.check("and no checksums are compared without --checksums", "checksum" in plain[1], False)
+    (volumes / NAME).write_bytes(flipped(whole, place)[:1700])
+    status, out, _ = checks.run(case / "x.bsr", volumes, "--checksums")
+    told = [line for line in out.splitlines() if line.split(" ")[0] in ("checksum", "volume")]
+    checks.check("a volume that ends within a later block", (status, told), (1, [f"volume 12 {NAME} 1656", f"checksum {NAME} {address}"]))
+
+
 def checks_mistakes(checks, folder):
     """What an operator may mistake for the bootstrap or its volumes."""
     bsr = Path(CASES) / "order-inc" / "x.bsr"
@@ -173,6 +220,7 @@ def main():
         checks_cases(checks, Path(folder))
         checks_spoilt(checks, Path(folder))
         checks_flipped(checks, Path(folder))
+        checks_sums(checks, Path(folder))
         checks_mistakes(checks, Path(folder))
     return 1 if checks.failed else 0
 

@@ -234,6 +234,8 @@ def ends(checks, folder):
     is_folded(checks, "migrate", old, JOBS + FILES, by_sqlite3(new_catalogue(folder), JOBS + FILES))
     checks.check("a second migration", checks.migrate(old), (1, "", "refused 47\n"))
     checks.look("the catalogue after both", old, SHOWN)
+    checks.check("serve on it", checks.serve(old, tempfile.mkdtemp(dir=folder), JOB), (0, b"stored 4\n", b""))
+    is_folded(checks, "serve on a migrated catalogue", old, "SELECT JobId FROM Job ORDER BY JobId;", "1\n2\n3\n4\n")
     old = new_catalogue(folder, VERSION_1_SQL)
     checks.check("serve on a catalogue of version 1", checks.serve(old, volumes, JOB), (1, b"", b"refused 48\n"))
     checks.look("which is refused so afterwards", old, (1, "", "refused 48\n"))

@@ -11,6 +11,7 @@ The status is 1 if something is not as expected.
 """
 
 import argparse
+import fcntl
 import os
 import pty
 import select
@@ -30,6 +31,8 @@ from explain import rows
 VOLUMES = os.path.join(SETS, "order")
 BOOTSTRAP = os.path.join(CASES, "order-inc", "x.bsr")
 SECONDS = 60
+PIPE_LEN = 4096
+CLEARED = "\r\x1b[K"
 PROMPT = "$ "
 GREETING = [
     "Mark files with `mark NAME`, or all with `mark *`. `ls` lists, `cd NAME` goes into a folder.",
@@ -85,6 +88,24 @@ def play(program, words, lines, folder):
         return status, shown.splitlines(), printed.read()
 
 
+def play_slowly(program, words, at_terminal=True):
+    """Runs the program with a pipe as standard output that takes nothing for two seconds. Standard error is a terminal, or a pipe.
+    Returns the exit status, what came on standard error, and standard output."""
+    errors, inner = pty.openpty() if at_terminal else os.pipe()
+    output, into = os.pipe()
+    fcntl.fcntl(into, fcntl.F_SETPIPE_SZ, PIPE_LEN)
+    os.write(into, b"x" * PIPE_LEN)
+    child = subprocess.Popen([program, *words], stdin=subprocess.DEVNULL, stdout=into, stderr=inner)
+    os.close(into)
+    os.close(inner)
+    time.sleep(2)
+    with open(output, "rb") as printed:
+        text = printed.read()[PIPE_LEN:].decode()
+    shown = read_until(errors, "", None, time.monotonic() + SECONDS)
+    os.close(errors)
+    return child.wait(), shown, text
+
+
 def console_words(db, into, client="peer-fd"):
     words = ["console", "--db", db, "--volumes", VOLUMES, "--client", client, "--fileset", "Peer", "--before", "2026-11-21 23:15:46"]
     return [*words, "--into", into]
@@ -137,6 +158,25 @@ def extracts(checks, folder):
     checks.check("a restore without a fault shows nothing", (status, shown), (0, []))
 
 
+def tells(checks, folder):
+    """The line that tells how far a restore is."""
+    into = [os.path.join(folder, f"told{number}") for number in range(3)]
+    for place in into:
+        os.mkdir(place)
+    with open(os.path.join(CASES, "order-inc", "expected")) as text:
+        manifest = text.read()
+    files = sum(line.startswith("F ") for line in manifest.splitlines())
+    words = ["extract", "--bsr", BOOTSTRAP, "--volumes", VOLUMES, "--into"]
+    status, shown, printed = play_slowly(checks.program, [*words, into[0]])
+    checks.check("a restore that takes its time", (status, printed), (0, manifest))
+    begun = f"\r0.0 MiB of 0.0 MiB read, 0 of {files} files put\x1b[K"
+    checks.check("is told", (shown[:len(begun)], shown[-len(CLEARED):]), (begun, CLEARED))
+    status, shown, printed = play_slowly(checks.program, [*words, into[1], "--quiet"])
+    checks.check("and not with --quiet", (status, shown, printed), (0, "", manifest))
+    status, shown, printed = play_slowly(checks.program, [*words, into[2]], at_terminal=False)
+    checks.check("and not without a terminal", (status, shown, printed), (0, "", manifest))
+
+
 def looks(checks, folder):
     """Checks of bootstraps: findings go to standard output, and a line that is refused is explained."""
     bsr = os.path.join(folder, "x.bsr")
@@ -162,7 +202,7 @@ def main():
     checks = Checks(os.path.abspath(options.program))
     folder = tempfile.mkdtemp(prefix="brestore-terminal-")
     try:
-        for plays in (restores, extracts, looks, waits):
+        for plays in (restores, extracts, tells, looks, waits):
             plays(checks, folder)
     finally:
         shutil.rmtree(folder)

@@ -139,6 +139,11 @@ number_read low high name f r none value = ap (option_and_then (number_in low hi
         number_found low high (λ bs n. ParsesUnsigned 64 10 bs n × ExplainsUnsignedError 10 bs n × HasUnsignedDigitsIfOk bs n) (λ u n h. h.0) text r
         (value text e)
 
+-- an option more
+pub one_added : (start last : Command) (one : Arg) (app : App) (r : Rule) → app_of start ≡ app → AddsArg start one last
+    → rule_of one ≡ r → one.global ≡ false → app_of last ≡ with_rule app r
+one_added start last one app r is adds one_is one_local = adds.shape one_local ∙ ap₂ with_rule is one_is
+
 -- two options more
 pub two_added : (start first last : Command) (one two : Arg) (app : App) (r s : Rule) → app_of start ≡ app → AddsArg start one first → AddsArg first two last
     → rule_of one ≡ r → one.global ≡ false → rule_of two ≡ s → two.global ≡ false

@@ -18,6 +18,12 @@ use Rattle.br_options.specs.declared.options.Copies.TheVariants as copies
 use Rattle.br_options.specs.declared.options.Gaps.{Gaps}
 use Rattle.br_options.specs.declared.options.Gaps.TheVariants as gaps
 use Rattle.br_options.specs.declared.options.Wanted.{Wanted}
+use Rattle.br_options.specs.declared.options.Checksums.{Checksums}
+use Rattle.br_options.specs.declared.options.Checksums.TheVariants as checksums
+use Rattle.br_options.specs.declared.options.Stops.{Stops}
+use Rattle.br_options.specs.declared.options.Stops.TheVariants as stops
+use Rattle.br_options.specs.declared.options.Progress.{Progress}
+use Rattle.br_options.specs.declared.options.Progress.TheVariants as progress
 use Rattle.br_options.specs.declared.options.Invocation.{Invocation}
 use Rattle.br_options.specs.declared.options.Invocation.TheVariants as commands
 use Rattle.br_options.specs.declared.options.Target.{Target}
@@ -31,16 +37,16 @@ pub data Goal : Type 0 where
   TarOutput : Goal
 
 -- a command of the program: a script, and the memory for data; a script, a catalogue's file, the folder of the volumes and the memory; a
--- bootstrap's file, the folder of the volumes, where the files go, the number of drives, the memory, and what else is done; a catalogue's
--- file, the folder of the volumes, client, file set and moment, where the files go, the number of drives and the memory; a bootstrap's
--- file and the folder of the volumes; a catalogue's file, and client, file set and moment of jobs, each if it is given; a catalogue's
--- file; a number; all numbers
+-- bootstrap's file, the folder of the volumes, where the files go, the number of drives, the memory, what else is done, and if progress is
+-- shown; a catalogue's file, the folder of the volumes, client, file set and moment, where the files go, the number of drives, the memory,
+-- and if progress is shown; a bootstrap's file, the folder of the volumes and what is done with checksums; a catalogue's file, and
+-- client, file set and moment of jobs, each if it is given; a catalogue's file; a number; all numbers
 pub data Asked : Type 0 where
   Serve : ℕ → Asked
   ServeFiles : Text → Text → ℕ → Asked
-  Extract : Text → Text → Goal → ℕ → ℕ → Wanted → Asked
-  Console : Text → Text → Text → Text → Text → Goal → ℕ → ℕ → Asked
-  Check : Text → Text → Asked
+  Extract : Text → Text → Goal → ℕ → ℕ → Wanted → Progress → Asked
+  Console : Text → Text → Text → Text → Text → Goal → ℕ → ℕ → Progress → Asked
+  Check : Text → Text → Checksums → Asked
   Jobs : Text → Option Text → Option Text → Option Text → Asked
   Migrate : Text → Asked
   Explain : ℕ → Asked
@@ -57,10 +63,10 @@ target targets.TarOutput = TarOutput
 abbrev pub asked : Invocation → Asked
 asked (commands.Serve memory) = Serve memory
 asked (commands.ServeFiles o) = ServeFiles o.db.now o.volumes.now o.memory
-asked (commands.Extract o) = Extract o.bsr.now o.volumes.now (target o.target) o.drives o.memory o.wanted
+asked (commands.Extract o) = Extract o.bsr.now o.volumes.now (target o.target) o.drives o.memory o.wanted o.progress
 asked (commands.Console o) =
-    Console o.db.now o.volumes.now o.client.now o.fileset.now o.before.now (target o.target) o.drives o.memory
-asked (commands.Check o) = Check o.bsr.now o.volumes.now
+    Console o.db.now o.volumes.now o.client.now o.fileset.now o.before.now (target o.target) o.drives o.memory o.progress
+asked (commands.Check o) = Check o.bsr.now o.volumes.now o.checksums
 asked (commands.Jobs o) = Jobs o.db.now (option_map (λ s. s.now) o.client) (option_map (λ s. s.now) o.fileset) (option_map (λ s. s.now) o.before)
 asked (commands.Migrate db) = Migrate db.now
 asked (commands.Explain number) = Explain number
@@ -96,13 +102,14 @@ with_target_rules app = with_rule (with_rule app (value_rule (codes "into") fals
 abbrev pub with_reading_rules : App → App
 with_reading_rules app = with_rule (with_rule app drives_rule) memory_rule
 
--- a command with `--into DIR`, `--tar FILE`, `--drives N` and `--memory SIZE`, which may be left out
+-- a command with `--into DIR`, `--tar FILE`, `--drives N`, `--memory SIZE` and `--quiet`, which may be left out
 abbrev pub with_run_rules : App → App
-with_run_rules app = with_reading_rules (with_target_rules app)
+with_run_rules app = with_rule (with_reading_rules (with_target_rules app)) (flag_rule (codes "quiet"))
 
--- a command with `--newest` and `--complete`, which may be left out
+-- a command with `--newest`, `--complete` and `--keep-going`, which may be left out
 abbrev pub with_wanted_rules : App → App
-with_wanted_rules app = with_rule (with_rule app (flag_rule (codes "newest"))) (flag_rule (codes "complete"))
+with_wanted_rules app =
+    with_rule (with_rule (with_rule app (flag_rule (codes "newest"))) (flag_rule (codes "complete"))) (flag_rule (codes "keep-going"))
 
 -- `extract --bsr FILE --volumes DIR`, and the options that may be left out
 unfoldable pub extract_app : App
@@ -148,9 +155,11 @@ jobs_start_app = with_rule (with_rule (new_app (codes "jobs")) (value_rule (code
 unfoldable pub jobs_app : App
 jobs_app = with_rule (with_rule jobs_start_app (value_rule (codes "fileset") false)) (value_rule (codes "before") false)
 
--- `check --bsr FILE --volumes DIR`
+-- `check --bsr FILE --volumes DIR` with `--checksums`, which may be left out
 unfoldable pub check_app : App
-check_app = with_rule (with_rule (new_app (codes "check")) (value_rule (codes "bsr") true)) (value_rule (codes "volumes") true)
+check_app =
+    with_rule (with_rule (with_rule (new_app (codes "check")) (value_rule (codes "bsr") true)) (value_rule (codes "volumes") true))
+    (flag_rule (codes "checksums"))
 
 -- the program with its version and the command `extract`
 unfoldable pub extracting_app : App
@@ -232,9 +241,33 @@ gaps_by is_complete = if is_complete then gaps.Reported else gaps.Unreported
 unfoldable pub gaps_asked : List Row → Gaps
 gaps_asked rows = gaps_by (is_given (codes "complete") rows)
 
+-- what the delivery does at a file that can't be put: with `--keep-going` it goes on
+abbrev pub stops_by : Bool → Stops
+stops_by goes_on = if goes_on then stops.Never else stops.AtFirst
+
+-- the same by the values that were found for the options
+unfoldable pub stops_asked : List Row → Stops
+stops_asked rows = stops_by (is_given (codes "keep-going") rows)
+
 -- what else `extract` does
 abbrev pub wanted_asked : List Row → Wanted
-wanted_asked rows = record { copies = copies_asked rows; gaps = gaps_asked rows }
+wanted_asked rows = record { copies = copies_asked rows; gaps = gaps_asked rows; stops = stops_asked rows }
+
+-- if a terminal is told how far a restore is: unless `--quiet` is given
+abbrev pub progress_by : Bool → Progress
+progress_by is_quiet = if is_quiet then progress.Quiet else progress.Shown
+
+-- the same by the values that were found for the options
+unfoldable pub progress_asked : List Row → Progress
+progress_asked rows = progress_by (is_given (codes "quiet") rows)
+
+-- what `check` does with checksums: with `--checksums` it compares them
+abbrev pub checksums_by : Bool → Checksums
+checksums_by is_compared = if is_compared then checksums.Compared else checksums.Passed
+
+-- the same by the values that were found for the options
+unfoldable pub checksums_asked : List Row → Checksums
+checksums_asked rows = checksums_by (is_given (codes "checksums") rows)
 
 -- the command `explain` by the value that was found, if any
 unfoldable pub explain_asked : List Row → Option Asked
@@ -247,7 +280,9 @@ unfoldable pub extract_asked : List Row → Option Asked
 extract_asked rows =
     option_and_then (λ bsr.
     option_and_then (λ volumes.
-    option_and_then (λ goal. option_and_then (λ drives. option_map (λ memory. Extract bsr volumes goal drives memory (wanted_asked rows)) (memory_asked rows)) (drives_asked rows))
+    option_and_then (λ goal.
+    option_and_then (λ drives. option_map (λ memory. Extract bsr volumes goal drives memory (wanted_asked rows) (progress_asked rows)) (memory_asked rows))
+    (drives_asked rows))
     (target_asked rows))
     (first_of (codes "volumes") rows))
     (first_of (codes "bsr") rows)
@@ -260,7 +295,10 @@ console_asked rows =
     option_and_then (λ client.
     option_and_then (λ fileset.
     option_and_then (λ before.
-    option_and_then (λ goal. option_and_then (λ drives. option_map (Console db volumes client fileset before goal drives) (memory_asked rows)) (drives_asked rows))
+    option_and_then (λ goal.
+    option_and_then (λ drives.
+    option_map (λ memory. Console db volumes client fileset before goal drives memory (progress_asked rows)) (memory_asked rows))
+    (drives_asked rows))
     (target_asked rows))
     (first_of (codes "before") rows))
     (first_of (codes "fileset") rows))
@@ -270,7 +308,9 @@ console_asked rows =
 
 -- the command `check` by the values that were found for its options
 unfoldable pub check_asked : List Row → Option Asked
-check_asked rows = option_and_then (λ bsr. option_map (Check bsr) (first_of (codes "volumes") rows)) (first_of (codes "bsr") rows)
+check_asked rows =
+    option_and_then (λ bsr. option_map (λ volumes. Check bsr volumes (checksums_asked rows)) (first_of (codes "volumes") rows))
+    (first_of (codes "bsr") rows)
 
 -- the command `jobs` by the values that were found for its options
 unfoldable pub jobs_asked : List Row → Option Asked

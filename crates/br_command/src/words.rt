@@ -5,21 +5,24 @@ ghost use Rattle.clap.specs.Words.{FailsBy, app_of, fault_of, found_of, rows_of,
 ghost use Rattle.clap.specs.declared.builder.command.Command.TheViews.{out-Command as fields_of};
 ghost use Rattle.br_options.specs.Options.{AreFew, HasDrives};
 ghost use Rattle.br_command.specs.Words.{copies_asked, copies_by, gaps_asked, gaps_by, is_given, wanted_asked};
-ghost use Rattle.br_command.specs.Words.{flag_rule, with_wanted_rules};
-ghost use Rattle.br_command.specs.Words.{is_no_size, memory_asked, memory_rule, with_reading_rules};
-ghost use Rattle.br_command.specs.Words.{AsksFor, MissesBy, asked, asked_by, words_asked, words_fault, words_kind, with_run_rules};
+ghost use Rattle.br_command.specs.Words.{checksums_asked, checksums_by, progress_asked, progress_by, stops_asked, stops_by};
+ghost use Rattle.br_command.specs.Words.{is_no_size, memory_asked};
+ghost use Rattle.br_command.specs.Words.{AsksFor, MissesBy, asked, asked_by, words_asked, words_fault, words_kind};
 ghost use Rattle.br_command.specs.Words.{console_asked, drives_asked, explain_asked, extract_asked, migrate_asked, number_asked, serve_asked, serve_by};
 ghost use Rattle.br_command.specs.Words.{target_asked};
-ghost use Rattle.br_command.specs.Words.{kind_by, kind_in, tar_target, target, target_by, with_target_rules};
+ghost use Rattle.br_command.specs.Words.{kind_by, kind_in, tar_target, target, target_by};
 ghost use Rattle.br_command.specs.Words.{check_app, check_asked, jobs_app, jobs_asked, jobs_start_app, listing_app};
 ghost use Rattle.br_command.specs.Words.{console_app, console_jobs_app, console_start_app, explain_app, extract_app};
-ghost use Rattle.br_command.specs.Words.{drives_rule, extracting_app, migrate_app, number_rule, program_app, restoring_app, serve_app, serving_app};
+ghost use Rattle.br_command.specs.Words.{extracting_app, migrate_app, number_rule, program_app, restoring_app, serve_app, serving_app};
 ghost use Rattle.br_command.specs.Words.{value_rule};
 
+use crate::options::{
+    checksums_option, memory_option, value_option, with_run_options, with_wanted_options,
+};
 use crate::size::read_size;
 use br_options::{
-    CheckOptions, ConsoleOptions, Copies, ExtractOptions, Gaps, Invocation, JobsOptions,
-    ServeOptions, Target, Wanted,
+    CheckOptions, Checksums, ConsoleOptions, Copies, ExtractOptions, Gaps, Invocation, JobsOptions,
+    Progress, ServeOptions, Stops, Target, Wanted,
 };
 use clap::builder::ValueParser;
 use clap::error::ErrorKind;
@@ -31,158 +34,6 @@ const DEFAULT_MEMORY: u64 = 1 << 30;
 
 /// The greatest number that `explain` takes.
 const GREATEST_NUMBER: u64 = 4_294_967_295;
-
-/// Returns an option `--name VALUE`, whose value may not be empty.
-fn value_option<'a>(
-    alloc: Global,
-    name: &'a str,
-    value: &'a str,
-    is_required: bool,
-    help: &'a str,
-) -> Arg<'a>
-    ensures rule { rule_of result ≡ value_rule name.entry.now is_required }
-    ensures local { result.global ≡ false }
-{
-    Arg::new(alloc, name)
-        .long(name)
-        .value_name(value)
-        .value_parser(ValueParser::NonEmptyString)
-        .action(ArgAction::Set)
-        .required(is_required)
-        .help(help)
-}
-
-/// Returns an option `--name` without a value.
-fn flag_option<'a>(alloc: Global, name: &'a str, help: &'a str) -> Arg<'a>
-    ensures rule { rule_of result ≡ flag_rule name.entry.now }
-    ensures local { result.global ≡ false }
-{
-    Arg::new(alloc, name)
-        .long(name)
-        .action(ArgAction::SetTrue)
-        .help(help)
-}
-
-/// Returns the option for the newest copies.
-fn newest_option<'a>(alloc: Global) -> Arg<'a>
-    ensures rule { rule_of result ≡ flag_rule (codes "newest") }
-    ensures local { result.global ≡ false }
-{
-    flag_option(
-        alloc,
-        "newest",
-        "Writes the newest copy alone of a path that comes several times",
-    )
-}
-
-/// Returns the option for the indexes that are missing.
-fn complete_option<'a>(alloc: Global) -> Arg<'a>
-    ensures rule { rule_of result ≡ flag_rule (codes "complete") }
-    ensures local { result.global ≡ false }
-{
-    flag_option(
-        alloc,
-        "complete",
-        "Reports the files that the bootstrap asks for and that are not there",
-    )
-}
-
-/// Returns the option for the folder to write into, which may be left out.
-fn into_option<'a>(alloc: Global) -> Arg<'a>
-    ensures rule { rule_of result ≡ value_rule (codes "into") false }
-    ensures local { result.global ≡ false }
-{
-    value_option(
-        alloc,
-        "into",
-        "DIR",
-        false,
-        "The empty folder to write the restored files into",
-    )
-}
-
-/// Returns the option for the file to write a tar stream into, which may be left out.
-fn tar_option<'a>(alloc: Global) -> Arg<'a>
-    ensures rule { rule_of result ≡ value_rule (codes "tar") false }
-    ensures local { result.global ≡ false }
-{
-    value_option(
-        alloc,
-        "tar",
-        "FILE",
-        false,
-        "The new file to write the restored files into as a tar stream, - for standard output",
-    )
-}
-
-/// Returns the option for the number of drives, which is 1 if it is left out.
-fn drives_option<'a>(alloc: Global) -> Arg<'a>
-    ensures rule { rule_of result ≡ drives_rule }
-    ensures local { result.global ≡ false }
-{
-    Arg::new(alloc, "drives")
-        .long("drives")
-        .value_name("N")
-        .value_parser(ValueParser::Unsigned(1, 16))
-        .action(ArgAction::Set)
-        .default_value("1")
-        .help("The number of drives that read the volumes at once, 1 to 16")
-}
-
-/// Returns the option for the memory for data, which is 1 GiB if it is left out.
-fn memory_option<'a>(alloc: Global) -> Arg<'a>
-    ensures rule { rule_of result ≡ memory_rule }
-    ensures local { result.global ≡ false }
-{
-    Arg::new(alloc, "memory")
-        .long("memory")
-        .value_name("SIZE")
-        .value_parser(ValueParser::NonEmptyString)
-        .action(ArgAction::Set)
-        .default_value("1G")
-        .help(
-            "The memory for data: bytes, or a number with K, M or G; what is beyond it is read again",
-        )
-}
-
-/// Returns the command with the two options for where the restored files go, `--into` and `--tar`.
-fn with_target_options<'a>(alloc: Global, command: Command<'a>) -> Result<Command<'a>, AllocError>
-    requires { (fields_of command).has_globals ≡ false }
-    ensures app { IfOk result (λ r. app_of r ≡ with_target_rules (app_of command.entry)) }
-    ensures local { IfOk result (λ r. (fields_of r).has_globals ≡ false) }
-{
-    command.arg(into_option(alloc))?.arg(tar_option(alloc))
-}
-
-/// Returns the command with the options for how volumes are read, `--drives` and `--memory`.
-fn with_reading_options<'a>(alloc: Global, command: Command<'a>) -> Result<Command<'a>, AllocError>
-    requires { (fields_of command).has_globals ≡ false }
-    ensures app { IfOk result (λ r. app_of r ≡ with_reading_rules (app_of command.entry)) }
-    ensures local { IfOk result (λ r. (fields_of r).has_globals ≡ false) }
-{
-    command.arg(drives_option(alloc))?.arg(memory_option(alloc))
-}
-
-/// Returns the command with the options of a restore that may be left out, `--into`, `--tar`, `--drives` and
-/// `--memory`.
-fn with_run_options<'a>(alloc: Global, command: Command<'a>) -> Result<Command<'a>, AllocError>
-    requires { (fields_of command).has_globals ≡ false }
-    ensures app { IfOk result (λ r. app_of r ≡ with_run_rules (app_of command.entry)) }
-    ensures local { IfOk result (λ r. (fields_of r).has_globals ≡ false) }
-{
-    with_reading_options(alloc, with_target_options(alloc, command)?)
-}
-
-/// Returns the command with the options for what else a restore does, `--newest` and `--complete`.
-fn with_wanted_options<'a>(alloc: Global, command: Command<'a>) -> Result<Command<'a>, AllocError>
-    requires { (fields_of command).has_globals ≡ false }
-    ensures app { IfOk result (λ r. app_of r ≡ with_wanted_rules (app_of command.entry)) }
-    ensures local { IfOk result (λ r. (fields_of r).has_globals ≡ false) }
-{
-    command
-        .arg(newest_option(alloc))?
-        .arg(complete_option(alloc))
-}
 
 /// Returns `extract` with its options.
 fn extract_command<'a>(alloc: Global) -> Result<Command<'a>, AllocError>
@@ -295,7 +146,8 @@ fn check_command<'a>(alloc: Global) -> Result<Command<'a>, AllocError>
     Command::new(alloc, "check")
         .about("Checks a bootstrap over its volumes, and restores nothing")
         .arg(value_option(alloc, "bsr", "FILE", true, "The file of the bootstrap"))?
-        .arg(value_option(alloc, "volumes", "DIR", true, "The folder of the volumes"))
+        .arg(value_option(alloc, "volumes", "DIR", true, "The folder of the volumes"))?
+        .arg(checksums_option(alloc))
 }
 
 /// Returns an option of `jobs` that may be left out.
@@ -483,6 +335,25 @@ fn gaps_of(found: &ArgMatches<'_>) -> Gaps
     gaps_by(is_found(found, "complete"))
 }
 
+/// Returns what the delivery does at a file that can't be put, by whether `--keep-going` was given.
+fn stops_by(goes_on: bool) -> Stops
+    ensures { result ≡ stops_by goes_on }
+{
+    if goes_on {
+        Stops::Never
+    } else {
+        Stops::AtFirst
+    }
+}
+
+/// Returns what the delivery does at a file that can't be put.
+#[tactic(auto, unfolding(crate::specs::Words::stops_asked))]
+fn stops_of(found: &ArgMatches<'_>) -> Stops
+    ensures { result ≡ stops_asked (rows_of (found_of found.now)) }
+{
+    stops_by(is_found(found, "keep-going"))
+}
+
 /// Returns what else the restore is to do.
 fn wanted_of(found: &ArgMatches<'_>) -> Wanted
     ensures { result ≡ wanted_asked (rows_of (found_of found.now)) }
@@ -490,7 +361,46 @@ fn wanted_of(found: &ArgMatches<'_>) -> Wanted
     Wanted {
         copies: copies_of(found),
         gaps: gaps_of(found),
+        stops: stops_of(found),
     }
+}
+
+/// Returns if a terminal is told how far the restore is, by whether `--quiet` was given.
+fn progress_by(is_quiet: bool) -> Progress
+    ensures { result ≡ progress_by is_quiet }
+{
+    if is_quiet {
+        Progress::Quiet
+    } else {
+        Progress::Shown
+    }
+}
+
+/// Returns if a terminal is told how far the restore is.
+#[tactic(auto, unfolding(crate::specs::Words::progress_asked))]
+fn progress_of(found: &ArgMatches<'_>) -> Progress
+    ensures { result ≡ progress_asked (rows_of (found_of found.now)) }
+{
+    progress_by(is_found(found, "quiet"))
+}
+
+/// Returns what a check does with checksums, by whether `--checksums` was given.
+fn checksums_by(is_compared: bool) -> Checksums
+    ensures { result ≡ checksums_by is_compared }
+{
+    if is_compared {
+        Checksums::Compared
+    } else {
+        Checksums::Passed
+    }
+}
+
+/// Returns what a check does with checksums.
+#[tactic(auto, unfolding(crate::specs::Words::checksums_asked))]
+fn checksums_of(found: &ArgMatches<'_>) -> Checksums
+    ensures { result ≡ checksums_asked (rows_of (found_of found.now)) }
+{
+    checksums_by(is_found(found, "checksums"))
 }
 
 /// Returns the number to explain that was found.
@@ -517,6 +427,7 @@ fn extract_found<'a>(found: &ArgMatches<'a>) -> Option<Invocation<'a>>
         drives: drives_of(found)?,
         memory: memory_of(found)?,
         wanted: wanted_of(found),
+        progress: progress_of(found),
     }))
 }
 
@@ -535,10 +446,11 @@ fn console_found<'a>(found: &ArgMatches<'a>) -> Option<Invocation<'a>>
         target: target_of(found)?,
         drives: drives_of(found)?,
         memory: memory_of(found)?,
+        progress: progress_of(found),
     }))
 }
 
-/// Returns `check` with the options that were found, if both were.
+/// Returns `check` with the options that were found, if all that are required were.
 #[tactic(auto, unfolding(crate::specs::Words::check_asked))]
 fn check_found<'a>(found: &ArgMatches<'a>) -> Option<Invocation<'a>>
     ensures asked { option_map asked result ≡ check_asked (rows_of (found_of found.now)) }
@@ -546,7 +458,12 @@ fn check_found<'a>(found: &ArgMatches<'a>) -> Option<Invocation<'a>>
 {
     let bsr = value_of(found, "bsr")?;
     let volumes = value_of(found, "volumes")?;
-    Some(Invocation::Check(CheckOptions { bsr, volumes }))
+    let checksums = checksums_of(found);
+    Some(Invocation::Check(CheckOptions {
+        bsr,
+        volumes,
+        checksums,
+    }))
 }
 
 /// Returns `jobs` with the options that were found, if all that are required were.
@@ -725,8 +642,9 @@ fn read_by<'a>(command: &mut Command<'a>, words: &'a [String]) -> Result<Invocat
 /// Reads the words of a command line, of which the first is the program's name.
 ///
 /// The commands are `extract --bsr FILE --volumes DIR`, `console --db FILE --volumes DIR --client NAME --fileset NAME
-/// --before MOMENT`, `check --bsr FILE --volumes DIR`, `jobs --db FILE [--client NAME] [--fileset NAME] [--before MOMENT]`, `migrate --db FILE`, `explain [N]`
-/// and `serve`. The first two also take `--into DIR` or `--tar FILE`, and `--drives N`; the first takes `--newest` and `--complete`;
+/// --before MOMENT`, `check --bsr FILE --volumes DIR [--checksums]`, `jobs --db FILE [--client NAME] [--fileset NAME] [--before MOMENT]`, `migrate --db FILE`, `explain [N]`
+/// and `serve`. The first two also take `--into DIR` or `--tar FILE`, `--drives N` and `--quiet`; the first takes `--newest`, `--complete` and
+/// `--keep-going`;
 /// the last takes `--db FILE` and `--volumes DIR`, both or neither. All that restore take `--memory SIZE`: bytes, or a number with K,
 /// M or G. No command is the same as `serve`.
 ///

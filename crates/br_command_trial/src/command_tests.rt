@@ -1,7 +1,7 @@
 use br_command::read_words;
 use br_options::{
-    CheckOptions, ConsoleOptions, Copies, ExtractOptions, Gaps, Invocation, JobsOptions,
-    ServeOptions, Target, Wanted,
+    CheckOptions, Checksums, ConsoleOptions, Copies, ExtractOptions, Gaps, Invocation, JobsOptions,
+    Progress, ServeOptions, Stops, Target, Wanted,
 };
 use clap::error::ErrorKind;
 use std::alloc::Global;
@@ -98,13 +98,16 @@ const EXTRACT: ExtractOptions<'static> = ExtractOptions {
     wanted: Wanted {
         copies: Copies::All,
         gaps: Gaps::Unreported,
+        stops: Stops::AtFirst,
     },
+    progress: Progress::Shown,
 };
 
 const EXTRACT_NEWEST: ExtractOptions<'static> = ExtractOptions {
     wanted: Wanted {
         copies: Copies::Newest,
         gaps: Gaps::Unreported,
+        stops: Stops::AtFirst,
     },
     ..EXTRACT
 };
@@ -113,6 +116,17 @@ const EXTRACT_COMPLETE: ExtractOptions<'static> = ExtractOptions {
     wanted: Wanted {
         copies: Copies::All,
         gaps: Gaps::Reported,
+        stops: Stops::AtFirst,
+    },
+    ..EXTRACT
+};
+
+const EXTRACT_GOING_ON: ExtractOptions<'static> = ExtractOptions {
+    target: Target::Folder("e"),
+    wanted: Wanted {
+        copies: Copies::All,
+        gaps: Gaps::Unreported,
+        stops: Stops::Never,
     },
     ..EXTRACT
 };
@@ -122,6 +136,7 @@ const EXTRACT_BOTH: ExtractOptions<'static> = ExtractOptions {
     wanted: Wanted {
         copies: Copies::Newest,
         gaps: Gaps::Reported,
+        stops: Stops::AtFirst,
     },
     ..EXTRACT
 };
@@ -145,10 +160,21 @@ const CONSOLE: ConsoleOptions<'static> = ConsoleOptions {
     target: Target::Nowhere,
     drives: 1,
     memory: 1_073_741_824,
+    progress: Progress::Shown,
 };
 
 const CONSOLE_INTO: ConsoleOptions<'static> = ConsoleOptions {
     target: Target::Folder("e"),
+    ..CONSOLE
+};
+
+const EXTRACT_QUIET: ExtractOptions<'static> = ExtractOptions {
+    progress: Progress::Quiet,
+    ..EXTRACT
+};
+
+const CONSOLE_QUIET: ConsoleOptions<'static> = ConsoleOptions {
+    progress: Progress::Quiet,
     ..CONSOLE
 };
 
@@ -195,6 +221,21 @@ const CONSOLE_LINES: [&str; 2] = [
 const CONSOLE_INTO_LINES: [&str; 2] = [
     "brestore console --db j.db --volumes d --client mars --fileset home --before 2026-11-22 --into e",
     "brestore console --into=e --before=2026-11-22 --fileset=home --client=mars --volumes=d --db=j.db",
+];
+
+const EXTRACT_GOING_ON_LINES: [&str; 2] = [
+    "brestore extract --bsr x.bsr --volumes sets/V --into e --keep-going",
+    "brestore extract --keep-going --into=e --volumes=sets/V --bsr=x.bsr",
+];
+
+const EXTRACT_QUIET_LINES: [&str; 2] = [
+    "brestore extract --bsr x.bsr --volumes sets/V --quiet",
+    "brestore extract --quiet --volumes=sets/V --bsr=x.bsr",
+];
+
+const CONSOLE_QUIET_LINES: [&str; 2] = [
+    "brestore console --db j.db --volumes d --client mars --fileset home --before 2026-11-22 --quiet",
+    "brestore console --quiet --before=2026-11-22 --fileset=home --client=mars --volumes=d --db=j.db",
 ];
 
 const CONSOLE_TAR_LINES: [&str; 2] = [
@@ -257,12 +298,23 @@ fn a_check_is_asked_for(rt: HostRuntime) -> Result<(), Fail> {
         "brestore check --bsr x.bsr --volumes sets/V",
         "brestore check --volumes=sets/V --bsr=x.bsr",
     ];
-    let check = Invocation::Check(CheckOptions {
+    let compared = [
+        "brestore check --bsr x.bsr --volumes sets/V --checksums",
+        "brestore check --checksums --volumes=sets/V --bsr=x.bsr",
+    ];
+    let check = CheckOptions {
         bsr: "x.bsr",
         volumes: "sets/V",
-    });
-    let other = first_other(rt.alloc(), &lines, &check)?;
+        checksums: Checksums::Passed,
+    };
+    let whole = CheckOptions {
+        checksums: Checksums::Compared,
+        ..check
+    };
+    let other = first_other(rt.alloc(), &lines, &Invocation::Check(check))?;
+    let other_whole = first_other(rt.alloc(), &compared, &Invocation::Check(whole))?;
     assert_eq!(rt; other, None);
+    assert_eq!(rt; other_whole, None);
     Ok(())
 }
 
@@ -363,6 +415,34 @@ fn newest_copies_and_reports_are_asked_for(rt: HostRuntime) -> Result<(), Fail> 
     assert_eq!(rt; newest, None);
     assert_eq!(rt; complete, None);
     assert_eq!(rt; both, None);
+    Ok(())
+}
+
+#[test]
+fn quiet_restores_are_asked_for(rt: HostRuntime) -> Result<(), Fail> {
+    let extract = first_other(
+        rt.alloc(),
+        &EXTRACT_QUIET_LINES,
+        &Invocation::Extract(EXTRACT_QUIET),
+    )?;
+    let console = first_other(
+        rt.alloc(),
+        &CONSOLE_QUIET_LINES,
+        &Invocation::Console(CONSOLE_QUIET),
+    )?;
+    assert_eq!(rt; extract, None);
+    assert_eq!(rt; console, None);
+    Ok(())
+}
+
+#[test]
+fn deliveries_that_go_on_are_asked_for(rt: HostRuntime) -> Result<(), Fail> {
+    let going_on = first_other(
+        rt.alloc(),
+        &EXTRACT_GOING_ON_LINES,
+        &Invocation::Extract(EXTRACT_GOING_ON),
+    )?;
+    assert_eq!(rt; going_on, None);
     Ok(())
 }
 
@@ -468,7 +548,7 @@ fn drives_are_named_once_and_if_volumes_are_read(rt: HostRuntime) -> Result<(), 
     Ok(())
 }
 
-const REFUSED: [&str; 45] = [
+const REFUSED: [&str; 52] = [
     "brestore x",
     "brestore --bsr x",
     "brestore serve x",
@@ -502,6 +582,13 @@ const REFUSED: [&str; 45] = [
     "brestore check --bsr x",
     "brestore check --volumes d",
     "brestore check --bsr x --volumes d --into e",
+    "brestore check --bsr x --volumes d --checksums=true",
+    "brestore check --bsr x --volumes d --quiet",
+    "brestore extract --bsr x --volumes d --quiet --quiet",
+    "brestore extract --bsr x --volumes d --into e --keep-going=true",
+    "brestore check --bsr x --volumes d --keep-going",
+    "brestore console --db j --volumes d --client c --fileset f --before b --into e --keep-going",
+    "brestore serve --quiet",
     "brestore jobs",
     "brestore jobs --client mars",
     "brestore jobs j.db",

@@ -4,15 +4,17 @@ ghost use Rattle.std.specs.Io.KnownBytes.{Appends};
 ghost use Rattle.br_check.specs.Check.{checked_text};
 ghost use Rattle.br_engine.specs.Fault.{IsFree};
 ghost use Rattle.br_volume.specs.Drive.{OnlyGrows};
-ghost use Rattle.br_commands.specs.Checking.{ChecksTask, checked_status, run_refusal, run_status};
+ghost use Rattle.br_model.specs.Meaning.{pieces_of};
+ghost use Rattle.br_commands.specs.Checking.{ChecksFor, ChecksTask, HasSums, checked_status, run_refusal, run_status};
 
 use crate::extract::{BootstrapFile, ExtractStartFault, refuse, report_stream};
 use crate::status::{BAD_STREAM, Ending};
-use br_bsr::read_bootstrap;
+use br_bsr::{Bootstrap, read_bootstrap};
 use br_check::{Checked, check};
+use br_checksums::push_checksums;
 use br_engine::{ExtractFault, Flush, show};
 use br_folder::FolderDrive;
-use br_options::CheckOptions;
+use br_options::{CheckOptions, Checksums};
 use br_setup::{CLEAN, HostDrive, REFUSED};
 use br_volume::Drive;
 use std::alloc::{AllocError, Global};
@@ -41,11 +43,53 @@ fn show_checked<W: Flush>(
     Ok(())
 }
 
-/// The bootstrap to check, and the drive to read its volumes by.
+/// Returns what was found, and the lines of the blocks whose checksums differ.
+fn with_checksums<D: Drive>(
+    alloc: Global,
+    checked: Checked,
+    bootstrap: &Bootstrap,
+    drive: &mut D,
+) -> Result<Checked, AllocError>
+    ensures sums { IfOk result (HasSums D.shows D.failures drive.old drive.new (pieces_of bootstrap.now) checked) }
+    ensures grows { OnlyGrows (D.shows drive.old) (D.shows drive.new) }
+{
+    let Checked {
+        mut findings,
+        files,
+        bytes,
+    } = checked;
+    push_checksums(alloc, &mut findings, bootstrap, drive)?;
+    Ok(Checked {
+        findings,
+        files,
+        bytes,
+    })
+}
+
+/// Checks a bootstrap over the volumes of a drive, and the checksums of its blocks if they are to be
+/// compared.
+fn checked_for<D: Drive>(
+    alloc: Global,
+    bootstrap: &Bootstrap,
+    drive: &mut D,
+    checksums: Checksums,
+) -> Result<Checked, AllocError>
+    ensures checked { IfOk result (ChecksFor D.shows D.failures drive.old drive.new bootstrap.now checksums) }
+    ensures grows { OnlyGrows (D.shows drive.old) (D.shows drive.new) }
+{
+    let checked = check(alloc, bootstrap, drive)?;
+    match checksums {
+        Checksums::Passed => Ok(checked),
+        Checksums::Compared => with_checksums(alloc, checked, bootstrap, drive),
+    }
+}
+
+/// The bootstrap to check, the drive to read its volumes by, and what to do with the checksums of blocks.
 #[derive(Drop)]
 pub struct CheckTask<'p, D> {
     bootstrap: BootstrapFile<'p>,
     drive: D,
+    checksums: Checksums,
 }
 
 /// Reads the bootstrap, and makes the drive over the folder of the volumes.
@@ -55,10 +99,15 @@ pub fn set_up_check<'r, 'p>(
 ) -> Result<CheckTask<'p, HostDrive<'r>>, ExtractStartFault>
     ensures bootstrap { IfOk result (λ task. task.bootstrap.path.now ≡ given.now.bsr.now) }
     ensures volumes { IfOk result (λ task. task.drive.path ≡ given.now.volumes.now) }
+    ensures checksums { IfOk result (λ task. task.checksums ≡ given.now.checksums) }
 {
     let bootstrap = BootstrapFile::read(rt, given.bsr)?;
     let drive = FolderDrive::new(rt.alloc(), rt, given.volumes)?;
-    Ok(CheckTask { bootstrap, drive })
+    Ok(CheckTask {
+        bootstrap,
+        drive,
+        checksums: given.checksums,
+    })
 }
 
 /// Carries out a task: checks the bootstrap over the volumes of the drive, and writes a line for each finding,
@@ -78,7 +127,7 @@ pub fn check_over<D: Drive, W: Flush>(
     ensures flushed { OnOk result (W.is_flushed writer.new) }
 {
     let bootstrap = read_bootstrap(alloc, task.bootstrap.text())?;
-    let checked = check(alloc, &bootstrap, &mut task.drive)?;
+    let checked = checked_for(alloc, &bootstrap, &mut task.drive, task.checksums)?;
     show_checked(alloc, writer, &checked)?;
     Ok(status_of(&checked))
 }

@@ -1,5 +1,5 @@
 //! The command `console`.
-ghost use Rattle.std.specs.Prelude.{◌≡◌, ◌++◌, length, not, option_map, None, Some, Ok, IfOk, IfSome, IsSome, OnOk};
+ghost use Rattle.std.specs.Prelude.{◌≡◌, ◌++◌, is_some, length, not, option_map, None, Some, Ok, IfOk, IfSome, IsSome, OnOk};
 ghost use Rattle.br_model.specs.Answer.{Answers};
 ghost use Rattle.br_options.specs.Options.{AreFew};
 ghost use Rattle.br_pool.specs.Pool.{AreDrives};
@@ -15,6 +15,7 @@ ghost use Rattle.br_commands.specs.declared.console.ConsoleStartFault.TheVariant
 use crate::folders::{HostSink, folder_of, sink_over};
 use crate::status::{BAD_STREAM, Ending};
 use crate::tar::{Channel, Extent, TarEnd, TarFault, add_tar_end, end_stream, tar_into, tar_onto};
+use crate::watching::{gauge_of, watched_drives, watched_sink, watched_writer};
 use br_console::{ConsoleFault, ConsoleRun, End, JobSelection, Lines, run_console};
 use br_engine::{Budget, Flush, Outputs, RestoreEnd};
 use br_folder_sink::FolderFault;
@@ -22,6 +23,7 @@ use br_history::History;
 use br_listing::tell_chosen;
 use br_options::{ConsoleOptions, Target};
 use br_plan::Request;
+use br_progress::{Gauge, WatchedDrive, WatchedSink, WatchedWriter};
 use br_request::{RequestFault, read_request};
 use br_setup::{
     CLEAN, Catalogue, CatalogueFault, HostDrive, REFUSED, drives_over, refuse_start, with_prompt,
@@ -300,6 +302,64 @@ impl<'r, S> ConsoleSetup<'r, S> {
     }
 }
 
+impl<D: Drop, W: Drop, S: Drop> ConsoleTask<D, W, S> {
+    /// Returns the task over drives and a writer that are watched.
+    fn watched<'g, 'r>(
+        self,
+        alloc: Global,
+        gauge: &'g Gauge<'r>,
+    ) -> Result<ConsoleTask<WatchedDrive<'g, 'r, D>, WatchedWriter<'g, 'r, W>, S>, AllocError>
+        ensures history { IfOk result (λ task. task.history ≡ self.history) }
+        ensures request { IfOk result (λ task. task.request ≡ self.request) }
+        ensures memory { IfOk result (λ task. task.memory ≡ self.memory) }
+        ensures many { IfOk result (λ task. length task.drives.items ≡ length self.drives.items) }
+        ensures sink { IfOk result (λ task. task.out.sink ≡ self.out.sink) }
+    {
+        let ConsoleTask {
+            history,
+            request,
+            memory,
+            drives,
+            out,
+        } = self;
+        let drives = watched_drives(alloc, drives, gauge)?;
+        Ok(ConsoleTask {
+            history,
+            request,
+            memory,
+            drives,
+            out: watched_writer(out, gauge),
+        })
+    }
+
+    /// Returns the task over a sink that is watched.
+    fn with_watched_sink<'g, 'r>(
+        self,
+        gauge: &'g Gauge<'r>,
+    ) -> ConsoleTask<D, W, WatchedSink<'g, 'r, S>>
+        ensures history { result.history ≡ self.history }
+        ensures request { result.request ≡ self.request }
+        ensures memory { result.memory ≡ self.memory }
+        ensures drives { result.drives ≡ self.drives }
+        ensures sink { is_some result.out.sink ≡ is_some self.out.sink }
+    {
+        let ConsoleTask {
+            history,
+            request,
+            memory,
+            drives,
+            out,
+        } = self;
+        ConsoleTask {
+            history,
+            request,
+            memory,
+            drives,
+            out: watched_sink(out, gauge),
+        }
+    }
+}
+
 /// Carries out a task by the lines of a reader. The answers, the bootstrap and the manifest go to its
 /// writer, and then the files into its sink, if there is one.
 pub fn console_over<R: BufRead + Drop, D: Drive + Send, W: Flush + Drop, S: Sink>(
@@ -410,9 +470,12 @@ fn restore_into<C: Catalogue, R: BufRead + Drop>(
         Err(fault) => return refuse_start(rt, fault.number()),
     };
     tell_chosen(rt, &setup.history, &setup.request)?;
+    let gauge = gauge_of(rt, given.progress);
     let writer = BufWriter::new(rt.alloc(), io::writer(rt))?;
-    let mut task = setup.onto(writer);
+    let watched = setup.onto(writer).watched(rt.alloc(), &gauge)?;
+    let mut task = watched.with_watched_sink(&gauge);
     let run = console_over(threads, rt.alloc(), &mut task, reader);
+    gauge.clear();
     report(rt, run)
 }
 
@@ -470,9 +533,11 @@ fn restore_onto<R: BufRead + Drop, T: Channel + Drop, W: Channel + Drop>(
     requires apart { W.is_output ≡ not T.is_output }
 {
     tell_chosen(rt, &setup.history, &setup.request)?;
+    let gauge = gauge_of(rt, given.progress);
     let writer = BufWriter::new(rt.alloc(), answers)?;
-    let mut task = setup.onto(writer);
+    let mut task = setup.onto(writer).watched(rt.alloc(), &gauge)?;
     let stream = console_stream(threads, rt.alloc(), &mut task, reader);
+    gauge.clear();
     report_tar(rt, stream.run, stream.end)
 }
 

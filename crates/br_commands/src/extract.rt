@@ -1,23 +1,27 @@
 //! The command `extract`.
-ghost use Rattle.std.specs.Prelude.{◌≡◌, length, not, option_map, None, Some, IfOk, IfSome, IsSome};
+ghost use Rattle.std.specs.Prelude.{◌≡◌, is_some, length, not, option_map, None, Some, IfOk, IfSome, IsSome};
 ghost use Rattle.br_options.specs.Options.{AreFew};
 ghost use Rattle.br_pool.specs.Pool.{AreDrives};
 ghost use Rattle.br_setup.specs.Setup.{AreOver};
 ghost use Rattle.br_commands.specs.Asked.{folder_asked, stream_asked};
-ghost use Rattle.br_commands.specs.Ending.{done_status, extent, run_refusal, run_status};
+ghost use Rattle.br_commands.specs.Ending.{done_status, extent, failed_paths, is_whole, run_refusal, run_status};
 ghost use Rattle.br_commands.specs.TarEnding.{IsShown};
 ghost use Rattle.br_commands.specs.Tasks.{ExtractsTask, StreamsTask};
 
-use crate::folders::{HostSink, folder_of, sink_over};
+use crate::folders::{LeavingSink, folder_of, leaving_over};
 use crate::status::{BAD_STREAM, Ending};
 use crate::tar::{Channel, Extent, TarEnd, TarFault, add_tar_end, end_stream, tar_into, tar_onto};
+use crate::watching::{expect_volumes, gauge_of, watched_drives, watched_sink, watched_writer};
 use br_engine::{Budget, ExtractFault, Flush, Outputs, RestoreEnd, read_text};
 use br_extract::{Extracted, extract_wanted};
 use br_folder_sink::FolderFault;
+use br_leaving::Leaving;
 use br_options::{ExtractOptions, Target, Wanted};
+use br_progress::{Gauge, WatchedDrive, WatchedSink, WatchedWriter};
 use br_setup::{CLEAN, HostDrive, REFUSED, drives_over, refuse_start};
 use br_sink::Sink;
 use br_tar::TarSink;
+use br_types::Path;
 use br_volume::Drive;
 use std::alloc::{AllocError, Global};
 use std::fs::File;
@@ -27,29 +31,38 @@ use std::sync::Wait;
 use std::thread::Threads;
 use thiserror::Error;
 
+/// Returns if nothing is reported as missing, and no file is left out.
+fn is_whole(done: &Extracted, failed: &[Path]) -> bool
+    ensures { result ≡ is_whole done.now failed.now }
+{
+    done.missing.is_empty() && done.left.is_empty() && failed.is_empty()
+}
+
 /// Returns the exit status of a restore that wrote its manifest.
-fn status_of(done: &Extracted) -> u8
-    ensures { result ≡ done_status done.now }
+fn status_of(done: &Extracted, failed: &[Path]) -> u8
+    ensures { result ≡ done_status done.now failed.now }
 {
     match done.end {
-        RestoreEnd::AllFiles if done.missing.is_empty() => CLEAN,
+        RestoreEnd::AllFiles if is_whole(done, failed) => CLEAN,
         _ => REFUSED,
     }
 }
 
-/// Returns the exit status and the lines of what is missing or was refused for this result.
+/// Returns the exit status and the lines of what is missing, left out or refused for this result. The sink
+/// failed at the files with the paths `failed`, which are left out.
 pub fn extract_ending(
     alloc: Global,
     run: &Result<Extracted, ExtractFault>,
+    failed: &[Path],
 ) -> Result<Ending, AllocError>
-    ensures status { IfOk result (λ ending. ending.status ≡ run_status run.now) }
-    ensures refusal { IfOk result (λ ending. ending.refusal.items ≡ run_refusal run.now) }
+    ensures status { IfOk result (λ ending. ending.status ≡ run_status run.now failed.now) }
+    ensures refusal { IfOk result (λ ending. ending.refusal.items ≡ run_refusal run.now failed.now) }
 {
     let mut refusal = Vec::new(alloc);
     let status = match run {
         Ok(done) => {
-            done.push_lines(&mut refusal)?;
-            status_of(done)
+            done.push_lines(failed, &mut refusal)?;
+            status_of(done, failed)
         }
         Err(ExtractFault::Io(_) | ExtractFault::NoEnd(_)) => BAD_STREAM,
         Err(fault) => {
@@ -76,8 +89,12 @@ pub(crate) fn report_stream<R: Eprint>(rt: &R, fault: &ExtractFault) -> io::Resu
 }
 
 /// Prints how a run ended to standard error. Returns the exit status.
-fn report(rt: &HostRuntime, run: Result<Extracted, ExtractFault>) -> io::Result<u8> {
-    let ending = extract_ending(rt.alloc(), &run)?;
+fn report(
+    rt: &HostRuntime,
+    run: Result<Extracted, ExtractFault>,
+    failed: &[Path],
+) -> io::Result<u8> {
+    let ending = extract_ending(rt.alloc(), &run, failed)?;
     if let Err(fault) = &run {
         report_stream(rt, fault)?;
     }
@@ -172,15 +189,16 @@ pub struct ExtractSetup<'r, 'p, S> {
 pub fn set_up_extract<'r, 'p>(
     rt: &'r HostRuntime,
     given: &ExtractOptions<'p>,
-) -> Result<ExtractSetup<'r, 'p, HostSink<'r>>, ExtractStartFault>
+) -> Result<ExtractSetup<'r, 'p, LeavingSink<'r>>, ExtractStartFault>
     ensures bootstrap { IfOk result (λ setup. setup.bootstrap.path.now ≡ given.now.bsr.now) }
     ensures wanted { IfOk result (λ setup. setup.wanted ≡ given.now.wanted) }
     ensures memory { IfOk result (λ setup. setup.memory ≡ given.now.memory) }
-    ensures into { IfOk result (λ setup. option_map (λ s. s.path) setup.sink ≡ folder_asked given.now.target) }
+    ensures into { IfOk result (λ setup. option_map (λ s. s.inner.path) setup.sink ≡ folder_asked given.now.target) }
+    ensures stops { IfOk result (λ setup. IfSome setup.sink (λ s. s.stops ≡ given.now.wanted.stops)) }
     ensures drives { IfOk result (λ setup. length setup.drives.items ≡ given.now.drives) }
     ensures volumes { IfOk result (λ setup. AreOver given.now.volumes.now setup.drives.items) }
 {
-    let sink = sink_over(rt, folder_of(given.target))?;
+    let sink = leaving_over(rt, given.wanted.stops, folder_of(given.target))?;
     set_up_over(rt, given, sink)
 }
 
@@ -262,6 +280,88 @@ impl<'r, S> ExtractSetup<'r, '_, S> {
     }
 }
 
+impl<D, W, S: Sink + Drop> ExtractTask<D, W, Leaving<S>> {
+    /// Returns the paths of the files that the sink failed at and left out, if there is a sink.
+    pub fn left_out(&self) -> &[Path]
+        ensures { result.now ≡ failed_paths self.now.out.sink }
+    {
+        match &self.out.sink {
+            Some(sink) => sink.left_out(),
+            None => &[],
+        }
+    }
+}
+
+impl<D: Drop, W: Drop, S: Drop> ExtractTask<D, W, S> {
+    /// Returns the task over drives and a writer that are watched.
+    fn watched<'g, 'r>(
+        self,
+        alloc: Global,
+        gauge: &'g Gauge<'r>,
+    ) -> Result<ExtractTask<WatchedDrive<'g, 'r, D>, WatchedWriter<'g, 'r, W>, S>, AllocError>
+        ensures text { IfOk result (λ task. task.text ≡ self.text) }
+        ensures wanted { IfOk result (λ task. task.wanted ≡ self.wanted) }
+        ensures memory { IfOk result (λ task. task.memory ≡ self.memory) }
+        ensures many { IfOk result (λ task. length task.drives.items ≡ length self.drives.items) }
+        ensures sink { IfOk result (λ task. task.out.sink ≡ self.out.sink) }
+    {
+        let ExtractTask {
+            text,
+            wanted,
+            memory,
+            drives,
+            out,
+        } = self;
+        let drives = watched_drives(alloc, drives, gauge)?;
+        Ok(ExtractTask {
+            text,
+            wanted,
+            memory,
+            drives,
+            out: watched_writer(out, gauge),
+        })
+    }
+
+    /// Returns the task over a sink that is watched.
+    fn with_watched_sink<'g, 'r>(
+        self,
+        gauge: &'g Gauge<'r>,
+    ) -> ExtractTask<D, W, WatchedSink<'g, 'r, S>>
+        ensures text { result.text ≡ self.text }
+        ensures wanted { result.wanted ≡ self.wanted }
+        ensures memory { result.memory ≡ self.memory }
+        ensures drives { result.drives ≡ self.drives }
+        ensures sink { is_some result.out.sink ≡ is_some self.out.sink }
+    {
+        let ExtractTask {
+            text,
+            wanted,
+            memory,
+            drives,
+            out,
+        } = self;
+        ExtractTask {
+            text,
+            wanted,
+            memory,
+            drives,
+            out: watched_sink(out, gauge),
+        }
+    }
+}
+
+impl<D, W, S: Sink + Drop> ExtractTask<D, W, WatchedSink<'_, '_, Leaving<S>>> {
+    /// Returns the paths of the files that the watched sink failed at and left out, if there is a sink.
+    fn watched_left_out(&self) -> &[Path]
+        ensures { result.now ≡ failed_paths (option_map (λ s. s.inner) self.now.out.sink) }
+    {
+        match &self.out.sink {
+            Some(sink) => sink.inner.left_out(),
+            None => &[],
+        }
+    }
+}
+
 /// Carries out a task. The manifest goes to its writer, and then the files that are wanted into its sink,
 /// if there is one.
 pub fn extract_over<D: Drive + Send, W: Flush, S: Sink>(
@@ -336,7 +436,7 @@ fn report_tar(
     run: Result<Extracted, ExtractFault>,
     end: TarEnd,
 ) -> io::Result<u8> {
-    let mut ending = extract_ending(rt.alloc(), &run)?;
+    let mut ending = extract_ending(rt.alloc(), &run, &[])?;
     add_tar_end(&mut ending, end)?;
     if let Err(fault) = &run {
         report_stream(rt, fault)?;
@@ -353,14 +453,18 @@ fn extract_into(
     requires few { AreFew given.now.drives }
     requires asked { stream_asked given.now.target ≡ None }
 {
+    let gauge = gauge_of(rt, given.progress);
     let setup = match set_up_extract(rt, given) {
         Ok(setup) => setup,
         Err(fault) => return refuse(rt, given.bsr, fault),
     };
+    expect_volumes(rt, &gauge, given.volumes, setup.bootstrap.text());
     let writer = BufWriter::new(rt.alloc(), io::writer(rt))?;
-    let mut task = setup.onto(writer);
+    let watched = setup.onto(writer).watched(rt.alloc(), &gauge)?;
+    let mut task = watched.with_watched_sink(&gauge);
     let run = extract_over(threads, rt.alloc(), &mut task);
-    report(rt, run)
+    gauge.clear();
+    report(rt, run, task.watched_left_out())
 }
 
 /// Restores into the tar stream of a sink, with the manifest to this writer: standard output, or something
@@ -376,13 +480,16 @@ fn extract_onto<T: Channel + Drop, W: Channel + Drop>(
     requires asked { stream_asked given.now.target ≡ Some T.is_output }
     requires apart { W.is_output ≡ not T.is_output }
 {
+    let gauge = gauge_of(rt, given.progress);
     let setup = match set_up_over(rt, given, Some(sink)) {
         Ok(setup) => setup,
         Err(fault) => return refuse(rt, given.bsr, fault),
     };
+    expect_volumes(rt, &gauge, given.volumes, setup.bootstrap.text());
     let writer = BufWriter::new(rt.alloc(), manifest)?;
-    let mut task = setup.onto(writer);
+    let mut task = setup.onto(writer).watched(rt.alloc(), &gauge)?;
     let stream = extract_stream(threads, rt.alloc(), &mut task);
+    gauge.clear();
     report_tar(rt, stream.run, stream.end)
 }
 
@@ -395,7 +502,7 @@ fn extract_onto<T: Channel + Drop, W: Channel + Drop>(
 /// anything is read. The manifest is printed before any file is put.
 ///
 /// Returns the exit status: 0 if nothing was refused and each outcome is a file; 1 if something was
-/// refused or is reported as missing, or some outcome is not a file; 3 if the bootstrap could not be read or the manifest could not
+/// refused, left out or is reported as missing, or some outcome is not a file; 3 if the bootstrap could not be read or the manifest could not
 /// be written.
 ///
 /// # Errors

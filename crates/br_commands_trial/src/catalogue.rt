@@ -81,12 +81,11 @@ pub(crate) struct OneCatalogue<'c> {
     pub(crate) closing: Result<(), CatalogueFault>,
 }
 
-/// The catalogue with the job, open. It counts the jobs that are added to it, and keeps none.
+/// The catalogue with the job, open. It keeps no job that is added to it.
 #[derive(Drop)]
 pub(crate) struct OneJob<'c> {
     alloc: Global,
     second: &'c [u8],
-    pub(crate) added: usize,
 }
 
 impl JobStore for OneJob<'_> {
@@ -99,7 +98,6 @@ impl JobStore for OneJob<'_> {
     ghost loads = { λ _ _ _. ⊤ };
 
     fn insert_job(&mut self, _rows: &JobRows) -> Result<(), JobStoreFault> {
-        self.added = self.added.saturating_add(1);
         Ok(())
     }
 
@@ -128,7 +126,6 @@ impl<'c> Catalogue for OneCatalogue<'c> {
         Ok(OneJob {
             alloc: self.alloc,
             second: self.second,
-            added: 0,
         })
     }
 

@@ -1,345 +1,165 @@
-//! The command `console`: what it refuses before a line is read, and what it delivers.
+//! The command `console`: what it delivers, and what it refuses before a line is read.
 ghost use Rattle.std.specs.Prelude.{◌≡◌};
 ghost use Rattle.br_options.specs.Options.{AreFew, HasDrives};
 
 use crate::catalogue::OneCatalogue;
-use crate::places::{BACK, FRONT, are_there, entries_in, new_place, path_in};
-use crate::serving::Clogged;
-use br_commands::{
-    Ending, console_ending, console_over, restore_by_lines, run_command, set_up_console,
-};
-use br_history::History;
-use br_options::{ConsoleOptions, Invocation, Target};
-use br_script::Forgetful;
-use br_setup::{Catalogue, CatalogueFault};
+use crate::places::{BACK, FRONT, Outcome, are_there, entries_in, new_place, note, path_in};
+use br_commands::{restore_by_lines, run_command, set_up_console};
+use br_options::{ConsoleOptions, Invocation, Progress, Target};
 use std::fs;
-use std::io::Write;
 use std::sync::Wait;
 use std::test::Fail;
 use std::thread::Threads;
 
-/// The second after the job began.
-const AFTER: &str = "2106-02-07 06:28:18";
-
-/// Returns the options that ask for what the job saved.
-fn given_of<'x>(db: &'x str, volumes: &'x str, into: &'x str) -> ConsoleOptions<'x>
+/// Returns the options that ask for what a client saved before a moment.
+fn given_of<'x>(
+    db: &'x str,
+    volumes: &'x str,
+    client: &'x str,
+    before: &'x str,
+    target: Target<'x>,
+) -> ConsoleOptions<'x>
     ensures drives { result.drives ≡ 2 }
     ensures few { AreFew result.drives }
 {
     ConsoleOptions {
         db,
         volumes,
-        client: "mars",
+        client,
         fileset: "home",
-        before: AFTER,
-        target: Target::Folder(into),
+        before,
+        target,
         drives: 2,
         memory: u64::MAX,
+        progress: Progress::Quiet,
     }
 }
 
 /// Returns the command with these options.
-fn command_of<'x>(db: &'x str, volumes: &'x str, into: &'x str) -> Invocation<'x>
+fn command_of<'x>(given: ConsoleOptions<'x>) -> Invocation<'x>
+    requires few { AreFew given.drives }
     ensures few { HasDrives result }
 {
-    Invocation::Console(given_of(db, volumes, into))
+    Invocation::Console(given)
 }
+
+/// The second after the job began.
+const AFTER: &str = "2106-02-07 06:28:18";
 
 /// The lines that mark all and restore it.
 const ALL: &[u8] = b"mark *\ndone\n";
 
-/// A delivery of two files, and what comes of it.
-#[derive(Clone, Copy)]
-struct Case {
-    /// Of the folder for the test.
-    name: &'static str,
-    lines: &'static [u8],
-    /// The path of the second file.
-    second: &'static [u8],
-    status: u8,
-    refusal: &'static [u8],
-    text: &'static [u8],
-    /// Name and bytes of the files that are there afterwards.
-    files: &'static [(&'static str, &'static [u8])],
-}
+/// The lines of a session, and the path of the second file; the exit status, and the files that are delivered.
+type Case = (
+    &'static [u8],
+    &'static [u8],
+    u8,
+    &'static [(&'static str, &'static [u8])],
+);
 
-const DELIVERED: Case = Case {
-    name: "talk",
-    lines: ALL,
-    second: b"/d/b",
-    status: 0,
-    refusal: b"",
-    text: b"2 marked\n\
-        Volume=\"V\"\nVolSessionId=1\nVolSessionTime=100\nVolAddr=0-159\nFileIndex=1-2\n\
-        F 1 100 1 3 /a 0,0,33188,1,0,0,0,5,0,0,0,0,0,0 = 5 5d41402abc4b2a76b9719d911017c592\n\
-        F 1 100 2 3 /d/b 0,0,33188,1,0,0,0,5,0,0,0,0,0,0 = 5 7d793037a0760186574b0282f2f435e7\n\
-        total 2 0 0\n",
-    files: &[("into/a", b"hello"), ("into/d/b", b"world")],
-};
+const BOTH: &[(&str, &[u8])] = &[("into/a", b"hello"), ("into/d/b", b"world")];
 
-const CONFLICT: Case = Case {
-    name: "talk_way",
-    lines: ALL,
-    second: b"/a/b",
-    status: 1,
-    refusal: b"refused 81\n",
-    text: b"2 marked\n\
-        Volume=\"V\"\nVolSessionId=1\nVolSessionTime=100\nVolAddr=0-159\nFileIndex=1-2\n\
-        F 1 100 1 3 /a 0,0,33188,1,0,0,0,5,0,0,0,0,0,0 = 5 5d41402abc4b2a76b9719d911017c592\n\
-        F 1 100 2 3 /a/b 0,0,33188,1,0,0,0,5,0,0,0,0,0,0 = 5 7d793037a0760186574b0282f2f435e7\n\
-        total 2 0 0\n",
-    files: &[("into/a", b"hello")],
-};
+const CASES: &[Case] = &[
+    (ALL, b"/d/b", 0, BOTH),
+    // The first line is refused, and the lines after it are carried out.
+    (b"mark nil\nmark *\ndone\n", b"/d/b", 1, BOTH),
+    // The path of the second file is in the way of the first one's, or no text.
+    (ALL, b"/a/b", 1, &[("into/a", b"hello")]),
+    (ALL, b"/b\xff\xfe", 1, &[("into/a", b"hello")]),
+    (b"mark *\nquit\n", b"/d/b", 0, &[]),
+];
 
-/// The path of the second file is no text.
-const NO_TEXT: Case = Case {
-    name: "talk_text",
-    lines: ALL,
-    second: b"/b\xff\xfe",
-    status: 1,
-    refusal: b"refused 80\n",
-    text: b"2 marked\n\
-        Volume=\"V\"\nVolSessionId=1\nVolSessionTime=100\nVolAddr=0-159\nFileIndex=1-2\n\
-        F 1 100 1 3 /a 0,0,33188,1,0,0,0,5,0,0,0,0,0,0 = 5 5d41402abc4b2a76b9719d911017c592\n\
-        F 1 100 2 3 /b\\xff\\xfe 0,0,33188,1,0,0,0,5,0,0,0,0,0,0 = 5 7d793037a0760186574b0282f2f435e7\n\
-        total 2 0 0\n",
-    files: &[("into/a", b"hello")],
-};
-
-/// The first line is refused, and the lines after it are carried out.
-const REFUSED_LINE: Case = Case {
-    name: "talk_refused",
-    lines: b"mark nil\nmark *\ndone\n",
-    second: b"/d/b",
-    status: 1,
-    refusal: b"",
-    text: b"refused 57\n2 marked\n\
-        Volume=\"V\"\nVolSessionId=1\nVolSessionTime=100\nVolAddr=0-159\nFileIndex=1-2\n\
-        F 1 100 1 3 /a 0,0,33188,1,0,0,0,5,0,0,0,0,0,0 = 5 5d41402abc4b2a76b9719d911017c592\n\
-        F 1 100 2 3 /d/b 0,0,33188,1,0,0,0,5,0,0,0,0,0,0 = 5 7d793037a0760186574b0282f2f435e7\n\
-        total 2 0 0\n",
-    files: &[("into/a", b"hello"), ("into/d/b", b"world")],
-};
-
-/// Creates the file of a catalogue in a place. Returns its path.
-fn new_db(rt: &HostRuntime, place: &str) -> Result<String, Fail> {
-    let db = path_in(rt, place, "one.db")?;
-    fs::write(rt, db.as_str(), b"")?;
-    Ok(db)
-}
-
-/// Returns how the session of a case ends in a place, and writes its text.
-fn ended<W: Write + Drop>(
-    rt: &HostRuntime,
-    threads: &(impl Threads + Wait + Sync),
-    place: &str,
-    case: &Case,
-    text: W,
-) -> Result<Ending, Fail> {
-    let db = new_db(rt, place)?;
-    let volumes = path_in(rt, place, "volumes")?;
-    let into = path_in(rt, place, "into")?;
-    let catalogue = OneCatalogue {
-        alloc: rt.alloc(),
-        db: db.as_str(),
-        second: case.second,
-        closing: Ok(()),
-    };
-    let given = given_of(db.as_str(), volumes.as_str(), into.as_str());
-    let mut task = set_up_console(rt, &catalogue, &given)?.onto(text);
-    let mut lines = case.lines;
-    let run = console_over(threads, rt.alloc(), &mut task, &mut lines);
-    Ok(console_ending(rt.alloc(), &run)?)
-}
-
-/// Returns if a session in a place ends with this status, this line and this text.
-fn ends(
-    rt: &HostRuntime,
-    threads: &(impl Threads + Wait + Sync),
-    place: &str,
-    case: &Case,
-) -> Result<bool, Fail> {
-    let mut text = Vec::new(rt.alloc());
-    let ending = ended(rt, threads, place, case, &mut text)?;
-    Ok(
-        ending.status == case.status
-            && ending.refusal.as_slice() == case.refusal
-            && text.as_slice() == case.text,
-    )
-}
-
-/// Returns if a delivery is as expected, and the files are there.
-fn holds(
-    rt: &HostRuntime,
-    threads: &(impl Threads + Wait + Sync),
-    case: &Case,
-) -> Result<bool, Fail> {
-    let volume = [FRONT, case.second, BACK];
-    let place = new_place(rt, case.name, &[("V", volume)])?;
-    let ends = ends(rt, threads, place.as_str(), case)?;
-    let are_there = are_there(rt, place.as_str(), case.files)?;
-    fs::remove_dir_all(rt, place.as_str())?;
-    Ok(ends && are_there)
-}
-
-#[test]
-fn what_was_marked_is_delivered(rt: HostRuntime) -> Result<(), Fail> {
-    assert!(rt; holds(&rt, &rt, &DELIVERED)?);
-    Ok(())
-}
-
-#[test]
-fn a_stop_comes_after_the_manifest(rt: HostRuntime) -> Result<(), Fail> {
-    assert!(rt; holds(&rt, &rt, &CONFLICT)?);
-    assert!(rt; holds(&rt, &rt, &NO_TEXT)?);
-    Ok(())
-}
-
-#[test]
-fn a_refused_line_is_answered_and_the_files_are_delivered(rt: HostRuntime) -> Result<(), Fail> {
-    assert!(rt; holds(&rt, &rt, &REFUSED_LINE)?);
-    Ok(())
-}
-
-#[test]
-fn nothing_is_delivered_if_the_answers_are_not_flushed(rt: HostRuntime) -> Result<(), Fail> {
-    let place = new_place(&rt, "session_clogged", &[("V", [FRONT, b"/d/b", BACK])])?;
-    let ending = ended(&rt, &rt, place.as_str(), &DELIVERED, &mut Clogged)?;
-    assert_eq!(rt; ending.status, 3);
-    assert_eq!(rt; entries_in(&rt, place.as_str(), "into")?, 0);
-    fs::remove_dir_all(&rt, place.as_str())?;
-    Ok(())
-}
-
-/// Returns the status of `console` in a place, with these lines.
+/// Returns the status of a session over the volumes of a place, with its files to this target.
 fn status_in(
     rt: &HostRuntime,
     threads: &(impl Threads + Wait + Sync),
     place: &str,
-    into: &str,
+    second: &[u8],
     lines: &[u8],
+    target: Target<'_>,
 ) -> Result<u8, Fail> {
-    let db = new_db(rt, place)?;
     let volumes = path_in(rt, place, "volumes")?;
+    let db = path_in(rt, place, "volumes/V")?;
     let catalogue = OneCatalogue {
         alloc: rt.alloc(),
         db: db.as_str(),
-        second: b"/d/b",
+        second,
         closing: Ok(()),
     };
-    let given = given_of(db.as_str(), volumes.as_str(), into);
+    let given = given_of(db.as_str(), volumes.as_str(), "mars", AFTER, target);
     let mut lines = lines;
     Ok(restore_by_lines(rt, threads, &catalogue, &given, &mut lines)?)
 }
 
-#[test]
-fn console_delivers_what_was_marked(rt: HostRuntime) -> Result<(), Fail> {
-    let place = new_place(&rt, "console", &[("V", [FRONT, b"/d/b", BACK])])?;
-    let into = path_in(&rt, place.as_str(), "into")?;
-    assert_eq!(rt; status_in(&rt, &rt, place.as_str(), into.as_str(), ALL)?, 0);
-    assert!(rt; are_there(&rt, place.as_str(), DELIVERED.files)?);
-    fs::remove_dir_all(&rt, place.as_str())?;
-    Ok(())
-}
-
-#[test]
-fn a_refused_line_ends_console_with_status_1(rt: HostRuntime) -> Result<(), Fail> {
-    let place = new_place(&rt, "console_refused", &[("V", [FRONT, b"/d/b", BACK])])?;
-    let into = path_in(&rt, place.as_str(), "into")?;
-    assert_eq!(rt;
-        status_in(&rt, &rt, place.as_str(), into.as_str(), REFUSED_LINE.lines)?,
-        1
-    );
-    assert!(rt; are_there(&rt, place.as_str(), REFUSED_LINE.files)?);
-    fs::remove_dir_all(&rt, place.as_str())?;
-    Ok(())
-}
-
-/// Returns the status of the command in a place, with a folder to write into that is not empty.
-fn status_of_refused(
+/// Runs the session of a case. Returns its status, and whether just these files are there.
+fn delivered(
     rt: &HostRuntime,
     threads: &(impl Threads + Wait + Sync),
-    place: &str,
-) -> Result<u8, Fail> {
-    let db = new_db(rt, place)?;
-    let filled = path_in(rt, place, "volumes")?;
-    let catalogue = OneCatalogue {
-        alloc: rt.alloc(),
-        db: db.as_str(),
-        second: b"/d/b",
-        closing: Ok(()),
-    };
-    let command = command_of(db.as_str(), filled.as_str(), filled.as_str());
-    Ok(run_command(rt, threads, &catalogue, &command)?)
+    case: &Case,
+) -> Result<Outcome, Fail> {
+    let (lines, second, _, files) = case;
+    let place = new_place(rt, "console", &[("V", [FRONT, *second, BACK])])?;
+    let into = path_in(rt, place.as_str(), "into")?;
+    let target = Target::Folder(into.as_str());
+    let status = status_in(rt, threads, place.as_str(), *second, *lines, target)?;
+    let are_so = entries_in(rt, place.as_str(), "into")? == files.len()
+        && are_there(rt, place.as_str(), *files)?;
+    fs::remove_dir_all(rt, place.as_str())?;
+    Ok((status, are_so))
+}
+
+/// Returns a line for each case of which something else comes.
+fn wrong_cases(
+    rt: &HostRuntime,
+    threads: &(impl Threads + Wait + Sync),
+    cases: &[Case],
+) -> Result<String, Fail> {
+    let mut wrong = String::new(rt.alloc());
+    for (number, case) in cases.iter().enumerate() {
+        let found = delivered(rt, threads, case)?;
+        note(&mut wrong, number, found, (case.2, true))?;
+    }
+    Ok(wrong)
 }
 
 #[test]
-fn console_is_refused_a_folder_that_is_not_empty(rt: HostRuntime) -> Result<(), Fail> {
-    let place = new_place(&rt, "console_full", &[("V", [FRONT, b"/d/b", BACK])])?;
-    assert_eq!(rt; status_of_refused(&rt, &rt, place.as_str())?, 1);
-    assert_eq!(rt; entries_in(&rt, place.as_str(), "volumes")?, 1);
-    fs::remove_dir_all(&rt, place.as_str())?;
+fn each_session_has_its_status_and_files(rt: HostRuntime) -> Result<(), Fail> {
+    assert_eq!(rt; wrong_cases(&rt, &rt, CASES)?.as_str(), "");
     Ok(())
 }
 
-/// Catalogues that can't be read, each of which is made when it is asked for, as SQLite makes a file.
-#[derive(Drop)]
-struct NewCatalogues<'r> {
-    rt: &'r HostRuntime,
+/// The stream of the marked files and that of none have 10,240 bytes each.
+#[test]
+fn console_writes_the_stream_of_what_was_marked(rt: HostRuntime) -> Result<(), Fail> {
+    let place = new_place(&rt, "console_tar", &[("V", [FRONT, b"/d/b", BACK])])?;
+    let tar = path_in(&rt, place.as_str(), "x.tar")?;
+    let none = path_in(&rt, place.as_str(), "y.tar")?;
+    let target = Target::TarFile(tar.as_str());
+    let first = status_in(&rt, &rt, place.as_str(), b"/d/b", ALL, target)?;
+    let second = status_in(&rt, &rt, place.as_str(), b"/d/b", ALL, target)?;
+    let target = Target::TarFile(none.as_str());
+    let quit = status_in(&rt, &rt, place.as_str(), b"/d/b", b"quit\n", target)?;
+    let (len, empty) = (
+        fs::read(&rt, tar.as_str())?.len(),
+        fs::read(&rt, none.as_str())?.len(),
+    );
+    fs::remove_dir_all(&rt, place.as_str())?;
+    assert_eq!(rt; [first, second, quit], [0, 1, 0]);
+    assert_eq!(rt; [len, empty], [10240, 10240]);
+    Ok(())
 }
 
-impl Catalogue for NewCatalogues<'_> {
-    ghost use Rattle.std.specs.Prelude.{None, ⊤};
-
-    type Jobs = Forgetful;
-
-    ghost jobs_at = { λ _ _. None };
-
-    ghost opens = { λ _ _ _. ⊤ };
-
-    ghost closes = { λ _ _. ⊤ };
-
-    ghost migrates = { λ _ _ _. ⊤ };
-
-    fn open(&self, _db: &str) -> Result<Forgetful, CatalogueFault> {
-        Err(CatalogueFault::Unreadable)
-    }
-
-    fn close(&self, _jobs: Forgetful) -> Result<(), CatalogueFault> {
-        Ok(())
-    }
-
-    fn load(&self, db: &str) -> Result<History, CatalogueFault> {
-        match fs::write(self.rt, db, b"new") {
-            Ok(()) => Err(CatalogueFault::BadCatalogue),
-            Err(_) => Err(CatalogueFault::Memory),
-        }
-    }
-
-    fn migrate(&self, _db: &str) -> Result<u64, CatalogueFault> {
-        Err(CatalogueFault::Unreadable)
-    }
-}
-
-/// Returns the number of the refusal before a session, 0 if there is none.
-fn refusal_of<'x>(
-    rt: &HostRuntime,
-    db: &'x str,
-    folder: &'x str,
-    client: &'x str,
-    before: &'x str,
-) -> u32 {
-    let given = ConsoleOptions {
+/// Returns the number of the refusal before a session, 0 if there is none. The rows of the catalogue that is there
+/// are no jobs.
+fn refusal_of(rt: &HostRuntime, db: &str, folder: &str, client: &str, before: &str) -> u32 {
+    let catalogue = OneCatalogue {
+        alloc: rt.alloc(),
         db,
-        volumes: folder,
-        client,
-        fileset: "home",
-        before,
-        target: Target::Folder(folder),
-        drives: 1,
-        memory: u64::MAX,
+        second: b"b",
+        closing: Ok(()),
     };
-    match set_up_console(rt, &NewCatalogues { rt }, &given) {
+    let given = given_of(db, folder, client, before, Target::Folder(folder));
+    match set_up_console(rt, &catalogue, &given) {
         Ok(_) => 0,
         Err(fault) => fault.number(),
     }
@@ -373,8 +193,35 @@ fn client_moment_folder_and_catalogue_are_tested_in_this_order(
         refusals(&rt, missing.as_str(), empty.as_str()),
         [2, 52, 45]
     );
-    assert!(rt; fs::metadata(&rt, missing.as_str()).is_err());
     assert_eq!(rt; refusals(&rt, there.as_str(), empty.as_str()), [2, 52, 47]);
+    fs::remove_dir_all(&rt, place.as_str())?;
+    Ok(())
+}
+
+/// Returns the status of the command in a place, with a folder to write into that is not empty.
+fn status_of_refused(
+    rt: &HostRuntime,
+    threads: &(impl Threads + Wait + Sync),
+    place: &str,
+) -> Result<u8, Fail> {
+    let db = path_in(rt, place, "volumes/V")?;
+    let filled = path_in(rt, place, "volumes")?;
+    let catalogue = OneCatalogue {
+        alloc: rt.alloc(),
+        db: db.as_str(),
+        second: b"/d/b",
+        closing: Ok(()),
+    };
+    let target = Target::Folder(filled.as_str());
+    let given = given_of(db.as_str(), filled.as_str(), "mars", AFTER, target);
+    Ok(run_command(rt, threads, &catalogue, &command_of(given))?)
+}
+
+#[test]
+fn console_is_refused_a_folder_that_is_not_empty(rt: HostRuntime) -> Result<(), Fail> {
+    let place = new_place(&rt, "console_full", &[("V", [FRONT, b"/d/b", BACK])])?;
+    assert_eq!(rt; status_of_refused(&rt, &rt, place.as_str())?, 1);
+    assert_eq!(rt; entries_in(&rt, place.as_str(), "volumes")?, 1);
     fs::remove_dir_all(&rt, place.as_str())?;
     Ok(())
 }

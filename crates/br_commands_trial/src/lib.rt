@@ -13,7 +13,3 @@ mod extract;
 mod places;
 #[cfg(test)]
 mod serving;
-#[cfg(test)]
-mod serving_files;
-#[cfg(test)]
-mod tar;

@@ -1,4 +1,5 @@
 //! Folders with volumes, for the length of a test.
+use std::fmt::Write;
 use std::test::Fail;
 use std::{env, fs, process};
 
@@ -75,4 +76,20 @@ pub(crate) fn are_there(
 pub(crate) fn entries_in(rt: &HostRuntime, place: &str, name: &str) -> Result<usize, Fail> {
     let path = path_in(rt, place, name)?;
     Ok(fs::read_dir(&(rt, rt.alloc()), path.as_str())?.count())
+}
+
+/// What came of a case: its exit status, and whether the files are as they should be.
+pub(crate) type Outcome = (u8, bool);
+
+/// Adds a line about a case of which something else came.
+pub(crate) fn note(
+    wrong: &mut String,
+    number: usize,
+    found: Outcome,
+    wanted: Outcome,
+) -> Result<(), Fail> {
+    if found != wanted {
+        writeln!(wrong, "case {number}: {found:?}, not {wanted:?}")?;
+    }
+    Ok(())
 }

@@ -65,7 +65,7 @@ fn push_there(case: &mut Case, rt: &HostRuntime, path: &str) {
 }
 
 /// Prints what is there under names in a folder; `-` is no name.
-fn push_names(case: &mut Case, rt: &HostRuntime, folder: &str, names: &str) {
+pub(crate) fn push_names(case: &mut Case, rt: &HostRuntime, folder: &str, names: &str) {
     if names != "-" {
         for name in names.split(';') {
             case.text(name);

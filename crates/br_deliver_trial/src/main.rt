@@ -5,6 +5,7 @@
 
 mod folders;
 mod joins;
+mod leaving;
 mod makers;
 mod matches;
 mod sinks;
@@ -22,6 +23,7 @@ fn run(case: &mut Case, rt: &HostRuntime, threads: &(impl Threads + Sync), field
         ["join", call @ ..] => joins::run(case, threads, call),
         ["sink", call @ ..] => sinks::run(case, threads, call),
         ["folder", call @ ..] => folders::run(case, rt, threads, call),
+        ["leave", call @ ..] => leaving::run(case, rt, threads, call),
         ["window", call @ ..] => windows::run(case, rt, threads, call),
         ["small", call @ ..] => makers::run(case, threads, call),
         _ => case.fail("there is no such call"),

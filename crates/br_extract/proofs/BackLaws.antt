@@ -1,8 +1,9 @@
 -- Outcomes of which only some are delivered, with the files that were delivered in their places.
-use Rattle.std.proofs.Common.{◌≡◌, ℕ, Bool, true, false, cond, List, [], ◌∷◌, map, Option, Some, None, Ok, Err, refl, sym, ap, subst, ◌∙◌}
+use Rattle.std.proofs.Common.{◌≡◌, ℕ, Bool, true, false, not, cond, List, [], ◌∷◌, ◌++◌, map, Option, Some, None, Ok, Err, refl, sym, ap, subst, ◌∙◌}
 use Rattle.std.specs.Prelude.{filter}
-use Rattle.std.specs.List.{AllByRecursion, AllZip}
+use Rattle.std.specs.List.{AllByRecursion, AllZip, list_any}
 use Rattle.br_model.specs.Bootstrap.{Group}
+use Rattle.br_model.specs.Delivery.{in_the_way, item_of}
 use Rattle.br_model.specs.File.{Outcome}
 use Rattle.br_model.specs.Restored.{Restored}
 use Rattle.br_model.specs.Volume.{Volume}
@@ -15,7 +16,12 @@ use Rattle.br_options.specs.declared.options.Copies.{Copies}
 use Rattle.br_options.specs.declared.options.Copies.TheVariants.{All, Newest}
 use Rattle.br_options.specs.declared.options.Gaps.{Gaps}
 use Rattle.br_options.specs.declared.options.Gaps.TheVariants.{Unreported, Reported}
-use Rattle.br_extract.specs.Wanted.{delivered, reported}
+use Rattle.br_options.specs.declared.options.Stops.{Stops}
+use Rattle.br_options.specs.declared.options.Stops.TheVariants.{AtFirst, Never}
+use Rattle.br_options.specs.declared.options.Wanted.{Wanted}
+use Rattle.br_leaving.specs.Apart.{apart_beside, conflicts_beside, is_free, with_path}
+use Rattle.br_leaving.proofs.ApartLaws.{kept_first, left_first}
+use Rattle.br_extract.specs.Wanted.{conflicting, delivered, kept, left_out, of_copies, reported}
 
 like_itself : (r : Restored) → IsFileLike r r
 like_itself r = (refl, go r.outcome)
@@ -114,18 +120,18 @@ same_keys [] (o ∷ os) like = absurd like
 same_keys (r ∷ rs) [] like = absurd like
 same_keys (r ∷ rs) (o ∷ os) like = λ t. like.0.0 t ∷ same_keys rs os like.1 t
 
--- Files like these, of which those that are wanted are the ones that were delivered. If these are the ones that were to be delivered, they are
--- these files themselves.
-pub record InPlaces (copies : Copies) (os ks : List Restored) : Type 0 where
+-- Files like these, of which those of the wanted copies are the ones that were delivered. If these are the ones that were to be delivered,
+-- they are these files themselves.
+record InCopies (copies : Copies) (os ks : List Restored) : Type 0 where
   pub rs : List Restored
   pub like : AllZip IsFileLike rs os
-  pub same : ks ≡ delivered copies os → rs ≡ os
-  pub wanted : ks ≡ delivered copies rs
+  pub same : ks ≡ of_copies copies os → rs ≡ os
+  pub wanted : ks ≡ of_copies copies rs
 
-pub in_places : (copies : Copies) (os ks : List Restored) → AllZip IsFileLike ks (delivered copies os) → InPlaces copies os ks
+in_copies : (copies : Copies) (os ks : List Restored) → AllZip IsFileLike ks (of_copies copies os) → InCopies copies os ks
 unfolding newest
-in_places All os ks like = record { rs = ks; like = like; same = λ same. same; wanted = refl }
-in_places Newest os ks like =
+in_copies All os ks like = record { rs = ks; like = like; same = λ same. same; wanted = refl }
+in_copies Newest os ks like =
     let rs = put_back (is_newest os) os ks in
     let each = back_like (is_newest os) os ks like in
     record {
@@ -137,18 +143,145 @@ in_places Newest os ks like =
           ∙ ap (λ (cs : List Copy). filter (λ (r : Restored). is_current cs (copy_of r)) rs) (sym (same_copies rs os each));
     }
 
--- what holds of all outcomes holds of those that are delivered
-all_delivered : (P : Restored → Type 0) (copies : Copies) (os : List Restored) → AllByRecursion P os → AllByRecursion P (delivered copies os)
-unfolding newest
-all_delivered P All os all = all
-all_delivered P Newest os all = all_filtered P (is_newest os) os all
+-- ---- files in the places of those that do not conflict
 
--- so what can be given of all can be given of those
-pub gives_delivered : {D : Type 0} (shows : D → Option (List Volume)) (failures : D → ℕ) (drives : List D) (groups : List Group) (gathered : Option Gathered) (copies : Copies) (os kept : List Restored)
-    → kept ≡ delivered copies os → CanGive shows failures drives groups gathered os → CanGive shows failures drives groups gathered kept
-gives_delivered shows failures drives groups None copies os kept is given = tt
-gives_delivered shows failures drives groups (Some gathered) copies os kept is given =
-    (given.0, subst (AllByRecursion (IsMadeOf gathered.hits)) (sym is) (all_delivered (IsMadeOf gathered.hits) copies os given.1))
+-- a file like another conflicts with the same paths, and has the same path
+free_like : (paths : List (List ℕ)) (a b : Restored) → IsFileLike a b
+    → (is_free paths (item_of a) ≡ is_free paths (item_of b)) × (with_path paths (item_of a) ≡ with_path paths (item_of b))
+free_like paths a b like = go a b a.outcome b.outcome refl refl like.1
+  where
+    go : (a b : Restored) (x y : Outcome) → a.outcome ≡ x → b.outcome ≡ y → IsOutcomeLike x y
+        → (is_free paths (item_of a) ≡ is_free paths (item_of b)) × (with_path paths (item_of a) ≡ with_path paths (item_of b))
+    go a b (Ok i) (Ok j) e f l = rw (e, f) (ap (λ (p : List ℕ). not (list_any (in_the_way p) paths)) l.path, ap (λ (p : List ℕ). p ∷ paths) l.path)
+    go a b (Err x) (Err y) e f l = rw (e, f) (refl, refl)
+    go a b (Ok i) (Err y) e f l = absurd l
+    go a b (Err x) (Ok j) e f l = absurd l
+
+-- the paths after an outcome that is kept or not
+abbrev after : Bool → List (List ℕ) → Restored → List (List ℕ)
+after b paths o = cond b (with_path paths (item_of o)) paths
+
+-- elements in the places of those that are kept
+abbrev put_apart : List (List ℕ) → List Restored → List Restored → List Restored
+put_apart paths [] ks = []
+put_apart paths (o ∷ os) ks = put_one (is_free paths (item_of o)) o ks (put_apart (after (is_free paths (item_of o)) paths o) os)
+
+apart_like : (paths : List (List ℕ)) (os ks : List Restored) → AllZip IsFileLike ks (apart_beside paths os) → AllZip IsFileLike (put_apart paths os ks) os
+apart_like paths [] ks like = tt
+apart_like paths (o ∷ os) ks like = go (is_free paths (item_of o)) ks like (λ ps rest. apart_like ps os rest)
+  where
+    go : (b : Bool) (ks : List Restored) → AllZip IsFileLike ks (cond b (o ∷ apart_beside (with_path paths (item_of o)) os) (apart_beside paths os))
+        → ((ps : List (List ℕ)) (rest : List Restored) → AllZip IsFileLike rest (apart_beside ps os) → AllZip IsFileLike (put_apart ps os rest) os)
+        → AllZip IsFileLike (put_one b o ks (put_apart (after b paths o) os)) (o ∷ os)
+    go false ks like more = (like_itself o, more paths ks like)
+    go true [] like more = absurd like
+    go true (k ∷ ks) like more = (like.0, more (with_path paths (item_of o)) ks like.1)
+
+apart_same : (paths : List (List ℕ)) (os : List Restored) → put_apart paths os (apart_beside paths os) ≡ os
+apart_same paths [] = refl
+apart_same paths (o ∷ os) = go (is_free paths (item_of o)) (λ ps. apart_same ps os)
+  where
+    go : (b : Bool) → ((ps : List (List ℕ)) → put_apart ps os (apart_beside ps os) ≡ os)
+        → put_one b o (cond b (o ∷ apart_beside (with_path paths (item_of o)) os) (apart_beside paths os)) (put_apart (after b paths o) os) ≡ o ∷ os
+    go false more = ap (λ (rs : List Restored). o ∷ rs) (more paths)
+    go true more = ap (λ (rs : List Restored). o ∷ rs) (more (with_path paths (item_of o)))
+
+-- the files that are kept are those that were put there, and the same ones conflict
+abbrev ApartPasses : List (List ℕ) → List Restored → List Restored → Type 0
+ApartPasses paths os ks = (apart_beside paths (put_apart paths os ks) ≡ ks) × (conflicts_beside paths (put_apart paths os ks) ≡ conflicts_beside paths os)
+
+apart_passes : (paths : List (List ℕ)) (os ks : List Restored) → AllZip IsFileLike ks (apart_beside paths os) → ApartPasses paths os ks
+apart_passes paths [] [] like = (refl, refl)
+apart_passes paths [] (k ∷ ks) like = absurd like
+apart_passes paths (o ∷ os) ks like = go (is_free paths (item_of o)) refl ks like (λ ps rest. apart_passes ps os rest)
+  where
+    go : (b : Bool) → is_free paths (item_of o) ≡ b → (ks : List Restored)
+        → AllZip IsFileLike ks (cond b (o ∷ apart_beside (with_path paths (item_of o)) os) (apart_beside paths os))
+        → ((ps : List (List ℕ)) (rest : List Restored) → AllZip IsFileLike rest (apart_beside ps os) → ApartPasses ps os rest)
+        → (apart_beside paths (put_one b o ks (put_apart (after b paths o) os)) ≡ ks)
+        × (conflicts_beside paths (put_one b o ks (put_apart (after b paths o) os)) ≡ conflicts_beside paths (o ∷ os))
+    go false e ks like more =
+        let m = more paths ks like in
+        let l = left_first paths o (put_apart paths os ks) e in
+        (l.0 ∙ m.0, l.1 ∙ ap (λ (ps : List (List ℕ)). with_path [] (item_of o) ++ ps) m.1 ∙ sym (left_first paths o os e).1)
+    go true e [] like more = absurd like
+    go true e (k ∷ ks) like more =
+        let wp : List (List ℕ) = with_path paths (item_of o) in
+        let same = free_like paths k o like.0 in
+        let m = more wp ks like.1 in
+        let f = kept_first paths k (put_apart wp os ks) (same.0 ∙ e) in (
+          f.0 ∙ ap (λ (ps : List (List ℕ)). k ∷ apart_beside ps (put_apart wp os ks)) same.1 ∙ ap (λ (rs : List Restored). k ∷ rs) m.0,
+          f.1 ∙ ap (λ (ps : List (List ℕ)). conflicts_beside ps (put_apart wp os ks)) same.1 ∙ m.1 ∙ sym (kept_first paths o os e).1,
+        )
+
+-- the same of files of which those that conflict are left out or not
+record InKept (stops : Stops) (os ks : List Restored) : Type 0 where
+  pub rs : List Restored
+  pub like : AllZip IsFileLike rs os
+  pub same : ks ≡ kept stops os → rs ≡ os
+  pub wanted : ks ≡ kept stops rs
+  pub left : conflicting stops rs ≡ conflicting stops os
+
+in_kept : (stops : Stops) (os ks : List Restored) → AllZip IsFileLike ks (kept stops os) → InKept stops os ks
+in_kept AtFirst os ks like = record { rs = ks; like = like; same = λ same. same; wanted = refl; left = refl }
+in_kept Never os ks like =
+    let passes = apart_passes [] os ks like in
+    record {
+      rs = put_apart [] os ks;
+      like = apart_like [] os ks like;
+      same = λ same. ap (put_apart [] os) same ∙ apart_same [] os;
+      wanted = sym passes.0;
+      left = passes.1;
+    }
+
+-- Files like these, of which those that are wanted are the ones that were delivered. If these are the ones that were to be delivered, they are
+-- these files themselves.
+pub record InPlaces (wanted : Wanted) (os ks : List Restored) : Type 0 where
+  pub rs : List Restored
+  pub like : AllZip IsFileLike rs os
+  pub same : ks ≡ delivered wanted os → rs ≡ os
+  pub chosen : ks ≡ delivered wanted rs
+  pub left : left_out wanted rs ≡ left_out wanted os
+
+pub in_places : (wanted : Wanted) (os ks : List Restored) → AllZip IsFileLike ks (delivered wanted os) → InPlaces wanted os ks
+in_places wanted os ks like =
+    let m = in_kept wanted.stops (of_copies wanted.copies os) ks like in
+    let c = in_copies wanted.copies os m.rs m.like in
+    record {
+      rs = c.rs;
+      like = c.like;
+      same = λ same. c.same (m.same same);
+      chosen = m.wanted ∙ ap (kept wanted.stops) c.wanted;
+      left = sym (ap (conflicting wanted.stops) c.wanted) ∙ m.left;
+    }
+
+-- ---- what holds of all outcomes
+
+all_of_copies : (P : Restored → Type 0) (copies : Copies) (os : List Restored) → AllByRecursion P os → AllByRecursion P (of_copies copies os)
+unfolding newest
+all_of_copies P All os all = all
+all_of_copies P Newest os all = all_filtered P (is_newest os) os all
+
+all_apart : (P : Restored → Type 0) (paths : List (List ℕ)) (os : List Restored) → AllByRecursion P os → AllByRecursion P (apart_beside paths os)
+all_apart P paths [] all = tt
+all_apart P paths (o ∷ os) all = go (is_free paths (item_of o)) (all_apart P (with_path paths (item_of o)) os all.1) (all_apart P paths os all.1)
+  where
+    go : (b : Bool) → AllByRecursion P (apart_beside (with_path paths (item_of o)) os) → AllByRecursion P (apart_beside paths os)
+        → AllByRecursion P (cond b (o ∷ apart_beside (with_path paths (item_of o)) os) (apart_beside paths os))
+    go true rest others = (all.0, rest)
+    go false rest others = others
+
+all_kept : (P : Restored → Type 0) (stops : Stops) (os : List Restored) → AllByRecursion P os → AllByRecursion P (kept stops os)
+all_kept P AtFirst os all = all
+all_kept P Never os all = all_apart P [] os all
+
+-- so what can be given of all can be given of those that are delivered
+pub gives_delivered : {D : Type 0} (shows : D → Option (List Volume)) (failures : D → ℕ) (drives : List D) (groups : List Group) (gathered : Option Gathered) (wanted : Wanted) (os rs : List Restored)
+    → rs ≡ delivered wanted os → CanGive shows failures drives groups gathered os → CanGive shows failures drives groups gathered rs
+gives_delivered shows failures drives groups None wanted os rs is given = tt
+gives_delivered shows failures drives groups (Some gathered) wanted os rs is given =
+    let P = IsMadeOf gathered.hits in
+    (given.0, subst (AllByRecursion P) (sym is) (all_kept P wanted.stops (of_copies wanted.copies os) (all_of_copies P wanted.copies os given.1)))
 
 -- the same is missing
 pub same_report : (gaps : Gaps) (groups : List Group) (rs os : List Restored) → AllZip IsFileLike rs os → reported gaps groups rs ≡ reported gaps groups os

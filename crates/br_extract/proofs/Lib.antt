@@ -1,2 +1,3 @@
+mod FlagLaws
 mod BackLaws
 pub mod WantedLaws

@@ -6,6 +6,7 @@ use Rattle.std.specs.Io.KnownBytes.{Appends}
 use Rattle.br_model.specs.Answer.{IsRefusal}
 use Rattle.br_model.specs.Bootstrap.{Group}
 use Rattle.br_model.specs.BootstrapText.{read_bootstrap}
+use Rattle.br_model.specs.Delivery.{item_of}
 use Rattle.br_model.specs.File.{Outcome}
 use Rattle.br_model.specs.Manifest.{manifest}
 use Rattle.br_model.specs.Meaning.{pieces_of}
@@ -26,8 +27,11 @@ use Rattle.br_engine.proofs.ExtractLaws.{over_text}
 use Rattle.br_engine.proofs.LikeLaws.{same_manifest}
 use Rattle.br_options.specs.declared.options.Copies.{Copies}
 use Rattle.br_options.specs.declared.options.Copies.TheVariants.{All, Newest}
+use Rattle.br_options.specs.declared.options.Stops.{Stops}
+use Rattle.br_options.specs.declared.options.Stops.TheVariants.{AtFirst, Never}
 use Rattle.br_options.specs.declared.options.Wanted.{Wanted}
-use Rattle.br_extract.specs.Wanted.{IsReport, delivered, reported}
+use Rattle.br_leaving.specs.Apart.{apart_beside, is_free, with_path}
+use Rattle.br_extract.specs.Wanted.{IsReport, delivered, kept, left_out, of_copies, reported}
 use Rattle.br_extract.specs.Extracting.{Extracts}
 use Rattle.br_extract.specs.declared.extracting.Extracted.{Extracted}
 use Rattle.br_extract.proofs.BackLaws.{in_places, same_report}
@@ -50,11 +54,33 @@ outdated_is_file : (copies : List Copy) (k : FileKey) (o : Outcome) → is_curre
 outdated_is_file copies k (Ok item) e = refl
 outdated_is_file copies k (Err f) e = absurd cc
 
--- so of what is delivered each outcome is a file if it is so of all
-delivered_are_files : (copies : Copies) (rs : List Restored) → are_files (delivered copies rs) ≡ are_files rs
+-- of the wanted copies each is a file if it is so of all
+copies_are_files : (copies : Copies) (rs : List Restored) → are_files (of_copies copies rs) ≡ are_files rs
 unfolding newest
-delivered_are_files All rs = refl
-delivered_are_files Newest rs = all_of_filtered (λ (r : Restored). is_ok r.outcome) (is_newest rs) rs (λ r e. outdated_is_file (copies_of rs) r.key r.outcome e)
+copies_are_files All rs = refl
+copies_are_files Newest rs = all_of_filtered (λ (r : Restored). is_ok r.outcome) (is_newest rs) rs (λ r e. outdated_is_file (copies_of rs) r.key r.outcome e)
+
+-- only files conflict
+conflicting_is_file : (paths : List (List ℕ)) (k : FileKey) (o : Outcome) → is_free paths (item_of (record { key = k; outcome = o })) ≡ false → is_ok o ≡ true
+conflicting_is_file paths k (Ok item) e = refl
+conflicting_is_file paths k (Err f) e = absurd cc
+
+apart_are_files : (paths : List (List ℕ)) (rs : List Restored) → are_files (apart_beside paths rs) ≡ are_files rs
+apart_are_files paths [] = refl
+apart_are_files paths (r ∷ rs) = go (is_free paths (item_of r)) refl (apart_are_files (with_path paths (item_of r)) rs) (apart_are_files paths rs)
+  where
+    go : (b : Bool) → is_free paths (item_of r) ≡ b → are_files (apart_beside (with_path paths (item_of r)) rs) ≡ are_files rs → are_files (apart_beside paths rs) ≡ are_files rs
+        → are_files (cond b (r ∷ apart_beside (with_path paths (item_of r)) rs) (apart_beside paths rs)) ≡ (is_ok r.outcome && are_files rs)
+    go true e rest others = ap (λ b. is_ok r.outcome && b) rest
+    go false e rest others = others ∙ sym (ap (λ b. b && are_files rs) (conflicting_is_file paths r.key r.outcome e))
+
+kept_are_files : (stops : Stops) (rs : List Restored) → are_files (kept stops rs) ≡ are_files rs
+kept_are_files AtFirst rs = refl
+kept_are_files Never rs = apart_are_files [] rs
+
+-- so of what is delivered each outcome is a file if it is so of all
+delivered_are_files : (wanted : Wanted) (rs : List Restored) → are_files (delivered wanted rs) ≡ are_files rs
+delivered_are_files wanted rs = kept_are_files wanted.stops (of_copies wanted.copies rs) ∙ copies_are_files wanted.copies rs
 
 -- ---- what came of a restore
 
@@ -67,25 +93,26 @@ end_of_all (Stopped stop) kept rs same h = tt
 -- the manifest of all outcomes is written, and those that are wanted are delivered
 pub extracts_files : (wanted : Wanted) (over : Said → Type 0) (reports : List Restored → List ℕ → Type 0) (before after : Option (List ℕ)) (had has : InSink)
     (rs kept : List Restored) (done : Extracted) → over (λ expected. expected ≡ Ok rs) → Appends before after (manifest rs)
-    → kept ≡ delivered wanted.copies rs → EndsWith had has kept done.end → reports rs done.missing.items
+    → kept ≡ delivered wanted rs → EndsWith had has kept done.end → reports rs done.missing.items
+    → done.left.items ≡ left_out wanted rs
     → Extracts wanted over reports before after had has (Ok done)
-extracts_files wanted over reports before after had has rs kept done given written is ends told =
-    let same : are_files kept ≡ are_files rs = ap are_files is ∙ delivered_are_files wanted.copies rs in
-    (rs, (given, written), end_of_all done.end kept rs same ends.0, subst (λ xs. IsPut had has done.end xs) is ends.1, told)
+extracts_files wanted over reports before after had has rs kept done given written is ends told left =
+    let same : are_files kept ≡ are_files rs = ap are_files is ∙ delivered_are_files wanted rs in
+    (rs, (given, written), end_of_all done.end kept rs same ends.0, subst (λ xs. IsPut had has done.end xs) is ends.1, told, left)
 
 -- The same if the files are like those that are wanted, and are these if they can be given: then the others of all outcomes stay in their
 -- places.
 pub extracts_like : (wanted : Wanted) (earlier later : Told) (groups : List Group) (before after : Option (List ℕ)) (had has : InSink) (os kept : List Restored) (done : Extracted)
     (given : Type 0) → OverVolumes earlier later groups None (λ expected. expected ≡ Ok os)
-    → ((volumes : List Volume) → AllStand earlier later (pieces_of groups) volumes → given) → Appends before after (manifest os) → kept ≡ delivered wanted.copies os
-    → EndsLike given had has kept done.end → done.missing.items ≡ reported wanted.gaps groups os
+    → ((volumes : List Volume) → AllStand earlier later (pieces_of groups) volumes → given) → Appends before after (manifest os) → kept ≡ delivered wanted os
+    → EndsLike given had has kept done.end → done.missing.items ≡ reported wanted.gaps groups os → done.left.items ≡ left_out wanted os
     → Extracts wanted (λ holds. OverVolumes earlier later groups None holds) (λ rs lines. lines ≡ reported wanted.gaps groups rs) before after had has (Ok done)
-extracts_like wanted earlier later groups before after had has os kept done given made can written is like told =
-    let all = in_places wanted.copies os like.rs (subst (AllZip IsFileLike like.rs) is like.like) in
+extracts_like wanted earlier later groups before after had has os kept done given made can written is like told left =
+    let all = in_places wanted os like.rs (subst (AllZip IsFileLike like.rs) is like.like) in
     extracts_files wanted (λ holds. OverVolumes earlier later groups None holds) (λ rs lines. lines ≡ reported wanted.gaps groups rs) before after had has
     all.rs like.rs done (λ volumes stands. made volumes stands ∙ ap Ok (sym (all.same (like.same (can volumes stands) ∙ is))))
-    (subst (Appends before after) (sym (same_manifest all.rs os all.like)) written) all.wanted like.ends
-    (told ∙ sym (same_report wanted.gaps groups all.rs os all.like))
+    (subst (Appends before after) (sym (same_manifest all.rs os all.like)) written) all.chosen like.ends
+    (told ∙ sym (same_report wanted.gaps groups all.rs os all.like)) (left ∙ sym all.left)
 
 -- a refusal is as that of any restore
 pub extracts_refused : (wanted : Wanted) (over : Said → Type 0) (reports : List Restored → List ℕ → Type 0) (before after : Option (List ℕ)) (had has : InSink)
@@ -99,6 +126,6 @@ pub text_extracts : (wanted : Wanted) (earlier later : Told) (before after : Opt
     → Extracts wanted (λ holds. OverVolumes earlier later groups None holds) (λ rs lines. lines ≡ reported wanted.gaps groups rs) before after had has result
     → Extracts wanted (λ holds. OverText (Some text) earlier later holds) (IsReport wanted.gaps text) before after had has result
 text_extracts wanted earlier later before after had has text groups (Ok done) read h =
-    (h.0, (over_text (Some text) earlier later text groups (λ expected. expected ≡ Ok h.0) refl read h.1.0, h.1.1), h.2, h.3, (groups, read, h.4))
+    (h.0, (over_text (Some text) earlier later text groups (λ expected. expected ≡ Ok h.0) refl read h.1.0, h.1.1), h.2, h.3, (groups, read, h.4), h.5)
 text_extracts wanted earlier later before after had has text groups (Err fault) read h =
     (over_text (Some text) earlier later text groups (λ expected. IsRefusal (cause fault) expected) refl read h.0, h.1, h.2)

@@ -9,21 +9,24 @@ use Rattle.br_engine.specs.Extracting.{OverText, OverVolumes, Said}
 use Rattle.br_engine.specs.Outputs.{EndTells, InSink, end_text}
 use Rattle.br_engine.specs.declared.outputs.Outputs.{Outputs}
 use Rattle.br_engine.specs.declared.fault.ExtractFault.{ExtractFault}
-use Rattle.br_extract.specs.Wanted.{IsReport, delivered, reported}
+use Rattle.br_leaving.specs.Line.{left_lines}
+use Rattle.br_extract.specs.Wanted.{IsReport, delivered, left_out, reported}
 use Rattle.br_extract.specs.declared.extracting.Extracted.{Extracted}
 use Rattle.br_options.specs.declared.options.Wanted.{Wanted}
 
--- the lines of what is missing, and the line of a delivery that stopped
-abbrev pub done_lines : Extracted → List ℕ
-done_lines done = done.missing.items ++ end_text done.end
+-- the lines of what is missing and of the files that are left out, these for their paths and those at which the sink failed, and the line of
+-- a delivery that stopped
+abbrev pub done_lines : Extracted → List (List ℕ) → List ℕ
+done_lines done failed = done.missing.items ++ left_lines 81 done.left.items ++ left_lines 80 failed ++ end_text done.end
 
 -- The manifest is that of all expected files, and the end says if each outcome is a file. Of these files the sink has those that are to be
--- delivered, or those before the stop. What is missing is reported. Or there is a refusal, and nothing was put.
+-- delivered, or those before the stop. What is missing is reported, and so is what is left out since it conflicts. Or there is a refusal,
+-- and nothing was put.
 abbrev pub Extracts : Wanted → (Said → Type 0) → (List Restored → List ℕ → Type 0) → Option (List ℕ) → Option (List ℕ) → InSink → InSink
     → Result Extracted ExtractFault → Type 0
 Extracts wanted over reports before after had has (Ok done) =
-    (rs : List Restored) × IsWritten over before after rs × EndTells done.end rs × IsPut had has done.end (delivered wanted.copies rs)
-    × reports rs done.missing.items
+    (rs : List Restored) × IsWritten over before after rs × EndTells done.end rs × IsPut had has done.end (delivered wanted rs)
+    × reports rs done.missing.items × (done.left.items ≡ left_out wanted rs)
 Extracts wanted over reports before after had has (Err fault) = IsRefused over before after had has fault
 
 -- a restore of what a bootstrap gives

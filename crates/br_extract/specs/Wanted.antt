@@ -1,21 +1,43 @@
 -- What `extract` is wanted to do beside what each restore does.
-use Rattle.std.specs.Prelude.{◌≡◌, ℕ, Bool, List, [], map, Vec, Option, Some, None, Ok}
+use Rattle.std.specs.Prelude.{◌≡◌, ℕ, Bool, List, [], length, map, Vec, Option, Some, None, Ok, ⊤}
 use Rattle.std.specs.Global.{Global}
 use Rattle.std.specs.List.{items_where_true}
 use Rattle.br_model.specs.Bootstrap.{Group}
 use Rattle.br_model.specs.BootstrapText.{read_bootstrap}
 use Rattle.br_model.specs.Restored.{Restored}
 use Rattle.br_newest.specs.Newest.{newest}
+use Rattle.br_leaving.specs.Apart.{apart, conflicts}
 use Rattle.br_missing.specs.Lines.{report}
 use Rattle.br_options.specs.declared.options.Copies.{Copies}
 use Rattle.br_options.specs.declared.options.Copies.TheVariants.{All, Newest}
+use Rattle.br_options.specs.declared.options.Stops.{Stops}
+use Rattle.br_options.specs.declared.options.Stops.TheVariants.{AtFirst, Never}
+use Rattle.br_options.specs.declared.options.Wanted.{Wanted}
 use Rattle.br_options.specs.declared.options.Gaps.{Gaps}
 use Rattle.br_options.specs.declared.options.Gaps.TheVariants.{Unreported, Reported}
 
--- the outcomes that are delivered: all, or those of which no newer copy is among them
-abbrev pub delivered : Copies → List Restored → List Restored
-delivered All rs = rs
-delivered Newest rs = newest rs
+-- the outcomes of the wanted copies: all, or those of which no newer copy is among them
+abbrev pub of_copies : Copies → List Restored → List Restored
+of_copies All rs = rs
+of_copies Newest rs = newest rs
+
+-- of these the ones that are put: all, or without the files that conflict with one before
+abbrev pub kept : Stops → List Restored → List Restored
+kept AtFirst rs = rs
+kept Never rs = apart rs
+
+-- the paths of the files that conflict, if they are left out
+abbrev pub conflicting : Stops → List Restored → List (List ℕ)
+conflicting AtFirst rs = []
+conflicting Never rs = conflicts rs
+
+-- the outcomes that are delivered
+abbrev pub delivered : Wanted → List Restored → List Restored
+delivered wanted rs = kept wanted.stops (of_copies wanted.copies rs)
+
+-- the paths of the files that are left out since they conflict with one that is delivered
+abbrev pub left_out : Wanted → List Restored → List (List ℕ)
+left_out wanted rs = conflicting wanted.stops (of_copies wanted.copies rs)
 
 -- the lines of the indexes that the bootstrap asks for and that gave no outcome, if they are reported
 abbrev pub reported : Gaps → List Group → List Restored → List ℕ
@@ -29,6 +51,11 @@ IsReport gaps text rs lines = (groups : List Group) × (read_bootstrap text ≡ 
 -- flags of what is delivered; without flags it is all
 abbrev pub Flags : Type 0
 Flags = Option (Vec Bool Global)
+
+-- if there are flags, each of these elements has one
+abbrev pub HaveFlags : {A : Type 0} → Flags → List A → Type 0
+HaveFlags None xs = ⊤
+HaveFlags (Some flags) xs = length flags.items ≡ length xs
 
 -- what is left of some elements by their flags
 abbrev pub left_by : {A : Type 0} → Flags → List A → List A

@@ -12,8 +12,10 @@ use br_bsr::{Bootstrap, read_bootstrap};
 use br_engine::{
     Budget, ExtractFault, Flush, Outputs, RestoreEnd, deliver_made, restore_within, write_manifest,
 };
+use br_leaving::push_left;
 use br_options::Wanted;
 use br_sink::Sink;
+use br_types::Path;
 use br_volume::Drive;
 use std::alloc::AllocError;
 use std::sync::Wait;
@@ -26,16 +28,21 @@ pub struct Extracted {
     pub end: RestoreEnd,
     /// The lines of the indexes that the bootstrap asks for and that gave no outcome, if they are reported.
     pub missing: Vec<u8>,
+    /// The paths of the files that are left out since they conflict with one that is delivered.
+    pub left: Vec<Path>,
 }
 
 impl Extracted {
-    /// Appends the lines of what is missing, and the line `refused N` of a delivery that stopped.
+    /// Appends the lines of what is missing, those of the files that are left out, and the line `refused N`
+    /// of a delivery that stopped. The sink failed at the files with the paths `failed`.
     ///
     /// If memory runs out, a part of them may have been appended.
-    pub fn push_lines(&self, text: &mut Vec<u8>) -> Result<(), AllocError>
-        ensures { OnOk result (text.new.items ≡ text.old.items ++ done_lines self.now) }
+    pub fn push_lines(&self, failed: &[Path], text: &mut Vec<u8>) -> Result<(), AllocError>
+        ensures { OnOk result (text.new.items ≡ text.old.items ++ done_lines self.now failed.now) }
     {
         text.extend_from_slice(&self.missing)?;
+        push_left(text, 81, &self.left)?;
+        push_left(text, 80, failed)?;
         self.end.push_line(text)
     }
 }
@@ -44,7 +51,8 @@ impl Extracted {
 /// in the order of the manifest, if there is a sink.
 ///
 /// The manifest has all outcomes. If only the newest copies are wanted, then of several files with one path
-/// that of the newest session is delivered: by time, then by number, then by index.
+/// that of the newest session is delivered: by time, then by number, then by index. If the delivery is not to
+/// stop, a file whose path conflicts with one delivered before is left out.
 ///
 /// If the delivery stopped, the manifest is written, and the sink has the files before the stop.
 ///
@@ -82,6 +90,7 @@ pub fn restore_wanted<D: Drive + Send, W: Flush, S: Sink>(
     Ok(Extracted {
         end,
         missing: prepared.missing,
+        left: prepared.left,
     })
 }
 

@@ -1,6 +1,6 @@
 //! A restore by a bootstrap, with what an operator may want beside it: that of several copies of a path
-//! the newest alone is delivered, and a report of the indexes that the bootstrap asks for and that gave
-//! no outcome.
+//! the newest alone is delivered, that files which conflict are left out, and a report of the indexes that
+//! the bootstrap asks for and that gave no outcome.
 #![tactic(auto)]
 
 mod extracting;

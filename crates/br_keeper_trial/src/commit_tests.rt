@@ -216,7 +216,7 @@ fn given<R: Wait>(rt: &R, alloc: Global, case: &Case) -> Result<String, Fail> {
 }
 
 /// Adds a line if a case gave something else than is wanted.
-pub(crate) fn compare(wrong: &mut String, given: &str, wanted: &str) -> Result<(), AllocError> {
+fn compare(wrong: &mut String, given: &str, wanted: &str) -> Result<(), AllocError> {
     if given == wanted {
         return Ok(());
     }

@@ -1,14 +1,10 @@
-//! What is tried of files, of volumes in folders and of the keeper: disks that fail or are full, drives and
-//! stores over them, a history that is published while sessions read it, commits over memory, callers of a
-//! served keeper, and what sessions see meanwhile. There are only tests here.
+//! What is tried of files, of volumes in folders and of the keeper: files of the system, drives and stores over
+//! disks that fail or are full, a history that is published, commits over memory, callers of a served keeper, and
+//! what sessions see meanwhile. There are only tests here.
 #![tactic(auto)]
 
 #[cfg(test)]
 mod commit_tests;
-#[cfg(test)]
-mod disk_tests;
-#[cfg(test)]
-mod failing_tests;
 #[cfg(test)]
 mod jobs;
 #[cfg(test)]

@@ -1,7 +1,4 @@
-use br_files::{
-    DiskFault, FileMaker, HostDisk, Kind, MemMaker, clear_path, enter_folder, put_file,
-};
-use std::alloc::Global;
+use br_files::{DiskFault, FileMaker, HostDisk, Kind, clear_path, enter_folder, put_file};
 use std::os::unix::fs::{PermissionsExt, symlink};
 use std::test::Fail;
 use std::{fs, process};
@@ -36,13 +33,6 @@ fn refuses_links<M: FileMaker>(maker: &mut M, link: &str) -> Result<bool, DiskFa
     Ok(refused && seen && kind_of(maker, link)? == None)
 }
 
-/// Returns whether the calls make what they are to make, beside a link.
-fn makes<M: FileMaker>(maker: &mut M, path: &str) -> Result<bool, DiskFault> {
-    let again = maker.make_folder("d") == Err(DiskFault::Exists);
-    let gone = maker.remove("none") == Err(DiskFault::NotFound);
-    Ok(again && gone && kind_of(maker, path)? == Some(Kind::File))
-}
-
 /// Returns whether the maker tells whether the folder is empty, while the file is there and after it is
 /// removed. The file is there again at the end.
 fn tells_empty<M: FileMaker>(maker: &mut M, folder: &str, file: &str) -> Result<bool, DiskFault> {
@@ -51,79 +41,6 @@ fn tells_empty<M: FileMaker>(maker: &mut M, folder: &str, file: &str) -> Result<
     let empty = maker.is_empty(folder)?;
     put_file(maker, file, b"second")?;
     Ok(full && empty && maker.is_empty(file).is_err())
-}
-
-/// Returns whether a maker over memory meets all that is tested of makers.
-fn works_in_memory(maker: &mut MemMaker) -> Result<bool, Fail> {
-    maker.plant("link", Kind::Link)?;
-    maker.shorten(2, 3, 100);
-    steps(maker, "d", "d/f")?;
-    let links = refuses_links(maker, "link")?;
-    let made = makes(maker, "d/f")?;
-    let empty = tells_empty(maker, "d", "d/f")?;
-    Ok(links && made && empty && maker.bytes("d/f") == Some(b"second".as_slice()))
-}
-
-#[test]
-fn files_made_in_memory(rt: HostRuntime) -> Result<(), Fail> {
-    let mut maker = MemMaker::new(rt.alloc());
-    assert!(rt; works_in_memory(&mut maker)?);
-    Ok(())
-}
-
-/// Returns whether a maker that fails after this many calls tells its failure and leaves the file
-/// either whole or without bytes that are told. The steps are ten calls.
-fn fails_soundly(alloc: Global, calls: u64) -> bool {
-    let mut maker = MemMaker::new(alloc);
-    maker.fail_after(calls);
-    let done = steps(&mut maker, "d", "d/f").is_ok();
-    let left: Option<&[u8]> = maker.bytes("d/f");
-    let whole = match calls {
-        0..=5 | 8 | 9 => left == None,
-        6 | 7 => left == Some(b"first".as_slice()),
-        _ => left == Some(b"second".as_slice()),
-    };
-    whole && done == (calls >= 10)
-}
-
-/// Returns the first number of calls after which a failure is not sound.
-fn first_unsound(alloc: Global) -> Option<u64> {
-    for calls in 0..12 {
-        if !fails_soundly(alloc, calls) {
-            return Some(calls);
-        }
-    }
-    None
-}
-
-/// Returns whether a file that has room for `room` bytes is put just if all six fit.
-fn fits(alloc: Global, room: usize) -> bool {
-    let mut maker = MemMaker::new(alloc);
-    maker.shorten(4, 1, room);
-    let done = put_file(&mut maker, "f", b"abcdef").is_ok();
-    let left: Option<&[u8]> = maker.bytes("f");
-    if room < 6 {
-        !done && left == None
-    } else {
-        done && left == Some(b"abcdef".as_slice())
-    }
-}
-
-/// Returns the first room for which a file is put wrongly.
-fn first_unfit(alloc: Global) -> Option<usize> {
-    for room in 0..8 {
-        if !fits(alloc, room) {
-            return Some(room);
-        }
-    }
-    None
-}
-
-#[test]
-fn failures_and_full_files(rt: HostRuntime) -> Result<(), Fail> {
-    assert!(rt; first_unsound(rt.alloc()) == None);
-    assert!(rt; first_unfit(rt.alloc()) == None);
-    Ok(())
 }
 
 /// Returns the permissions of what is at the path.

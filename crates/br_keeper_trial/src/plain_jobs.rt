@@ -1,6 +1,6 @@
-//! Jobs without files, and histories of them.
+//! Jobs without files.
 use crate::jobs::letter;
-use br_history::{History, JobRow, JobRows};
+use br_history::{JobRow, JobRows};
 use br_types::{JobId, Name, SessionKey};
 use std::alloc::Global;
 use std::test::Fail;
@@ -23,13 +23,4 @@ fn job_row(alloc: Global, id: u32) -> Result<JobRow, Fail> {
 pub(crate) fn job(alloc: Global, id: u32) -> Result<JobRows, Fail> {
     let row = job_row(alloc, id)?;
     Ok(JobRows::new(row, Vec::new(alloc), Vec::new(alloc))?)
-}
-
-/// Returns a history of the jobs 1 to `count`.
-pub(crate) fn history_to(alloc: Global, count: u32) -> Result<History, Fail> {
-    let mut history = History::new(alloc);
-    for before in 0..count {
-        history.push(job(alloc, before + 1)?)?;
-    }
-    Ok(history)
 }

@@ -4,7 +4,6 @@ use br_types::VolName;
 use br_volume::{Drive, DriveFault, Got, VolumeFault, VolumeStore};
 use std::alloc::Global;
 use std::test::Fail;
-use std::{env, fs, process};
 
 /// Returns `len` bytes, 0, 1, 2 and on.
 fn counting(alloc: Global, len: u8) -> Result<Vec<u8>, Fail> {
@@ -47,73 +46,10 @@ fn append_to(
     Ok(append(store, &vol, bytes)?)
 }
 
-/// Appends to V, E and W, and to V again.
-fn fill(alloc: Global, store: &mut impl VolumeStore) -> Result<(), Fail> {
-    append_to(alloc, store, b"V", b"abc")?;
-    append_to(alloc, store, b"E", b"")?;
-    append_to(alloc, store, b"W", b"x")?;
-    append_to(alloc, store, b"V", b"de")
-}
-
 /// Returns the length of the volume with this name.
 fn length_of(alloc: Global, store: &mut impl VolumeStore, name: &[u8]) -> Result<u64, Fail> {
     let vol = VolName::new(alloc, name)?;
     Ok(length(store, &vol)?)
-}
-
-/// Returns the path of the folder of the tests.
-fn path_of_folder(rt: &HostRuntime) -> Result<String, Fail> {
-    let temporary = env::temp_dir(rt)?;
-    let id = process::id(rt.process());
-    Ok(format!(in rt.alloc(); "{}/br_folder_{id}", temporary.display())?)
-}
-
-/// Appends to V, E and W, and to V again, in a folder.
-fn fill_folder(rt: &HostRuntime, folder: &str) -> Result<(), Fail> {
-    let mut store = FolderStore::new(rt.alloc(), rt, folder)?;
-    fill(rt.alloc(), &mut store)
-}
-
-/// Makes a folder with the volumes that `fill` makes, and a folder D.
-fn filled_folder(rt: &HostRuntime) -> Result<String, Fail> {
-    let folder = path_of_folder(rt)?;
-    fs::create_dir(rt, folder.as_str())?;
-    fill_folder(rt, folder.as_str())?;
-    make_d(rt, folder.as_str())?;
-    Ok(folder)
-}
-
-/// Makes a folder D in a folder.
-fn make_d(rt: &HostRuntime, folder: &str) -> Result<(), Fail> {
-    let path = format!(in rt.alloc(); "{folder}/D")?;
-    fs::create_dir(rt, path.as_str())?;
-    Ok(())
-}
-
-/// Returns whether the file of a volume has these bytes.
-fn holds_file(rt: &HostRuntime, folder: &str, name: &str, wanted: &[u8]) -> Result<bool, Fail> {
-    let path = format!(in rt.alloc(); "{folder}/{name}")?;
-    Ok(fs::read(rt, path.as_str())?.as_slice() == wanted)
-}
-
-/// Returns whether the files of V, E and W are what `fill` appended, with an `f` after the first.
-fn holds_files(rt: &HostRuntime, folder: &str) -> Result<[bool; 3], Fail> {
-    let v = holds_file(rt, folder, "V", b"abcdef")?;
-    let e = holds_file(rt, folder, "E", b"")?;
-    let w = holds_file(rt, folder, "W", b"x")?;
-    Ok([v, e, w])
-}
-
-/// Appends an `f` to V, and returns its length.
-fn append_f(alloc: Global, store: &mut impl VolumeStore) -> Result<u64, Fail> {
-    append_to(alloc, store, b"V", b"f")?;
-    length_of(alloc, store, b"V")
-}
-
-/// Returns the length of V after a new store appended an `f`.
-fn length_after_f(rt: &HostRuntime, folder: &str) -> Result<u64, Fail> {
-    let mut again = FolderStore::new(rt.alloc(), rt, folder)?;
-    append_f(rt.alloc(), &mut again)
 }
 
 /// Returns why a store does not append to V, if it does not.
@@ -124,12 +60,6 @@ fn append_fault_of(
 ) -> Result<Option<VolumeFault>, Fail> {
     let vol = VolName::new(alloc, b"V")?;
     Ok(append(store, &vol, bytes).err())
-}
-
-/// Returns why a store over this folder does not append to V, if it does not.
-fn append_fault_over(rt: &HostRuntime, folder: &str) -> Result<Option<VolumeFault>, Fail> {
-    let mut store = FolderStore::new(rt.alloc(), rt, folder)?;
-    append_fault_of(rt.alloc(), &mut store, b"g")
 }
 
 /// Reads a block of the volume with this name.
@@ -192,12 +122,6 @@ fn wrong_of_v(alloc: Global, drive: &mut impl Drive) -> Result<[Option<u64>; 2],
     Ok([wrong_block(alloc, drive)?, wrong_end(alloc, drive)?])
 }
 
-/// Returns the first wrong block and the first wrong end of V, by one drive over a folder.
-fn wrong_in_folder(rt: &HostRuntime, folder: &str) -> Result<[Option<u64>; 2], Fail> {
-    let mut drive = FolderDrive::new(rt.alloc(), rt, folder)?;
-    wrong_of_v(rt.alloc(), &mut drive)
-}
-
 /// Returns whether a drive reads these bytes as the first of a volume.
 fn gives_first(
     alloc: Global,
@@ -219,13 +143,6 @@ fn gives_each(alloc: Global, drive: &mut impl Drive, buf: &mut Vec<u8>) -> Resul
     Ok(v && w && w_again && v_again)
 }
 
-/// Returns whether one drive over a folder, with one buffer, goes from volume to volume.
-fn goes_through_folder(rt: &HostRuntime, folder: &str) -> Result<bool, Fail> {
-    let mut drive = FolderDrive::new(rt.alloc(), rt, folder)?;
-    let mut buf = Vec::new(rt.alloc());
-    gives_each(rt.alloc(), &mut drive, &mut buf)
-}
-
 /// Returns the refusal of the first bytes of a volume.
 fn fault_of(
     alloc: Global,
@@ -242,43 +159,8 @@ fn faults_of(alloc: Global, drive: &mut impl Drive) -> Result<[Option<DriveFault
     Ok([fault_of(alloc, drive, b"U")?, fault_of(alloc, drive, b"D")?])
 }
 
-/// Returns whether one drive over a folder refuses U and D as `FAULTS` says.
-fn refuses_in_folder(rt: &HostRuntime, folder: &str) -> Result<bool, Fail> {
-    let mut drive = FolderDrive::new(rt.alloc(), rt, folder)?;
-    Ok(faults_of(rt.alloc(), &mut drive)? == FAULTS)
-}
-
-/// Returns whether a drive over a path that is a file fails.
-fn fails_over_file(rt: &HostRuntime, folder: &str) -> Result<bool, Fail> {
-    let path = format!(in rt.alloc(); "{folder}/V")?;
-    let mut drive = FolderDrive::new(rt.alloc(), rt, path.as_str())?;
-    Ok(fault_of(rt.alloc(), &mut drive, b"U")? == Some(DriveFault::Fault))
-}
-
 /// The refusals of a volume without a file, and of one whose path is a folder.
 const FAULTS: [Option<DriveFault>; 2] = [Some(DriveFault::UnknownVolume), Some(DriveFault::Fault)];
-
-/// Returns whether a drive over the filled folder goes through its volumes and refuses, as does one
-/// over a file, a store appends to V, the files are those that were appended, and a store refuses
-/// without the folder.
-fn folder_is_kept(rt: &HostRuntime, folder: &str) -> Result<[bool; 5], Fail> {
-    let goes_through = goes_through_folder(rt, folder)?;
-    let refuses = refuses_in_folder(rt, folder)? && fails_over_file(rt, folder)?;
-    let appends = length_after_f(rt, folder)? == 6;
-    let holds = holds_files(rt, folder)? == [true; 3];
-    fs::remove_dir_all(rt, folder)?;
-    let fault = append_fault_over(rt, folder)?;
-    let fails = fault == Some(VolumeFault::Failed);
-    Ok([goes_through, refuses, appends, holds, fails])
-}
-
-#[test]
-fn volumes_in_a_folder_are_read_and_written(rt: HostRuntime) -> Result<(), Fail> {
-    let folder = filled_folder(&rt)?;
-    assert_eq!(rt; wrong_in_folder(&rt, folder.as_str())?, [None, None]);
-    assert_eq!(rt; folder_is_kept(&rt, folder.as_str())?, [true; 5]);
-    Ok(())
-}
 
 /// Returns a disk over memory with the volumes V, W and E in a folder `d`, and with a folder D and
 /// a pipe P beside them.
@@ -395,6 +277,19 @@ fn first_wrong_append(alloc: Global) -> Result<[Option<u64>; 2], Fail> {
     Ok([None, None])
 }
 
+/// Returns whether an append ends well whose first writes are interrupted.
+fn is_appended(alloc: Global, interrupts: u64) -> Result<bool, Fail> {
+    let mut disk = mem_disk(alloc)?;
+    disk.shorten(20, interrupts);
+    let mut store = FolderStore::over(alloc, disk, "d")?;
+    Ok(append_fault_of(alloc, &mut store, b"wxyz")?.is_none())
+}
+
+/// Returns whether an append ends well whose first 999 writes are interrupted, and whose first 1,000 are.
+fn are_appended(alloc: Global) -> Result<[bool; 2], Fail> {
+    Ok([is_appended(alloc, 999)?, is_appended(alloc, 1_000)?])
+}
+
 /// Returns whether a store neither appends to the volume with this name nor tells its length.
 fn refuses(alloc: Global, store: &mut impl VolumeStore, name: &[u8]) -> Result<bool, Fail> {
     let vol = VolName::new(alloc, name)?;
@@ -426,6 +321,7 @@ fn volumes_over_memory(rt: HostRuntime) -> Result<(), Fail> {
     assert!(rt; reads_short(rt.alloc(), 3)?);
     assert!(rt; first_untold(rt.alloc())? == None);
     assert!(rt; first_wrong_append(rt.alloc())? == [None, None]);
+    assert_eq!(rt; are_appended(rt.alloc())?, [true, false]);
     assert!(rt; stores_in_memory(rt.alloc())?);
     Ok(())
 }

@@ -4,6 +4,6 @@
 mod options;
 
 pub use options::{
-    CheckOptions, ConsoleOptions, Copies, ExtractOptions, Gaps, Invocation, JobsOptions,
-    ServeOptions, Target, Wanted,
+    CheckOptions, Checksums, ConsoleOptions, Copies, ExtractOptions, Gaps, Invocation, JobsOptions,
+    Progress, ServeOptions, Stops, Target, Wanted,
 };

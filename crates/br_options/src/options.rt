@@ -29,11 +29,30 @@ pub enum Gaps {
     Reported,
 }
 
+/// What a delivery does at a file that can't be put.
+#[derive(Clone, Copy, Debug, PartialEq, Eq)]
+pub enum Stops {
+    /// It stops.
+    AtFirst,
+    /// It leaves the file out and goes on.
+    Never,
+}
+
 /// What `extract` does beside what each restore does.
 #[derive(Clone, Copy, Debug, PartialEq, Eq)]
 pub struct Wanted {
     pub copies: Copies,
     pub gaps: Gaps,
+    pub stops: Stops,
+}
+
+/// If a terminal on standard error is told how far a restore is.
+#[derive(Clone, Copy, Debug, PartialEq, Eq)]
+pub enum Progress {
+    /// A line tells it while the restore runs.
+    Shown,
+    /// Nothing tells it.
+    Quiet,
 }
 
 /// The options of `extract`.
@@ -49,6 +68,16 @@ pub struct ExtractOptions<'a> {
     /// The number of bytes of data that are held in memory.
     pub memory: u64,
     pub wanted: Wanted,
+    pub progress: Progress,
+}
+
+/// What `check` does with the checksums of blocks.
+#[derive(Clone, Copy, Debug, PartialEq, Eq)]
+pub enum Checksums {
+    /// It passes over them.
+    Passed,
+    /// It reads whole blocks and compares the checksum of each.
+    Compared,
 }
 
 /// The options of `check`.
@@ -58,6 +87,7 @@ pub struct CheckOptions<'a> {
     pub bsr: &'a str,
     /// The folder of the volumes.
     pub volumes: &'a str,
+    pub checksums: Checksums,
 }
 
 /// The options of `console`.
@@ -76,6 +106,7 @@ pub struct ConsoleOptions<'a> {
     pub drives: usize,
     /// The number of bytes of data that are held in memory.
     pub memory: u64,
+    pub progress: Progress,
 }
 
 /// The options of `serve` over files.

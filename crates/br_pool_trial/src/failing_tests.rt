@@ -126,14 +126,6 @@ fn refusal(
     Ok(extracted(rt, alloc, froms)?.err().unwrap_or(0))
 }
 
-#[test]
-fn any_number_of_drives_gives_both_files(rt: HostRuntime) -> Result<(), Fail> {
-    assert!(rt; give_both(&rt, rt.alloc(), &[None])?);
-    assert!(rt; give_both(&rt, rt.alloc(), &[None; 2])?);
-    assert!(rt; give_both(&rt, rt.alloc(), &[None; 16])?);
-    Ok(())
-}
-
 /// Returns the first call from which one of two drives fails and a file is missing.
 fn first_call_missed(rt: &(impl Threads + Wait + Sync), alloc: Global) -> Result<FailsFrom, Fail> {
     for k in 1..14 {
@@ -144,32 +136,24 @@ fn first_call_missed(rt: &(impl Threads + Wait + Sync), alloc: Global) -> Result
     Ok(None)
 }
 
+/// Any number of drives gives both files, also if one of two fails at any call, or all but one fail.
 #[test]
-fn a_drive_that_fails_at_any_call_loses_nothing(rt: HostRuntime) -> Result<(), Fail> {
+fn drives_give_both_files(rt: HostRuntime) -> Result<(), Fail> {
+    assert!(rt; give_both(&rt, rt.alloc(), &[None])?);
+    assert!(rt; give_both(&rt, rt.alloc(), &[None; 16])?);
     assert_eq!(rt; first_call_missed(&rt, rt.alloc())?, None);
-    Ok(())
-}
-
-#[test]
-fn one_drive_takes_twelve_calls(rt: HostRuntime) -> Result<(), Fail> {
-    assert_eq!(rt; refusal(&rt, rt.alloc(), &[Some(12)])?, 70);
-    assert!(rt; give_both(&rt, rt.alloc(), &[Some(13)])?);
-    Ok(())
-}
-
-#[test]
-fn the_last_drive_left_gives_both_files(rt: HostRuntime) -> Result<(), Fail> {
     assert!(rt; give_both(&rt, rt.alloc(), &[Some(1), Some(2), Some(3), None])?);
     assert!(rt; give_both(&rt, rt.alloc(), &[None, Some(4), Some(3), Some(2), Some(1)])?);
     Ok(())
 }
 
+/// One drive takes twelve calls.
 #[test]
 fn drives_that_all_fail_are_refused(rt: HostRuntime) -> Result<(), Fail> {
+    assert_eq!(rt; refusal(&rt, rt.alloc(), &[Some(12)])?, 70);
+    assert_eq!(rt; refusal(&rt, rt.alloc(), &[Some(13)])?, 0);
     assert_eq!(rt; refusal(&rt, rt.alloc(), &[Some(1), Some(1)])?, 70);
-    assert_eq!(rt;
-        refusal(&rt, rt.alloc(), &[Some(1), Some(2), Some(3), Some(4)])?,
-        70
-    );
+    let froms = [Some(1), Some(2), Some(3), Some(4)];
+    assert_eq!(rt; refusal(&rt, rt.alloc(), &froms)?, 70);
     Ok(())
 }

@@ -136,7 +136,7 @@ fn drives(alloc: Global, grow: &[&[u8]]) -> Result<Vec<MemDrive>, Fail>
 }
 
 /// Returns the manifest by these drives, or the line of the refusal.
-pub(crate) fn printed<D: Drive + Send>(
+fn printed<D: Drive + Send>(
     rt: &(impl Threads + Wait + Sync),
     alloc: Global,
     text: &[u8],

@@ -1,17 +1,23 @@
-//! Tests of pools of drives, of which some fail or grow, of restores by them, and of the stream of tar.
-//! There are only tests here.
+//! Tests of pools of drives, of which some fail or grow, of restores by them, of the stream of tar, and of the
+//! machine of restores and backups on given events. There are only tests here.
 #![tactic(auto)]
 
 #[cfg(test)]
 mod again_tests;
 #[cfg(test)]
-mod failing_tests;
+mod commit_tests;
 #[cfg(test)]
-mod folder_tests;
+mod deeds;
+#[cfg(test)]
+mod failing_tests;
 #[cfg(test)]
 mod growing_tests;
 #[cfg(test)]
+mod jobs;
+#[cfg(test)]
 mod list_tests;
+#[cfg(test)]
+mod machine_tests;
 #[cfg(test)]
 mod pool_tests;
 #[cfg(test)]

@@ -146,15 +146,6 @@ fn refused(answer: &Result<Vec<Found>, PoolFault>) -> Option<(u32, u8)> {
     Some((fault.number(), *vol.bytes().first()?))
 }
 
-#[test]
-fn a_missing_volume_beside_sound_ones(rt: HostRuntime) -> Result<(), Fail> {
-    let one = found_by(&rt, rt.alloc(), MISSING, 1, &OpenGate)?;
-    let three = found_by(&rt, rt.alloc(), MISSING, 3, &OpenGate)?;
-    assert_eq!(rt; refused(&one), Some((14, b'Q')));
-    assert_eq!(rt; refused(&three), Some((14, b'Q')));
-    Ok(())
-}
-
 /// Returns the number of a refusal; 0 if there is none.
 fn number(answer: &Result<Vec<Found>, PoolFault>) -> u32 {
     match answer {
@@ -205,27 +196,23 @@ fn number_beside<R: Threads + Sync>(
     Ok(number(&answer))
 }
 
+/// No drive is left; a volume is missing beside sound ones, also beside a drive that fails; and a drive fails in B,
+/// so B is never read, though Q was refused before.
 #[test]
 fn no_drive_is_left(rt: HostRuntime) -> Result<(), Fail> {
     assert_eq!(rt; number_beside(&rt, rt.alloc(), THREE, &[Some(1)])?, 70);
     assert_eq!(rt;
-        number_beside(&rt, rt.alloc(), THREE, &[Some(1), Some(1)])?,
-        70
-    );
-    assert_eq!(rt;
         number_beside(&rt, rt.alloc(), THREE, &[Some(3), Some(3), Some(3)])?,
         70
     );
-    Ok(())
-}
-
-#[test]
-fn a_refused_piece_beside_a_failing_drive(rt: HostRuntime) -> Result<(), Fail> {
+    let one = found_by(&rt, rt.alloc(), MISSING, 1, &OpenGate)?;
+    let three = found_by(&rt, rt.alloc(), MISSING, 3, &OpenGate)?;
+    assert_eq!(rt; refused(&one), Some((14, b'Q')));
+    assert_eq!(rt; refused(&three), Some((14, b'Q')));
     assert_eq!(rt;
         number_beside(&rt, rt.alloc(), MISSING, &[Some(1), None])?,
         14
     );
-    // The drive fails in B, so B is never read, though Q was refused before.
     assert_eq!(rt; number_beside(&rt, rt.alloc(), MISSING, &[Some(6)])?, 70);
     Ok(())
 }

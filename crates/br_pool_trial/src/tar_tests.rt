@@ -3,8 +3,7 @@ use br_join::{FileBytes, Item, Outcome};
 use br_sink::{Sink, SinkFault};
 use br_tar::{TarSink, write_tar};
 use br_types::{FileIndex, FileKey, Path, SessionKey};
-use std::io;
-use std::io::{Error, ErrorKind, Write};
+use std::io::Write;
 use std::test::Fail;
 
 /// Path, type, numbers, link text and bytes of a file.
@@ -54,27 +53,6 @@ const DIGEST: [u8; 16] = [
     0xf9, 0x15, 0x1c, 0x0a, 0x0d, 0x35, 0x7d, 0x0c, 0x04, 0x7c, 0xc5, 0xb1, 0xfb, 0x62, 0x07, 0x6d,
 ];
 
-/// A writer that fails after 700 bytes.
-#[derive(Drop)]
-struct Small {
-    room: usize,
-}
-
-impl Write for Small {
-    fn write(&mut self, buf: &[u8]) -> io::Result<usize> {
-        let n = buf.len().min(self.room);
-        if n == 0 && !buf.is_empty() {
-            return Err(Error::from(ErrorKind::StorageFull));
-        }
-        self.room -= n;
-        Ok(n)
-    }
-
-    fn flush(&mut self) -> io::Result<()> {
-        Ok(())
-    }
-}
-
 /// Returns a file with this content.
 fn item_of(rt: &HostRuntime, content: &Content<'_>) -> Result<Item, Fail> {
     let (path, kind, stat, link, bytes) = content;
@@ -119,30 +97,16 @@ fn digest_of(rt: &HostRuntime, bytes: Vec<u8>) -> Result<(u64, [u8; 16]), Fail> 
     Ok((bytes.len(), bytes.digest()))
 }
 
+/// The stream of the files, and that of others, which have no entries and are counted.
 #[test]
 fn stream_is_that_of_the_format(rt: HostRuntime) -> Result<(), Fail> {
     let mut sink = TarSink::new(rt.alloc(), Vec::new(rt.alloc()));
     assert_eq!(rt; put_each(&rt, &mut sink, FILES)?, 0);
+    assert_eq!(rt; put_each(&rt, &mut sink, LEFT_OUT)?, 0);
+    assert_eq!(rt; sink.left_out(), 6);
     let (bytes, written) = sink.finish();
     assert!(rt; written.is_ok());
     assert_eq!(rt; digest_of(&rt, bytes)?, (10240, DIGEST));
-    Ok(())
-}
-
-#[test]
-fn what_has_no_entry_is_counted(rt: HostRuntime) -> Result<(), Fail> {
-    let mut sink = TarSink::new(rt.alloc(), Vec::new(rt.alloc()));
-    assert_eq!(rt; put_each(&rt, &mut sink, LEFT_OUT)?, 0);
-    assert_eq!(rt; sink.left_out(), 6);
-    let (bytes, _) = sink.finish();
-    assert_eq!(rt; bytes.len(), 10240);
-    Ok(())
-}
-
-#[test]
-fn sink_that_failed_writes_nothing(rt: HostRuntime) -> Result<(), Fail> {
-    let mut sink = TarSink::new(rt.alloc(), Small { room: 700 });
-    assert_eq!(rt; put_each(&rt, &mut sink, FILES)?, 6);
     Ok(())
 }
 

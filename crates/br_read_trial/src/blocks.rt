@@ -72,80 +72,12 @@ fn read(case: &mut Case, bytes: &str) {
     }
 }
 
-/// Prints the bytes of the clone of a block.
-fn push_bytes_of(case: &mut Case, block: &Block<'_>) {
-    match block.clone() {
-        Ok(block) => case.bytes(block.bytes()),
-        Err(_fault) => case.fail("out of memory"),
-    }
-}
-
-/// Reads a block and prints the bytes of its clone.
-fn read_bytes(case: &mut Case, bytes: &str) {
-    let bytes = case.bytes_of(bytes);
-    match Block::read(&bytes) {
-        Ok(block) => push_bytes_of(case, &block),
-        Err(_fault) => case.fail("the block is refused"),
-    }
-}
-
 /// Reads a header.
 fn read_head(case: &mut Case, bytes: &str) {
     let bytes = case.bytes_of(bytes);
     match BlockHead::read(&bytes) {
         Ok(head) => push_head(case, head),
         Err(fault) => case.refused(fault.number()),
-    }
-}
-
-/// Returns how many of the texts that bytes begin with, themselves left out, are refused as cut off.
-fn cuts_of(bytes: &[u8]) -> u64 {
-    let mut count = 0u64;
-    for len in 0..bytes.len() {
-        if Block::read(&bytes[..len]).err() == Some(BlockFault::Truncated) {
-            count = count.saturating_add(1);
-        }
-    }
-    count
-}
-
-/// Prints the number of beginnings that are refused as cut off.
-fn count_cuts(case: &mut Case, bytes: &str) {
-    let bytes = case.bytes_of(bytes);
-    case.number(cuts_of(&bytes));
-}
-
-/// Returns how many fragments a clone has of those that are left after the first, and how many are
-/// left.
-fn left_of(block: &Block<'_>) -> Option<(usize, usize)> {
-    let mut fragments = block.fragments();
-    let _first = fragments.next()?;
-    let cloned = fragments.clone().ok()?;
-    Some((cloned.count(), fragments.count()))
-}
-
-/// Prints the first fragment of a block, and how many are left after it.
-fn push_left(case: &mut Case, block: &Block<'_>) {
-    if let Some(first) = block.fragments().next() {
-        push_fragment(case, &first);
-    }
-    match left_of(block) {
-        Some((cloned, left)) => {
-            case.text(" ");
-            case.number(cloned as u64);
-            case.text(" ");
-            case.number(left as u64);
-        }
-        None => case.fail("there is no fragment"),
-    }
-}
-
-/// Reads a block, and prints its first fragment and how many are left after it.
-fn count_left(case: &mut Case, bytes: &str) {
-    let bytes = case.bytes_of(bytes);
-    match Block::read(&bytes) {
-        Ok(block) => push_left(case, &block),
-        Err(_fault) => case.fail("the block is refused"),
     }
 }
 
@@ -242,10 +174,7 @@ fn build(case: &mut Case, kind: &str) {
 pub(crate) fn run(case: &mut Case, call: &[&str]) {
     match call {
         ["read", bytes] => read(case, bytes),
-        ["bytes", bytes] => read_bytes(case, bytes),
         ["head", bytes] => read_head(case, bytes),
-        ["cuts", bytes] => count_cuts(case, bytes),
-        ["left", bytes] => count_left(case, bytes),
         ["write_head"] => write_head(case),
         ["messages"] => messages(case),
         ["build", kind] => build(case, kind),

@@ -218,15 +218,6 @@ fn pieces(case: &mut Case, text: &str) {
     }
 }
 
-/// Prints the number and the line of the faults that no text gives, and the number of groups of the
-/// bootstrap of none.
-fn others(case: &mut Case) {
-    case.number(u64::from(BsrFault::Memory.number()));
-    push_address(case, BsrFault::Memory.line());
-    let none = Bootstrap::from_valid(Vec::new(case.alloc()));
-    case.number(none.groups().len() as u64);
-}
-
 /// Runs a call.
 pub(crate) fn run(case: &mut Case, call: &[&str]) {
     match call {
@@ -237,7 +228,6 @@ pub(crate) fn run(case: &mut Case, call: &[&str]) {
         ["hits", text, spot @ ..] => hits(case, text, spot),
         ["group", addrs, streams] => group(case, addrs, streams),
         ["pieces", text] => pieces(case, text),
-        ["others"] => others(case),
         _ => case.fail("there is no such call"),
     }
 }

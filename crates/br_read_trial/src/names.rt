@@ -3,11 +3,9 @@
 use br_explain::{explain, push_refusals};
 use br_trial_rows::Case;
 use br_types::{
-    FileIndex, FileKey, JobId, Letter, Name, NameFault, Names, Path, SessionKey, VolName,
-    are_digits, byte_by, has_no_nul, is_blank_byte, is_directory_path, push_escaped,
-    push_hexadecimal, push_number, push_wide, unescape,
+    FileKey, Name, NameFault, Names, Path, SessionKey, VolName, push_escaped, push_hexadecimal,
+    push_number, push_wide, unescape,
 };
-use std::cmp::Ordering;
 
 /// Makes a name, and prints its copy.
 fn name(case: &mut Case, bytes: &[u8]) {
@@ -52,23 +50,6 @@ fn key_of(case: &mut Case, field: &str) -> Option<FileKey> {
     };
     let index = case.index_of(index)?;
     Some(FileKey { session, index })
-}
-
-/// Returns the name of an order.
-fn order_name(order: Ordering) -> &'static str {
-    match order {
-        Ordering::Less => "Less",
-        Ordering::Equal => "Equal",
-        Ordering::Greater => "Greater",
-    }
-}
-
-/// Prints how two keys are ordered.
-fn keys(case: &mut Case, first: &str, second: &str) {
-    let (first, second) = (key_of(case, first), key_of(case, second));
-    if let (Some(first), Some(second)) = (first, second) {
-        case.text(order_name(first.cmp(&second)));
-    }
 }
 
 /// Prints a key as `ID:TIME:INDEX`.
@@ -158,36 +139,6 @@ fn explanation(case: &mut Case, number: &str) {
     }
 }
 
-/// Prints the index of a file that a number is.
-fn index(case: &mut Case, field: &str) {
-    let index = FileIndex::new(case.u32_of(field));
-    case.number_or_none(index.map(|it| u64::from(it.get())));
-}
-
-/// Prints the number of a job that a number is.
-fn job(case: &mut Case, field: &str) {
-    let job = JobId::new(case.u32_of(field));
-    case.number_or_none(job.map(|it| u64::from(it.get())));
-}
-
-/// Prints the letter that a byte is, as a number.
-fn letter(case: &mut Case, field: &str) {
-    let letter = Letter::new(case.u8_of(field));
-    case.number_or_none(letter.map(|it| u64::from(it.get())));
-}
-
-/// Prints the byte that two digits spell.
-fn digits(case: &mut Case, high: &str, low: &str) {
-    let (high, low) = (case.u8_of(high), case.u8_of(low));
-    case.number_or_none(byte_by(high, low).map(|it| u64::from(it)));
-}
-
-/// Prints whether a byte is a blank.
-fn blank(case: &mut Case, field: &str) {
-    let byte = case.u8_of(field);
-    case.test(is_blank_byte(byte));
-}
-
 /// Prints a number of 64 bits.
 fn number(case: &mut Case, field: &str) {
     let number = case.u64_of(field);
@@ -218,21 +169,6 @@ fn hexadecimal(case: &mut Case, text: &[u8]) {
     case.done(done);
 }
 
-/// Runs a call over numbers.
-fn run_numbers(case: &mut Case, call: &[&str]) {
-    match call {
-        ["index", n] => index(case, n),
-        ["job", n] => job(case, n),
-        ["letter", n] => letter(case, n),
-        ["digits", high, low] => digits(case, high, low),
-        ["blank", n] => blank(case, n),
-        ["number", n] => number(case, n),
-        ["wide", n] => wide(case, n),
-        ["keys", first, second] => keys(case, first, second),
-        _ => case.fail("there is no such call"),
-    }
-}
-
 /// Runs a call over bytes.
 fn run_bytes(case: &mut Case, call: &str, text: &[u8]) {
     match call {
@@ -242,9 +178,6 @@ fn run_bytes(case: &mut Case, call: &str, text: &[u8]) {
         "escape" => escape(case, text),
         "unescape" => read_escaped(case, text),
         "hexadecimal" => hexadecimal(case, text),
-        "has_no_nul" => case.test(has_no_nul(text)),
-        "are_digits" => case.test(are_digits(text)),
-        "is_directory" => case.test(is_directory_path(text)),
         _ => case.fail("there is no such call"),
     }
 }
@@ -261,6 +194,8 @@ pub(crate) fn run(case: &mut Case, call: &[&str]) {
         ["names", asked, set @ ..] => names(case, asked, set),
         ["explain", n] => explanation(case, n),
         ["of", call, field] => run_text(case, call, field),
-        _ => run_numbers(case, call),
+        ["number", n] => number(case, n),
+        ["wide", n] => wide(case, n),
+        _ => case.fail("there is no such call"),
     }
 }

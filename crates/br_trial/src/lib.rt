@@ -16,8 +16,6 @@ mod looking_tests;
 #[cfg(test)]
 mod migration_tests;
 #[cfg(test)]
-mod rows_tests;
-#[cfg(test)]
 mod stop_tests;
 #[cfg(test)]
 mod stopped_migration_tests;

@@ -1,15 +1,11 @@
 //! Two jobs are committed to a catalogue whose disk stops at each call in turn.
-ghost use Rattle.std.specs.Prelude.{◌≡◌, false};
-
-use crate::disk::{Stopping, catalogue, history_after, open_stopping, reopened};
+use crate::disk::{Stopping, catalogue, history_after, open_stopping};
 use crate::drafts::{Job, saved_job};
 use crate::left::shown;
 use br_keeper::Keeper;
 use br_kept::StoredJobs;
-use br_schema::is_empty;
-use br_store::create;
 use br_volume::MemStore;
-use sqlite::{Alter, Connection};
+use sqlite::Alter;
 use sqlite_trees::store::Reopen;
 use std::alloc::Global;
 use std::fmt::Write;
@@ -197,61 +193,5 @@ fn a_log_that_stops_leaves_the_first_jobs(rt: HostRuntime) -> Result<(), Fail> {
 fn a_database_that_stops_leaves_no_job_or_both(rt: HostRuntime) -> Result<(), Fail> {
     let counts = counts_left(&rt, rt.alloc(), Stopping::Database)?;
     assert_eq!(rt; counts.as_str(), "0 2 ");
-    Ok(())
-}
-
-/// Makes the tables in an empty database. Returns whether that is acknowledged.
-fn is_made<S: Alter>(conn: &mut Connection<S>) -> Result<bool, Fail>
-    requires { conn.old.in_transaction ≡ false }
-{
-    if is_empty(conn.schema()) {
-        Ok(create(conn).is_ok())
-    } else {
-        Err(Fail::from("an empty database"))
-    }
-}
-
-/// Opens what a stop left of a database, and returns whether it has tables, and how many jobs. It is
-/// opened twice, and the second time as a catalogue, which makes the tables that are missing.
-fn found_after<S: Alter + Reopen + Drop>(
-    alloc: Global,
-    conn: Connection<S>,
-) -> Result<(bool, usize), Fail> {
-    let conn = reopened(alloc, conn)?;
-    let has_tables = !is_empty(conn.schema());
-    Ok((has_tables, history_after(alloc, conn)?.len()))
-}
-
-/// Makes the tables in a database of which one file stops. Returns whether that is acknowledged, and
-/// what was found afterwards.
-fn make(alloc: Global, file: Stopping, calls: u64) -> Result<(bool, (bool, usize)), Fail> {
-    let Some(mut conn) = open_stopping(alloc, file, calls) else {
-        return Ok((false, (false, 0)));
-    };
-    let is_made = is_made(&mut conn)?;
-    Ok((is_made, found_after(alloc, conn)?))
-}
-
-/// Stops this file at each call in turn, until the tables are made. Returns a line for each run after
-/// which tables are missing that were acknowledged, or a job is there.
-fn wrongly_made(alloc: Global, file: Stopping) -> Result<String, Fail> {
-    let mut wrong = String::new(alloc);
-    for calls in 0..MANY {
-        let (is_made, (has_tables, jobs)) = make(alloc, file, calls)?;
-        if jobs != 0 || (is_made && !has_tables) {
-            writeln!(wrong, "{calls} calls: {is_made}, {has_tables}, {jobs} jobs")?;
-        }
-        if is_made {
-            return Ok(wrong);
-        }
-    }
-    wrong.push_str("the tables are never made\n")?;
-    Ok(wrong)
-}
-
-#[test]
-fn tables_are_made_or_missing_after_a_stop(rt: HostRuntime) -> Result<(), Fail> {
-    assert_eq!(rt; wrongly_made(rt.alloc(), Stopping::Log)?.as_str(), "");
-    assert_eq!(rt; wrongly_made(rt.alloc(), Stopping::Database)?.as_str(), "");
     Ok(())
 }

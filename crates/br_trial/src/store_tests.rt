@@ -1,5 +1,5 @@
-//! The catalogue: jobs that are stored, refused and loaded, and what a crash leaves.
-use crate::disk::{Disk, Stopping, catalogue, history_after, open_stopping};
+//! The catalogue: jobs that are stored, refused and loaded.
+use crate::disk::catalogue;
 use crate::jobs::{both_shown, job, loaded};
 use crate::migration_tests::old_with;
 use br_history::JobRows;
@@ -188,45 +188,5 @@ fn old_refusals(alloc: Global) -> Result<[u32; 3], Fail> {
 #[test]
 fn catalogues_of_version_1_are_refused(rt: HostRuntime) -> Result<(), Fail> {
     assert_eq!(rt; old_refusals(rt.alloc())?, [48, 45, 45]);
-    Ok(())
-}
-
-/// Inserts a job and crashes. Returns the number of jobs afterwards, or none if there was no
-/// catalogue.
-fn insert_and_crash(alloc: Global, conn: Connection<Disk>) -> Result<Option<usize>, Fail> {
-    let Ok(mut store) = catalogue(alloc, conn) else {
-        return Ok(None);
-    };
-    let _ = insert(alloc, &mut store, 2, 7, b"/a/two")?;
-    Ok(Some(history_after(alloc, store.into_connection())?.len()))
-}
-
-/// Inserts a job and crashes on a disk whose log fails from this call on. Returns the number of
-/// jobs afterwards, or none if there was no catalogue.
-fn left(alloc: Global, calls: u64) -> Result<Option<usize>, Fail> {
-    match open_stopping(alloc, Stopping::Log, calls) {
-        Some(conn) => insert_and_crash(alloc, conn),
-        None => Ok(None),
-    }
-}
-
-/// Runs the crashes. Returns whether some left no job, and whether some left one, on disks that failed at
-/// one call or another.
-fn crash_often(alloc: Global) -> Result<(bool, bool), Fail> {
-    let mut found = (false, false);
-    for calls in [12, 20, 22, 24, 26, 28, 40] {
-        match left(alloc, calls)? {
-            None => {}
-            Some(0) => found.0 = true,
-            Some(1) => found.1 = true,
-            Some(_) => return Err(Fail::from("more jobs than were inserted")),
-        }
-    }
-    Ok(found)
-}
-
-#[test]
-fn a_crash_leaves_all_or_none(rt: HostRuntime) -> Result<(), Fail> {
-    assert_eq!(rt; crash_often(rt.alloc())?, (true, true));
     Ok(())
 }

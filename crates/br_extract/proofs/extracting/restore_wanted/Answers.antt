@@ -91,16 +91,16 @@ returns-clause-extracts g c =
     → AllStand (map shows first) (map shows second) (pieces_of groups) volumes = λ volumes stands.
     stand_midst (pieces_of groups) volumes (map shows first) (map shows second) (map shows third) stands
     (only_grow shows failures first second c.in_ok-made.ensures.places) (only_grow shows failures second third c.deliver_made-end.ensures.places) in
-    let done : Extracted = record { end = c.deliver_made-end.result; missing = prepared.missing } in
+    let done : Extracted = record { end = c.deliver_made-end.result; missing = prepared.missing; left = prepared.left } in
     extracts_like c.args.wanted (map shows first) (map shows third) groups before after had has os kept done given
     (λ volumes stands. c.in_ok-made.ensures.files volumes (midst volumes stands))
-    (λ volumes stands. gives_delivered shows failures second groups made.gathered c.args.wanted.copies os kept wanted (c.in_ok-made.ensures.again volumes (midst volumes stands)))
+    (λ volumes stands. gives_delivered shows failures second groups made.gathered c.args.wanted os kept wanted (c.in_ok-made.ensures.again volumes (midst volumes stands)))
     (subst (λ os. Appends before after (manifest (map restored os))) c.deref-2.ensures.value c.in_ok-write_manifest.ensures.written)
     wanted
     (subst (λ (gs : List Group). EndsLike (CanGive shows failures second gs made.gathered kept) had has kept c.deliver_made-end.result) c.groups-groups.ensures.same
     (subst (λ os. EndsLike (CanGive shows failures second c.groups-groups.result.now made.gathered (map restored os)) had has (map restored os) c.deliver_made-end.result) c.keep_delivered.ensures
     c.deliver_made-end.ensures.ends))
-    (rw c.deref.ensures.value at c.in_ok-prepared.ensures.missing)
+    (rw c.deref.ensures.value at c.in_ok-prepared.ensures.missing) (rw c.deref.ensures.value at c.in_ok-prepared.ensures.left)
 
 pub returns-clause-places : goal.returns-clause-places
 returns-clause-places g c =

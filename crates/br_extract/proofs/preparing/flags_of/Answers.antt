@@ -7,9 +7,9 @@ use Rattle.br_current.proofs.KeptLaws.{flagged_pass}
 use Rattle.br_options.specs.declared.options.Copies.TheVariants.{Newest}
 use Rattle.br_extract.proofs.preparing.flags_of.Goals as goal
 
-pub returns-in_ok-flags_of_newest-in-Newest : goal.returns-in_ok-flags_of_newest-in-Newest
+pub returns-in_ok-flags_of_newest-in-Newest-clause-flags : goal.returns-in_ok-flags_of_newest-in-Newest-clause-flags
 unfolding newest
-returns-in_ok-flags_of_newest-in-Newest c =
+returns-in_ok-flags_of_newest-in-Newest-clause-flags c =
     let os = c.args.outcomes.now in
     let rs : List Restored = map restored os in
     let wanted : c.args.copies ≡ Newest = search rules in

@@ -1,0 +1,5 @@
+pub mod ReadLaws
+pub mod BlockLaws
+pub mod LaterLaws
+pub mod StepLaws
+pub mod PieceLaws

@@ -1,0 +1,4 @@
+pub mod Blocks
+pub mod Walk
+pub mod Asked
+pub mod Pieces

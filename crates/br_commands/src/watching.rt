@@ -1,0 +1,81 @@
+//! Restores that tell a terminal how far they are.
+ghost use Rattle.std.specs.Prelude.{◌≡◌, is_some, length, IfOk};
+
+use br_bsr::read_bootstrap;
+use br_engine::Outputs;
+use br_folder::FolderStore;
+use br_options::Progress;
+use br_piece::split;
+use br_progress::{Gauge, WatchedDrive, WatchedSink, WatchedWriter};
+use br_setup::is_shown;
+use br_volume::VolumeStore;
+use std::alloc::{AllocError, Global};
+
+/// Returns the gauge of a restore. It shows something if that is asked for and standard error is a terminal.
+pub(crate) fn gauge_of<'r>(rt: &'r HostRuntime, progress: Progress) -> Gauge<'r> {
+    Gauge::new(rt, progress == Progress::Shown && is_shown(rt))
+}
+
+/// Returns the number of bytes of the volumes in a folder that a bootstrap names, if it can be told.
+fn len_of_volumes(rt: &HostRuntime, folder: &str, text: &[u8]) -> Option<u64> {
+    let bootstrap = read_bootstrap(rt.alloc(), text).ok()?;
+    let pieces = split(rt.alloc(), &bootstrap).ok()?;
+    let mut store = FolderStore::new(rt.alloc(), rt, folder).ok()?;
+    let mut len = 0_u64;
+    for piece in &pieces {
+        len = len.saturating_add(store.length(&piece.vol).ok()?);
+    }
+    Some(len)
+}
+
+/// Tells a gauge that shows something how many bytes the volumes of a bootstrap have.
+pub(crate) fn expect_volumes(rt: &HostRuntime, gauge: &Gauge<'_>, folder: &str, text: &[u8]) {
+    if gauge.is_shown() {
+        gauge.expect(len_of_volumes(rt, folder, text).unwrap_or(0));
+    }
+}
+
+/// Returns the drives, each of which is watched.
+pub(crate) fn watched_drives<'g, 'r, D: Drop>(
+    alloc: Global,
+    drives: Vec<D>,
+    gauge: &'g Gauge<'r>,
+) -> Result<Vec<WatchedDrive<'g, 'r, D>>, AllocError>
+    ensures many { IfOk result (λ watched. length watched.items ≡ length drives.items) }
+{
+    let mut watched = Vec::with_capacity(alloc, drives.len())?;
+    for drive in drives {
+        watched.push_reserved(WatchedDrive::new(drive, gauge));
+    }
+    Ok(watched)
+}
+
+/// Returns the outputs, of which the writer is watched.
+pub(crate) fn watched_writer<'g, 'r, W, S>(
+    out: Outputs<W, S>,
+    gauge: &'g Gauge<'r>,
+) -> Outputs<WatchedWriter<'g, 'r, W>, S>
+    ensures sink { result.sink ≡ out.sink }
+{
+    let Outputs { writer, sink } = out;
+    Outputs {
+        writer: WatchedWriter::new(writer, gauge),
+        sink,
+    }
+}
+
+/// Returns the outputs, of which the sink is watched.
+pub(crate) fn watched_sink<'g, 'r, W, S>(
+    out: Outputs<W, S>,
+    gauge: &'g Gauge<'r>,
+) -> Outputs<W, WatchedSink<'g, 'r, S>>
+    ensures writer { result.writer ≡ out.writer }
+    ensures sink { is_some result.sink ≡ is_some out.sink }
+{
+    let Outputs { writer, sink } = out;
+    let sink = match sink {
+        Some(sink) => Some(WatchedSink::new(sink, gauge)),
+        None => None,
+    };
+    Outputs { writer, sink }
+}

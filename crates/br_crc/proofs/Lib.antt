@@ -1,0 +1,2 @@
+pub mod ShiftLaws
+mod CrcExamples

@@ -1,0 +1,4 @@
+pub mod LeavingLaws
+pub mod ApartLaws
+pub mod PassingLaws
+pub mod NotedLaws

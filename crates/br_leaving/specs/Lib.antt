@@ -1,0 +1,4 @@
+pub mod Ways
+pub mod Apart
+pub mod Leaving
+pub mod Line

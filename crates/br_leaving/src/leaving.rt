@@ -1,0 +1,104 @@
+//! A sink around a sink, which goes on after a file at which that one fails.
+ghost use Rattle.std.specs.Prelude.{◌≡◌, ◌<◌, ◌≤◌, ◌∷◌, [], length, map, OnOk, OnErr, IfErr, Err, Some};
+ghost use Rattle.std.specs.Thread.{IsSync};
+ghost use Rattle.br_options.specs.declared.options.Stops.TheVariants.{AtFirst};
+ghost use Rattle.br_sink.specs.Delivery.{IsStopBelow, items_in, items_put};
+ghost use Rattle.br_sink.specs.Sink.{HasMore};
+ghost use Rattle.br_sink.specs.declared.fault.SinkFault.TheVariants.{Fault};
+ghost use Rattle.br_leaving.specs.Leaving.{ArePut};
+
+use crate::noted::Noted;
+use crate::passing::{put_each, put_one};
+use br_join::{Item, Outcome};
+use br_options::Stops;
+use br_sink::{Sink, SinkFault, SinkStop};
+use br_types::{FileKey, Path};
+use std::alloc::Global;
+use std::marker::Model;
+use std::snapshot::Snapshot;
+use std::thread::Threads;
+
+/// A sink around a sink. With `Stops::Never` it takes a file at which that one fails, leaves it out and goes
+/// on. With `Stops::AtFirst` it stops there, as that one does.
+#[derive(Drop)]
+pub struct Leaving<S: Sink + Drop> {
+    stops: Stops,
+    inner: S,
+    start: Snapshot<S>,
+    noted: Noted,
+}
+
+impl<S: Sink + Drop> Model for Leaving<S> {
+    ghost use Rattle.br_leaving.specs.Leaving.{AreNoted, InLeaving};
+
+    ghost Value = { InLeaving S };
+
+    ghost view = { λ s.
+        record { stops = s.stops; inner = s.inner; start = S.has s.start.value; taken = s.noted.taken.items; left = s.noted.left.items } };
+
+    ghost invariant = { λ s. AreNoted (S.has s.start.value) (S.has s.inner) (S.failures s.inner) s.noted };
+}
+
+impl<S: Sink + Drop> Leaving<S> {
+    /// Creates a sink around this one.
+    pub fn new(alloc: Global, inner: S, stops: Stops) -> Leaving<S>
+        ensures { result ≡ record { stops = stops; inner = inner; start = S.has inner; taken = []; left = [] } }
+    {
+        Leaving {
+            stops,
+            start: Snapshot::of(&inner),
+            inner,
+            noted: Noted::new(alloc),
+        }
+    }
+
+    /// Returns the paths of the files that are left out, in their order.
+    pub fn left_out(&self) -> &[Path]
+        ensures paths { result.now ≡ map (λ i. i.path) self.now.left }
+        ensures put { ArePut self.now.start (S.has self.now.inner) self.now.left self.now.taken }
+        ensures failed { length self.now.left ≤ S.failures self.now.inner }
+    {
+        self.noted.paths()
+    }
+}
+
+impl<S: Sink + Drop> Sink for Leaving<S> {
+    ghost use Rattle.std.specs.Prelude.{Some};
+
+    ghost has = { λ s. Some s.taken };
+
+    ghost failures = { λ s. S.failures s.inner };
+
+    /// Puts the file, or leaves it out.
+    fn put(&mut self, item: &Item) -> Result<(), SinkFault>
+        ensures put { OnOk result (HasMore (item.now ∷ []) (Some self.old.taken) (Some self.new.taken)) }
+        ensures refused { OnErr result (Some self.new.taken ≡ Some self.old.taken) }
+        ensures counted { S.failures self.old.inner ≤ S.failures self.new.inner }
+        ensures failed { result ≡ Err Fault → S.failures self.old.inner < S.failures self.new.inner }
+        ensures first { result ≡ Err Fault → self.old.stops ≡ AtFirst }
+    {
+        put_one(self.stops, &mut self.inner, &mut self.noted, item)
+    }
+
+    /// Puts the files among the outcomes, and leaves out those at which the sink inside fails.
+    fn put_all<R: Threads + Sync>(
+        &mut self,
+        threads: &R,
+        outcomes: &[(FileKey, Outcome)],
+    ) -> Result<(), SinkStop>
+        requires threads { IsSync R.row }
+        ensures put { HasMore (items_put result (items_in outcomes.now)) (Some self.old.taken) (Some self.new.taken) }
+        ensures stopped { IfErr result (IsStopBelow (length (items_in outcomes.now))) }
+        ensures counted { S.failures self.old.inner ≤ S.failures self.new.inner }
+        ensures failed { IfErr result (λ stop. stop.number ≡ 80 → S.failures self.old.inner < S.failures self.new.inner) }
+        ensures first { IfErr result (λ stop. stop.number ≡ 80 → self.old.stops ≡ AtFirst) }
+    {
+        put_each(
+            threads,
+            self.stops,
+            &mut self.inner,
+            &mut self.noted,
+            outcomes,
+        )
+    }
+}

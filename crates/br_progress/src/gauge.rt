@@ -1,0 +1,160 @@
+//! What is counted while a restore runs, and when it is told.
+
+use crate::line::{Standing, seconds_left};
+use std::sync::atomic::{AtomicBool, AtomicU64, Ordering};
+use std::time::Instant;
+
+/// The shortest time between two lines, in milliseconds.
+const INTERVAL: u64 = 500;
+
+/// Counts how far a restore is, and shows it in a line on standard error, at most twice a second. All that
+/// take part in the restore share it.
+#[derive(Drop)]
+pub struct Gauge<'r> {
+    rt: &'r HostRuntime,
+    /// When the gauge was made, if it shows something.
+    begun: Option<Instant>,
+    to_read: AtomicU64,
+    read: AtomicU64,
+    files: AtomicU64,
+    put: AtomicU64,
+    /// True once files are put.
+    is_putting: AtomicBool,
+    /// When the reading began, and later when files were first put, in milliseconds since the gauge was
+    /// made; 0 before.
+    step: AtomicU64,
+    /// When the last line was shown or, before there was one, something was first counted, in milliseconds
+    /// since the gauge was made; 0 before.
+    told: AtomicU64,
+    /// True while a line is on the terminal.
+    is_up: AtomicBool,
+}
+
+impl<'r> Gauge<'r> {
+    /// Creates a gauge, which shows how far the restore is, or nothing at all.
+    pub fn new(rt: &'r HostRuntime, is_shown: bool) -> Gauge<'r> {
+        let begun = if is_shown {
+            Instant::now(rt).ok()
+        } else {
+            None
+        };
+        Gauge {
+            rt,
+            begun,
+            to_read: AtomicU64::new(0),
+            read: AtomicU64::new(0),
+            files: AtomicU64::new(0),
+            put: AtomicU64::new(0),
+            is_putting: AtomicBool::new(false),
+            step: AtomicU64::new(0),
+            told: AtomicU64::new(0),
+            is_up: AtomicBool::new(false),
+        }
+    }
+
+    /// Returns true if the gauge shows how far the restore is.
+    pub fn is_shown(&self) -> bool {
+        self.begun.is_some()
+    }
+
+    /// Notes the number of bytes of the volumes that will be read.
+    pub fn expect(&self, bytes: u64) {
+        self.to_read.store(bytes, Ordering::SeqCst);
+    }
+
+    /// Notes that so many bytes were passed.
+    pub(crate) fn note_read(&self, bytes: u64) {
+        self.read.fetch_add(bytes, Ordering::SeqCst);
+        self.tell();
+    }
+
+    /// Notes that so many more files are to be put.
+    pub(crate) fn note_files(&self, count: u64) {
+        self.files.fetch_add(count, Ordering::SeqCst);
+    }
+
+    /// Notes that files are put from now on.
+    pub(crate) fn begin_putting(&self) {
+        if !self.is_putting.swap(true, Ordering::SeqCst) {
+            self.step.store(0, Ordering::SeqCst);
+        }
+        self.tell();
+    }
+
+    /// Notes that so many more files were put.
+    pub(crate) fn note_put(&self, count: u64) {
+        self.put.fetch_add(count, Ordering::SeqCst);
+        self.tell();
+    }
+
+    /// Takes the line from the terminal, if it is there.
+    pub fn clear(&self) {
+        if self.is_up.swap(false, Ordering::SeqCst) {
+            let cleared = eprint!(self.rt; "\r\x1b[K");
+            drop(cleared);
+        }
+    }
+
+    /// Returns the milliseconds since the gauge was made, at least 1, if it shows something.
+    fn now(&self) -> Option<u64> {
+        let elapsed = self.begun?.elapsed(self.rt).ok()?;
+        let now = u64::try_from(elapsed.as_millis()).ok()?;
+        Some(now.max(1))
+    }
+
+    /// Returns how far the restore is.
+    fn standing(&self, elapsed: u64) -> Standing {
+        let read = self.read.load(Ordering::SeqCst);
+        let to_read = self.to_read.load(Ordering::SeqCst);
+        let put = self.put.load(Ordering::SeqCst);
+        let (files, left) = if self.is_putting.load(Ordering::SeqCst) {
+            let files = self.files.load(Ordering::SeqCst);
+            (files, seconds_left(elapsed, put, files))
+        } else {
+            (0, seconds_left(elapsed, read, to_read))
+        };
+        Standing {
+            read,
+            to_read,
+            put,
+            files,
+            left,
+        }
+    }
+
+    /// Returns when the step began that is measured. The first call of a step begins it.
+    fn step_at(&self, now: u64) -> u64 {
+        let step = &self.step;
+        match step.compare_exchange(0, now, Ordering::SeqCst, Ordering::SeqCst) {
+            Ok(_) => now,
+            Err(begun) => begun,
+        }
+    }
+
+    /// Returns true if the last line is half a second old. Of several threads that ask at once, it is true
+    /// for one.
+    fn is_due(&self, now: u64) -> bool {
+        let told = self.told.load(Ordering::SeqCst);
+        if told != 0 && now < told.saturating_add(INTERVAL) {
+            return false;
+        }
+        let turn = self
+            .told
+            .compare_exchange(told, now, Ordering::SeqCst, Ordering::SeqCst);
+        told != 0 && turn.is_ok()
+    }
+
+    /// Shows how far the restore is, unless that was done in the last half second.
+    fn tell(&self) {
+        let Some(now) = self.now() else {
+            return;
+        };
+        let begun = self.step_at(now);
+        if self.is_due(now) {
+            self.is_up.store(true, Ordering::SeqCst);
+            let standing = self.standing(now.saturating_sub(begun));
+            let shown = eprint!(self.rt; "\r{standing}\x1b[K");
+            drop(shown);
+        }
+    }
+}
