@@ -21,7 +21,7 @@ from pathlib import Path
 sys.dont_write_bytecode = True
 sys.path.insert(0, os.path.join(os.path.dirname(os.path.dirname(os.path.abspath(__file__))), "tools"))
 from bacula import block_of, volume_label
-from common import PROGRAM, Checks, unescaped
+from common import PROGRAM, Checks
 from odd import line, record, records
 
 LONG = bytes(range(256)) * 160
@@ -131,9 +131,11 @@ def into_disk(checks, folder, options, *more):
         subprocess.run(["umount", folder / "into"], check=True)
 
 
-def checks_disk(checks, name, options, files, sure, never):
-    """Delivers into such a disk: the files `sure` come, and those of `never` don't. Of a file that is left out a part may be there."""
-    for more in ((), ("--keep-going",)):
+def checks_disk(checks, name, options, files, first, left):
+    """Delivers into such a disk: without the option the files `first` come, with it all but those of `left`, and no part of another file."""
+    going = {name: data for name, data in files if name not in left}
+    told = b"".join(b"left 80 %s\n" % name for name in left)
+    for more, wanted in (((), (b"refused 80\n", first)), (("--keep-going",), (told, going))):
         with tempfile.TemporaryDirectory() as made:
             folder = Path(made)
             manifest = write_volume(folder, files)
@@ -141,20 +143,14 @@ def checks_disk(checks, name, options, files, sure, never):
             if found is None:
                 print(f"{name}: not tried, since no disk can be mounted here")
                 return
-            (status, printed, told), kept = found
-            checks.check(f"{name} {' '.join(more)}", (status, printed), (1, manifest))
-            left = [unescaped(line.split(b" ")[2]) for line in told.splitlines() if line.startswith(b"left 80 ")]
-            checks.check("and what is told", told, b"".join(b"left 80 %s\n" % name for name in left) if more else b"refused 80\n")
-            checks.check("and what is left out", all(name in left for name in never), bool(more) or not never)
-            whole = {name: kept.get(name) for name in (dict(files) if more else sure) if name not in left}
-            checks.check("and what was put", whole, {name: dict(files)[name] for name in whole})
-            checks.check("with what must be there", [name for name in sure if name not in whole], [])
+            checks.check(f"{name} {' '.join(more)}", found[0], (1, manifest, wanted[0]))
+            checks.check("and what was put", found[1], wanted[1])
 
 
 def checks_disks(checks):
     a, b, z = SHORT.items()
-    checks_disk(checks, "a full disk", "size=24k", [a, (b"/in/long", LONG), b, z], [b"/in/a"], [b"/in/long"])
-    checks_disk(checks, "a disk that can't be written", "size=24k,ro", list(SHORT.items()), [], list(SHORT))
+    checks_disk(checks, "a full disk", "size=24k", [a, (b"/in/long", LONG), b, z], with_files(b"/in/a"), [b"/in/long"])
+    checks_disk(checks, "a disk that can't be written", "size=24k,ro", list(SHORT.items()), {}, list(SHORT))
 
 
 def main():

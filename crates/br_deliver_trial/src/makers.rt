@@ -63,21 +63,37 @@ fn are_left(maker: &MemMaker, done: u64) -> bool {
     })
 }
 
-/// Prints whether just the files before the end are there.
-fn push_left(case: &mut Case, maker: &MemMaker, end: &Result<(), SinkStop>) {
+/// Returns whether a file that was not finished is at one of the paths. No call fails from here on.
+fn has_part(maker: &mut MemMaker) -> bool {
+    maker.fail_after(u64::MAX);
+    let mut has = false;
+    for (path, _, _) in LEFT {
+        if maker.look(path) == Ok(Kind::File) && maker.bytes(path).is_none() {
+            has = true;
+        }
+    }
+    has
+}
+
+/// Prints whether just the files before the end are there, and whether a part of another one is.
+fn push_left(case: &mut Case, maker: &mut MemMaker, end: &Result<(), SinkStop>) {
     case.text(if are_left(maker, done_of(end)) {
         "whole"
     } else {
         "other files"
     });
+    if has_part(maker) {
+        case.text(" beside a part");
+    }
 }
 
 /// Puts the small restore over a maker. Prints how that ends, and whether just the files before the
 /// end are there.
 fn put(case: &mut Case, threads: &(impl Threads + Sync), maker: MemMaker) {
     if let Some((end, maker)) = put_small(case, threads, maker) {
+        let mut maker = maker;
         push_end(case, &end);
-        push_left(case, &maker, &end);
+        push_left(case, &mut maker, &end);
     }
 }
 
@@ -98,8 +114,9 @@ fn fails(case: &mut Case, threads: &(impl Threads + Sync), calls: u64) {
     let mut maker = maker_of(case);
     maker.fail_after(calls);
     if let Some((end, maker)) = put_small(case, threads, maker) {
+        let mut maker = maker;
         push_number(case, &end);
-        push_left(case, &maker, &end);
+        push_left(case, &mut maker, &end);
     }
 }
 
@@ -220,8 +237,9 @@ impl ManyWriter for Trap {
 /// end are there. Returns the trap.
 fn put_over(case: &mut Case, threads: &(impl Threads + Sync), trap: Trap) -> Option<Trap> {
     let (end, trap) = put_small(case, threads, trap)?;
+    let mut trap = trap;
     push_end(case, &end);
-    push_left(case, &trap.maker, &end);
+    push_left(case, &mut trap.maker, &end);
     Some(trap)
 }
 
@@ -236,12 +254,13 @@ fn fails_once(case: &mut Case, threads: &(impl Threads + Sync), calls: u64) {
     let _trap = put_over(case, threads, trap);
 }
 
-/// Puts it on a disk with room for this number of bytes.
-fn filled(case: &mut Case, threads: &(impl Threads + Sync), room: u64) {
+/// Puts it on a disk with room for this number of bytes, if the call after this number of calls
+/// fails, and no other.
+fn filled(case: &mut Case, threads: &(impl Threads + Sync), room: u64, calls: u64) {
     let trap = Trap {
         maker: maker_of(case),
         path: None,
-        calls: u64::MAX,
+        calls,
         room: Some(room as usize),
     };
     let _trap = put_over(case, threads, trap);
@@ -282,7 +301,8 @@ fn run_with(case: &mut Case, threads: &(impl Threads + Sync), call: &str, number
         "fails" => fails(case, threads, number),
         "interrupted" => interrupted(case, threads, number),
         "files_of" => overfull(case, threads, number),
-        "disk_of" => filled(case, threads, number),
+        "disk_of" => filled(case, threads, number, u64::MAX),
+        "alone_of" => filled(case, threads, number, 0),
         "fails_once" => fails_once(case, threads, number),
         "refused" => refused(case, number),
         _ => linked(case, threads, call, number),

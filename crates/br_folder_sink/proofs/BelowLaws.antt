@@ -7,7 +7,7 @@ use Rattle.std.specs.Io.KnownBytes.{Appends}
 use Rattle.br_files.specs.Making.{Node, Nodes, Bytes, Else, IsBelow, IsFileOrFree, IsFinished, IsFolderNow, KeepsOthers, MakesFile, Opened, Sets, node_at}
 use Rattle.br_files.specs.declared.kind.Kind.TheVariants.{Folder}
 use Rattle.br_files.proofs.MakingLaws.{opened_still, put_whole, same_keeps, set_keeps, set_over}
-use Rattle.br_folder_sink.specs.Below.{AddsFolders, IsOnWay, IsNewFolder, KeepsOutside, PutsBelow, PutsNew, SetsBytes}
+use Rattle.br_folder_sink.specs.Below.{AddsFolders, IsOnWay, IsNewFolder, KeepsOutside, MakesNew, PutsBelow, PutsNew}
 
 -- paths that begin with the folder's
 
@@ -90,17 +90,24 @@ made_keeps path contents None (Some b) made = absurd made
 made_keeps path contents (Some a) None made = absurd made
 made_keeps path contents (Some a) (Some b) made = set_keeps path (Some (Opened made.0)) (Some a) (Some b) made.2
 
-pub new_done : {A E : Type 0} (result : Result A E) (path bytes : List ℕ) (before after : Option (List ℕ)) (a b c : Option Nodes)
-    → MakesFile path before a b → Appends before after bytes → OnOk result (IsFinished path after b c)
-    → OnOk result (SetsBytes path bytes a c)
-new_done (Ok x) path bytes before after a b c made more put =
-    put_whole path bytes before after a b c made more (put (opened_still path bytes before after a b made more))
-new_done (Err e) path bytes before after a b c made more put = tt
+pub made_new : (path : List ℕ) (contents : Option (List ℕ)) (a b c : Option Nodes) → IsFileOrFree a path → Sets path None a b
+    → MakesFile path contents b c → MakesNew path contents a c
+made_new path contents a b c file cleared made = (b, file, cleared, made)
 
--- an earlier file is removed, and a new one is made
-pub put_over : (path bytes : List ℕ) (a b c : Option Nodes) → IsFileOrFree a path → Sets path None a b → SetsBytes path bytes b c
-    → PutsNew path bytes a c
-put_over path bytes a b c file cleared put = (file, set_over path None (Some (Bytes bytes)) a b c cleared put)
+-- an earlier file is removed, and a new one is made and has the bytes
+put_over : (path bytes : List ℕ) (before after : Option (List ℕ)) (a b c : Option Nodes) → Appends before after bytes
+    → IsFinished path after b c → MakesNew path before a b → PutsNew path bytes a c
+put_over path bytes before after a b c more put (middle, file, cleared, made) = (
+  file,
+  set_over path None (Some (Bytes bytes)) a middle c cleared
+      (put_whole path bytes before after middle b c made more (put (opened_still path bytes before after middle b made more))),
+)
+
+pub new_put : {A E : Type 0} (result : Result A E) (path bytes : List ℕ) (before after : Option (List ℕ)) (b c : Option Nodes)
+    → Appends before after bytes → OnOk result (IsFinished path after b c)
+    → OnOk result ((a : Option Nodes) → MakesNew path before a b → PutsNew path bytes a c)
+new_put (Ok x) path bytes before after b c more put = λ a made. put_over path bytes before after a b c more put made
+new_put (Err e) path bytes before after b c more put = tt
 
 -- what a folder has beside what is below it
 
@@ -145,7 +152,22 @@ pub outside_then : (root path : List ℕ) (a b c : Option Nodes) → KeepsOutsid
     → KeepsOutside root a c
 outside_then root path a b c f below others = outside_more root a b c f (outside_set root path b c below others)
 
+-- twice, and then something else below the folder
+pub outside_twice : (root path : List ℕ) (a b c d : Option Nodes) → KeepsOutside root a b → IsBelow root path → KeepsOthers path b c
+    → KeepsOthers path c d → KeepsOutside root a d
+outside_twice root path a b c d f below others more = outside_then root path a b d f below (keeps_more path b c d others more)
+
+pub outside_undone : (root path : List ℕ) (a b c d e : Option Nodes) → KeepsOutside root a b → IsBelow root path → KeepsOthers path b c
+    → KeepsOthers path c d → KeepsOutside root d e → KeepsOutside root a e
+outside_undone root path a b c d e f below others more last = outside_more root a d e (outside_twice root path a b c d f below others more) last
+
 -- folders are made, and then the file
-pub put_below : (root path whole bytes : List ℕ) (a b c : Option Nodes) → whole ≡ root ++ path → AddsFolders root a b
+put_there : (root path whole bytes : List ℕ) (a b c : Option Nodes) → whole ≡ root ++ path → AddsFolders root a b
     → PutsNew whole bytes b c → PutsBelow root path bytes a c
-put_below root path whole bytes a b c is added put = (b, added, rw is at put)
+put_there root path whole bytes a b c is added put = (b, added, rw is at put)
+
+pub put_below : {A E : Type 0} (result : Result A E) (root path whole bytes : List ℕ) (contents : Option (List ℕ)) (a b m c : Option Nodes)
+    → whole ≡ root ++ path → AddsFolders root a b → MakesNew whole contents b m
+    → OnOk result ((e : Option Nodes) → MakesNew whole contents e m → PutsNew whole bytes e c) → OnOk result (PutsBelow root path bytes a c)
+put_below (Ok x) root path whole bytes contents a b m c is added made put = put_there root path whole bytes a b c is added (put b made)
+put_below (Err e) root path whole bytes contents a b m c is added made put = tt

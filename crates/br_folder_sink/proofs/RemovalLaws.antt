@@ -1,14 +1,14 @@
 -- Files that are removed again.
-use Rattle.std.proofs.Common.{◌≡◌, ℕ, ◌<◌, ◌+◌, ◌⊎◌, Bool, true, false, cond, Option, Some, None, List, [], ◌∷◌, ◌++◌, length, get_or, set, take, inl, inr, refl, ap, sym, subst, ◌∙◌, arith}
+use Rattle.std.proofs.Common.{◌≡◌, ℕ, ◌<◌, ◌≤◌, ◌+◌, ◌⊎◌, Bool, true, false, cond, Option, Some, None, List, [], ◌∷◌, ◌++◌, length, get_or, set, take, inl, inr, refl, ap, sym, subst, ◌∙◌, arith}
 use Rattle.std.specs.Prelude.{bytes_eq, suc}
 use Rattle.std.proofs.Math.Seq.{map-set_same}
 use Rattle.std.proofs.lemmas.List.{map-append, take_more}
 use Rattle.br_model.specs.File.{Item}
-use Rattle.br_files.specs.Making.{Nodes, AreSet, Else, Sets, node_at}
+use Rattle.br_files.specs.Making.{Nodes, AreSet, Else, IsFileOrFree, Sets, node_at}
 use Rattle.br_files.specs.declared.kind.Kind.TheVariants.{Folder}
-use Rattle.br_folder_sink.specs.Below.{AddsFolders, IsNewFolder}
+use Rattle.br_folder_sink.specs.Below.{AddsFolders, IsNewFolder, MakesNew}
 use Rattle.br_folder_sink.specs.Held.{WritesEach, WritesOne}
-use Rattle.br_folder_sink.specs.Removed.{AreRemoved, HasNoFile, IsRemoved, LacksFile, MakesNoFile, files_of}
+use Rattle.br_folder_sink.specs.Removed.{AreRemoved, GivesUp, HasNoFile, IsRemoved, LacksFile, MakesNoFile, MakesNone, files_of}
 use Rattle.br_folder_sink.specs.declared.window.Made.{Made}
 use Rattle.br_folder_sink.proofs.HeldLaws.{all_more, set_own}
 
@@ -64,6 +64,26 @@ no_file_now path None (Some b) set = absurd set
 no_file_now path (Some a) None set = absurd set
 no_file_now path (Some a) (Some b) set = inl (set_own path None a b set)
 
+-- a file that could not be made or written
+
+pub unmade_same : (path : List ℕ) (a b : Option Nodes) → b ≡ a → MakesNone path a b
+unmade_same path a b same = inl same
+
+pub unmade_cleared : (path : List ℕ) (a b c : Option Nodes) → IsFileOrFree a path → Sets path None a b → c ≡ b → MakesNone path a c
+unmade_cleared path a b c file cleared same = inr (file, subst (HasNoFile path) (sym same) (no_file_now path a b cleared))
+
+module _ (refused : List ℕ → Type 0) (root path whole : List ℕ) where
+  pub gives_added : (a b : Option Nodes) → AddsFolders root a b → GivesUp refused root path a b
+  gives_added a b added = inl added
+
+  pub gives_unmade : (a b c : Option Nodes) → whole ≡ root ++ path → AddsFolders root a b → MakesNone whole b c → GivesUp refused root path a c
+  gives_unmade a b c is added (inl same) = inl (subst (AddsFolders root a) (sym same) added)
+  gives_unmade a b c is added (inr (file, none)) = inr (b, added, rw is at file, inl (rw is at none))
+
+  pub gives_unwritten : (contents : Option (List ℕ)) (a b m c : Option Nodes) → whole ≡ root ++ path → AddsFolders root a b
+      → MakesNew whole contents b m → IsRemoved refused c (root ++ path) → GivesUp refused root path a c
+  gives_unwritten contents a b m c is added (middle, file, cleared, made) removed = inr (b, added, rw is at file, removed)
+
 -- folders were made first
 pub no_file_then : (root : List ℕ) (a b c : Option Nodes) → AddsFolders root a b → MakesNoFile b c → MakesNoFile a c
 no_file_then root a b c added kept = no_file_more a b c (no_file_added root a b added) kept
@@ -88,7 +108,7 @@ module _ (refused : List ℕ → Type 0) (root : List ℕ) (place : ℕ) where
   -- one more was looked at
   pub removed_more : {W : Type 0} (made : List (Made W)) (i : ℕ) (one : Made W) (a b : Option Nodes)
       → AreRemoved refused root place (files_of (take i made)) a → i < length made → one ≡ get_or made i one → MakesNoFile a b
-      → (place < one.place → IsRemoved refused b (root ++ one.item.now.path))
+      → (place ≤ one.place → IsRemoved refused b (root ++ one.item.now.path))
       → AreRemoved refused root place (files_of (take (i + 1) made)) b
   removed_more made i one a b removed low is kept now =
       let more : take (i + 1) made ≡ take i made ++ one ∷ [] =
@@ -96,7 +116,7 @@ module _ (refused : List ℕ → Type 0) (root : List ℕ) (place : ℕ) where
       let all : files_of (take (i + 1) made) ≡ files_of (take i made) ++ (one.place, one.item.now.path) ∷ [] =
       ap (λ (l : List (Made _)). files_of l) more ∙ map-append (λ (m : Made _). (m.place, m.item.now.path)) (take i made) (one ∷ []) in
       subst (λ (l : List (ℕ × List ℕ)). AreRemoved refused root place l b) (sym all)
-      (all_more (λ (file : ℕ × List ℕ). place < file.0 → IsRemoved refused b (root ++ file.1)) (files_of (take i made))
+      (all_more (λ (file : ℕ × List ℕ). place ≤ file.0 → IsRemoved refused b (root ++ file.1)) (files_of (take i made))
       (one.place, one.item.now.path) (all_still (files_of (take i made)) a b removed kept) now)
 
 -- places and paths stay

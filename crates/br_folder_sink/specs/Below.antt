@@ -1,6 +1,6 @@
 -- What a sink over a folder changes below it.
 use Rattle.std.specs.Prelude.{◌≡◌, ℕ, ◌⊎◌, List, ◌++◌, Option, Some, None, ⊤}
-use Rattle.br_files.specs.Making.{Nodes, Bytes, Else, node_at, IsBelow, IsFileOrFree, Sets}
+use Rattle.br_files.specs.Making.{Nodes, Bytes, Else, node_at, IsBelow, IsFileOrFree, MakesFile, Sets}
 use Rattle.br_files.specs.declared.kind.Kind.TheVariants.{Folder}
 
 -- the folder itself, or one below it
@@ -31,6 +31,11 @@ KeepsOutside root (Some earlier) None = ⊥
 -- only what is at the path is changed, to a file of these bytes
 abbrev pub SetsBytes : List ℕ → List ℕ → Option Nodes → Option Nodes → Type 0
 SetsBytes path bytes earlier later = Sets path (Some (Bytes bytes)) earlier later
+
+-- A new file is at the path, in the place of an earlier one or where nothing was.
+abbrev pub MakesNew : List ℕ → Option (List ℕ) → Option Nodes → Option Nodes → Type 0
+MakesNew path contents earlier later =
+    (middle : Option Nodes) × IsFileOrFree earlier path × Sets path None earlier middle × MakesFile path contents middle later
 
 -- A new file has these bytes, in the place of an earlier one or where nothing was.
 abbrev pub PutsNew : List ℕ → List ℕ → Option Nodes → Option Nodes → Type 0

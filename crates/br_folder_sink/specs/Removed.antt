@@ -1,9 +1,10 @@
 -- What is removed again after a delivery has stopped.
-use Rattle.std.specs.Prelude.{◌≡◌, ℕ, ◌<◌, ◌⊎◌, List, ◌++◌, map, Option, Some, None, ⊤}
+use Rattle.std.specs.Prelude.{◌≡◌, ℕ, ◌≤◌, ◌⊎◌, List, ◌++◌, map, Option, Some, None, ⊤}
 use Rattle.std.specs.List.{AllByRecursion}
 use Rattle.br_model.specs.Delivery.{Stop}
-use Rattle.br_files.specs.Making.{Nodes, Else, node_at}
+use Rattle.br_files.specs.Making.{Nodes, Else, IsFileOrFree, node_at}
 use Rattle.br_files.specs.declared.kind.Kind.TheVariants.{Folder}
+use Rattle.br_folder_sink.specs.Below.{AddsFolders}
 use Rattle.br_folder_sink.specs.declared.window.Made.{Made}
 
 -- nothing is at the path, or a folder
@@ -30,11 +31,22 @@ IsRemoved refused nodes path = HasNoFile path nodes ⊎ refused path
 abbrev pub files_of : {W : Type 0} → List (Made W) → List (ℕ × List ℕ)
 files_of made = map (λ (m : Made _). (m.place, m.item.now.path)) made
 
--- each of these files that comes after a place is removed, or its removal was refused
+-- each of these files from a place on is removed, or its removal was refused
 abbrev pub AreRemoved : (List ℕ → Type 0) → List ℕ → ℕ → List (ℕ × List ℕ) → Option Nodes → Type 0
 AreRemoved refused root place files nodes =
-    AllByRecursion (λ (file : ℕ × List ℕ). place < file.0 → IsRemoved refused nodes (root ++ file.1)) files
+    AllByRecursion (λ (file : ℕ × List ℕ). place ≤ file.0 → IsRemoved refused nodes (root ++ file.1)) files
 
--- so are those after a stop
-abbrev pub AreRemovedAfter : (List ℕ → Type 0) → List ℕ → List (ℕ × List ℕ) → Option Nodes → Stop → Type 0
-AreRemovedAfter refused root files nodes stop = AreRemoved refused root stop.done files nodes
+-- so are those from a stop on: the file that stopped the delivery, and those after it
+abbrev pub AreRemovedFrom : (List ℕ → Type 0) → List ℕ → List (ℕ × List ℕ) → Option Nodes → Stop → Type 0
+AreRemovedFrom refused root files nodes stop = AreRemoved refused root stop.done files nodes
+
+-- What a file that could not be made leaves at its path: what was there; or nothing, in the place of a file.
+abbrev pub MakesNone : List ℕ → Option Nodes → Option Nodes → Type 0
+MakesNone path earlier later = (later ≡ earlier) ⊎ (IsFileOrFree earlier path × HasNoFile path later)
+
+-- What a file that could not be put leaves at its path: nothing but folders was made; or a file or nothing was
+-- there, and now no file is there or its removal was refused.
+abbrev pub GivesUp : (List ℕ → Type 0) → List ℕ → List ℕ → Option Nodes → Option Nodes → Type 0
+GivesUp refused root path earlier later =
+    AddsFolders root earlier later
+    ⊎ ((middle : Option Nodes) × AddsFolders root earlier middle × IsFileOrFree middle (root ++ path) × IsRemoved refused later (root ++ path))

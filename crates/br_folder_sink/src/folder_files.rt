@@ -11,7 +11,8 @@ ghost use Rattle.br_folder_sink.specs.FolderSink.{HasName, HasText, is_on_disk};
 ghost use Rattle.br_folder_sink.specs.Held.{HoldsOver, IsNew, LeavesFiles, MakesOne};
 ghost use Rattle.br_folder_sink.specs.Window.{AreBelow};
 
-use crate::place::{path_of, write_item};
+use crate::alone::write_item;
+use crate::place::path_of;
 use crate::way::make_file;
 use crate::window::{Made, ManyWriter, Window};
 use br_files::FileMaker;

@@ -2,6 +2,7 @@
 //! makes that says how several of them are written.
 #![tactic(auto)]
 
+mod alone;
 mod fault;
 mod folder_files;
 mod folder_sink;

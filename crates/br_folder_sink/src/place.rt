@@ -1,13 +1,11 @@
-//! Where a file is put below a folder, and how one is put alone.
-ghost use Rattle.std.specs.Prelude.{◌≡◌, ◌++◌, true, false, OnOk, IfOk, Ok, string_bytes};
+//! Where a file is put below a folder.
+ghost use Rattle.std.specs.Prelude.{◌≡◌, ◌++◌, false, OnOk, IfOk, string_bytes};
 ghost use Rattle.std.specs.Str.{IsUtf8};
-ghost use Rattle.br_model.specs.File.{has_bytes};
 ghost use Rattle.br_model.specs.Name.{is_directory};
 ghost use Rattle.br_files.specs.Making.{IsBelow};
-ghost use Rattle.br_folder_sink.specs.Below.{AddsFolders, KeepsOutside, PutsBelow};
-ghost use Rattle.br_folder_sink.specs.FolderSink.{PutsItem, is_on_disk};
+ghost use Rattle.br_folder_sink.specs.Below.{AddsFolders, KeepsOutside};
 
-use crate::way::{make_way, path_below, write_new};
+use crate::way::{make_way, path_below};
 use br_files::FileMaker;
 use br_join::Item;
 use br_sink::SinkFault;
@@ -15,7 +13,7 @@ use br_types::is_directory_path;
 use std::alloc::Global;
 
 /// Returns the path of an item as text. `Fault` if it is not UTF-8.
-fn text_of(item: &Item) -> Result<&str, SinkFault>
+pub(crate) fn text_of(item: &Item) -> Result<&str, SinkFault>
     ensures text { OnOk result (IsUtf8 item.now.path) }
     ensures same { IfOk result (λ text. text.now ≡ item.now.path) }
 {
@@ -79,60 +77,4 @@ pub(crate) fn known_path_of(alloc: Global, root: &str, item: &Item) -> Result<St
 {
     let text = text_of(item)?;
     path_below(alloc, root, text)
-}
-
-/// Writes the file, and makes the folders on its way.
-#[tactic(auto, using(crate::proofs::BelowLaws::outside_then, crate::proofs::BelowLaws::put_below))]
-fn write_file<M: FileMaker>(
-    alloc: Global,
-    maker: &mut M,
-    root: &str,
-    item: &Item,
-) -> Result<(), SinkFault>
-    ensures text { OnOk result (IsUtf8 item.now.path) }
-    ensures name { OnOk result (is_directory item.now.path ≡ false) }
-    ensures put { OnOk result (PutsBelow root.now item.now.path item.now.bytes (M.nodes maker.old) (M.nodes maker.new)) }
-    ensures outside { KeepsOutside root.now (M.nodes maker.old) (M.nodes maker.new) }
-{
-    let path = path_of(alloc, maker, root, item)?;
-    write_new(maker, path.as_str(), &item.bytes)?;
-    Ok(())
-}
-
-/// Makes the folder, and those on its way.
-#[tactic(auto, using(crate::proofs::BelowLaws::adds_same))]
-fn write_folder<M: FileMaker>(
-    alloc: Global,
-    maker: &mut M,
-    root: &str,
-    item: &Item,
-) -> Result<(), SinkFault>
-    ensures text { OnOk result (IsUtf8 item.now.path) }
-    ensures added { AddsFolders root.now (M.nodes maker.old) (M.nodes maker.new) }
-{
-    let text = text_of(item)?;
-    make_way(alloc, maker, root, text)
-}
-
-/// Puts the item on disk, as its type says.
-#[tactic(auto, using(crate::proofs::BelowLaws::outside_added, crate::proofs::BelowLaws::outside_same))]
-pub(crate) fn write_item<M: FileMaker>(
-    alloc: Global,
-    maker: &mut M,
-    root: &str,
-    item: &Item,
-) -> Result<(), SinkFault>
-    ensures other { is_on_disk item.now.kind ≡ false → result ≡ Ok tt }
-    ensures text { OnOk result (is_on_disk item.now.kind ≡ true → IsUtf8 item.now.path) }
-    ensures name { OnOk result (has_bytes item.now.kind ≡ true → is_directory item.now.path ≡ false) }
-    ensures file { OnOk result (PutsItem root.now item.now (M.nodes maker.old) (M.nodes maker.new)) }
-    ensures folders { has_bytes item.now.kind ≡ false → AddsFolders root.now (M.nodes maker.old) (M.nodes maker.new) }
-    ensures nothing { is_on_disk item.now.kind ≡ false → M.nodes maker.new ≡ M.nodes maker.old }
-    ensures outside { KeepsOutside root.now (M.nodes maker.old) (M.nodes maker.new) }
-{
-    match item.kind {
-        2 | 3 => write_file(alloc, maker, root, item),
-        5 => write_folder(alloc, maker, root, item),
-        _ => Ok(()),
-    }
 }

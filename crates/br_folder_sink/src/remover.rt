@@ -1,7 +1,7 @@
 //! Files that are removed again after a delivery has stopped.
 ghost use Rattle.std.specs.Prelude.{ℕ, List, ◌++◌, OnOk, OnErr};
 ghost use Rattle.br_folder_sink.specs.Below.{KeepsOutside};
-ghost use Rattle.br_folder_sink.specs.Removed.{HasNoFile, MakesNoFile};
+ghost use Rattle.br_folder_sink.specs.Removed.{HasNoFile, IsRemoved, MakesNoFile};
 
 use crate::place::path_of;
 use crate::way::remove;
@@ -35,4 +35,13 @@ impl<M: FileMaker> Remover for M {
         let path = path_of(alloc, self, root, item)?;
         remove(self, path.as_str())
     }
+}
+
+/// Removes the file of an item again, as far as that works.
+pub(crate) fn take_back<M: Remover>(alloc: Global, maker: &mut M, root: &str, item: &Item)
+    ensures removed { IsRemoved M.is_refused (M.nodes maker.new) (root.now ++ item.now.path) }
+    ensures others { MakesNoFile (M.nodes maker.old) (M.nodes maker.new) }
+    ensures outside { KeepsOutside root.now (M.nodes maker.old) (M.nodes maker.new) }
+{
+    let _ = maker.take_away(alloc, root, item);
 }

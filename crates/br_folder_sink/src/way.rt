@@ -1,9 +1,9 @@
 //! Files below a folder, and the folders on their ways.
-ghost use Rattle.std.specs.Prelude.{◌≡◌, ℕ, List, ◌++◌, ◌∷◌, Some, None, OnOk, OnErr, IfOk, string_bytes};
-ghost use Rattle.br_files.specs.Making.{IsBelow, IsFileOrFree, IsFinished, IsFree, KeepsOthers, MakesFile, Sets};
-ghost use Rattle.br_folder_sink.specs.Below.{AddsFolders, IsOnWay, PutsNew, SetsBytes};
+ghost use Rattle.std.specs.Prelude.{◌≡◌, ℕ, List, ◌++◌, ◌∷◌, Option, None, OnOk, OnErr, IfOk, string_bytes};
+ghost use Rattle.br_files.specs.Making.{IsBelow, IsFileOrFree, IsFinished, IsFree, KeepsOthers, MakesFile, Nodes, Sets};
+ghost use Rattle.br_folder_sink.specs.Below.{AddsFolders, IsOnWay, MakesNew, PutsNew};
 ghost use Rattle.br_folder_sink.specs.Fault.{sink_fault};
-ghost use Rattle.br_folder_sink.specs.Removed.{HasNoFile, MakesNoFile};
+ghost use Rattle.br_folder_sink.specs.Removed.{HasNoFile, MakesNoFile, MakesNone};
 
 use br_files::{DiskFault, FileMaker, clear_path, enter_folder};
 use br_join::FileBytes;
@@ -123,24 +123,12 @@ pub(crate) fn finish<M: FileMaker>(maker: &mut M, path: &str, file: M::New) -> R
     }
 }
 
-/// Makes a file of these bytes.
-#[tactic(auto, using(crate::proofs::BelowLaws::new_done, crate::proofs::BelowLaws::keeps_more))]
-fn put_new<M: FileMaker>(maker: &mut M, path: &str, bytes: &FileBytes) -> Result<(), SinkFault>
-    ensures put { OnOk result (SetsBytes path.now bytes.now (M.nodes maker.old) (M.nodes maker.new)) }
-    ensures others { KeepsOthers path.now (M.nodes maker.old) (M.nodes maker.new) }
-{
-    let mut file = make_file(maker, path)?;
-    match bytes.write_to(&mut file) {
-        Ok(()) => finish(maker, path, file),
-        Err(error) => Err(write_fault(error)),
-    }
-}
-
 /// Removes an earlier file, if there is one. `Fault` if something else has its name.
 #[tactic(auto, using(crate::proofs::BelowLaws::set_others, crate::proofs::BelowLaws::same_others))]
 fn clear<M: FileMaker>(maker: &mut M, path: &str) -> Result<(), SinkFault>
     ensures file { OnOk result (IsFileOrFree (M.nodes maker.old) path.now) }
     ensures cleared { OnOk result (Sets path.now None (M.nodes maker.old) (M.nodes maker.new)) }
+    ensures refused { OnErr result (M.nodes maker.new ≡ M.nodes maker.old) }
     ensures others { KeepsOthers path.now (M.nodes maker.old) (M.nodes maker.new) }
 {
     match clear_path(maker, path) {
@@ -149,19 +137,34 @@ fn clear<M: FileMaker>(maker: &mut M, path: &str) -> Result<(), SinkFault>
     }
 }
 
-/// Makes a file of these bytes, in the place of an earlier one.
-#[tactic(auto, using(crate::proofs::BelowLaws::put_over, crate::proofs::BelowLaws::keeps_more))]
-pub(crate) fn write_new<M: FileMaker>(
-    maker: &mut M,
-    path: &str,
-    bytes: &FileBytes,
-) -> Result<(), SinkFault>
-    ensures put { OnOk result (PutsNew path.now bytes.now (M.nodes maker.old) (M.nodes maker.new)) }
+/// Makes a file, in the place of an earlier one.
+#[tactic(auto, using(crate::proofs::BelowLaws::made_new, crate::proofs::BelowLaws::made_keeps, crate::proofs::BelowLaws::keeps_more, crate::proofs::RemovalLaws::unmade_same, crate::proofs::RemovalLaws::unmade_cleared))]
+pub(crate) fn make_anew<M: FileMaker>(maker: &mut M, path: &str) -> Result<M::New, SinkFault>
+    ensures made { IfOk result (λ file. MakesNew path.now (M.New.contents file) (M.nodes maker.old) (M.nodes maker.new)) }
+    ensures unmade { OnErr result (MakesNone path.now (M.nodes maker.old) (M.nodes maker.new)) }
     ensures others { KeepsOthers path.now (M.nodes maker.old) (M.nodes maker.new) }
 {
     clear(maker, path)?;
-    put_new(maker, path, bytes)?;
-    Ok(())
+    make_file(maker, path)
+}
+
+/// Writes the bytes of a new file, and closes it.
+#[tactic(auto, using(crate::proofs::BelowLaws::new_put, crate::proofs::BelowLaws::same_others))]
+pub(crate) fn write_made<M: FileMaker>(
+    maker: &mut M,
+    path: &str,
+    file: M::New,
+    bytes: &FileBytes,
+) -> Result<(), SinkFault>
+    ensures put { OnOk result ((earlier : Option Nodes) → MakesNew path.now (M.New.contents file) earlier (M.nodes maker.old)
+        → PutsNew path.now bytes.now earlier (M.nodes maker.new)) }
+    ensures others { KeepsOthers path.now (M.nodes maker.old) (M.nodes maker.new) }
+{
+    let mut file = file;
+    match bytes.write_to(&mut file) {
+        Ok(()) => finish(maker, path, file),
+        Err(error) => Err(write_fault(error)),
+    }
 }
 
 /// Removes what is at the path, unless it is a folder.

@@ -8,11 +8,11 @@ ghost use Rattle.br_sink.specs.Delivery.{IsStopBelow};
 ghost use Rattle.br_folder_sink.specs.Below.{KeepsOutside};
 ghost use Rattle.br_folder_sink.specs.Held.{AppendsSome, AreAnswered, FinishesOne, FinishesSome, HoldsOver, IsNew, IsWritten, LeavesFiles};
 ghost use Rattle.br_folder_sink.specs.Held.{AppendsFrontSome, WritesEach, WritesOne};
-ghost use Rattle.br_folder_sink.specs.Removed.{AreRemoved, AreRemovedAfter, IsRemoved, MakesNoFile, files_of};
+ghost use Rattle.br_folder_sink.specs.Removed.{AreRemoved, AreRemovedFrom, IsRemoved, MakesNoFile, files_of};
 ghost use Rattle.br_folder_sink.specs.Window.{AreBelow};
 
 use crate::place::known_path_of;
-use crate::remover::Remover;
+use crate::remover::{Remover, take_back};
 use crate::way::{finish, write_fault};
 use br_files::{FileMaker, HostDisk, MemMaker, MemNew};
 use br_join::Item;
@@ -178,27 +178,27 @@ fn finish_each<W: Write + Drop, M: FileMaker<New = W>>(
     }
 }
 
-/// Removes the file again if it comes after the place, as far as that works.
+/// Removes the file again if it is at the place or after it, as far as that works.
 #[tactic(auto, using(crate::proofs::BelowLaws::outside_same, crate::proofs::RemovalLaws::no_file_same))]
-fn remove_later<W: Write + Drop, M: Remover<New = W>>(
+fn remove_one<W: Write + Drop, M: Remover<New = W>>(
     alloc: Global,
     maker: &mut M,
     root: &str,
     one: &Made<'_, W>,
     place: u64,
 )
-    ensures removed { place < one.now.place → IsRemoved M.is_refused (M.nodes maker.new) (root.now ++ one.now.item.now.path) }
+    ensures removed { place ≤ one.now.place → IsRemoved M.is_refused (M.nodes maker.new) (root.now ++ one.now.item.now.path) }
     ensures others { MakesNoFile (M.nodes maker.old) (M.nodes maker.new) }
     ensures outside { KeepsOutside root.now (M.nodes maker.old) (M.nodes maker.new) }
 {
-    if place < one.place {
-        let _ = maker.take_away(alloc, root, one.item);
+    if place <= one.place {
+        take_back(alloc, maker, root, one.item);
     }
 }
 
-/// Removes the files after this place again, as far as that works.
+/// Removes the files from this place on again, as far as that works.
 #[tactic(auto, using(crate::proofs::BelowLaws::outside_more, crate::proofs::BelowLaws::outside_same))]
-fn remove_after<W: Write + Drop, M: Remover<New = W>>(
+fn remove_from<W: Write + Drop, M: Remover<New = W>>(
     alloc: Global,
     maker: &mut M,
     root: &str,
@@ -209,7 +209,7 @@ fn remove_after<W: Write + Drop, M: Remover<New = W>>(
     ensures outside { KeepsOutside root.now (M.nodes maker.old) (M.nodes maker.new) }
 {
     for one in made {
-        remove_later(alloc, maker, root, one, place);
+        remove_one(alloc, maker, root, one, place);
     }
 }
 
@@ -227,8 +227,8 @@ fn settle<W: Write + Drop>(made: &[Made<'_, W>]) -> Result<(), SinkStop>
     Ok(())
 }
 
-/// Closes the files that were written. If one could not be written, those after it are removed
-/// again.
+/// Closes the files that were written. If one could not be written, it and those after it are
+/// removed again.
 #[tactic(auto, using(crate::proofs::BelowLaws::outside_more))]
 fn close_all<W: Write + Drop, M: Remover<New = W>>(
     alloc: Global,
@@ -240,14 +240,14 @@ fn close_all<W: Write + Drop, M: Remover<New = W>>(
     ensures left { (items : List model.Item) (nodes : Option Nodes)
         → HoldsOver (IsWritten W.contents root.now) root.now items made.old nodes (M.nodes maker.old)
         → OnOk result (LeavesFiles root.now items nodes (M.nodes maker.new)) }
-    ensures removed { IfErr result (AreRemovedAfter M.is_refused root.now (files_of made.old) (M.nodes maker.new)) }
+    ensures removed { IfErr result (AreRemovedFrom M.is_refused root.now (files_of made.old) (M.nodes maker.new)) }
     ensures outside { KeepsOutside root.now (M.nodes maker.old) (M.nodes maker.new) }
 {
     finish_each(alloc, maker, root, made);
     match settle(made) {
         Ok(()) => Ok(()),
         Err(stop) => {
-            remove_after(alloc, maker, root, made, stop.done());
+            remove_from(alloc, maker, root, made, stop.done());
             Err(stop)
         }
     }
@@ -268,7 +268,7 @@ fn write_and_close<W: Write + Drop, M: ManyWriter<New = W> + Remover, T: Threads
     ensures left { (items : List model.Item) (nodes : Option Nodes)
         → HoldsOver (IsNew W.contents root.now) root.now items made.old nodes (M.nodes maker.old)
         → OnOk result (LeavesFiles root.now items nodes (M.nodes maker.new)) }
-    ensures removed { IfErr result (AreRemovedAfter M.is_refused root.now (files_of made.old) (M.nodes maker.new)) }
+    ensures removed { IfErr result (AreRemovedFrom M.is_refused root.now (files_of made.old) (M.nodes maker.new)) }
     ensures outside { KeepsOutside root.now (M.nodes maker.old) (M.nodes maker.new) }
 {
     M::write_each(threads, made, count);
@@ -327,7 +327,7 @@ impl<'i, W: Write + Drop> Window<'i, W> {
     }
 
     /// Writes all files and closes them, and holds none. It stops at the first that could not be
-    /// written, and those after it are removed again.
+    /// written, which is removed again, as those after it are.
     pub(crate) fn write<M: ManyWriter<New = W> + Remover, T: Threads + Sync>(
         &mut self,
         maker: &mut M,
@@ -339,7 +339,7 @@ impl<'i, W: Write + Drop> Window<'i, W> {
         ensures left { (items : List model.Item) (nodes : Option Nodes)
             → HoldsOver (IsNew W.contents root.now) root.now items self.old.made.items nodes (M.nodes maker.old)
             → OnOk result (LeavesFiles root.now items nodes (M.nodes maker.new)) }
-        ensures removed { IfErr result (AreRemovedAfter M.is_refused root.now (files_of self.old.made.items) (M.nodes maker.new)) }
+        ensures removed { IfErr result (AreRemovedFrom M.is_refused root.now (files_of self.old.made.items) (M.nodes maker.new)) }
         ensures empty { self.new.made.items ≡ [] }
         ensures outside { KeepsOutside root.now (M.nodes maker.old) (M.nodes maker.new) }
     {

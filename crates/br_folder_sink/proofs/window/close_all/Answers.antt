@@ -12,9 +12,9 @@ returns-in-Err-clause-stopped g c = λ n below. c.in-Err.ensures.stopped n (c.fi
 pub returns-in-Err-clause-removed : goal.returns-in-Err-clause-removed
 returns-in-Err-clause-removed g c =
     let refused = g.M.Remover.is_refused in
-    let nodes = g.M.FileMaker.nodes c.remove_after.new.maker in
+    let nodes = g.M.FileMaker.nodes c.remove_from.new.maker in
     subst (λ (files : List (ℕ × List ℕ)). AreRemoved refused c.args.root.now c.in-Err.stop.done files nodes) c.finish_each.ensures.files
-    (rw c.done.ensures at c.remove_after.ensures.removed)
+    (rw c.done.ensures at c.remove_from.ensures.removed)
 
 pub returns-in-Err-clause-outside : goal.returns-in-Err-clause-outside
-returns-in-Err-clause-outside g c = outside_more _ _ _ _ c.finish_each.ensures.outside c.remove_after.ensures.outside
+returns-in-Err-clause-outside g c = outside_more _ _ _ _ c.finish_each.ensures.outside c.remove_from.ensures.outside

@@ -1,5 +1,5 @@
 use Rattle.std.proofs.Common.{◌≡◌, ℕ, List, IfErr, length, rules, subst}
-use Rattle.br_folder_sink.specs.Removed.{AreRemovedAfter}
+use Rattle.br_folder_sink.specs.Removed.{AreRemovedFrom}
 use Rattle.br_folder_sink.proofs.RemovalLaws.{files_written}
 use Rattle.br_folder_sink.proofs.window.write_and_close.Goals as goal
 
@@ -10,5 +10,5 @@ returns-clause-removed g c =
     let long : length new ≡ length old = search rules in
     let nodes = g.M.FileMaker.nodes c.close_all.new.maker in
     let files = files_written g.W.Write.contents old new long c.write_each.ensures.written in
-    subst (λ (l : List (ℕ × List ℕ)). IfErr c.close_all.result (AreRemovedAfter g.M.Remover.is_refused c.args.root.now l nodes)) files
+    subst (λ (l : List (ℕ × List ℕ)). IfErr c.close_all.result (AreRemovedFrom g.M.Remover.is_refused c.args.root.now l nodes)) files
     c.close_all.ensures.removed

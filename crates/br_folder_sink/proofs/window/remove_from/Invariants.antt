@@ -1,7 +1,7 @@
 use Rattle.std.specs.Prelude.{take}
 use Rattle.br_folder_sink.specs.Below.{KeepsOutside}
 use Rattle.br_folder_sink.specs.Removed.{AreRemoved, files_of}
-use Rattle.br_folder_sink.proofs.window.remove_after.Given as goal
+use Rattle.br_folder_sink.proofs.window.remove_from.Given as goal
 
 -- those that were looked at are removed, and nothing outside was changed
 abbrev pub invariant-loop-one : goal.invariant-loop-one
