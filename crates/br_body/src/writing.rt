@@ -48,8 +48,12 @@ pub(crate) fn write_some<W: Write>(writer: &mut W, bytes: &[u8]) -> io::Result<u
     Err(Error::from(ErrorKind::Interrupted))
 }
 
-/// Writes the bytes: all of them, or if that fails the first of them.
-pub(crate) fn write_bytes<W: Write>(writer: &mut W, bytes: &[u8]) -> io::Result<()>
+/// Writes the bytes, at most 64 KiB by one call: all of them, or if that fails the first of them.
+///
+/// # Errors
+///
+/// Those of the writer, and `WriteZero` if it takes no byte.
+pub fn write_bytes<W: Write>(writer: &mut W, bytes: &[u8]) -> io::Result<()>
     ensures all { OnOk result (Appends (W.contents writer.old) (W.contents writer.new) bytes.now) }
     ensures front { OnErr result (AppendsFront (W.contents writer.old) (W.contents writer.new) bytes.now) }
 {

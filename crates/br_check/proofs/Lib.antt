@@ -3,3 +3,5 @@ mod CopyLaws
 mod LabelLaws
 mod CheckLaws
 mod NameLaws
+mod ConflictLaws
+mod StopLaws

@@ -1,45 +1,55 @@
 -- What a check finds.
-use Rattle.std.specs.Prelude.{◌≡◌, ℕ, List, ◌∷◌, ◌++◌, flat_map, map, Option, codes, decimal}
+use Rattle.std.specs.Prelude.{◌≡◌, ℕ, List, ◌∷◌, ◌++◌, length, flat_map, map, Option, codes, decimal}
 use Rattle.std.specs.FinMap.{entries}
 use Rattle.br_model.specs.Bootstrap.{Group}
-use Rattle.br_model.specs.Meaning.{pieces_of}
+use Rattle.br_model.specs.Meaning.{Hit, hits_of, pieces_of}
 use Rattle.br_model.specs.Name.{FileKey}
 use Rattle.br_model.specs.Text.{line}
 use Rattle.br_model.specs.Volume.{Volume}
 use Rattle.br_missing.specs.Lines.{report}
 use Rattle.br_records.specs.Outline.{Outlined, outlines_found}
-use Rattle.br_check.specs.Findings.{bytes_in, copy_lines, file_line, files_in, name_line, volume_line}
+use Rattle.br_check.specs.Conflicts.{conflict_lines}
+use Rattle.br_check.specs.Findings.{bytes_in, copy_lines, file_line, files_in, long_line, memory_for, name_line, volume_line}
 use Rattle.br_check.specs.Label.{TellLabels}
-use Rattle.br_check.specs.Search.{AreSearched, Searched, set_found}
+use Rattle.br_check.specs.Search.{AreSearched, Searched, all_found}
 use Rattle.br_check.specs.declared.run.Checked.{Checked}
+
+-- the outlines of the files of which there is one of these hits, in order of key
+abbrev pub outlines_in : List Hit → List Outlined
+outlines_in hits = outlines_found (entries (hits_of hits))
 
 -- the outlines of the files of which something was found, in order of key
 abbrev pub outlines_of : List Searched → List Outlined
-outlines_of results = outlines_found (entries (set_found results))
+outlines_of results = outlines_in (all_found results)
 
 -- the keys of files
 abbrev pub keys_of : List Outlined → List FileKey
 keys_of os = map (λ (o : Outlined). o.key) os
 
+-- the lines of files that a folder can't take: their paths are no names of files there, are too long, or conflict
+abbrev pub folder_lines : List Outlined → List ℕ
+folder_lines os = flat_map name_line os ++ flat_map long_line os ++ conflict_lines os
+
 -- the lines of what files a bootstrap asks for and does not get, of files that can't be restored, of those that a folder can't take, and of
 -- paths that come more than once
 abbrev pub lines_of : List Group → List Outlined → List ℕ
-lines_of groups os = report groups (keys_of os) ++ flat_map file_line os ++ flat_map name_line os ++ copy_lines os
+lines_of groups os = report groups (keys_of os) ++ flat_map file_line os ++ folder_lines os ++ copy_lines os
 
 -- A check says of what was found of each piece: which volumes can't be searched, what there is to say of labels, and the lines of the files;
--- and how many files would be restored, and their bytes.
-pub record IsChecked (groups : List Group) (results : List Searched) (labels : List ℕ) (checked : Checked) : Type 0 where
+-- and how many files would be restored, their bytes, and the memory that a restore asks for which holds so many bytes of data.
+pub record IsChecked (groups : List Group) (budget : ℕ) (results : List Searched) (labels : List ℕ) (checked : Checked) : Type 0 where
   pub findings : checked.findings.items ≡ flat_map volume_line results ++ labels ++ lines_of groups (outlines_of results)
   pub files : checked.files ≡ files_in (outlines_of results)
   pub bytes : checked.bytes ≡ bytes_in (outlines_of results)
+  pub memory : checked.memory ≡ memory_for budget (length (all_found results)) (outlines_of results)
 
 -- what was found, over the volumes that the drive may be taken to show, is what is checked, with what is said of labels
-abbrev pub ChecksOver : {D : Type 0} → (D → Option (List Volume)) → (D → ℕ) → D → D → List Group → Checked → Type 0
-ChecksOver shows failures earlier later groups checked =
+abbrev pub ChecksOver : {D : Type 0} → (D → Option (List Volume)) → (D → ℕ) → D → D → List Group → ℕ → Checked → Type 0
+ChecksOver shows failures earlier later groups budget checked =
     (results : List Searched) × (labels : List (List ℕ)) × AreSearched (shows earlier) (shows later) (pieces_of groups) results
     × TellLabels (shows earlier) (shows later) (failures earlier) (failures later) (pieces_of groups) labels
-    × IsChecked groups results (flat_map (λ line. line) labels) checked
+    × IsChecked groups budget results (flat_map (λ line. line) labels) checked
 
--- the findings, and then the number of files and of their bytes
+-- the findings, the memory, and then the number of files and of their bytes
 abbrev pub checked_text : Checked → List ℕ
-checked_text c = c.findings.items ++ line (codes "total " ++ decimal c.files ++ 32 ∷ decimal c.bytes)
+checked_text c = c.findings.items ++ line (codes "memory " ++ decimal c.memory) ++ line (codes "total " ++ decimal c.files ++ 32 ∷ decimal c.bytes)

@@ -1,9 +1,9 @@
 -- The lines of what a check finds.
-use Rattle.std.specs.Prelude.{ℕ, ◌==◌, ◌&&◌, ◌||◌, not, if◌then◌else◌, List, [], ◌∷◌, ◌++◌, filter, flat_map, sum_by, decimal, codes, Ok, Err, Bool}
-use Rattle.std.specs.List.{list_any}
+use Rattle.std.specs.Prelude.{ℕ, ◌+◌, ◌-◌, ◌*◌, ◌^◌, min, nat_lt, ◌==◌, ◌&&◌, ◌||◌, not, if◌then◌else◌, List, [], ◌∷◌, ◌++◌, length, filter, flat_map, sum_by, decimal, codes, Ok, Err, Bool}
+use Rattle.std.specs.List.{list_any, slice_split}
 use Rattle.std.specs.Str.{is_utf8}
 use Rattle.br_model.specs.File.{Fault, has_bytes}
-use Rattle.br_model.specs.Name.{FileKey, is_directory}
+use Rattle.br_model.specs.Name.{FileKey, is_directory, is_slash}
 use Rattle.br_model.specs.Text.{line, escaped}
 use Rattle.br_match.specs.Fault.{cause_number}
 use Rattle.br_match.specs.declared.fault.PieceFault.{PieceFault}
@@ -29,6 +29,10 @@ volume_line (Err why) = fault_line why
 -- session and index, each after a blank
 abbrev pub key_text : FileKey → List ℕ
 key_text key = 32 ∷ decimal key.session.id ++ 32 ∷ decimal key.session.time ++ 32 ∷ decimal key.index
+
+-- the line of a file, which begins with a word and ends with the path
+abbrev pub named_line : List ℕ → Copy → List ℕ
+named_line word c = line (word ++ key_text c.key ++ 32 ∷ escaped c.path)
 
 -- the stream of 65, after a blank
 abbrev pub stream_text : Fault → List ℕ
@@ -72,6 +76,32 @@ name_line o = line_of o.outline
     line_of (Ok outline) = name_by o.key outline
     line_of (Err f) = []
 
+-- ---- names that are longer than a folder takes
+
+-- a name of more than 255 bytes
+abbrev pub is_long_name : List ℕ → Bool
+is_long_name name = nat_lt 255 (length name)
+
+-- the number of bytes of a path without a slash at its end
+abbrev pub bare_length : List ℕ → ℕ
+bare_length path = if is_directory path then length path - 1 else length path
+
+-- A name between two slashes is too long, or the path is: systems take 4,095 bytes, and the folder's own name comes before it.
+abbrev pub is_long : List ℕ → Bool
+is_long path = list_any is_long_name (slice_split is_slash path) || nat_lt 4094 (bare_length path)
+
+-- the line of a file with an outline, if its path is longer than a folder takes
+abbrev pub long_by : FileKey → Outline → List ℕ
+long_by key o = if is_on_disk o.kind && is_long o.path then named_line (codes "long") (record { key = key; path = o.path }) else []
+
+-- the line of a file, if its path is longer than a folder takes; a fault is none
+abbrev pub long_line : Outlined → List ℕ
+long_line o = line_of o.outline
+  where
+    line_of : Foreseen → List ℕ
+    line_of (Ok outline) = long_by o.key outline
+    line_of (Err f) = []
+
 -- ---- paths that come more than once
 
 -- a file as a copy of its path; a fault is none
@@ -89,10 +119,6 @@ copies_of os = flat_map copies_at os
 -- the copies of which there are newer ones
 abbrev pub outdated : List Copy → List Copy
 outdated copies = filter (is_outdated copies) copies
-
--- the line of a copy
-abbrev pub named_line : List ℕ → Copy → List ℕ
-named_line word c = line (word ++ key_text c.key ++ 32 ∷ escaped c.path)
 
 -- the line of a copy by whether there is a newer one, and whether there is an older one
 abbrev pub line_by : Bool → Bool → Copy → List ℕ
@@ -135,3 +161,21 @@ files_in os = sum_by files_at os
 -- their bytes together
 abbrev pub bytes_in : List Outlined → ℕ
 bytes_in os = sum_by bytes_of os
+
+-- ---- the memory of a restore
+
+-- the bytes that are held of a file beside its data: 400, and its path
+abbrev pub held_of : Outlined → ℕ
+held_of o = 400 + path_of o.outline
+  where
+    path_of : Foreseen → ℕ
+    path_of (Ok outline) = length outline.path
+    path_of (Err f) = 0
+
+-- the bytes that are held beside the data: 64 MiB, 200 for each fragment, and those of each file
+abbrev pub held_beside : ℕ → List Outlined → ℕ
+held_beside fragments os = 64 * 2 ^ 20 + 200 * fragments + sum_by held_of os
+
+-- the memory that a restore asks for at most, which holds so many bytes of data
+abbrev pub memory_for : ℕ → ℕ → List Outlined → ℕ
+memory_for budget fragments os = min budget (bytes_in os) + held_beside fragments os

@@ -4,13 +4,13 @@ ghost use Rattle.std.specs.List.{list_any};
 ghost use Rattle.br_newest.specs.Newest.{AreNoted, is_of, is_outdated};
 ghost use Rattle.br_records.specs.Shown.{outlined};
 ghost use Rattle.br_check.specs.Copies.{NotesFirst, outdated_at};
-ghost use Rattle.br_check.specs.Findings.{copies_at, copies_of, copy_line, lines_at, line_by, named_line, outdated};
+ghost use Rattle.br_check.specs.Findings.{copies_at, copies_of, copy_line, lines_at, line_by, outdated};
 ghost use Rattle.br_check.specs.Findings as model;
 
-use crate::findings::push_key;
+use crate::findings::push_named;
 use br_newest::Copies;
 use br_records::Sketch;
-use br_types::{FileKey, push_escaped};
+use br_types::FileKey;
 use std::alloc::{AllocError, Global};
 
 /// Adds a file to copies of paths, if it has an outline.
@@ -86,18 +86,6 @@ fn has_old(old: &Copies<'_>, all: &[(FileKey, Sketch)], path: &[u8]) -> bool
     ensures { result ≡ list_any (is_of path.now) (outdated (copies_of (map outlined all.now))) }
 {
     old.newest(path).is_some()
-}
-
-/// Appends the line of a copy, which begins with a word.
-fn push_named(text: &mut Vec<u8>, word: &[u8], key: FileKey, path: &[u8]) -> Result<(), AllocError>
-    ensures { OnOk result (text.new.items ≡ text.old.items ++ named_line word.now (record { key = key; path = path.now })) }
-{
-    text.extend_from_slice(word)?;
-    push_key(text, key)?;
-    text.push(b' ')?;
-    push_escaped(text, path)?;
-    text.push(b'\n')?;
-    Ok(())
 }
 
 /// Appends the line of a copy by whether there is a newer one, and whether there is an older one.

@@ -2,7 +2,7 @@
 ghost use Rattle.std.specs.Prelude.{◌≡◌, ◌++◌, flat_map, map, OnOk};
 ghost use Rattle.br_records.specs.Making.{file_fault};
 ghost use Rattle.br_records.specs.Shown.{outlined};
-ghost use Rattle.br_check.specs.Findings.{fault_line, file_line, key_text, refused_line, stream_text, volume_line};
+ghost use Rattle.br_check.specs.Findings.{fault_line, file_line, key_text, named_line, refused_line, stream_text, volume_line};
 
 use br_match::{Found, PieceFault};
 use br_records::{FileFault, Sketch};
@@ -61,6 +61,23 @@ pub(crate) fn push_key(text: &mut Vec<u8>, key: FileKey) -> Result<(), AllocErro
     push_number(text, u64::from(key.session.time))?;
     text.push(b' ')?;
     push_number(text, u64::from(key.index.get()))?;
+    Ok(())
+}
+
+/// Appends the line of a file, which begins with a word and ends with the path.
+pub(crate) fn push_named(
+    text: &mut Vec<u8>,
+    word: &[u8],
+    key: FileKey,
+    path: &[u8],
+) -> Result<(), AllocError>
+    ensures { OnOk result (text.new.items ≡ text.old.items ++ named_line word.now (record { key = key; path = path.now })) }
+{
+    text.extend_from_slice(word)?;
+    push_key(text, key)?;
+    text.push(b' ')?;
+    push_escaped(text, path)?;
+    text.push(b'\n')?;
     Ok(())
 }
 

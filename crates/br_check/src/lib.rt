@@ -1,17 +1,23 @@
 //! A check of a bootstrap over its volumes: what a restore would meet, without the bytes of its files.
 //!
 //! `check` reads each block that the bootstrap asks for, and keeps record headers and attributes alone.
-//! It returns a line for each finding, and the number of the files and of their bytes.
+//! It returns a line for each finding, the number of the files and of their bytes, and the memory that a
+//! restore asks for.
 //!
 //! Any call that returns a `Result` may also fail because memory ran out.
 #![tactic(auto)]
 
+mod conflicts;
 mod copies;
 mod findings;
 mod label;
+mod laws;
 mod light;
+mod long;
+mod memory;
 mod names;
 mod run;
 mod search;
 
+pub use laws::conflicts_stop;
 pub use run::{Checked, check};

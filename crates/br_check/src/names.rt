@@ -29,7 +29,7 @@ fn has_bytes(kind: u32) -> bool
 }
 
 /// Returns if a restore into a folder writes files of this type: those that have bytes, and folders.
-fn is_on_disk(kind: u32) -> bool
+pub(crate) fn is_on_disk(kind: u32) -> bool
     ensures { result ≡ is_on_disk kind }
 {
     has_bytes(kind) || kind == 5

@@ -1,15 +1,18 @@
 //! A whole check.
-ghost use Rattle.std.specs.Prelude.{◌≡◌, ◌++◌, ◌≤◌, ◌*◌, ◌^◌, flat_map, IfOk, map, OnOk};
-ghost use Rattle.br_check.specs.Check.{ChecksOver, IsChecked, checked_text, keys_of, lines_of, outlines_of};
-ghost use Rattle.br_check.specs.Findings.{bytes_in, bytes_of, files_at, files_in};
+ghost use Rattle.std.specs.Prelude.{◌≡◌, ◌++◌, ◌∷◌, ◌≤◌, ◌*◌, ◌^◌, codes, decimal, flat_map, IfOk, map, OnOk};
+ghost use Rattle.br_check.specs.Check.{ChecksOver, IsChecked, checked_text, folder_lines, keys_of, lines_of, outlines_in};
+ghost use Rattle.br_check.specs.Findings.{bytes_in, bytes_of, files_at, files_in, memory_for};
 ghost use Rattle.br_check.specs.Search.{all_found, found_in};
 ghost use Rattle.br_records.specs.Shown.{outlined};
-ghost use Rattle.br_model.specs.Text.{is_empty};
+ghost use Rattle.br_model.specs.Text.{is_empty, line};
 ghost use Rattle.br_volume.specs.Drive.{OnlyGrows};
 
+use crate::conflicts::push_conflicts;
 use crate::copies::push_copies;
 use crate::findings::{push_files, push_volumes};
 use crate::label::push_labels;
+use crate::long::push_long;
+use crate::memory::held_beside;
 use crate::names::push_names;
 use crate::search::search;
 use br_bsr::{Bootstrap, Group};
@@ -30,6 +33,8 @@ pub struct Checked {
     pub files: usize,
     /// The number of their bytes.
     pub bytes: u128,
+    /// The memory that a restore asks for at most, in bytes.
+    pub memory: u128,
 }
 
 impl Checked {
@@ -40,18 +45,36 @@ impl Checked {
         self.findings.is_empty()
     }
 
-    /// Appends the findings, and then a line `total FILES BYTES`.
+    /// Appends the findings, and then the lines `memory BYTES` and `total FILES BYTES`.
     pub fn push_text(&self, text: &mut Vec<u8>) -> Result<(), AllocError>
         ensures { OnOk result (text.new.items ≡ text.old.items ++ checked_text self.now) }
     {
         text.extend_from_slice(&self.findings)?;
-        text.extend_from_slice(b"total ")?;
-        push_number(text, self.files as u64)?;
-        text.push(b' ')?;
-        push_wide(text, self.bytes)?;
-        text.push(b'\n')?;
-        Ok(())
+        push_memory(text, self.memory)?;
+        push_total(text, self.files, self.bytes)
     }
+}
+
+/// Appends the line of the memory.
+fn push_memory(text: &mut Vec<u8>, memory: u128) -> Result<(), AllocError>
+    ensures { OnOk result (text.new.items ≡ text.old.items ++ line (codes "memory " ++ decimal memory)) }
+{
+    text.extend_from_slice(b"memory ")?;
+    push_wide(text, memory)?;
+    text.push(b'\n')?;
+    Ok(())
+}
+
+/// Appends the line of the number of files and of their bytes.
+fn push_total(text: &mut Vec<u8>, files: usize, bytes: u128) -> Result<(), AllocError>
+    ensures { OnOk result (text.new.items ≡ text.old.items ++ line (codes "total " ++ decimal files ++ 32 ∷ decimal bytes)) }
+{
+    text.extend_from_slice(b"total ")?;
+    push_number(text, files as u64)?;
+    text.push(b' ')?;
+    push_wide(text, bytes)?;
+    text.push(b'\n')?;
+    Ok(())
 }
 
 /// Appends the hits that were found of a piece.
@@ -75,14 +98,11 @@ fn hits_of(alloc: Global, results: Vec<Result<Found, PieceFault>>) -> Result<Vec
     Ok(hits)
 }
 
-/// Returns a sketch of each file of which something was found, in order of key.
-fn sketches_in(
-    alloc: Global,
-    results: Vec<Result<Found, PieceFault>>,
-) -> Result<Vec<(FileKey, Sketch)>, AllocError>
-    ensures { IfOk result (λ sketches. map outlined sketches.items ≡ outlines_of results.items) }
+/// Returns a sketch of each file of which there is one of these hits, in order of key.
+fn sketches_in(alloc: Global, hits: Vec<Hit>) -> Result<Vec<(FileKey, Sketch)>, AllocError>
+    ensures { IfOk result (λ sketches. map outlined sketches.items ≡ outlines_in hits.items) }
 {
-    let mut hits = hits_of(alloc, results)?;
+    let mut hits = hits;
     settle(&mut hits)?;
     sketches_of(alloc, &hits)
 }
@@ -96,6 +116,20 @@ fn keys_in(alloc: Global, sketches: &[(FileKey, Sketch)]) -> Result<Vec<FileKey>
         keys.push(sketch.0)?;
     }
     Ok(keys)
+}
+
+/// Appends the lines of files that a folder can't take: those whose paths are no names of files there, those
+/// whose paths are too long, and those whose paths conflict.
+fn push_folder_lines(
+    alloc: Global,
+    text: &mut Vec<u8>,
+    sketches: &[(FileKey, Sketch)],
+) -> Result<(), AllocError>
+    ensures { OnOk result (text.new.items ≡ text.old.items ++ folder_lines (map outlined sketches.now)) }
+{
+    push_names(text, sketches)?;
+    push_long(text, sketches)?;
+    push_conflicts(alloc, text, sketches)
 }
 
 /// Appends the lines of files: those that the bootstrap asks for and does not get, those that can't be
@@ -112,7 +146,7 @@ fn push_lines(
     let missing = report(alloc, groups, keys)?;
     text.extend_from_slice(&missing)?;
     push_files(text, sketches)?;
-    push_names(text, sketches)?;
+    push_folder_lines(alloc, text, sketches)?;
     push_copies(alloc, text, sketches)
 }
 
@@ -159,45 +193,58 @@ fn bytes_of(sketches: &[(FileKey, Sketch)]) -> u128
     bytes
 }
 
+/// Returns the memory that a restore asks for at most if it holds up to `budget` bytes of data.
+fn memory_for(budget: u64, fragments: usize, sketches: &[(FileKey, Sketch)]) -> u128
+    ensures { result ≡ memory_for budget fragments (map outlined sketches.now) }
+{
+    u128::from(budget).min(bytes_of(sketches)) + held_beside(fragments, sketches)
+}
+
 /// Returns what was found by what was found of each piece.
 fn checked_of(
     alloc: Global,
     groups: &[Group],
+    budget: u64,
     results: Vec<Result<Found, PieceFault>>,
     labels: &[u8],
 ) -> Result<Checked, AllocError>
-    ensures { IfOk result (IsChecked groups.now results.items labels.now) }
+    ensures { IfOk result (IsChecked groups.now budget results.items labels.now) }
 {
     let mut findings = Vec::new(alloc);
     push_volumes(&mut findings, &results)?;
     findings.extend_from_slice(labels)?;
-    let sketches = sketches_in(alloc, results)?;
+    let hits = hits_of(alloc, results)?;
+    let fragments = hits.len();
+    let sketches = sketches_in(alloc, hits)?;
     push_lines(alloc, &mut findings, groups, &sketches)?;
     Ok(Checked {
         findings,
         files: files_of(&sketches),
         bytes: bytes_of(&sketches),
+        memory: memory_for(budget, fragments, &sketches),
     })
 }
 
 /// Checks a bootstrap over the volumes of a drive. Each finding is a line: the volumes that can't be
 /// searched, all of them; those whose labels name other volumes; the indexes that the bootstrap asks for and
-/// that are not there; the files that can't be restored; those that a folder can't take; and the copies of
-/// paths that come more than once.
+/// that are not there; the files that can't be restored; those that a folder can't take, since their paths
+/// are no names of files there, are too long, or conflict; and the copies of paths that come more than once.
+/// The memory is that of a restore which holds at most `budget` bytes of data.
 ///
 /// What was found on a volume that can't be searched to its end does not count. The digests of files are
 /// not compared.
 pub fn check<D: Drive>(
     alloc: Global,
     bootstrap: &Bootstrap,
+    budget: u64,
     drive: &mut D,
 ) -> Result<Checked, AllocError>
-    ensures checked { IfOk result (ChecksOver D.shows D.failures drive.old drive.new bootstrap.now) }
+    ensures checked { IfOk result (ChecksOver D.shows D.failures drive.old drive.new bootstrap.now budget) }
     ensures grows { OnlyGrows (D.shows drive.old) (D.shows drive.new) }
 {
     let pieces = split(alloc, bootstrap)?;
     let results = search(alloc, &pieces, drive)?;
     let mut labels = Vec::new(alloc);
     push_labels(alloc, &mut labels, &pieces, drive)?;
-    checked_of(alloc, bootstrap.groups(), results, &labels)
+    checked_of(alloc, bootstrap.groups(), budget, results, &labels)
 }

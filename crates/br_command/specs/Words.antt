@@ -1,5 +1,6 @@
 -- What the words of a command line ask for, by the definitions of clap.
 use Rattle.std.specs.Prelude.{◌≡◌, if◌then◌else◌, ℕ, ◌^◌, not, List, [], ◌∷◌, Bool, bytes_eq, codes, is_some, Option, Some, None, option_and_then, option_map, false, true}
+use Rattle.std.specs.Borrow.{Bor}
 use Rattle.std.specs.Str.Parse.{digits_value, without_leading_plus}
 use Rattle.clap.specs.Kinds.{Kinds, or_else}
 use Rattle.clap.specs.Simple.{App, new_app, new_rule, on_top, subcommand_of, with_rule, with_subcommand}
@@ -20,6 +21,10 @@ use Rattle.br_options.specs.declared.options.Gaps.TheVariants as gaps
 use Rattle.br_options.specs.declared.options.Wanted.{Wanted}
 use Rattle.br_options.specs.declared.options.Checksums.{Checksums}
 use Rattle.br_options.specs.declared.options.Checksums.TheVariants as checksums
+use Rattle.br_options.specs.declared.options.Clock.{Clock}
+use Rattle.br_options.specs.declared.options.Clock.TheVariants as clocks
+use Rattle.br_options.specs.declared.options.Start.{Start}
+use Rattle.br_options.specs.declared.options.Start.TheVariants as starts
 use Rattle.br_options.specs.declared.options.Stops.{Stops}
 use Rattle.br_options.specs.declared.options.Stops.TheVariants as stops
 use Rattle.br_options.specs.declared.options.Progress.{Progress}
@@ -37,17 +42,18 @@ pub data Goal : Type 0 where
   TarOutput : Goal
 
 -- a command of the program: a script, and the memory for data; a script, a catalogue's file, the folder of the volumes and the memory; a
--- bootstrap's file, the folder of the volumes, where the files go, the number of drives, the memory, what else is done, and if progress is
--- shown; a catalogue's file, the folder of the volumes, client, file set and moment, where the files go, the number of drives, the memory,
--- and if progress is shown; a bootstrap's file, the folder of the volumes and what is done with checksums; a catalogue's file, and
--- client, file set and moment of jobs, each if it is given; a catalogue's file; a number; all numbers
+-- bootstrap's file, the folder of the volumes, where the files go, the number of drives, the memory, what else is done, what the folder may
+-- hold, if progress is shown, and the file of a log if there is one; a catalogue's file, the folder of the volumes, client, file set and
+-- moment, where the files go, the number of drives, the memory, if progress is shown, and the file of a log if there is one; a bootstrap's
+-- file, the folder of the volumes, what is done with checksums and the memory; a catalogue's file, client, file set and moment of jobs, each
+-- if it is given, and in which time moments are shown; a catalogue's file; a number; all numbers
 pub data Asked : Type 0 where
   Serve : ℕ → Asked
   ServeFiles : Text → Text → ℕ → Asked
-  Extract : Text → Text → Goal → ℕ → ℕ → Wanted → Progress → Asked
-  Console : Text → Text → Text → Text → Text → Goal → ℕ → ℕ → Progress → Asked
-  Check : Text → Text → Checksums → Asked
-  Jobs : Text → Option Text → Option Text → Option Text → Asked
+  Extract : Text → Text → Goal → ℕ → ℕ → Wanted → Start → Progress → Option Text → Asked
+  Console : Text → Text → Text → Text → Text → Goal → ℕ → ℕ → Progress → Option Text → Asked
+  Check : Text → Text → Checksums → ℕ → Asked
+  Jobs : Text → Option Text → Option Text → Option Text → Clock → Asked
   Migrate : Text → Asked
   Explain : ℕ → Asked
   ExplainAll : Asked
@@ -59,15 +65,19 @@ target (targets.Folder folder) = Folder folder.now
 target (targets.TarFile file) = TarFile file.now
 target targets.TarOutput = TarOutput
 
+-- the text of an option's value, if it is given
+abbrev pub text_of : Option (Bor Text) → Option Text
+text_of value = option_map (λ s. s.now) value
+
 -- what the program holds of a command line
 abbrev pub asked : Invocation → Asked
 asked (commands.Serve memory) = Serve memory
 asked (commands.ServeFiles o) = ServeFiles o.db.now o.volumes.now o.memory
-asked (commands.Extract o) = Extract o.bsr.now o.volumes.now (target o.target) o.drives o.memory o.wanted o.progress
+asked (commands.Extract o) = Extract o.bsr.now o.volumes.now (target o.target) o.drives o.memory o.wanted o.start o.progress (text_of o.log)
 asked (commands.Console o) =
-    Console o.db.now o.volumes.now o.client.now o.fileset.now o.before.now (target o.target) o.drives o.memory o.progress
-asked (commands.Check o) = Check o.bsr.now o.volumes.now o.checksums
-asked (commands.Jobs o) = Jobs o.db.now (option_map (λ s. s.now) o.client) (option_map (λ s. s.now) o.fileset) (option_map (λ s. s.now) o.before)
+    Console o.db.now o.volumes.now o.client.now o.fileset.now o.before.now (target o.target) o.drives o.memory o.progress (text_of o.log)
+asked (commands.Check o) = Check o.bsr.now o.volumes.now o.checksums o.memory
+asked (commands.Jobs o) = Jobs o.db.now (text_of o.client) (text_of o.fileset) (text_of o.before) o.clock
 asked (commands.Migrate db) = Migrate db.now
 asked (commands.Explain number) = Explain number
 asked commands.ExplainAll = ExplainAll
@@ -102,14 +112,16 @@ with_target_rules app = with_rule (with_rule app (value_rule (codes "into") fals
 abbrev pub with_reading_rules : App → App
 with_reading_rules app = with_rule (with_rule app drives_rule) memory_rule
 
--- a command with `--into DIR`, `--tar FILE`, `--drives N`, `--memory SIZE` and `--quiet`, which may be left out
+-- a command with `--into DIR`, `--tar FILE`, `--drives N`, `--memory SIZE`, `--quiet` and `--log FILE`, which may be left out
 abbrev pub with_run_rules : App → App
-with_run_rules app = with_rule (with_reading_rules (with_target_rules app)) (flag_rule (codes "quiet"))
+with_run_rules app =
+    with_rule (with_rule (with_reading_rules (with_target_rules app)) (flag_rule (codes "quiet"))) (value_rule (codes "log") false)
 
--- a command with `--newest`, `--complete` and `--keep-going`, which may be left out
+-- a command with `--newest`, `--complete`, `--keep-going` and `--resume`, which may be left out
 abbrev pub with_wanted_rules : App → App
 with_wanted_rules app =
-    with_rule (with_rule (with_rule app (flag_rule (codes "newest"))) (flag_rule (codes "complete"))) (flag_rule (codes "keep-going"))
+    with_rule (with_rule (with_rule (with_rule app (flag_rule (codes "newest"))) (flag_rule (codes "complete"))) (flag_rule (codes "keep-going")))
+    (flag_rule (codes "resume"))
 
 -- `extract --bsr FILE --volumes DIR`, and the options that may be left out
 unfoldable pub extract_app : App
@@ -151,15 +163,19 @@ migrate_app = with_rule (new_app (codes "migrate")) (value_rule (codes "db") tru
 unfoldable pub jobs_start_app : App
 jobs_start_app = with_rule (with_rule (new_app (codes "jobs")) (value_rule (codes "db") true)) (value_rule (codes "client") false)
 
--- `jobs --db FILE` with `--client NAME`, `--fileset NAME` and `--before MOMENT`, which may be left out
+-- `jobs --db FILE` with `--client NAME`, `--fileset NAME`, `--before MOMENT` and `--local`, which may be left out
 unfoldable pub jobs_app : App
-jobs_app = with_rule (with_rule jobs_start_app (value_rule (codes "fileset") false)) (value_rule (codes "before") false)
+jobs_app =
+    with_rule (with_rule (with_rule jobs_start_app (value_rule (codes "fileset") false)) (value_rule (codes "before") false))
+    (flag_rule (codes "local"))
 
--- `check --bsr FILE --volumes DIR` with `--checksums`, which may be left out
+-- `check --bsr FILE --volumes DIR` with `--checksums` and `--memory SIZE`, which may be left out
 unfoldable pub check_app : App
 check_app =
-    with_rule (with_rule (with_rule (new_app (codes "check")) (value_rule (codes "bsr") true)) (value_rule (codes "volumes") true))
-    (flag_rule (codes "checksums"))
+    with_rule
+    (with_rule (with_rule (with_rule (new_app (codes "check")) (value_rule (codes "bsr") true)) (value_rule (codes "volumes") true))
+    (flag_rule (codes "checksums")))
+    memory_rule
 
 -- the program with its version and the command `extract`
 unfoldable pub extracting_app : App
@@ -261,6 +277,10 @@ progress_by is_quiet = if is_quiet then progress.Quiet else progress.Shown
 unfoldable pub progress_asked : List Row → Progress
 progress_asked rows = progress_by (is_given (codes "quiet") rows)
 
+-- the file of a log, if there is one
+abbrev pub log_asked : List Row → Option Text
+log_asked rows = first_of (codes "log") rows
+
 -- what `check` does with checksums: with `--checksums` it compares them
 abbrev pub checksums_by : Bool → Checksums
 checksums_by is_compared = if is_compared then checksums.Compared else checksums.Passed
@@ -275,13 +295,35 @@ explain_asked rows =
     if is_some (first_of (codes "number") rows) then option_map Explain (number_asked rows)
     else Some ExplainAll
 
+-- what the folder of a restore may hold: with `--resume` what a restore that was cut off has put there
+abbrev pub start_by : Bool → Start
+start_by is_resumed = if is_resumed then starts.Resumed else starts.Empty
+
+-- the same by the values that were found for the options
+unfoldable pub start_asked : List Row → Start
+start_asked rows = start_by (is_given (codes "resume") rows)
+
+-- the same by where the files go: only a folder may hold something
+abbrev pub start_for : Goal → Start → Option Start
+start_for (Folder folder) start = Some start
+start_for Nowhere starts.Empty = Some starts.Empty
+start_for Nowhere starts.Resumed = None
+start_for (TarFile file) starts.Empty = Some starts.Empty
+start_for (TarFile file) starts.Resumed = None
+start_for TarOutput starts.Empty = Some starts.Empty
+start_for TarOutput starts.Resumed = None
+
 -- the command `extract` by the values that were found for its options
 unfoldable pub extract_asked : List Row → Option Asked
 extract_asked rows =
     option_and_then (λ bsr.
     option_and_then (λ volumes.
     option_and_then (λ goal.
-    option_and_then (λ drives. option_map (λ memory. Extract bsr volumes goal drives memory (wanted_asked rows) (progress_asked rows)) (memory_asked rows))
+    option_and_then (λ drives.
+    option_and_then (λ memory.
+    option_map (λ start. Extract bsr volumes goal drives memory (wanted_asked rows) start (progress_asked rows) (log_asked rows))
+    (start_for goal (start_asked rows)))
+    (memory_asked rows))
     (drives_asked rows))
     (target_asked rows))
     (first_of (codes "volumes") rows))
@@ -297,7 +339,7 @@ console_asked rows =
     option_and_then (λ before.
     option_and_then (λ goal.
     option_and_then (λ drives.
-    option_map (λ memory. Console db volumes client fileset before goal drives memory (progress_asked rows)) (memory_asked rows))
+    option_map (λ memory. Console db volumes client fileset before goal drives memory (progress_asked rows) (log_asked rows)) (memory_asked rows))
     (drives_asked rows))
     (target_asked rows))
     (first_of (codes "before") rows))
@@ -309,13 +351,24 @@ console_asked rows =
 -- the command `check` by the values that were found for its options
 unfoldable pub check_asked : List Row → Option Asked
 check_asked rows =
-    option_and_then (λ bsr. option_map (λ volumes. Check bsr volumes (checksums_asked rows)) (first_of (codes "volumes") rows))
+    option_and_then (λ bsr.
+    option_and_then (λ volumes. option_map (λ memory. Check bsr volumes (checksums_asked rows) memory) (memory_asked rows))
+    (first_of (codes "volumes") rows))
     (first_of (codes "bsr") rows)
+
+-- in which time moments are shown: with `--local` in that of the system, too
+abbrev pub clock_by : Bool → Clock
+clock_by is_local = if is_local then clocks.UtcAndLocal else clocks.Utc
+
+-- the same by the values that were found for the options
+unfoldable pub clock_asked : List Row → Clock
+clock_asked rows = clock_by (is_given (codes "local") rows)
 
 -- the command `jobs` by the values that were found for its options
 unfoldable pub jobs_asked : List Row → Option Asked
 jobs_asked rows =
-    option_map (λ db. Jobs db (first_of (codes "client") rows) (first_of (codes "fileset") rows) (first_of (codes "before") rows))
+    option_map
+    (λ db. Jobs db (first_of (codes "client") rows) (first_of (codes "fileset") rows) (first_of (codes "before") rows) (clock_asked rows))
     (first_of (codes "db") rows)
 
 -- the command `serve` by the values of `--db` and `--volumes`, which go together, and the memory

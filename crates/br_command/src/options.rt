@@ -134,6 +134,18 @@ pub(crate) fn keep_going_option<'a>(alloc: Global) -> Arg<'a>
     )
 }
 
+/// Returns the option for a delivery into a folder that may hold files already.
+pub(crate) fn resume_option<'a>(alloc: Global) -> Arg<'a>
+    ensures rule { rule_of result ≡ flag_rule (codes "resume") }
+    ensures local { result.global ≡ false }
+{
+    flag_option(
+        alloc,
+        "resume",
+        "Goes on with a restore that was cut off: of the files in DIR those that are whole stay",
+    )
+}
+
 /// Returns the option for the checksums of blocks.
 pub(crate) fn checksums_option<'a>(alloc: Global) -> Arg<'a>
     ensures rule { rule_of result ≡ flag_rule (codes "checksums") }
@@ -146,6 +158,18 @@ pub(crate) fn checksums_option<'a>(alloc: Global) -> Arg<'a>
     )
 }
 
+/// Returns the option for moments in the time of the system.
+pub(crate) fn local_option<'a>(alloc: Global) -> Arg<'a>
+    ensures rule { rule_of result ≡ flag_rule (codes "local") }
+    ensures local { result.global ≡ false }
+{
+    flag_option(
+        alloc,
+        "local",
+        "Shows each moment in the time zone of this system, too",
+    )
+}
+
 /// Returns the option for no line of progress.
 pub(crate) fn quiet_option<'a>(alloc: Global) -> Arg<'a>
     ensures rule { rule_of result ≡ flag_rule (codes "quiet") }
@@ -155,6 +179,20 @@ pub(crate) fn quiet_option<'a>(alloc: Global) -> Arg<'a>
         alloc,
         "quiet",
         "Shows no progress, where a terminal would show how far the restore is",
+    )
+}
+
+/// Returns the option for the file of a log, which may be left out.
+pub(crate) fn log_option<'a>(alloc: Global) -> Arg<'a>
+    ensures rule { rule_of result ≡ value_rule (codes "log") false }
+    ensures local { result.global ≡ false }
+{
+    value_option(
+        alloc,
+        "log",
+        "FILE",
+        false,
+        "The file to append a log to: each file as it is written, and what went wrong",
     )
 }
 
@@ -183,7 +221,7 @@ pub(crate) fn with_reading_options<'a>(
 }
 
 /// Returns the command with the options of a restore that may be left out, `--into`, `--tar`, `--drives`,
-/// `--memory` and `--quiet`.
+/// `--memory`, `--quiet` and `--log`.
 pub(crate) fn with_run_options<'a>(
     alloc: Global,
     command: Command<'a>,
@@ -192,10 +230,13 @@ pub(crate) fn with_run_options<'a>(
     ensures app { IfOk result (λ r. app_of r ≡ with_run_rules (app_of command.entry)) }
     ensures local { IfOk result (λ r. (fields_of r).has_globals ≡ false) }
 {
-    with_reading_options(alloc, with_target_options(alloc, command)?)?.arg(quiet_option(alloc))
+    with_reading_options(alloc, with_target_options(alloc, command)?)?
+        .arg(quiet_option(alloc))?
+        .arg(log_option(alloc))
 }
 
-/// Returns the command with the options for what else a restore does, `--newest`, `--complete` and `--keep-going`.
+/// Returns the command with the options for what else a restore does, `--newest`, `--complete`, `--keep-going`
+/// and `--resume`.
 pub(crate) fn with_wanted_options<'a>(
     alloc: Global,
     command: Command<'a>,
@@ -207,5 +248,6 @@ pub(crate) fn with_wanted_options<'a>(
     command
         .arg(newest_option(alloc))?
         .arg(complete_option(alloc))?
-        .arg(keep_going_option(alloc))
+        .arg(keep_going_option(alloc))?
+        .arg(resume_option(alloc))
 }

@@ -6,6 +6,7 @@ ghost use Rattle.clap.specs.declared.builder.command.Command.TheViews.{out-Comma
 ghost use Rattle.br_options.specs.Options.{AreFew, HasDrives};
 ghost use Rattle.br_command.specs.Words.{copies_asked, copies_by, gaps_asked, gaps_by, is_given, wanted_asked};
 ghost use Rattle.br_command.specs.Words.{checksums_asked, checksums_by, progress_asked, progress_by, stops_asked, stops_by};
+ghost use Rattle.br_command.specs.Words.{clock_asked, clock_by, start_asked, start_by, start_for};
 ghost use Rattle.br_command.specs.Words.{is_no_size, memory_asked};
 ghost use Rattle.br_command.specs.Words.{AsksFor, MissesBy, asked, asked_by, words_asked, words_fault, words_kind};
 ghost use Rattle.br_command.specs.Words.{console_asked, drives_asked, explain_asked, extract_asked, migrate_asked, number_asked, serve_asked, serve_by};
@@ -17,12 +18,13 @@ ghost use Rattle.br_command.specs.Words.{extracting_app, migrate_app, number_rul
 ghost use Rattle.br_command.specs.Words.{value_rule};
 
 use crate::options::{
-    checksums_option, memory_option, value_option, with_run_options, with_wanted_options,
+    checksums_option, local_option, memory_option, value_option, with_run_options,
+    with_wanted_options,
 };
 use crate::size::read_size;
 use br_options::{
-    CheckOptions, Checksums, ConsoleOptions, Copies, ExtractOptions, Gaps, Invocation, JobsOptions,
-    Progress, ServeOptions, Stops, Target, Wanted,
+    CheckOptions, Checksums, Clock, ConsoleOptions, Copies, ExtractOptions, Gaps, Invocation,
+    JobsOptions, Progress, ServeOptions, Start, Stops, Target, Wanted,
 };
 use clap::builder::ValueParser;
 use clap::error::ErrorKind;
@@ -147,7 +149,8 @@ fn check_command<'a>(alloc: Global) -> Result<Command<'a>, AllocError>
         .about("Checks a bootstrap over its volumes, and restores nothing")
         .arg(value_option(alloc, "bsr", "FILE", true, "The file of the bootstrap"))?
         .arg(value_option(alloc, "volumes", "DIR", true, "The folder of the volumes"))?
-        .arg(checksums_option(alloc))
+        .arg(checksums_option(alloc))?
+        .arg(memory_option(alloc))
 }
 
 /// Returns an option of `jobs` that may be left out.
@@ -177,7 +180,8 @@ fn jobs_command<'a>(alloc: Global) -> Result<Command<'a>, AllocError>
     let before = "Lists only jobs that began before YYYY-MM-DD HH:MM:SS, in UTC";
     jobs_start(alloc)?
         .arg(jobs_option(alloc, "fileset", "NAME", "Lists only jobs of this file set"))?
-        .arg(jobs_option(alloc, "before", "MOMENT", before))
+        .arg(jobs_option(alloc, "before", "MOMENT", before))?
+        .arg(local_option(alloc))
 }
 
 /// Returns the program with its command `extract`.
@@ -354,6 +358,38 @@ fn stops_of(found: &ArgMatches<'_>) -> Stops
     stops_by(is_found(found, "keep-going"))
 }
 
+/// Returns what a folder may hold, by whether `--resume` was given.
+fn start_by(is_resumed: bool) -> Start
+    ensures { result ≡ start_by is_resumed }
+{
+    if is_resumed {
+        Start::Resumed
+    } else {
+        Start::Empty
+    }
+}
+
+/// Returns what a folder may hold.
+#[tactic(auto, unfolding(crate::specs::Words::start_asked))]
+fn start_of(found: &ArgMatches<'_>) -> Start
+    ensures { result ≡ start_asked (rows_of (found_of found.now)) }
+{
+    start_by(is_found(found, "resume"))
+}
+
+/// Returns what the target may hold, unless `--resume` was given and it is no folder.
+fn start_for(to: Target<'_>, start: Start) -> Option<Start>
+    ensures { result ≡ start_for (target to.entry) start }
+{
+    match to {
+        Target::Folder(_) => Some(start),
+        Target::Nowhere | Target::TarFile(_) | Target::TarOutput => match start {
+            Start::Empty => Some(Start::Empty),
+            Start::Resumed => None,
+        },
+    }
+}
+
 /// Returns what else the restore is to do.
 fn wanted_of(found: &ArgMatches<'_>) -> Wanted
     ensures { result ≡ wanted_asked (rows_of (found_of found.now)) }
@@ -403,6 +439,25 @@ fn checksums_of(found: &ArgMatches<'_>) -> Checksums
     checksums_by(is_found(found, "checksums"))
 }
 
+/// Returns in which time moments are shown, by whether `--local` was given.
+fn clock_by(is_local: bool) -> Clock
+    ensures { result ≡ clock_by is_local }
+{
+    if is_local {
+        Clock::UtcAndLocal
+    } else {
+        Clock::Utc
+    }
+}
+
+/// Returns in which time moments are shown.
+#[tactic(auto, unfolding(crate::specs::Words::clock_asked))]
+fn clock_of(found: &ArgMatches<'_>) -> Clock
+    ensures { result ≡ clock_asked (rows_of (found_of found.now)) }
+{
+    clock_by(is_found(found, "local"))
+}
+
 /// Returns the number to explain that was found.
 fn number_of(found: &ArgMatches<'_>) -> Option<u32>
     ensures { result ≡ number_asked (rows_of (found_of found.now)) }
@@ -420,14 +475,19 @@ fn extract_found<'a>(found: &ArgMatches<'a>) -> Option<Invocation<'a>>
     ensures asked { option_map asked result ≡ extract_asked (rows_of (found_of found.now)) }
     ensures drives { IfSome result HasDrives }
 {
+    let bootstrap = value_of(found, "bsr")?;
+    let volumes = value_of(found, "volumes")?;
+    let target = target_of(found)?;
     Some(Invocation::Extract(ExtractOptions {
-        bsr: value_of(found, "bsr")?,
-        volumes: value_of(found, "volumes")?,
-        target: target_of(found)?,
+        bsr: bootstrap,
+        volumes,
+        target,
         drives: drives_of(found)?,
         memory: memory_of(found)?,
         wanted: wanted_of(found),
+        start: start_for(target, start_of(found))?,
         progress: progress_of(found),
+        log: value_of(found, "log"),
     }))
 }
 
@@ -447,6 +507,7 @@ fn console_found<'a>(found: &ArgMatches<'a>) -> Option<Invocation<'a>>
         drives: drives_of(found)?,
         memory: memory_of(found)?,
         progress: progress_of(found),
+        log: value_of(found, "log"),
     }))
 }
 
@@ -459,10 +520,12 @@ fn check_found<'a>(found: &ArgMatches<'a>) -> Option<Invocation<'a>>
     let bsr = value_of(found, "bsr")?;
     let volumes = value_of(found, "volumes")?;
     let checksums = checksums_of(found);
+    let memory = memory_of(found)?;
     Some(Invocation::Check(CheckOptions {
         bsr,
         volumes,
         checksums,
+        memory,
     }))
 }
 
@@ -477,6 +540,7 @@ fn jobs_found<'a>(found: &ArgMatches<'a>) -> Option<Invocation<'a>>
         client: value_of(found, "client"),
         fileset: value_of(found, "fileset"),
         before: value_of(found, "before"),
+        clock: clock_of(found),
     }))
 }
 
@@ -593,8 +657,16 @@ fn kind_of_fault(matches: &ArgMatches<'_>) -> ErrorKind
     }
 }
 
+/// Returns if `--resume` was given.
+fn is_resumed(matches: &ArgMatches<'_>) -> bool {
+    match found_command(matches) {
+        None => false,
+        Some((_, found)) => is_found(found, "resume"),
+    }
+}
+
 /// Returns what to tell of a fault of this kind.
-fn text_of_fault(kind: ErrorKind) -> &'static str {
+fn text_of_fault(matches: &ArgMatches<'_>, kind: ErrorKind) -> &'static str {
     match kind {
         ErrorKind::ArgumentConflict => {
             "the argument '--into <DIR>' cannot be used with '--tar <FILE>'"
@@ -602,17 +674,20 @@ fn text_of_fault(kind: ErrorKind) -> &'static str {
         ErrorKind::ValueValidation => {
             "the value of '--memory <SIZE>' is no number of bytes, nor one with K, M or G"
         }
+        _ if is_resumed(matches) => "the argument '--resume' must be given with '--into <DIR>'",
         _ => "the arguments '--db <FILE>' and '--volumes <DIR>' must be given together",
     }
 }
 
-/// Returns the command that was found, if all its required options were, and the kind of fault if not.
-fn found_in<'a>(matches: &ArgMatches<'a>) -> (Option<Invocation<'a>>, ErrorKind)
+/// Returns the command that was found, if all its required options were, and the kind of fault and what to tell of it
+/// if not.
+fn found_in<'a>(matches: &ArgMatches<'a>) -> (Option<Invocation<'a>>, ErrorKind, &'static str)
     ensures asked { option_map asked result.0 ≡ asked_by (subcommand_rows_of matches.now) }
     ensures drives { IfSome result.0 HasDrives }
     ensures kind { result.1 ≡ kind_by (subcommand_rows_of matches.now) }
 {
-    (invocation_of(matches), kind_of_fault(matches))
+    let kind = kind_of_fault(matches);
+    (invocation_of(matches), kind, text_of_fault(matches, kind))
 }
 
 /// Returns what clap finds in the words of a command line.
@@ -632,21 +707,21 @@ fn read_by<'a>(command: &mut Command<'a>, words: &'a [String]) -> Result<Invocat
     ensures fails { FailsBy (words_fault (map string_bytes words.entry.now)) result }
     ensures drives { IfOk result HasDrives }
 {
-    let (found, kind) = found_in(&parsed(command, words)?);
+    let (found, kind, text) = found_in(&parsed(command, words)?);
     match found {
         Some(invocation) => Ok(invocation),
-        None => Err(command.error(kind, text_of_fault(kind))?),
+        None => Err(command.error(kind, text)?),
     }
 }
 
 /// Reads the words of a command line, of which the first is the program's name.
 ///
 /// The commands are `extract --bsr FILE --volumes DIR`, `console --db FILE --volumes DIR --client NAME --fileset NAME
-/// --before MOMENT`, `check --bsr FILE --volumes DIR [--checksums]`, `jobs --db FILE [--client NAME] [--fileset NAME] [--before MOMENT]`, `migrate --db FILE`, `explain [N]`
-/// and `serve`. The first two also take `--into DIR` or `--tar FILE`, `--drives N` and `--quiet`; the first takes `--newest`, `--complete` and
-/// `--keep-going`;
-/// the last takes `--db FILE` and `--volumes DIR`, both or neither. All that restore take `--memory SIZE`: bytes, or a number with K,
-/// M or G. No command is the same as `serve`.
+/// --before MOMENT`, `check --bsr FILE --volumes DIR [--checksums]`, `jobs --db FILE [--client NAME] [--fileset NAME] [--before MOMENT] [--local]`,
+/// `migrate --db FILE`, `explain [N]` and `serve`. The first two also take `--into DIR` or `--tar FILE`, `--drives N`, `--quiet` and
+/// `--log FILE`; the first takes `--newest`, `--complete`, `--keep-going` and, with `--into`, `--resume`; the last takes `--db FILE` and
+/// `--volumes DIR`, both or neither. All that restore, and `check`, take `--memory SIZE`: bytes, or a number with K, M or G. No command is
+/// the same as `serve`.
 ///
 /// # Errors
 ///

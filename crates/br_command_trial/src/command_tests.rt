@@ -1,7 +1,7 @@
 use br_command::read_words;
 use br_options::{
-    CheckOptions, Checksums, ConsoleOptions, Copies, ExtractOptions, Gaps, Invocation, JobsOptions,
-    Progress, ServeOptions, Stops, Target, Wanted,
+    CheckOptions, Checksums, Clock, ConsoleOptions, Copies, ExtractOptions, Gaps, Invocation,
+    JobsOptions, Progress, ServeOptions, Start, Stops, Target, Wanted,
 };
 use clap::error::ErrorKind;
 use std::alloc::Global;
@@ -100,7 +100,9 @@ const EXTRACT: ExtractOptions<'static> = ExtractOptions {
         gaps: Gaps::Unreported,
         stops: Stops::AtFirst,
     },
+    start: Start::Empty,
     progress: Progress::Shown,
+    log: None,
 };
 
 const EXTRACT_NEWEST: ExtractOptions<'static> = ExtractOptions {
@@ -128,6 +130,12 @@ const EXTRACT_GOING_ON: ExtractOptions<'static> = ExtractOptions {
         gaps: Gaps::Unreported,
         stops: Stops::Never,
     },
+    ..EXTRACT
+};
+
+const EXTRACT_RESUMED: ExtractOptions<'static> = ExtractOptions {
+    target: Target::Folder("e"),
+    start: Start::Resumed,
     ..EXTRACT
 };
 
@@ -161,6 +169,7 @@ const CONSOLE: ConsoleOptions<'static> = ConsoleOptions {
     drives: 1,
     memory: 1_073_741_824,
     progress: Progress::Shown,
+    log: None,
 };
 
 const CONSOLE_INTO: ConsoleOptions<'static> = ConsoleOptions {
@@ -171,6 +180,17 @@ const CONSOLE_INTO: ConsoleOptions<'static> = ConsoleOptions {
 const EXTRACT_QUIET: ExtractOptions<'static> = ExtractOptions {
     progress: Progress::Quiet,
     ..EXTRACT
+};
+
+const EXTRACT_LOGGED: ExtractOptions<'static> = ExtractOptions {
+    target: Target::Folder("e"),
+    log: Some("night.log"),
+    ..EXTRACT
+};
+
+const CONSOLE_LOGGED: ConsoleOptions<'static> = ConsoleOptions {
+    log: Some("night.log"),
+    ..CONSOLE
 };
 
 const CONSOLE_QUIET: ConsoleOptions<'static> = ConsoleOptions {
@@ -228,9 +248,24 @@ const EXTRACT_GOING_ON_LINES: [&str; 2] = [
     "brestore extract --keep-going --into=e --volumes=sets/V --bsr=x.bsr",
 ];
 
+const EXTRACT_RESUMED_LINES: [&str; 2] = [
+    "brestore extract --bsr x.bsr --volumes sets/V --into e --resume",
+    "brestore extract --resume --into=e --volumes=sets/V --bsr=x.bsr",
+];
+
 const EXTRACT_QUIET_LINES: [&str; 2] = [
     "brestore extract --bsr x.bsr --volumes sets/V --quiet",
     "brestore extract --quiet --volumes=sets/V --bsr=x.bsr",
+];
+
+const EXTRACT_LOGGED_LINES: [&str; 2] = [
+    "brestore extract --bsr x.bsr --volumes sets/V --into e --log night.log",
+    "brestore extract --log=night.log --into=e --volumes=sets/V --bsr=x.bsr",
+];
+
+const CONSOLE_LOGGED_LINES: [&str; 2] = [
+    "brestore console --db j.db --volumes d --client mars --fileset home --before 2026-11-22 --log night.log",
+    "brestore console --log=night.log --before=2026-11-22 --fileset=home --client=mars --volumes=d --db=j.db",
 ];
 
 const CONSOLE_QUIET_LINES: [&str; 2] = [
@@ -306,15 +341,23 @@ fn a_check_is_asked_for(rt: HostRuntime) -> Result<(), Fail> {
         bsr: "x.bsr",
         volumes: "sets/V",
         checksums: Checksums::Passed,
+        memory: 1_073_741_824,
     };
     let whole = CheckOptions {
         checksums: Checksums::Compared,
         ..check
     };
+    let small = CheckOptions {
+        memory: 2048,
+        ..check
+    };
+    let with_memory = ["brestore check --bsr x.bsr --volumes sets/V --memory 2K"];
     let other = first_other(rt.alloc(), &lines, &Invocation::Check(check))?;
     let other_whole = first_other(rt.alloc(), &compared, &Invocation::Check(whole))?;
+    let other_small = first_other(rt.alloc(), &with_memory, &Invocation::Check(small))?;
     assert_eq!(rt; other, None);
     assert_eq!(rt; other_whole, None);
+    assert_eq!(rt; other_small, None);
     Ok(())
 }
 
@@ -325,6 +368,7 @@ fn a_list_of_jobs_is_asked_for(rt: HostRuntime) -> Result<(), Fail> {
         client: None,
         fileset: None,
         before: None,
+        clock: Clock::Utc,
     };
     let lines = ["brestore jobs --db j.db", "brestore jobs --db=j.db"];
     let other = first_other(rt.alloc(), &lines, &Invocation::Jobs(all))?;
@@ -334,12 +378,23 @@ fn a_list_of_jobs_is_asked_for(rt: HostRuntime) -> Result<(), Fail> {
         client: Some("mars"),
         fileset: Some("home"),
         before: Some("2026-11-22"),
+        clock: Clock::Utc,
     };
     let lines = [
         "brestore jobs --db j.db --client mars --fileset home --before 2026-11-22",
         "brestore jobs --before=2026-11-22 --fileset=home --client=mars --db=j.db",
     ];
     let other = first_other(rt.alloc(), &lines, &Invocation::Jobs(chosen))?;
+    assert_eq!(rt; other, None);
+    let local = JobsOptions {
+        clock: Clock::UtcAndLocal,
+        ..all
+    };
+    let lines = [
+        "brestore jobs --db j.db --local",
+        "brestore jobs --local --db=j.db",
+    ];
+    let other = first_other(rt.alloc(), &lines, &Invocation::Jobs(local))?;
     assert_eq!(rt; other, None);
     Ok(())
 }
@@ -443,6 +498,41 @@ fn deliveries_that_go_on_are_asked_for(rt: HostRuntime) -> Result<(), Fail> {
         &Invocation::Extract(EXTRACT_GOING_ON),
     )?;
     assert_eq!(rt; going_on, None);
+    let resumed = first_other(
+        rt.alloc(),
+        &EXTRACT_RESUMED_LINES,
+        &Invocation::Extract(EXTRACT_RESUMED),
+    )?;
+    assert_eq!(rt; resumed, None);
+    Ok(())
+}
+
+#[test]
+fn logs_are_asked_for(rt: HostRuntime) -> Result<(), Fail> {
+    let extract = first_other(
+        rt.alloc(),
+        &EXTRACT_LOGGED_LINES,
+        &Invocation::Extract(EXTRACT_LOGGED),
+    )?;
+    let console = first_other(
+        rt.alloc(),
+        &CONSOLE_LOGGED_LINES,
+        &Invocation::Console(CONSOLE_LOGGED),
+    )?;
+    assert_eq!(rt; extract, None);
+    assert_eq!(rt; console, None);
+    Ok(())
+}
+
+#[test]
+fn only_a_folder_is_resumed(rt: HostRuntime) -> Result<(), Fail> {
+    let lines = [
+        "brestore extract --bsr x --volumes d --resume",
+        "brestore extract --bsr x --volumes d --tar f --resume",
+        "brestore extract --bsr x --volumes d --tar - --resume",
+    ];
+    let other = first_with_another_fault(rt.alloc(), &lines, ErrorKind::MissingRequiredArgument)?;
+    assert_eq!(rt; other, None);
     Ok(())
 }
 
@@ -548,7 +638,7 @@ fn drives_are_named_once_and_if_volumes_are_read(rt: HostRuntime) -> Result<(), 
     Ok(())
 }
 
-const REFUSED: [&str; 52] = [
+const REFUSED: [&str; 61] = [
     "brestore x",
     "brestore --bsr x",
     "brestore serve x",
@@ -587,6 +677,13 @@ const REFUSED: [&str; 52] = [
     "brestore extract --bsr x --volumes d --quiet --quiet",
     "brestore extract --bsr x --volumes d --into e --keep-going=true",
     "brestore check --bsr x --volumes d --keep-going",
+    "brestore check --bsr x --volumes d --memory=",
+    "brestore check --bsr x --volumes d --memory 1 --memory 2",
+    "brestore check --bsr x --volumes d --log l",
+    "brestore extract --bsr x --volumes d --log=",
+    "brestore extract --bsr x --volumes d --log l --log m",
+    "brestore extract --bsr x --volumes d --into e --resume=true",
+    "brestore console --db j --volumes d --client c --fileset f --before b --into e --resume",
     "brestore console --db j --volumes d --client c --fileset f --before b --into e --keep-going",
     "brestore serve --quiet",
     "brestore jobs",
@@ -595,6 +692,8 @@ const REFUSED: [&str; 52] = [
     "brestore jobs --db j.db --client=",
     "brestore jobs --db j.db --before 1 --before 2",
     "brestore jobs --db j.db --volumes d",
+    "brestore jobs --db j.db --local=true",
+    "brestore check --bsr x --volumes d --local",
     "brestore migrate",
     "brestore migrate j.db",
     "brestore migrate --db=",

@@ -26,32 +26,34 @@ pub record HasSums {D : Type 0} (shows : D → Option (List Volume)) (failures :
   pub findings : SumsOver shows failures earlier later pieces first.findings.items checked.findings.items
   pub files : checked.files ≡ first.files
   pub bytes : checked.bytes ≡ first.bytes
+  pub memory : checked.memory ≡ first.memory
 
--- what a check of these groups finds over the drive; then, if checksums are compared, what is said of those
-abbrev pub ChecksFor : {D : Type 0} → (D → Option (List Volume)) → (D → ℕ) → D → D → List Group → Checksums → Checked → Type 0
-ChecksFor shows failures earlier later groups Passed checked = ChecksOver shows failures earlier later groups checked
-ChecksFor {D} shows failures earlier later groups Compared checked =
-    (between : D) × (first : Checked) × ChecksOver shows failures earlier between groups first × HasSums shows failures between later (pieces_of groups) first checked
+-- what a check of these groups finds over the drive for a restore which holds so many bytes of data; then, if checksums are compared, what is
+-- said of those
+abbrev pub ChecksFor : {D : Type 0} → (D → Option (List Volume)) → (D → ℕ) → D → D → List Group → ℕ → Checksums → Checked → Type 0
+ChecksFor shows failures earlier later groups budget Passed checked = ChecksOver shows failures earlier later groups budget checked
+ChecksFor {D} shows failures earlier later groups budget Compared checked =
+    (between : D) × (first : Checked) × ChecksOver shows failures earlier between groups budget first × HasSums shows failures between later (pieces_of groups) first checked
 
 -- What a check of these groups finds over the drive was written after what the writer held, and the status is that of what was found.
-abbrev pub WritesChecked : {D : Type 0} → (D → Option (List Volume)) → (D → ℕ) → D → D → Option (List ℕ) → Option (List ℕ) → List Group → Checksums → ℕ
+abbrev pub WritesChecked : {D : Type 0} → (D → Option (List Volume)) → (D → ℕ) → D → D → Option (List ℕ) → Option (List ℕ) → List Group → ℕ → Checksums → ℕ
     → Type 0
-WritesChecked shows failures drive later before after groups checksums status =
-    (checked : Checked) × ChecksFor shows failures drive later groups checksums checked × Appends before after (checked_text checked)
+WritesChecked shows failures drive later before after groups budget checksums status =
+    (checked : Checked) × ChecksFor shows failures drive later groups budget checksums checked × Appends before after (checked_text checked)
     × (status ≡ checked_status checked)
 
 -- the bootstrap of the text was checked so; or its first refused line is the expected one
-abbrev pub ChecksText : {D : Type 0} → (D → Option (List Volume)) → (D → ℕ) → D → D → Option (List ℕ) → Option (List ℕ) → List ℕ → Checksums
+abbrev pub ChecksText : {D : Type 0} → (D → Option (List Volume)) → (D → ℕ) → D → D → Option (List ℕ) → Option (List ℕ) → List ℕ → ℕ → Checksums
     → Result ℕ ExtractFault → Type 0
-ChecksText shows failures drive later before after text checksums (Ok status) =
-    (groups : List Group) × (read_bootstrap text ≡ Ok groups) × WritesChecked shows failures drive later before after groups checksums status
-ChecksText shows failures drive later before after text checksums (Err fault) = IsRefusal (cause fault) (refused_as OfLine (read_bootstrap text))
+ChecksText shows failures drive later before after text budget checksums (Ok status) =
+    (groups : List Group) × (read_bootstrap text ≡ Ok groups) × WritesChecked shows failures drive later before after groups budget checksums status
+ChecksText shows failures drive later before after text budget checksums (Err fault) = IsRefusal (cause fault) (refused_as OfLine (read_bootstrap text))
 
 -- the bootstrap of a task was checked over its drive, and what was found was written; or the first refused line is the expected one
 abbrev pub ChecksTask : {D W : Type 0} → (D → Option (List Volume)) → (D → ℕ) → (W → Option (List ℕ)) → CheckTask D → CheckTask D → W → W
     → Result ℕ ExtractFault → Type 0
 ChecksTask shows failures contents task later before after result =
-    ChecksText shows failures task.drive later.drive (contents before) (contents after) task.bootstrap.text.items task.checksums result
+    ChecksText shows failures task.drive later.drive (contents before) (contents after) task.bootstrap.text.items task.memory task.checksums result
 
 -- the status by what was found; 3 if reading or writing failed, 1 for any other fault
 abbrev pub run_status : Result ℕ ExtractFault → ℕ

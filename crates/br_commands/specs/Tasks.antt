@@ -12,10 +12,11 @@ use Rattle.br_extract.specs.declared.extracting.Extracted.{Extracted}
 use Rattle.br_console.specs.Delivering.{Delivers}
 use Rattle.br_console.specs.declared.ending.ConsoleRun.{ConsoleRun}
 use Rattle.br_console.specs.declared.console_fault.ConsoleFault.{ConsoleFault}
-use Rattle.br_tar.specs.Stream.{InTar, told}
+use Rattle.br_progress.specs.declared.watched_sink.WatchedSink.{WatchedSink}
+use Rattle.br_tar.specs.Stream.{InTar}
 use Rattle.br_commands.specs.Ending.{extent as extract_extent}
 use Rattle.br_commands.specs.ConsoleEnding.{extent as console_extent}
-use Rattle.br_commands.specs.TarEnding.{StreamHolds}
+use Rattle.br_commands.specs.TarEnding.{StreamHolds, told_inside}
 use Rattle.br_commands.specs.declared.extract.ExtractStream.{ExtractStream}
 use Rattle.br_commands.specs.declared.extract.ExtractTask.{ExtractTask}
 use Rattle.br_commands.specs.declared.console.ConsoleStream.{ConsoleStream}
@@ -32,11 +33,11 @@ ExtractsTask shows contents has before after result =
 -- reported as missing; or why there is no manifest. The stream of the sink is that of what it was told, and has an end if all files were
 -- put and it could be written.
 abbrev pub StreamsTask : {D W T : Type 0} → (D → Option (List Volume)) → (W → Option (List ℕ)) → (T → Option (List ℕ))
-    → ExtractTask D W InTar → ExtractTask D W InTar → ExtractStream T → Type 0
+    → ExtractTask D W (WatchedSink InTar) → ExtractTask D W (WatchedSink InTar) → ExtractStream T → Type 0
 StreamsTask shows contents holds before after s =
     (now : InSink)
     × Extracts before.wanted (λ given. OverText (Some before.text.items) (map shows before.drives.items) (map shows after.drives.items) given)
-    (IsReport before.wanted.gaps before.text.items) (contents before.out.writer) (contents after.out.writer) (in_sink told before.out) now s.run
+    (IsReport before.wanted.gaps before.text.items) (contents before.out.writer) (contents after.out.writer) (in_sink told_inside before.out) now s.run
     × StreamHolds (extract_extent s.run) now s.end (option_map holds s.writer)
 
 -- the session of the lines over the history and the request, and what became of the planned files in the sink
@@ -49,9 +50,9 @@ RunsTask lines shows contents has before after result =
 -- The session of the lines over the history and the request, and what the sink was told of the planned files. The stream of the sink is that
 -- of what it was told, and has an end if all files were put and it could be written.
 abbrev pub StreamsRun : {D W T : Type 0} → Option (List ℕ) → (D → Option (List Volume)) → (W → Option (List ℕ)) → (T → Option (List ℕ))
-    → ConsoleTask D W InTar → ConsoleTask D W InTar → ConsoleStream T → Type 0
+    → ConsoleTask D W (WatchedSink InTar) → ConsoleTask D W (WatchedSink InTar) → ConsoleStream T → Type 0
 StreamsRun lines shows contents holds before after s =
     (now : InSink)
     × Delivers lines (map shows before.drives.items) (map shows after.drives.items) (contents before.out.writer) (contents after.out.writer)
-    (in_sink told before.out) now before.history before.request s.run
+    (in_sink told_inside before.out) now before.history before.request s.run
     × StreamHolds (console_extent s.run) now s.end (option_map holds s.writer)

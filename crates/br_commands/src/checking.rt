@@ -57,38 +57,43 @@ fn with_checksums<D: Drive>(
         mut findings,
         files,
         bytes,
+        memory,
     } = checked;
     push_checksums(alloc, &mut findings, bootstrap, drive)?;
     Ok(Checked {
         findings,
         files,
         bytes,
+        memory,
     })
 }
 
 /// Checks a bootstrap over the volumes of a drive, and the checksums of its blocks if they are to be
-/// compared.
+/// compared. The memory is that of a restore which holds at most `budget` bytes of data.
 fn checked_for<D: Drive>(
     alloc: Global,
     bootstrap: &Bootstrap,
+    budget: u64,
     drive: &mut D,
     checksums: Checksums,
 ) -> Result<Checked, AllocError>
-    ensures checked { IfOk result (ChecksFor D.shows D.failures drive.old drive.new bootstrap.now checksums) }
+    ensures checked { IfOk result (ChecksFor D.shows D.failures drive.old drive.new bootstrap.now budget checksums) }
     ensures grows { OnlyGrows (D.shows drive.old) (D.shows drive.new) }
 {
-    let checked = check(alloc, bootstrap, drive)?;
+    let checked = check(alloc, bootstrap, budget, drive)?;
     match checksums {
         Checksums::Passed => Ok(checked),
         Checksums::Compared => with_checksums(alloc, checked, bootstrap, drive),
     }
 }
 
-/// The bootstrap to check, the drive to read its volumes by, and what to do with the checksums of blocks.
+/// The bootstrap to check, the drive to read its volumes by, the number of bytes of data that a restore
+/// would hold in memory, and what to do with the checksums of blocks.
 #[derive(Drop)]
 pub struct CheckTask<'p, D> {
     bootstrap: BootstrapFile<'p>,
     drive: D,
+    memory: u64,
     checksums: Checksums,
 }
 
@@ -99,6 +104,7 @@ pub fn set_up_check<'r, 'p>(
 ) -> Result<CheckTask<'p, HostDrive<'r>>, ExtractStartFault>
     ensures bootstrap { IfOk result (λ task. task.bootstrap.path.now ≡ given.now.bsr.now) }
     ensures volumes { IfOk result (λ task. task.drive.path ≡ given.now.volumes.now) }
+    ensures memory { IfOk result (λ task. task.memory ≡ given.now.memory) }
     ensures checksums { IfOk result (λ task. task.checksums ≡ given.now.checksums) }
 {
     let bootstrap = BootstrapFile::read(rt, given.bsr)?;
@@ -106,12 +112,14 @@ pub fn set_up_check<'r, 'p>(
     Ok(CheckTask {
         bootstrap,
         drive,
+        memory: given.memory,
         checksums: given.checksums,
     })
 }
 
 /// Carries out a task: checks the bootstrap over the volumes of the drive, and writes a line for each finding,
-/// and then the number of files that would be restored and of their bytes. Returns the exit status.
+/// the memory that a restore asks for, and then the number of files that would be restored and of their
+/// bytes. Returns the exit status.
 ///
 /// # Errors
 ///
@@ -127,7 +135,13 @@ pub fn check_over<D: Drive, W: Flush>(
     ensures flushed { OnOk result (W.is_flushed writer.new) }
 {
     let bootstrap = read_bootstrap(alloc, task.bootstrap.text())?;
-    let checked = checked_for(alloc, &bootstrap, &mut task.drive, task.checksums)?;
+    let checked = checked_for(
+        alloc,
+        &bootstrap,
+        task.memory,
+        &mut task.drive,
+        task.checksums,
+    )?;
     show_checked(alloc, writer, &checked)?;
     Ok(status_of(&checked))
 }
@@ -158,8 +172,9 @@ fn report(rt: &HostRuntime, run: Result<u8, ExtractFault>) -> io::Result<u8> {
     ending.print(rt)
 }
 
-/// Checks the bootstrap in a file over the volumes in a folder. Prints a line for each finding, and then the
-/// number of files that would be restored and of their bytes. Restores nothing.
+/// Checks the bootstrap in a file over the volumes in a folder. Prints a line for each finding, the memory
+/// that a restore asks for, and then the number of files that would be restored and of their bytes. Restores
+/// nothing.
 ///
 /// Returns the exit status: 0 if nothing was found; 1 if something was found or a line of the bootstrap was
 /// refused; 3 if the bootstrap could not be read or standard output failed.

@@ -15,23 +15,25 @@ ghost use Rattle.br_commands.specs.declared.console.ConsoleStartFault.TheVariant
 use crate::folders::{HostSink, folder_of, sink_over};
 use crate::status::{BAD_STREAM, Ending};
 use crate::tar::{Channel, Extent, TarEnd, TarFault, add_tar_end, end_stream, tar_into, tar_onto};
-use crate::watching::{gauge_of, watched_drives, watched_sink, watched_writer};
+use crate::telling::{log_fault, refuse_place, say_stop};
+use crate::watching::{gauge_of, refuse_log, watched_drives, watched_sink, watched_writer};
 use br_console::{ConsoleFault, ConsoleRun, End, JobSelection, Lines, run_console};
+use br_dir::with_help;
 use br_engine::{Budget, Flush, Outputs, RestoreEnd};
 use br_folder_sink::FolderFault;
 use br_history::History;
 use br_listing::tell_chosen;
 use br_options::{ConsoleOptions, Target};
 use br_plan::Request;
-use br_progress::{Gauge, WatchedDrive, WatchedSink, WatchedWriter};
+use br_progress::{Faults, Gauge, WatchedDrive, WatchedSink, WatchedWriter};
 use br_request::{RequestFault, read_request};
-use br_setup::{
-    CLEAN, Catalogue, CatalogueFault, HostDrive, REFUSED, drives_over, refuse_start, with_prompt,
-};
+use br_setup::{CLEAN, Catalogue, CatalogueFault, HostDrive, REFUSED, drives_over, with_prompt};
 use br_sink::Sink;
 use br_tar::TarSink;
+use br_types::Path;
 use br_volume::Drive;
 use std::alloc::{AllocError, Global};
+use std::cell::OnceCell;
 use std::fs::{self, File};
 use std::io::{self, BufRead, BufReader, BufWriter, ErrorKind, Printer};
 use std::sync::Wait;
@@ -41,7 +43,7 @@ use thiserror::Error;
 /// What an operator at a terminal reads before the first line.
 const GREETING: &str =
     "Mark files with `mark NAME`, or all with `mark *`. `ls` lists, `cd NAME` goes into a folder.
-`done` restores what is marked, and `quit` restores nothing.";
+`done` restores what is marked, and `quit` restores nothing. `help` lists all commands.";
 
 /// Returns the exit status of a run that was not refused.
 fn status_of(run: &ConsoleRun) -> u8
@@ -101,13 +103,57 @@ fn report_stream<R: Eprint>(rt: &R, fault: &ConsoleFault) -> io::Result<()> {
     }
 }
 
-/// Prints how a run ended to standard error. Returns the exit status.
-fn report(rt: &HostRuntime, run: Result<ConsoleRun, ConsoleFault>) -> io::Result<u8> {
-    let ending = console_ending(rt.alloc(), &run)?;
-    if let Err(fault) = &run {
-        report_stream(rt, fault)?;
+/// Prints that a stream failed, if one did, and appends it to the log.
+fn tell_stream(rt: &HostRuntime, gauge: &Gauge<'_>, fault: &ConsoleFault) -> io::Result<()> {
+    report_stream(rt, fault)?;
+    match fault {
+        ConsoleFault::Io(e) if e.kind() == ErrorKind::InvalidData => {
+            log_fault(rt, gauge, None, fault)
+        }
+        ConsoleFault::Io(_) | ConsoleFault::NoEnd(_) => {
+            log_fault(rt, gauge, Some("standard input or output"), fault)
+        }
+        _ => Ok(()),
     }
-    ending.print(rt)
+}
+
+/// Tells a terminal and the log why the delivery stopped, if it did. The sink failed at a file with the first of
+/// the paths.
+fn say_end(
+    rt: &HostRuntime,
+    gauge: &Gauge<'_>,
+    target: Target<'_>,
+    run: &Result<ConsoleRun, ConsoleFault>,
+    failed: Option<&Path>,
+) -> io::Result<()> {
+    match run {
+        Ok(run) => match &run.end {
+            End::Quit => Ok(()),
+            End::Done(end) => say_stop(rt, gauge, target, end, failed),
+        },
+        Err(_) => Ok(()),
+    }
+}
+
+/// Prints how a run ended to standard error, and tells a terminal and the log what it means. The ending has what
+/// else is refused. Returns the exit status.
+fn report(
+    rt: &HostRuntime,
+    gauge: &Gauge<'_>,
+    target: Target<'_>,
+    told: (&Faults, Option<&Path>),
+    run: &Result<ConsoleRun, ConsoleFault>,
+    ending: &Ending,
+) -> io::Result<u8> {
+    let (faults, failed) = told;
+    if let Err(fault) = run {
+        tell_stream(rt, gauge, fault)?;
+    }
+    gauge.log_refusals(&ending.refusal);
+    let status = ending.print(rt)?;
+    say_end(rt, gauge, target, run, failed)?;
+    gauge.tell_end(faults, b"")?;
+    Ok(status)
 }
 
 /// Why no session began.
@@ -425,7 +471,7 @@ pub(crate) struct ConsoleStream<W> {
 fn console_stream<R: BufRead + Drop, D: Drive + Send, W: Flush + Drop, T: Flush + Drop>(
     threads: &(impl Threads + Wait + Sync),
     alloc: Global,
-    task: &mut ConsoleTask<D, W, TarSink<T>>,
+    task: &mut ConsoleTask<D, W, WatchedSink<'_, '_, TarSink<T>>>,
     reader: &mut R,
 ) -> ConsoleStream<T>
     requires drives { AreDrives task.old.drives.items }
@@ -440,18 +486,12 @@ fn console_stream<R: BufRead + Drop, D: Drive + Send, W: Flush + Drop, T: Flush 
     ConsoleStream { run, end, writer }
 }
 
-/// Prints how a run with a tar stream ended to standard error. Returns the exit status.
-fn report_tar(
-    rt: &HostRuntime,
-    run: Result<ConsoleRun, ConsoleFault>,
-    end: TarEnd,
-) -> io::Result<u8> {
-    let mut ending = console_ending(rt.alloc(), &run)?;
-    add_tar_end(&mut ending, end)?;
-    if let Err(fault) = &run {
-        report_stream(rt, fault)?;
+/// Returns the path of the first file that a watched sink failed at, if it did.
+fn failed_at<'s, S>(sink: &'s Option<WatchedSink<'_, '_, S>>) -> Option<&'s Path> {
+    match sink {
+        Some(sink) => sink.failed().first(),
+        None => None,
     }
-    ending.print(rt)
 }
 
 /// Restores by lines into a folder, or prints the manifest alone if there is none.
@@ -459,6 +499,7 @@ fn restore_into<C: Catalogue, R: BufRead + Drop>(
     rt: &HostRuntime,
     threads: &(impl Threads + Wait + Sync),
     catalogue: &C,
+    gauge: &Gauge<'_>,
     given: &ConsoleOptions<'_>,
     reader: &mut R,
 ) -> io::Result<u8>
@@ -467,16 +508,17 @@ fn restore_into<C: Catalogue, R: BufRead + Drop>(
 {
     let setup = match set_up_console(rt, catalogue, given) {
         Ok(setup) => setup,
-        Err(fault) => return refuse_start(rt, fault.number()),
+        Err(fault) => return refuse_place(rt, gauge, given.target, fault.number()),
     };
     tell_chosen(rt, &setup.history, &setup.request)?;
-    let gauge = gauge_of(rt, given.progress);
     let writer = BufWriter::new(rt.alloc(), io::writer(rt))?;
-    let watched = setup.onto(writer).watched(rt.alloc(), &gauge)?;
-    let mut task = watched.with_watched_sink(&gauge);
+    let watched = setup.onto(writer).watched(rt.alloc(), gauge)?;
+    let mut task = watched.with_watched_sink(gauge);
     let run = console_over(threads, rt.alloc(), &mut task, reader);
     gauge.clear();
-    report(rt, run)
+    let ending = console_ending(rt.alloc(), &run)?;
+    let told = (task.out.writer.faults(), failed_at(&task.out.sink));
+    report(rt, gauge, given.target, told, &run, &ending)
 }
 
 /// Makes all that is there before a line is read, to deliver into a new file as a tar stream. The file is
@@ -520,8 +562,8 @@ fn set_up_tar_output<'r, C: Catalogue>(
 /// Restores by lines into the tar stream that was set up, with the answers to this writer: standard output,
 /// or something else if the stream goes there.
 fn restore_onto<R: BufRead + Drop, T: Channel + Drop, W: Channel + Drop>(
-    rt: &HostRuntime,
     threads: &(impl Threads + Wait + Sync),
+    watch: (&HostRuntime, &Gauge<'_>),
     given: &ConsoleOptions<'_>,
     setup: ConsoleSetup<'_, TarSink<BufWriter<T>>>,
     reader: &mut R,
@@ -532,13 +574,17 @@ fn restore_onto<R: BufRead + Drop, T: Channel + Drop, W: Channel + Drop>(
     requires asked { stream_asked given.now.target ≡ Some T.is_output }
     requires apart { W.is_output ≡ not T.is_output }
 {
+    let (rt, gauge) = watch;
     tell_chosen(rt, &setup.history, &setup.request)?;
-    let gauge = gauge_of(rt, given.progress);
     let writer = BufWriter::new(rt.alloc(), answers)?;
-    let mut task = setup.onto(writer).watched(rt.alloc(), &gauge)?;
+    let watched = setup.onto(writer).watched(rt.alloc(), gauge)?;
+    let mut task = watched.with_watched_sink(gauge);
     let stream = console_stream(threads, rt.alloc(), &mut task, reader);
     gauge.clear();
-    report_tar(rt, stream.run, stream.end)
+    let mut ending = console_ending(rt.alloc(), &stream.run)?;
+    add_tar_end(&mut ending, stream.end)?;
+    let told = (task.out.writer.faults(), None);
+    report(rt, gauge, given.target, told, &stream.run, &ending)
 }
 
 /// Reads lines and answers them on standard output, over the jobs of a client's file set before a
@@ -552,7 +598,8 @@ fn restore_onto<R: BufRead + Drop, T: Channel + Drop, W: Channel + Drop>(
 /// manifest is printed before any file is put.
 ///
 /// Returns the exit status: 0 if nothing was refused and each outcome is a file; 1 if something was
-/// refused or some outcome is not a file; 3 if the reader or standard output failed.
+/// refused or some outcome is not a file; 3 if the log could not be opened, or the reader or standard output
+/// failed.
 ///
 /// # Errors
 ///
@@ -566,16 +613,34 @@ pub fn restore_by_lines<C: Catalogue, R: BufRead + Drop>(
 ) -> io::Result<u8>
     requires few { AreFew given.now.drives }
 {
+    match gauge_of(rt, given.progress, given.log) {
+        Ok(gauge) => restore_told(rt, threads, catalogue, &gauge, given, reader),
+        Err(error) => refuse_log(rt, given.log, error),
+    }
+}
+
+/// Restores as `restore_by_lines`, with what watches the restore.
+fn restore_told<C: Catalogue, R: BufRead + Drop>(
+    rt: &HostRuntime,
+    threads: &(impl Threads + Wait + Sync),
+    catalogue: &C,
+    gauge: &Gauge<'_>,
+    given: &ConsoleOptions<'_>,
+    reader: &mut R,
+) -> io::Result<u8>
+    requires few { AreFew given.now.drives }
+{
+    let watch = (rt, gauge);
     match given.target {
-        Target::Nowhere => restore_into(rt, threads, catalogue, given, reader),
-        Target::Folder(_) => restore_into(rt, threads, catalogue, given, reader),
+        Target::Nowhere => restore_into(rt, threads, catalogue, gauge, given, reader),
+        Target::Folder(_) => restore_into(rt, threads, catalogue, gauge, given, reader),
         Target::TarFile(path) => match set_up_tar_file(rt, catalogue, given, path) {
-            Ok(setup) => restore_onto(rt, threads, given, setup, reader, io::writer(rt)),
-            Err(fault) => refuse_start(rt, fault.number()),
+            Ok(setup) => restore_onto(threads, watch, given, setup, reader, io::writer(rt)),
+            Err(fault) => refuse_place(rt, gauge, given.target, fault.number()),
         },
         Target::TarOutput => match set_up_tar_output(rt, catalogue, given) {
-            Ok(setup) => restore_onto(rt, threads, given, setup, reader, rt.stderr()),
-            Err(fault) => refuse_start(rt, fault.number()),
+            Ok(setup) => restore_onto(threads, watch, given, setup, reader, rt.stderr()),
+            Err(fault) => refuse_place(rt, gauge, given.target, fault.number()),
         },
     }
 }
@@ -589,6 +654,9 @@ pub(crate) fn restore_marked<C: Catalogue>(
 ) -> io::Result<u8>
     requires few { AreFew given.now.drives }
 {
-    let mut reader = BufReader::new(rt.alloc(), with_prompt(rt, GREETING, rt.reader()))?;
+    let jobs = OnceCell::new();
+    let input = with_prompt(rt, GREETING, rt.reader());
+    let helped = with_help(rt, catalogue, given, &jobs, input);
+    let mut reader = BufReader::new(rt.alloc(), helped)?;
     restore_by_lines(rt, threads, catalogue, given, &mut reader)
 }

@@ -11,13 +11,16 @@ ghost use Rattle.br_commands.specs.Tasks.{ExtractsTask, StreamsTask};
 use crate::folders::{LeavingSink, folder_of, leaving_over};
 use crate::status::{BAD_STREAM, Ending};
 use crate::tar::{Channel, Extent, TarEnd, TarFault, add_tar_end, end_stream, tar_into, tar_onto};
-use crate::watching::{expect_volumes, gauge_of, watched_drives, watched_sink, watched_writer};
+use crate::telling::{log_fault, refuse_place, say_conflicts, say_files, say_stop, tell_others};
+use crate::watching::{
+    expect_volumes, gauge_of, refuse_log, watched_drives, watched_sink, watched_writer,
+};
 use br_engine::{Budget, ExtractFault, Flush, Outputs, RestoreEnd, read_text};
 use br_extract::{Extracted, extract_wanted};
 use br_folder_sink::FolderFault;
 use br_leaving::Leaving;
-use br_options::{ExtractOptions, Target, Wanted};
-use br_progress::{Gauge, WatchedDrive, WatchedSink, WatchedWriter};
+use br_options::{ExtractOptions, Start, Target, Wanted};
+use br_progress::{Faults, Gauge, WatchedDrive, WatchedSink, WatchedWriter};
 use br_setup::{CLEAN, HostDrive, REFUSED, drives_over, refuse_start};
 use br_sink::Sink;
 use br_tar::TarSink;
@@ -88,17 +91,54 @@ pub(crate) fn report_stream<R: Eprint>(rt: &R, fault: &ExtractFault) -> io::Resu
     }
 }
 
-/// Prints how a run ended to standard error. Returns the exit status.
+/// Tells a terminal and the log why files are left out and why the delivery stopped.
+fn say_done(
+    rt: &HostRuntime,
+    gauge: &Gauge<'_>,
+    target: Target<'_>,
+    done: &Extracted,
+    failed: &[Path],
+) -> io::Result<()> {
+    say_conflicts(rt, gauge, &done.left)?;
+    say_files(rt, gauge, target, failed)?;
+    say_stop(rt, gauge, target, &done.end, done.stopped_at.as_ref())
+}
+
+/// Prints that a stream failed, if one did, and appends it to the log.
+fn tell_stream(rt: &HostRuntime, gauge: &Gauge<'_>, fault: &ExtractFault) -> io::Result<()> {
+    report_stream(rt, fault)?;
+    match fault {
+        ExtractFault::Io(e) if e.kind() == ErrorKind::InvalidData => {
+            log_fault(rt, gauge, None, fault)
+        }
+        ExtractFault::Io(_) | ExtractFault::NoEnd(_) => {
+            log_fault(rt, gauge, Some("standard output"), fault)
+        }
+        _ => Ok(()),
+    }
+}
+
+/// Prints how a run ended to standard error, and tells a terminal and the log what it means. Returns the exit
+/// status.
 fn report(
     rt: &HostRuntime,
-    run: Result<Extracted, ExtractFault>,
+    gauge: &Gauge<'_>,
+    target: Target<'_>,
+    faults: &Faults,
+    run: &Result<Extracted, ExtractFault>,
     failed: &[Path],
 ) -> io::Result<u8> {
-    let ending = extract_ending(rt.alloc(), &run, failed)?;
-    if let Err(fault) = &run {
-        report_stream(rt, fault)?;
+    let ending = extract_ending(rt.alloc(), run, failed)?;
+    if let Err(fault) = run {
+        tell_stream(rt, gauge, fault)?;
     }
-    ending.print(rt)
+    gauge.log_refusals(&ending.refusal);
+    let status = ending.print(rt)?;
+    if let Ok(done) = run {
+        say_done(rt, gauge, target, done, failed)?;
+    }
+    gauge.tell_end(faults, b"")?;
+    Ok(status)
 }
 
 /// The text of a bootstrap, and the path of the file that has it.
@@ -185,20 +225,23 @@ pub struct ExtractSetup<'r, 'p, S> {
 }
 
 /// Makes all that is there before a drive is asked, to deliver into a folder if there is one. The folder
-/// is tested (81) before the bootstrap is read.
-pub fn set_up_extract<'r, 'p>(
+/// is tested (81) before the bootstrap is read. The gauge is told of the files that are put.
+pub fn set_up_extract<'g, 'r, 'p>(
     rt: &'r HostRuntime,
+    gauge: &'g Gauge<'r>,
     given: &ExtractOptions<'p>,
-) -> Result<ExtractSetup<'r, 'p, LeavingSink<'r>>, ExtractStartFault>
+) -> Result<ExtractSetup<'r, 'p, LeavingSink<'g, 'r>>, ExtractStartFault>
     ensures bootstrap { IfOk result (λ setup. setup.bootstrap.path.now ≡ given.now.bsr.now) }
     ensures wanted { IfOk result (λ setup. setup.wanted ≡ given.now.wanted) }
     ensures memory { IfOk result (λ setup. setup.memory ≡ given.now.memory) }
-    ensures into { IfOk result (λ setup. option_map (λ s. s.inner.path) setup.sink ≡ folder_asked given.now.target) }
+    ensures into { IfOk result (λ setup. option_map (λ s. s.inner.inner.folder.path) setup.sink ≡ folder_asked given.now.target) }
+    ensures start { IfOk result (λ setup. IfSome setup.sink (λ s. s.inner.inner.start ≡ given.now.start)) }
     ensures stops { IfOk result (λ setup. IfSome setup.sink (λ s. s.stops ≡ given.now.wanted.stops)) }
     ensures drives { IfOk result (λ setup. length setup.drives.items ≡ given.now.drives) }
     ensures volumes { IfOk result (λ setup. AreOver given.now.volumes.now setup.drives.items) }
 {
-    let sink = leaving_over(rt, given.wanted.stops, folder_of(given.target))?;
+    let into = folder_of(given.target);
+    let sink = leaving_over(rt, gauge, given.wanted.stops, given.start, into)?;
     set_up_over(rt, given, sink)
 }
 
@@ -239,6 +282,26 @@ pub(crate) fn refuse(rt: &HostRuntime, bsr: &str, fault: ExtractStartFault) -> i
         ExtractStartFault::Text(fault) => {
             eprintln!(rt; "brestore: {bsr}: {fault}")?;
             Ok(BAD_STREAM)
+        }
+    }
+}
+
+/// Prints why no restore began to standard error, and tells a terminal and the log what it means. Returns the
+/// exit status.
+fn refuse_told(
+    rt: &HostRuntime,
+    gauge: &Gauge<'_>,
+    given: &ExtractOptions<'_>,
+    fault: ExtractStartFault,
+) -> io::Result<u8> {
+    match fault {
+        ExtractStartFault::Folder(fault) => {
+            refuse_place(rt, gauge, given.target, fault.number())
+        }
+        ExtractStartFault::Tar(fault) => refuse_place(rt, gauge, given.target, fault.number()),
+        fault => {
+            log_fault(rt, gauge, Some(given.bsr), &fault)?;
+            refuse(rt, given.bsr, fault)
         }
     }
 }
@@ -350,18 +413,6 @@ impl<D: Drop, W: Drop, S: Drop> ExtractTask<D, W, S> {
     }
 }
 
-impl<D, W, S: Sink + Drop> ExtractTask<D, W, WatchedSink<'_, '_, Leaving<S>>> {
-    /// Returns the paths of the files that the watched sink failed at and left out, if there is a sink.
-    fn watched_left_out(&self) -> &[Path]
-        ensures { result.now ≡ failed_paths (option_map (λ s. s.inner) self.now.out.sink) }
-    {
-        match &self.out.sink {
-            Some(sink) => sink.inner.left_out(),
-            None => &[],
-        }
-    }
-}
-
 /// Carries out a task. The manifest goes to its writer, and then the files that are wanted into its sink,
 /// if there is one.
 pub fn extract_over<D: Drive + Send, W: Flush, S: Sink>(
@@ -417,7 +468,7 @@ pub(crate) struct ExtractStream<W> {
 fn extract_stream<D: Drive + Send, W: Flush, T: Flush + Drop>(
     threads: &(impl Threads + Wait + Sync),
     alloc: Global,
-    task: &mut ExtractTask<D, W, TarSink<T>>,
+    task: &mut ExtractTask<D, W, WatchedSink<'_, '_, TarSink<T>>>,
 ) -> ExtractStream<T>
     requires drives { AreDrives task.old.drives.items }
     requires sink { IsSome task.old.out.sink }
@@ -430,41 +481,67 @@ fn extract_stream<D: Drive + Send, W: Flush, T: Flush + Drop>(
     ExtractStream { run, end, writer }
 }
 
-/// Prints how a run with a tar stream ended to standard error. Returns the exit status.
+/// Prints how a run with a tar stream ended to standard error, and tells a terminal and the log what it means.
+/// Returns the exit status.
 fn report_tar(
     rt: &HostRuntime,
-    run: Result<Extracted, ExtractFault>,
+    gauge: &Gauge<'_>,
+    target: Target<'_>,
+    faults: &Faults,
+    run: &Result<Extracted, ExtractFault>,
     end: TarEnd,
 ) -> io::Result<u8> {
-    let mut ending = extract_ending(rt.alloc(), &run, &[])?;
+    let mut ending = extract_ending(rt.alloc(), run, &[])?;
     add_tar_end(&mut ending, end)?;
-    if let Err(fault) = &run {
-        report_stream(rt, fault)?;
+    if let Err(fault) = run {
+        tell_stream(rt, gauge, fault)?;
     }
-    ending.print(rt)
+    gauge.log_refusals(&ending.refusal);
+    let status = ending.print(rt)?;
+    if let Ok(done) = run {
+        say_done(rt, gauge, target, done, &[])?;
+    }
+    gauge.tell_end(faults, b"")?;
+    Ok(status)
+}
+
+/// Names what else is in the folder of a restore that is resumed, if it wrote its manifest.
+fn name_others(
+    rt: &HostRuntime,
+    gauge: &Gauge<'_>,
+    given: &ExtractOptions<'_>,
+    run: &Result<Extracted, ExtractFault>,
+) -> io::Result<()> {
+    match (given.start, given.target, run) {
+        (Start::Resumed, Target::Folder(folder), Ok(done)) => {
+            tell_others(rt, gauge, folder, &done.outcomes)
+        }
+        _ => Ok(()),
+    }
 }
 
 /// Restores into a folder, or prints the manifest alone if there is none.
 fn extract_into(
     rt: &HostRuntime,
     threads: &(impl Threads + Wait + Sync),
+    gauge: &Gauge<'_>,
     given: &ExtractOptions<'_>,
 ) -> io::Result<u8>
     requires few { AreFew given.now.drives }
     requires asked { stream_asked given.now.target ≡ None }
 {
-    let gauge = gauge_of(rt, given.progress);
-    let setup = match set_up_extract(rt, given) {
+    let setup = match set_up_extract(rt, gauge, given) {
         Ok(setup) => setup,
-        Err(fault) => return refuse(rt, given.bsr, fault),
+        Err(fault) => return refuse_told(rt, gauge, given, fault),
     };
-    expect_volumes(rt, &gauge, given.volumes, setup.bootstrap.text());
+    expect_volumes(rt, gauge, given.volumes, setup.bootstrap.text());
     let writer = BufWriter::new(rt.alloc(), io::writer(rt))?;
-    let watched = setup.onto(writer).watched(rt.alloc(), &gauge)?;
-    let mut task = watched.with_watched_sink(&gauge);
+    let mut task = setup.onto(writer).watched(rt.alloc(), gauge)?;
     let run = extract_over(threads, rt.alloc(), &mut task);
     gauge.clear();
-    report(rt, run, task.watched_left_out())
+    name_others(rt, gauge, given, &run)?;
+    let faults = task.out.writer.faults();
+    report(rt, gauge, given.target, faults, &run, task.left_out())
 }
 
 /// Restores into the tar stream of a sink, with the manifest to this writer: standard output, or something
@@ -472,6 +549,7 @@ fn extract_into(
 fn extract_onto<T: Channel + Drop, W: Channel + Drop>(
     rt: &HostRuntime,
     threads: &(impl Threads + Wait + Sync),
+    gauge: &Gauge<'_>,
     given: &ExtractOptions<'_>,
     sink: TarSink<BufWriter<T>>,
     manifest: W,
@@ -480,30 +558,32 @@ fn extract_onto<T: Channel + Drop, W: Channel + Drop>(
     requires asked { stream_asked given.now.target ≡ Some T.is_output }
     requires apart { W.is_output ≡ not T.is_output }
 {
-    let gauge = gauge_of(rt, given.progress);
     let setup = match set_up_over(rt, given, Some(sink)) {
         Ok(setup) => setup,
-        Err(fault) => return refuse(rt, given.bsr, fault),
+        Err(fault) => return refuse_told(rt, gauge, given, fault),
     };
-    expect_volumes(rt, &gauge, given.volumes, setup.bootstrap.text());
+    expect_volumes(rt, gauge, given.volumes, setup.bootstrap.text());
     let writer = BufWriter::new(rt.alloc(), manifest)?;
-    let mut task = setup.onto(writer).watched(rt.alloc(), &gauge)?;
+    let watched = setup.onto(writer).watched(rt.alloc(), gauge)?;
+    let mut task = watched.with_watched_sink(gauge);
     let stream = extract_stream(threads, rt.alloc(), &mut task);
     gauge.clear();
-    report_tar(rt, stream.run, stream.end)
+    let faults = task.out.writer.faults();
+    report_tar(rt, gauge, given.target, faults, &stream.run, stream.end)
 }
 
 /// Restores by the bootstrap in a file over the volumes in a folder. The manifest goes to standard
 /// output, and what is refused to standard error. Then the restored files are put where they are to go:
 /// into a folder, or as a tar stream into a file or to standard output. In the last case the manifest
-/// goes to standard error.
+/// goes to standard error. What becomes of the files is told a terminal in words, and appended to a log if
+/// one is given.
 ///
-/// A folder has to exist and be empty, and a file must not be there, else it is refused (81) before
-/// anything is read. The manifest is printed before any file is put.
+/// A folder has to exist and be empty unless the restore is resumed, and a file must not be there, else it
+/// is refused (81) before anything is read. The manifest is printed before any file is put.
 ///
 /// Returns the exit status: 0 if nothing was refused and each outcome is a file; 1 if something was
-/// refused, left out or is reported as missing, or some outcome is not a file; 3 if the bootstrap could not be read or the manifest could not
-/// be written.
+/// refused, left out or is reported as missing, or some outcome is not a file; 3 if the bootstrap could not
+/// be read, the log could not be opened or the manifest could not be written.
 ///
 /// # Errors
 ///
@@ -515,16 +595,31 @@ pub(crate) fn extract_files(
 ) -> io::Result<u8>
     requires few { AreFew given.now.drives }
 {
+    match gauge_of(rt, given.progress, given.log) {
+        Ok(gauge) => extract_told(rt, threads, &gauge, given),
+        Err(error) => refuse_log(rt, given.log, error),
+    }
+}
+
+/// Restores as `extract_files`, with what watches the restore.
+fn extract_told(
+    rt: &HostRuntime,
+    threads: &(impl Threads + Wait + Sync),
+    gauge: &Gauge<'_>,
+    given: &ExtractOptions<'_>,
+) -> io::Result<u8>
+    requires few { AreFew given.now.drives }
+{
     match given.target {
-        Target::Nowhere => extract_into(rt, threads, given),
-        Target::Folder(_) => extract_into(rt, threads, given),
+        Target::Nowhere => extract_into(rt, threads, gauge, given),
+        Target::Folder(_) => extract_into(rt, threads, gauge, given),
         Target::TarFile(path) => match tar_into(rt, path) {
-            Ok(sink) => extract_onto(rt, threads, given, sink, io::writer(rt)),
-            Err(fault) => refuse(rt, given.bsr, ExtractStartFault::Tar(fault)),
+            Ok(sink) => extract_onto(rt, threads, gauge, given, sink, io::writer(rt)),
+            Err(fault) => refuse_told(rt, gauge, given, ExtractStartFault::Tar(fault)),
         },
         Target::TarOutput => match tar_onto(rt.alloc(), io::writer(rt)) {
-            Ok(sink) => extract_onto(rt, threads, given, sink, rt.stderr()),
-            Err(fault) => refuse(rt, given.bsr, ExtractStartFault::Tar(fault)),
+            Ok(sink) => extract_onto(rt, threads, gauge, given, sink, rt.stderr()),
+            Err(fault) => refuse_told(rt, gauge, given, ExtractStartFault::Tar(fault)),
         },
     }
 }

@@ -5,13 +5,19 @@ ghost use Rattle.br_commands.specs.Asked.{folder_asked};
 use br_files::HostDisk;
 use br_folder_sink::{FolderFault, FolderSink};
 use br_leaving::Leaving;
-use br_options::{Stops, Target};
+use br_options::{Start, Stops, Target};
+use br_progress::{Gauge, WatchedSink};
+use br_resume::Resuming;
 
 /// A sink over a folder of the system.
 pub type HostSink<'r> = FolderSink<HostDisk<&'r HostRuntime>>;
 
-/// A sink over a folder of the system, which may leave out files.
-pub type LeavingSink<'r> = Leaving<HostSink<'r>>;
+/// A sink over a folder of the system, which may hold files already.
+pub type ResumingSink<'r> = Resuming<HostDisk<&'r HostRuntime>>;
+
+/// A sink over a folder of the system, which may hold files already and may leave out files. What is inside is
+/// watched, so that only files that were put are told.
+pub type LeavingSink<'g, 'r> = Leaving<WatchedSink<'g, 'r, ResumingSink<'r>>>;
 
 /// Returns the folder that the restored files go into, if they go into one.
 pub(crate) fn folder_of(target: Target<'_>) -> Option<&str>
@@ -37,19 +43,42 @@ pub(crate) fn sink_over<'r>(
     Ok(Some(FolderSink::new(rt.alloc(), maker, folder)?))
 }
 
-/// Returns the sink over the folder to deliver into, if there is one. It leaves out the files that can't be
-/// made, if a delivery is not to stop there.
-pub(crate) fn leaving_over<'r>(
+/// Returns the sink over the folder to deliver into, if there is one. The folder is empty, unless the restore
+/// is resumed.
+fn resuming_over<'r>(
     rt: &'r HostRuntime,
-    stops: Stops,
+    start: Start,
     into: Option<&str>,
-) -> Result<Option<LeavingSink<'r>>, FolderFault>
-    ensures asked { IfOk result (λ sink. option_map (λ s. s.inner.path) sink ≡ option_map (λ f. f.now) into.entry) }
+) -> Result<Option<ResumingSink<'r>>, FolderFault>
+    ensures asked { IfOk result (λ sink. option_map (λ s. s.folder.path) sink ≡ option_map (λ f. f.now) into.entry) }
+    ensures start { IfOk result (λ sink. IfSome sink (λ s. s.start ≡ start)) }
+{
+    let Some(path) = into else {
+        return Ok(None);
+    };
+    let maker = HostDisk::new(rt.alloc(), rt);
+    Ok(Some(Resuming::new(rt.alloc(), maker, path, start)?))
+}
+
+/// Returns the sink over the folder to deliver into, if there is one. It leaves out the files that can't be
+/// made, if a delivery is not to stop there, and tells the gauge of those that are put.
+pub(crate) fn leaving_over<'g, 'r>(
+    rt: &'r HostRuntime,
+    gauge: &'g Gauge<'r>,
+    stops: Stops,
+    start: Start,
+    into: Option<&str>,
+) -> Result<Option<LeavingSink<'g, 'r>>, FolderFault>
+    ensures asked { IfOk result (λ sink. option_map (λ s. s.inner.inner.folder.path) sink ≡ option_map (λ f. f.now) into.entry) }
+    ensures start { IfOk result (λ sink. IfSome sink (λ s. s.inner.inner.start ≡ start)) }
     ensures stops { IfOk result (λ sink. IfSome sink (λ s. s.stops ≡ stops)) }
     ensures taken { IfOk result (λ sink. IfSome sink (λ s. s.taken ≡ [])) }
 {
-    match sink_over(rt, into)? {
+    match resuming_over(rt, start, into)? {
         None => Ok(None),
-        Some(sink) => Ok(Some(Leaving::new(rt.alloc(), sink, stops))),
+        Some(sink) => {
+            let watched = WatchedSink::new(sink, gauge);
+            Ok(Some(Leaving::new(rt.alloc(), watched, stops)))
+        }
     }
 }

@@ -13,6 +13,7 @@ mod folders;
 mod migrating;
 mod status;
 mod tar;
+mod telling;
 mod watching;
 
 pub use checking::{CheckTask, check_ending, check_over, set_up_check};

@@ -4,12 +4,13 @@ ghost use Rattle.std.specs.Io.KnownBytes.{Keeps};
 ghost use Rattle.br_files.specs.Making.{IsFree, MakesFile};
 ghost use Rattle.br_tar.specs.Stream.{told};
 ghost use Rattle.br_commands.specs.TarEnding.{EndsBy, HoldsBy, IsClosed, IsEnded, IsFlushed, IsNewOver, IsShown, StreamHolds};
-ghost use Rattle.br_commands.specs.TarEnding.{left_out_text, not_flushed, tar_fault_number, tar_status, tar_text};
+ghost use Rattle.br_commands.specs.TarEnding.{left_out_text, not_flushed, tar_fault_number, tar_status, tar_text, told_inside};
 ghost use Rattle.br_commands.specs.declared.tar.TarEnd.TheVariants.{Cut};
 
 use crate::status::Ending;
 use br_engine::{Flush, push_refused_line};
 use br_files::{DiskFault, FileMaker, HostDisk};
+use br_progress::WatchedSink;
 use br_setup::REFUSED;
 use br_sink::SinkFault;
 use br_tar::TarSink;
@@ -180,20 +181,20 @@ fn end_of<W: Flush + Drop>(sink: TarSink<W>, extent: Extent) -> (W, TarEnd)
     }
 }
 
-/// Ends the stream of a sink, if there is one and all files were put, and flushes what it was written to.
-/// Returns this writer, and what became of the stream.
+/// Ends the stream of a watched sink, if there is one and all files were put, and flushes what it was written
+/// to. Returns this writer, and what became of the stream.
 pub(crate) fn end_stream<W: Flush + Drop>(
-    sink: Option<TarSink<W>>,
+    sink: Option<WatchedSink<'_, '_, TarSink<W>>>,
     extent: Extent,
 ) -> (Option<W>, TarEnd)
-    ensures held { StreamHolds extent (option_map told sink) result.1 (option_map W.contents result.0) }
-    ensures ends { IfSome sink (λ s. EndsBy extent s.left_out result.1) }
+    ensures held { StreamHolds extent (option_map told_inside sink.entry) result.1 (option_map W.contents result.0) }
+    ensures ends { IfSome sink.entry (λ s. EndsBy extent s.inner.left_out result.1) }
     ensures shown { IfSome result.0 (λ w. IsShown (W.is_flushed w) result.1) }
 {
     match sink {
         None => (None, TarEnd::Cut),
         Some(sink) => {
-            let (writer, end) = end_of(sink, extent);
+            let (writer, end) = end_of(sink.into_inner(), extent);
             (Some(writer), end)
         }
     }

@@ -1,19 +1,43 @@
 //! Restores that tell a terminal how far they are.
 ghost use Rattle.std.specs.Prelude.{◌≡◌, is_some, length, IfOk};
 
+use crate::status::BAD_STREAM;
 use br_bsr::read_bootstrap;
 use br_engine::Outputs;
 use br_folder::FolderStore;
 use br_options::Progress;
 use br_piece::split;
-use br_progress::{Gauge, WatchedDrive, WatchedSink, WatchedWriter};
+use br_progress::{Gauge, Log, WatchedDrive, WatchedSink, WatchedWriter};
 use br_setup::is_shown;
 use br_volume::VolumeStore;
 use std::alloc::{AllocError, Global};
+use std::io::{self, ErrorKind};
 
-/// Returns the gauge of a restore. It shows something if that is asked for and standard error is a terminal.
-pub(crate) fn gauge_of<'r>(rt: &'r HostRuntime, progress: Progress) -> Gauge<'r> {
-    Gauge::new(rt, progress == Progress::Shown && is_shown(rt))
+/// Returns the gauge of a restore. It shows how far the restore is if that is asked for and standard error is a
+/// terminal, and appends to the file of a log if one is given.
+pub(crate) fn gauge_of<'r>(
+    rt: &'r HostRuntime,
+    progress: Progress,
+    log: Option<&str>,
+) -> io::Result<Gauge<'r>> {
+    let log = match log {
+        Some(path) => Some(Log::open(rt, path)?),
+        None => None,
+    };
+    let gauge = Gauge::new(rt, progress == Progress::Shown && is_shown(rt));
+    Ok(gauge.with_log(log))
+}
+
+/// Prints to standard error that the file of a log can't be opened. Returns the exit status. An error for memory
+/// is returned.
+pub(crate) fn refuse_log(rt: &HostRuntime, log: Option<&str>, error: io::Error) -> io::Result<u8> {
+    match log {
+        Some(path) if error.kind() != ErrorKind::OutOfMemory => {
+            eprintln!(rt; "brestore: {path}: {error}")?;
+            Ok(BAD_STREAM)
+        }
+        _ => Err(error),
+    }
 }
 
 /// Returns the number of bytes of the volumes in a folder that a bootstrap names, if it can be told.

@@ -35,7 +35,7 @@ const CASES: &[Case] = &[
         Checksums::Compared,
         0,
         b"",
-        b"total 2 10\n",
+        b"memory 67110480\ntotal 2 10\n",
     ),
     // Two volumes of three are missing.
     (
@@ -43,21 +43,21 @@ const CASES: &[Case] = &[
         Checksums::Passed,
         1,
         b"",
-        b"volume 14 W 0\nvolume 14 X 0\ntotal 2 10\n",
+        b"volume 14 W 0\nvolume 14 X 0\nmemory 67110480\ntotal 2 10\n",
     ),
     (
         b"Volume=C\nVolSessionId=1\nVolSessionTime=100\nFileIndex=1-2\n",
         Checksums::Passed,
         1,
         b"",
-        b"volume 12 C 0\nmissing 1 100 1-2 C\ntotal 0 0\n",
+        b"volume 12 C 0\nmissing 1 100 1-2 C\nmemory 67108864\ntotal 0 0\n",
     ),
     (
         b"Volume=E\nVolSessionId=1\nVolSessionTime=100\nFileIndex=1-2\n",
         Checksums::Passed,
         1,
         b"",
-        b"missing 1 100 1-2 E\ntotal 0 0\n",
+        b"missing 1 100 1-2 E\nmemory 67108864\ntotal 0 0\n",
     ),
     // A line is refused, and nothing is printed of the volume that is missing.
     (
@@ -73,14 +73,14 @@ const CASES: &[Case] = &[
         Checksums::Compared,
         1,
         b"",
-        b"missing 1 100 1-2 S\nchecksum S 24\ntotal 0 0\n",
+        b"missing 1 100 1-2 S\nchecksum S 24\nmemory 67108864\ntotal 0 0\n",
     ),
     (
         b"Volume=S\nVolSessionId=1\nVolSessionTime=100\nFileIndex=1-2\n",
         Checksums::Passed,
         1,
         b"",
-        b"missing 1 100 1-2 S\ntotal 0 0\n",
+        b"missing 1 100 1-2 S\nmemory 67108864\ntotal 0 0\n",
     ),
 ];
 
@@ -90,6 +90,7 @@ fn given_of<'x>(bsr: &'x str, volumes: &'x str, checksums: Checksums) -> CheckOp
         bsr,
         volumes,
         checksums,
+        memory: 1 << 30,
     }
 }
 

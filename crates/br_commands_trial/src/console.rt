@@ -32,6 +32,7 @@ fn given_of<'x>(
         drives: 2,
         memory: u64::MAX,
         progress: Progress::Quiet,
+        log: None,
     }
 }
 

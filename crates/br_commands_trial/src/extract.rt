@@ -2,7 +2,9 @@
 use crate::catalogue::OneCatalogue;
 use crate::places::{BACK, FRONT, Volume, are_there, entries_in, new_place, note, path_in};
 use br_commands::run_command;
-use br_options::{Copies, ExtractOptions, Gaps, Invocation, Progress, Stops, Target, Wanted};
+use br_options::{
+    Copies, ExtractOptions, Gaps, Invocation, Progress, Start, Stops, Target, Wanted,
+};
 use std::alloc::Global;
 use std::fs;
 use std::sync::Wait;
@@ -153,7 +155,19 @@ fn status_by(
     threads: &(impl Threads + Wait + Sync),
     place: &str,
     bsr: &str,
-    target: Target<'_>,
+    (target, start): (Target<'_>, Start),
+    wanted: Wanted,
+) -> Result<u8, Fail> {
+    logged_status_by(rt, threads, place, bsr, (target, start, None), wanted)
+}
+
+/// Returns the same with a log, if it is given one.
+fn logged_status_by(
+    rt: &HostRuntime,
+    threads: &(impl Threads + Wait + Sync),
+    place: &str,
+    bsr: &str,
+    (target, start, log): (Target<'_>, Start, Option<&str>),
     wanted: Wanted,
 ) -> Result<u8, Fail> {
     let bsr = path_in(rt, place, bsr)?;
@@ -171,7 +185,9 @@ fn status_by(
         drives: 3,
         memory: u64::MAX,
         wanted,
+        start,
         progress: Progress::Quiet,
+        log,
     });
     Ok(run_command(rt, threads, &catalogue, &command)?)
 }
@@ -186,7 +202,7 @@ fn extracted(
     let (bootstrap, wanted, _, files) = case;
     fs::write(rt, path_in(rt, place, "one.bsr")?.as_str(), *bootstrap)?;
     let into = path_in(rt, place, "into")?;
-    let target = Target::Folder(into.as_str());
+    let target = (Target::Folder(into.as_str()), Start::Empty);
     let status = status_by(rt, threads, place, "one.bsr", target, *wanted)?;
     let are_so = entries_in(rt, place, "into")? == files.len() && are_there(rt, place, *files)?;
     fs::remove_dir_all(rt, into.as_str())?;
@@ -218,6 +234,64 @@ fn each_restore_has_its_status_and_files(rt: HostRuntime) -> Result<(), Fail> {
     Ok(())
 }
 
+/// A folder that is not empty is taken only if a restore is resumed. Then a file in it that differs is made anew.
+#[test]
+fn restores_are_resumed(rt: HostRuntime) -> Result<(), Fail> {
+    let place = new_place(&rt, "resumed", VOLUMES)?;
+    fs::write(
+        &rt,
+        path_in(&rt, place.as_str(), "x.bsr")?.as_str(),
+        b"Volume=V\n",
+    )?;
+    let into = path_in(&rt, place.as_str(), "into")?;
+    let empty = (Target::Folder(into.as_str()), Start::Empty);
+    let resumed = (Target::Folder(into.as_str()), Start::Resumed);
+    let first = status_by(&rt, &rt, place.as_str(), "x.bsr", empty, PLAIN)?;
+    fs::write(
+        &rt,
+        path_in(&rt, place.as_str(), "into/a")?.as_str(),
+        b"jello",
+    )?;
+    let refused = status_by(&rt, &rt, place.as_str(), "x.bsr", empty, PLAIN)?;
+    let again = status_by(&rt, &rt, place.as_str(), "x.bsr", resumed, PLAIN)?;
+    let are_so = are_there(&rt, place.as_str(), BOTH)?;
+    fs::remove_dir_all(&rt, place.as_str())?;
+    assert_eq!(rt; [first, refused, again], [0, 1, 0]);
+    assert!(rt; are_so);
+    Ok(())
+}
+
+/// Returns the status of a restore into the folder of a place, with the log of this name in the place.
+fn logged(
+    rt: &HostRuntime,
+    threads: &(impl Threads + Wait + Sync),
+    place: &str,
+    log: &str,
+) -> Result<u8, Fail> {
+    let into = path_in(rt, place, "into")?;
+    let log = path_in(rt, place, log)?;
+    let target = Target::Folder(into.as_str());
+    let how = (target, Start::Empty, Some(log.as_str()));
+    logged_status_by(rt, threads, place, "x.bsr", how, PLAIN)
+}
+
+/// A log has a line for each file that was put, and is appended to. One that can't be opened starts nothing.
+#[test]
+fn restores_are_logged(rt: HostRuntime) -> Result<(), Fail> {
+    let place = new_place(&rt, "logged", VOLUMES)?;
+    let bsr = path_in(&rt, place.as_str(), "x.bsr")?;
+    fs::write(&rt, bsr.as_str(), b"Volume=V\n")?;
+    let none = logged(&rt, &rt, place.as_str(), "none/x.log")?;
+    let untouched = entries_in(&rt, place.as_str(), "into")?;
+    let first = logged(&rt, &rt, place.as_str(), "x.log")?;
+    let second = logged(&rt, &rt, place.as_str(), "x.log")?;
+    let log = fs::read(&rt, path_in(&rt, place.as_str(), "x.log")?.as_str())?;
+    fs::remove_dir_all(&rt, place.as_str())?;
+    assert_eq!(rt; ([none, first, second], untouched), ([3, 0, 1], 0));
+    assert!(rt; log.starts_with(b"put /a\nput /d/b\n2 of 2 files were put\nrefused 81\n  "));
+    Ok(())
+}
+
 /// Returns a bootstrap of `count` groups, of which the last selects the second file of a volume, and
 /// each other the first.
 fn bootstrap_of(alloc: Global, count: usize) -> Result<Vec<u8>, Fail> {
@@ -239,13 +313,20 @@ fn extract_delivers_only_if_asked(rt: HostRuntime) -> Result<(), Fail> {
     fs::write(&rt, path_in(&rt, place.as_str(), "x.bsr")?.as_str(), &text)?;
     let tar = path_in(&rt, place.as_str(), "x.tar")?;
     let full = path_in(&rt, place.as_str(), "volumes")?;
-    let nowhere = status_by(&rt, &rt, place.as_str(), "x.bsr", Target::Nowhere, PLAIN)?;
+    let nowhere = status_by(
+        &rt,
+        &rt,
+        place.as_str(),
+        "x.bsr",
+        (Target::Nowhere, Start::Empty),
+        PLAIN,
+    )?;
     let into = entries_in(&rt, place.as_str(), "into")?;
-    let target = Target::TarFile(tar.as_str());
+    let target = (Target::TarFile(tar.as_str()), Start::Empty);
     let first = status_by(&rt, &rt, place.as_str(), "x.bsr", target, PLAIN)?;
     let second = status_by(&rt, &rt, place.as_str(), "x.bsr", target, PLAIN)?;
     let len = fs::read(&rt, tar.as_str())?.len();
-    let target = Target::Folder(full.as_str());
+    let target = (Target::Folder(full.as_str()), Start::Empty);
     let refused = status_by(&rt, &rt, place.as_str(), "no.bsr", target, PLAIN)?;
     fs::remove_dir_all(&rt, place.as_str())?;
     assert_eq!(rt; [nowhere, first, second, refused], [0, 0, 1, 1]);

@@ -4,6 +4,7 @@ use crate::sinks::{item_of, item_of_bytes, outcomes_of, push_end, push_outcome, 
 use br_files::HostDisk;
 use br_folder_sink::FolderSink;
 use br_join::Outcome;
+use br_others::{others_in, push_others};
 use br_sink::{Sink, deliver};
 use br_trial_rows::Case;
 use br_types::FileKey;
@@ -222,6 +223,39 @@ fn links(
     fs::remove_dir_all(rt, beside.as_str())
 }
 
+/// Prints the lines of what is in a folder beside the files among the outcomes.
+fn push_others_in(case: &mut Case, rt: &HostRuntime, folder: &str, wanted: &str) {
+    let outcomes = outcomes_of(case, wanted);
+    match others_in(&rt, case.alloc(), folder, &outcomes) {
+        Ok(others) => {
+            let mut text = Vec::new(case.alloc());
+            case.done(push_others(&mut text, &others));
+            case.lines(&text);
+        }
+        Err(_fault) => case.fail("a folder is not listed"),
+    }
+}
+
+/// Puts outcomes into a new folder that has a link a to a folder beside with a file b, and a link f to that file.
+/// Prints the lines of what is there beside the wanted files.
+fn others(
+    case: &mut Case,
+    rt: &HostRuntime,
+    threads: &(impl Threads + Sync),
+    [outcomes, wanted]: [&str; 2],
+) -> io::Result<()> {
+    let folder = new_folder(rt)?;
+    let beside = path_beside(case, folder.as_str());
+    fs::create_dir(rt, beside.as_str())?;
+    let file = path_in(case, beside.as_str(), "b");
+    fs::write(rt, file.as_str(), b"")?;
+    put_into(case, rt, threads, folder.as_str(), ["deliver", outcomes]);
+    make_links(case, rt, beside.as_str(), folder.as_str())?;
+    push_others_in(case, rt, folder.as_str(), wanted);
+    fs::remove_dir_all(rt, folder.as_str())?;
+    fs::remove_dir_all(rt, beside.as_str())
+}
+
 /// The number of files that a folder gets in the row of many.
 const MANY: u32 = 40;
 
@@ -317,6 +351,7 @@ pub(crate) fn run(
     let done = match call {
         ["refusals"] => refusals(case, rt),
         ["many"] => many(case, rt, threads),
+        ["others", outcomes, wanted] => others(case, rt, threads, [*outcomes, *wanted]),
         ["links", files, first, second, names] => {
             links(case, rt, threads, [*files, *first, *second], names)
         }

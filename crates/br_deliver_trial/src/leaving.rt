@@ -13,7 +13,7 @@ use std::thread::Threads;
 use std::{fs, io};
 
 /// Prints paths.
-fn push_paths(case: &mut Case, paths: &[Path]) {
+pub(crate) fn push_paths(case: &mut Case, paths: &[Path]) {
     for path in paths {
         case.bytes(path.bytes());
         case.text(" ");

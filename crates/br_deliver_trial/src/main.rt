@@ -8,6 +8,7 @@ mod joins;
 mod leaving;
 mod makers;
 mod matches;
+mod parts;
 mod sinks;
 mod texts;
 mod windows;
@@ -26,6 +27,7 @@ fn run(case: &mut Case, rt: &HostRuntime, threads: &(impl Threads + Sync), field
         ["leave", call @ ..] => leaving::run(case, rt, threads, call),
         ["window", call @ ..] => windows::run(case, rt, threads, call),
         ["small", call @ ..] => makers::run(case, threads, call),
+        ["parts", call @ ..] => parts::run(case, call),
         _ => case.fail("there is no such call"),
     }
 }

@@ -19,7 +19,7 @@ const LEFT: &[(&str, &[u8], u64)] = &[
 ];
 
 /// Makes a maker over memory that has the folder of the restore, and nothing in it.
-fn maker_of(case: &mut Case) -> MemMaker {
+pub(crate) fn maker_of(case: &mut Case) -> MemMaker {
     let mut maker = MemMaker::new(case.alloc());
     if maker.plant("/into", Kind::Folder).is_err() {
         case.fail("there is no folder");
@@ -149,8 +149,8 @@ fn refused(case: &mut Case, calls: u64) {
 /// somebody puts a link at the path, or if there is no path the call fails. Its disk has room for
 /// `room` bytes, if that is a number.
 #[derive(Drop)]
-struct Trap {
-    maker: MemMaker,
+pub(crate) struct Trap {
+    pub(crate) maker: MemMaker,
     path: Option<&'static str>,
     calls: u64,
     room: Option<usize>,
@@ -165,6 +165,16 @@ fn size_at(path: &str) -> usize {
 }
 
 impl Trap {
+    /// Makes a trap in which the call after this number of calls fails, and no other.
+    pub(crate) fn failing_once(case: &mut Case, calls: u64) -> Trap {
+        Trap {
+            maker: maker_of(case),
+            path: None,
+            calls,
+            room: None,
+        }
+    }
+
     /// Lets it happen.
     fn happen(&mut self) -> Result<(), DiskFault> {
         match self.path {
@@ -245,12 +255,7 @@ fn put_over(case: &mut Case, threads: &(impl Threads + Sync), trap: Trap) -> Opt
 
 /// Puts it if the call after this number of calls fails, and no other.
 fn fails_once(case: &mut Case, threads: &(impl Threads + Sync), calls: u64) {
-    let trap = Trap {
-        maker: maker_of(case),
-        path: None,
-        calls,
-        room: None,
-    };
+    let trap = Trap::failing_once(case, calls);
     let _trap = put_over(case, threads, trap);
 }
 

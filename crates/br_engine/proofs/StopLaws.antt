@@ -13,13 +13,20 @@ use Rattle.br_model.specs.Manifest.{totals_of}
 use Rattle.br_model.specs.Restored.{Restored}
 use Rattle.br_join.specs.Outcome.{restored}
 use Rattle.br_join.specs.declared.item.Outcome.{Outcome}
+use Rattle.br_join.specs.declared.item.Outcome.TheVariants.{File}
+use Rattle.br_reread.specs.Many.{RereadingMany}
 use Rattle.br_gather.specs.Again.{IsLike}
+use Rattle.br_gather.specs.FileParts.{GivesItem, PutsAlike}
+use Rattle.br_gather.specs.Gathered.{Gathered}
 use Rattle.br_sink.specs.Delivery.{AreApart, IsStopBelow, IsStopIn, StandApart, items_in, items_put, stop_cause}
+use Rattle.br_sink.specs.FileParts.{parts_number, with_bytes}
 use Rattle.br_sink.specs.Sink.{HasMore}
+use Rattle.br_sink.specs.declared.file_parts.PartsFault.{PartsFault}
+use Rattle.br_sink.specs.declared.file_parts.PartsFault.TheVariants as parts
 use Rattle.br_sink.proofs.DeliveryLaws.{apart_taken, fewer_items, items_of_both, more_behind, none_more, taken_items}
 use Rattle.br_again.specs.declared.fault.AgainFault.{AgainFault}
 use Rattle.br_again.specs.declared.fault.AgainFault.TheVariants as again
-use Rattle.br_engine.specs.Again.{IsStopAgain, PutsLike, again_number}
+use Rattle.br_engine.specs.Again.{CanMake, IsStopAgain, PutsLike, again_number}
 use Rattle.br_engine.specs.Delivering.{items_of}
 use Rattle.br_engine.proofs.LikeLaws.{items_fault, items_file, like_length, like_take}
 
@@ -242,3 +249,53 @@ items_around place n os window is few =
     ap items_in (sym (take-append-drop (place + length window) os)) ∙ items_of_both (take (place + length window) os) (drop (place + length window) os)
     ∙ ap (λ (is : List Item). is ++ items_in (drop (place + length window) os)) (items_window place n os window is few)
     ∙ append_assoc (items_in (take place os)) (items_in window) (items_in (drop (place + length window) os))
+
+-- ---- a file that is put alone
+
+-- a file like it was put
+pub put_alike : (given : Type 0) (item : Item) (had has : Option (List Item)) → PutsAlike given item had has → PutsLike {A = Unit {0}} given (item ∷ []) had has (Ok tt)
+put_alike given item had has puts = record {
+  put = with_bytes item puts.bytes ∷ [];
+  like = (record { path = refl; kind = refl; stat = refl; link = refl; skipped = refl; bytes = puts.alike }, tt);
+  same = λ g. ap (λ (bytes : List ℕ). with_bytes item bytes ∷ []) (puts.same g);
+  more = puts.more;
+}
+
+-- or nothing
+pub none_alike : (given : Type 0) (item : Item) (had has : Option (List Item)) (number : ℕ) → has ≡ had
+    → PutsLike {A = Unit {0}} given (item ∷ []) had has (Err (record { number = number; done = 0 }))
+none_alike given item had has number same = record {
+  put = [];
+  like = tt;
+  same = λ _. refl;
+  more = subst (λ (later : Option (List Item)). HasMore [] had later) (sym same) (none_more had);
+}
+
+-- the stop at it
+pub stops_alone : (fault : PartsFault) → IsStopAgain 1 (record { number = parts_number fault; done = 0 })
+stops_alone parts.Memory = record { number = inl refl; within = omega arith }
+stops_alone parts.Fault = record { number = inr (inl refl); within = omega arith }
+stops_alone parts.NoDriveLeft = record { number = inr (inr refl); within = omega arith }
+
+-- only a sink that failed is 80
+pub parts_at_80 : (fault : PartsFault) → parts_number fault ≡ 80 → fault ≡ parts.Fault
+parts_at_80 parts.Memory is = absurd (omega (arith, is))
+parts_at_80 parts.Fault is = refl
+parts_at_80 parts.NoDriveLeft is = absurd (omega (arith, is))
+
+-- the same, if what gives these files gives less
+puts_given : {A : Type 0} (given less : Type 0) (items : List Item) (had has : Option (List Item)) (result : Result A Stop) → (given → less) → PutsLike less items had has result
+    → PutsLike given items had has result
+puts_given given less items had has result so puts = record { put = puts.put; like = puts.like; same = λ g. puts.same (so g); more = puts.more }
+
+-- a window of one file
+pub puts_window : {A : Type 0} (many : RereadingMany) (gathered : Gathered) (key : FileKey) (item : Item) (window : List (FileKey × Outcome)) (had has : Option (List Item)) (result : Result A Stop)
+    → window ≡ (key, File item) ∷ [] → PutsLike (GivesItem many gathered.hits key item) (item ∷ []) had has result
+    → PutsLike (CanMake many gathered (map restored window)) (items_in window) had has result
+puts_window many gathered key item window had has result is puts =
+    subst (λ (os : List (FileKey × Outcome)). PutsLike (CanMake many gathered (map restored os)) (items_in os) had has result) (sym is)
+    (puts_given (CanMake many gathered (map restored ((key, File item) ∷ []))) (GivesItem many gathered.hits key item) (item ∷ []) had has result (λ g. (g.0, g.1.0)) puts)
+
+pub stops_window : {A : Type 0} (key : FileKey) (item : Item) (window : List (FileKey × Outcome)) (result : Result A Stop)
+    → window ≡ (key, File item) ∷ [] → IfErr result (IsStopAgain 1) → IfErr result (IsStopAgain (length (items_in window)))
+stops_window key item window result is stops = subst (λ (os : List (FileKey × Outcome)). IfErr result (IsStopAgain (length (items_in os)))) (sym is) stops

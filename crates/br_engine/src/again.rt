@@ -1,8 +1,10 @@
 //! Files that are made once more and put into a sink, some at a time.
-ghost use Rattle.std.specs.Prelude.{◌≡◌, ◌<◌, ◌≤◌, length, map, IfErr};
+ghost use Rattle.std.specs.Prelude.{◌≡◌, ◌<◌, ◌≤◌, ◌∷◌, [], length, map, IfErr, IfSome};
 ghost use Rattle.br_model.specs.Answer.{IsRefusal};
 ghost use Rattle.br_model.specs.Delivery.{delivery};
 ghost use Rattle.br_join.specs.Outcome.{restored};
+ghost use Rattle.br_join.specs.declared.item.Outcome.TheVariants.{File};
+ghost use Rattle.br_gather.specs.FileParts.{GivesItem};
 ghost use Rattle.br_reread.specs.Many.{GoOn};
 ghost use Rattle.br_sink.specs.Delivery.{AreApart, IsStopIn, items_in, stop_cause};
 ghost use Rattle.br_sink.specs.Fault.{cause_number};
@@ -10,7 +12,7 @@ ghost use Rattle.br_engine.specs.Again.{CanMake, DeliversAll, IsStopAgain, PutsL
 
 use br_again::{AgainFault, standing_stays};
 use br_gather::Gathered;
-use br_join::Outcome;
+use br_join::{Item, Outcome};
 use br_reread::OverMany;
 use br_sink::{Sink, SinkStop, StopCause, stand_apart, totals};
 use br_types::FileKey;
@@ -18,14 +20,14 @@ use br_volume::Drive;
 use std::alloc::Global;
 use std::thread::Threads;
 
-/// The number of bytes of the files that are made once more together. A file with more is made alone.
-const WINDOW_LEN: u64 = 16 * 1024 * 1024;
-
 /// What files are made of once more.
 #[derive(Drop)]
 pub(crate) struct Source<'g> {
     pub(crate) alloc: Global,
     pub(crate) gathered: &'g Gathered,
+    /// The number of bytes of the files that are made once more together, in memory. A file with more is
+    /// put alone, one part after another.
+    pub(crate) window: u64,
 }
 
 /// Returns the number of bytes of an outcome.
@@ -36,14 +38,17 @@ pub(crate) fn len_of(outcome: &Outcome) -> u64 {
     }
 }
 
-/// Returns the number of the first outcomes whose files are made once more together: one at least.
-fn window_len(outcomes: &[(FileKey, Outcome)]) -> usize
+/// Returns the number of the first outcomes whose files have so many bytes at most: one outcome at least.
+fn window_len(window: u64, outcomes: &[(FileKey, Outcome)]) -> usize
     requires { 0 < length outcomes.now }
     ensures some { 0 < result }
     ensures within { result ≤ length outcomes.now }
 {
+    if len_of(&outcomes[0].1) > window {
+        return 1;
+    }
     let mut count = 0;
-    let mut left = WINDOW_LEN;
+    let mut left = window;
     for (_, outcome) in outcomes {
         let len = len_of(outcome);
         if count > 0 && len > left {
@@ -53,6 +58,26 @@ fn window_len(outcomes: &[(FileKey, Outcome)]) -> usize
         count += 1;
     }
     count
+}
+
+/// A file that is put alone.
+#[derive(Drop)]
+struct Alone<'o> {
+    key: FileKey,
+    item: &'o Item,
+}
+
+/// Returns the only file of these outcomes, if it has more bytes than the window.
+fn alone_in(window: u64, outcomes: &[(FileKey, Outcome)]) -> Option<Alone<'_>>
+    ensures { IfSome result (λ alone. outcomes.now ≡ (alone.key, File alone.item.now) ∷ []) }
+{
+    match outcomes {
+        [(key, Outcome::File(item))] if item.bytes.len() > window => Some(Alone {
+            key: *key,
+            item,
+        }),
+        _ => None,
+    }
 }
 
 /// Returns why a delivery stops if a file is not made once more.
@@ -65,8 +90,8 @@ fn stop_of(fault: AgainFault) -> StopCause
     }
 }
 
-/// Makes the files among the outcomes once more, and puts them into a sink.
-fn put_window<D: Drive, S: Sink>(
+/// Makes the files among the outcomes once more in memory, and puts them into a sink.
+fn put_together<D: Drive, S: Sink>(
     rt: &(impl Threads + Sync),
     source: &Source<'_>,
     many: &mut OverMany<'_, D>,
@@ -83,6 +108,51 @@ fn put_window<D: Drive, S: Sink>(
     match source.gathered.again(source.alloc, many, window) {
         Ok(made) => sink.put_all(rt, &made),
         Err(fault) => Err(SinkStop::new(stop_of(fault), 0)),
+    }
+}
+
+/// Puts a file like this one into a sink. Its data are read again while it is put.
+fn put_alone<D: Drive, S: Sink>(
+    source: &Source<'_>,
+    many: &mut OverMany<'_, D>,
+    alone: &Alone<'_>,
+    sink: &mut S,
+) -> Result<(), SinkStop>
+    ensures put { PutsLike (GivesItem many.old source.now.gathered.now.hits alone.now.key alone.now.item.now) (alone.now.item.now ∷ [])
+        (S.has sink.old) (S.has sink.new) result }
+    ensures stopped { IfErr result (IsStopAgain 1) }
+    ensures on { GoOn many.old many.new }
+    ensures counted { S.failures sink.old ≤ S.failures sink.new }
+    ensures failed { IfErr result (λ stop. stop.number ≡ 80 → S.failures sink.old < S.failures sink.new) }
+{
+    let put = source
+        .gathered
+        .put_by_parts(source.alloc, many, alone.key, alone.item, sink);
+    match put {
+        Ok(()) => Ok(()),
+        Err(fault) => Err(SinkStop::new(fault.cause(), 0)),
+    }
+}
+
+/// Makes the files among the outcomes once more, and puts them into a sink. A file with more bytes than the
+/// window is put alone, one part after another.
+fn put_window<D: Drive, S: Sink>(
+    rt: &(impl Threads + Sync),
+    source: &Source<'_>,
+    many: &mut OverMany<'_, D>,
+    window: &[(FileKey, Outcome)],
+    sink: &mut S,
+) -> Result<(), SinkStop>
+    ensures put { PutsLike (CanMake many.old source.now.gathered.now (map restored window.now)) (items_in window.now)
+        (S.has sink.old) (S.has sink.new) result }
+    ensures stopped { IfErr result (IsStopAgain (length (items_in window.now))) }
+    ensures on { GoOn many.old many.new }
+    ensures counted { S.failures sink.old ≤ S.failures sink.new }
+    ensures failed { IfErr result (λ stop. stop.number ≡ 80 → S.failures sink.old < S.failures sink.new) }
+{
+    match alone_in(source.window, window) {
+        Some(alone) => put_alone(source, many, &alone, sink),
+        None => put_together(rt, source, many, window, sink),
     }
 }
 
@@ -107,7 +177,7 @@ fn put_windows<D: Drive, S: Sink>(
     let mut done = 0;
     while place < outcomes.len() {
         let rest = &outcomes[place..];
-        let (window, _) = rest.split_at(window_len(rest));
+        let (window, _) = rest.split_at(window_len(source.window, rest));
         if let Err(stop) = put_window(rt, source, many, window, sink) {
             return Err(SinkStop::new(stop.cause(), done + stop.done()));
         }

@@ -1,14 +1,17 @@
-ghost use Rattle.std.specs.Prelude.{◌≡◌, ◌^◌, ◌-◌};
+ghost use Rattle.std.specs.Prelude.{◌≡◌, ◌≤◌, ◌^◌, ◌-◌};
 
 use std::alloc::Global;
+
+/// The largest number of bytes of the files that are made once more together.
+const WINDOW_LEN: u64 = 16 * 1024 * 1024;
 
 /// The memory of a restore.
 #[derive(Clone, Copy)]
 pub struct Budget {
     /// The allocator.
     pub alloc: Global,
-    /// The number of bytes of data that are held. Data beyond it are read again. Attributes and
-    /// digests are held beside them.
+    /// The number of bytes for data that are held, and for what the allocator and the threads keep beside
+    /// them. Data beyond it are read again. Attributes and digests are held beside it.
     pub room: u64,
 }
 
@@ -21,5 +24,20 @@ impl Budget {
             alloc,
             room: u64::MAX,
         }
+    }
+
+    /// Returns the number of bytes of data that are held: seven eighths of the room.
+    pub(crate) fn data_room(self) -> u64
+        ensures { result ≤ self.room }
+    {
+        self.room - self.room / 8
+    }
+
+    /// Returns the number of bytes of the files that are made once more together: as many as there is
+    /// room for, and at most 16 MiB.
+    pub(crate) fn window(self) -> u64
+        ensures { result ≤ self.room }
+    {
+        self.room.min(WINDOW_LEN)
     }
 }

@@ -25,8 +25,8 @@ use std::mem;
 use std::sync::Wait;
 use std::thread::Threads;
 
-/// The length in bytes of the longest file that is delivered beside data that are held. A longer one
-/// is in memory as a whole, so that all data are let go before.
+/// The length in bytes of the longest file with sparse data that is delivered beside data that are held.
+/// A longer one is in memory as a whole, so that all data are let go before.
 const LONG_LEN: u64 = 64 * 1024 * 1024;
 
 /// The files of a restore, each with its outcome, in order of their keys.
@@ -35,6 +35,8 @@ pub struct Made {
     pub outcomes: Vec<(FileKey, Outcome)>,
     /// What the files are made of once more, if their bytes are not in memory.
     gathered: Option<Gathered>,
+    /// The number of bytes of the files that are made once more together.
+    window: u64,
 }
 
 /// Returns whether one of the files is longer than `LONG_LEN`.
@@ -42,11 +44,11 @@ fn has_long_file(files: &[(FileKey, Outcome)]) -> bool {
     files.iter().any(|file| len_of(&file.1) > LONG_LEN)
 }
 
-/// Returns the same, without data in memory if one of the files is longer than `LONG_LEN`.
+/// Returns the same, without data in memory if there are sparse data and a file longer than `LONG_LEN`.
 fn lighter(gathered: Gathered, files: &[(FileKey, Outcome)]) -> Gathered
     ensures { result ≡ gathered }
 {
-    if has_long_file(files) {
+    if gathered.has_sparse_data() && has_long_file(files) {
         gathered.let_go()
     } else {
         gathered
@@ -56,7 +58,7 @@ fn lighter(gathered: Gathered, files: &[(FileKey, Outcome)]) -> Gathered
 /// Makes the files of what a joiner took and did not hold. The drives read their data again.
 fn made_of<D: Drive + Send>(
     rt: &(impl Threads + Sync),
-    alloc: Global,
+    budget: Budget,
     joiner: Joiner,
     groups: &[Group],
     drives: &mut Vec<D>,
@@ -69,6 +71,7 @@ fn made_of<D: Drive + Send>(
     ensures free { IfErr result IsUnmade }
 {
     standing_stays();
+    let alloc = budget.alloc;
     let gathered = Gathered::of(joiner)?;
     let taken = mem::replace(drives, Vec::new(alloc));
     let mut many = OverMany::new(alloc, taken, groups);
@@ -79,6 +82,7 @@ fn made_of<D: Drive + Send>(
     Ok(Made {
         gathered: Some(lighter(gathered, &outcomes)),
         outcomes,
+        window: budget.window(),
     })
 }
 
@@ -112,11 +116,12 @@ pub fn restore_within<D: Drive + Send>(
         return Ok(Made {
             outcomes,
             gathered: None,
+            window: budget.window(),
         });
     }
     hits_stand();
     standing_stays();
-    made_of(rt, budget.alloc, joiner, bootstrap.groups(), drives)
+    made_of(rt, budget, joiner, bootstrap.groups(), drives)
 }
 
 /// Delivers the files among the outcomes into a sink. They are made once more of their source.
@@ -185,7 +190,11 @@ pub fn deliver_made<D: Drive, S: Sink>(
     match &made.gathered {
         None => deliver_files(rt, alloc, &made.outcomes, sink),
         Some(gathered) => {
-            let source = Source { alloc, gathered };
+            let source = Source {
+                alloc,
+                gathered,
+                window: made.window,
+            };
             deliver_from(rt, &source, groups, drives, &made.outcomes, sink)
         }
     }

@@ -60,7 +60,7 @@ pub(crate) fn join_all<D: Drive + Send>(
     let Ok(pieces) = split(alloc, bootstrap) else {
         return Err(PoolFault::Memory);
     };
-    let Ok(mut joiner) = Joiner::with_room(alloc, &pieces, names, budget.room) else {
+    let Ok(mut joiner) = Joiner::with_room(alloc, &pieces, names, budget.data_room()) else {
         return Err(PoolFault::Memory);
     };
     let task = Streaming {

@@ -38,8 +38,12 @@ fn answers_of(
     Ok(written)
 }
 
+/// Numbers of bytes of data for which there may be room. Without any, files are put part by part; else some
+/// of them are put together.
+const ROOMS: [u64; 2] = [0, 24];
+
 /// Runs a script that follows its name, and writes the name, what the script wrote, and its end. What
-/// it writes with room for no data comes after it, if it is something else.
+/// it writes with room for few data or none comes after it, if it is something else.
 fn run_one<W: Write>(
     rt: &(impl Threads + Wait + Sync),
     alloc: Global,
@@ -52,10 +56,12 @@ fn run_one<W: Write>(
     writer.write_all(b"\n")?;
     let answers = answers_of(rt, Budget::unbounded(alloc), script)?;
     writer.write_all(&answers)?;
-    let again = answers_of(rt, Budget { alloc, room: 0 }, script)?;
-    if again != answers {
-        writer.write_all(b"with room for no data:\n")?;
-        writer.write_all(&again)?;
+    for room in ROOMS {
+        let again = answers_of(rt, Budget { alloc, room }, script)?;
+        if again != answers {
+            writeln!(writer, "with room for {room} bytes of data:")?;
+            writer.write_all(&again)?;
+        }
     }
     Ok(())
 }

@@ -8,16 +8,19 @@ ghost use Rattle.br_extract.specs.Extracting.{ExtractsOver, ExtractsText, done_l
 ghost use Rattle.br_extract.specs.Wanted.{left_by};
 
 use crate::preparing::{keep_delivered, prepare};
+use crate::stopping::path_at_stop;
 use br_bsr::{Bootstrap, read_bootstrap};
 use br_engine::{
     Budget, ExtractFault, Flush, Outputs, RestoreEnd, deliver_made, restore_within, write_manifest,
 };
+use br_join::Outcome;
 use br_leaving::push_left;
 use br_options::Wanted;
 use br_sink::Sink;
-use br_types::Path;
+use br_types::{FileKey, Path};
 use br_volume::Drive;
 use std::alloc::AllocError;
+use std::mem;
 use std::sync::Wait;
 use std::thread::Threads;
 
@@ -30,6 +33,10 @@ pub struct Extracted {
     pub missing: Vec<u8>,
     /// The paths of the files that are left out since they conflict with one that is delivered.
     pub left: Vec<Path>,
+    /// The path of the file at which the delivery stopped, if it did and there was memory for the path.
+    pub stopped_at: Option<Path>,
+    /// The outcomes that were to be delivered.
+    pub outcomes: Vec<(FileKey, Outcome)>,
 }
 
 impl Extracted {
@@ -87,10 +94,14 @@ pub fn restore_wanted<D: Drive + Send, W: Flush, S: Sink>(
     keep_delivered(&mut made.outcomes, &prepared.flags);
     let groups = bootstrap.groups();
     let end = deliver_made(rt, alloc, &made, groups, drives, &mut out.sink);
+    let stopped_at = path_at_stop(alloc, &made.outcomes, &end);
+    let outcomes = mem::replace(&mut made.outcomes, Vec::new(alloc));
     Ok(Extracted {
         end,
         missing: prepared.missing,
         left: prepared.left,
+        stopped_at,
+        outcomes,
     })
 }
 

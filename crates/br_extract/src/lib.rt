@@ -5,5 +5,6 @@
 
 mod extracting;
 mod preparing;
+mod stopping;
 
 pub use extracting::{Extracted, extract_wanted, restore_wanted};

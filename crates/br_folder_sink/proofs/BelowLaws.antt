@@ -109,6 +109,10 @@ pub new_put : {A E : Type 0} (result : Result A E) (path bytes : List ℕ) (befo
 new_put (Ok x) path bytes before after b c more put = λ a made. put_over path bytes before after a b c more put made
 new_put (Err e) path bytes before after b c more put = tt
 
+pub new_written : (path bytes : List ℕ) (before after : Option (List ℕ)) (b c : Option Nodes) → Appends before after bytes
+    → IsFinished path after b c → (a : Option Nodes) → MakesNew path before a b → PutsNew path bytes a c
+new_written path bytes before after b c more put a made = put_over path bytes before after a b c more put made
+
 -- what a folder has beside what is below it
 
 pub outside_more : (root : List ℕ) (a b c : Option Nodes) → KeepsOutside root a b → KeepsOutside root b c → KeepsOutside root a c
@@ -171,3 +175,8 @@ pub put_below : {A E : Type 0} (result : Result A E) (root path whole bytes : Li
     → OnOk result ((e : Option Nodes) → MakesNew whole contents e m → PutsNew whole bytes e c) → OnOk result (PutsBelow root path bytes a c)
 put_below (Ok x) root path whole bytes contents a b m c is added made put = put_there root path whole bytes a b c is added (put b made)
 put_below (Err e) root path whole bytes contents a b m c is added made put = tt
+
+pub put_parts_below : (root path whole bytes : List ℕ) (contents : Option (List ℕ)) (a b m c : Option Nodes) → whole ≡ root ++ path
+    → AddsFolders root a b → MakesNew whole contents b m → ((e : Option Nodes) → MakesNew whole contents e m → PutsNew whole bytes e c)
+    → PutsBelow root path bytes a c
+put_parts_below root path whole bytes contents a b m c is added made put = put_there root path whole bytes a b c is added (put b made)

@@ -3,3 +3,4 @@ pub mod WindowLaws
 pub mod HeldLaws
 pub mod RemovalLaws
 pub mod EmptyLaws
+pub mod ThereLaws

@@ -10,6 +10,7 @@ use Rattle.br_folder_sink.specs.Below.{AddsFolders, IsNewFolder, MakesNew}
 use Rattle.br_folder_sink.specs.Held.{WritesEach, WritesOne}
 use Rattle.br_folder_sink.specs.Removed.{AreRemoved, GivesUp, HasNoFile, IsRemoved, LacksFile, MakesNoFile, MakesNone, files_of}
 use Rattle.br_folder_sink.specs.declared.window.Made.{Made}
+use Rattle.br_folder_sink.proofs.BelowLaws.{adds_same}
 use Rattle.br_folder_sink.proofs.HeldLaws.{all_more, set_own}
 
 -- where no file was, none is
@@ -75,6 +76,9 @@ unmade_cleared path a b c file cleared same = inr (file, subst (HasNoFile path) 
 module _ (refused : List ℕ → Type 0) (root path whole : List ℕ) where
   pub gives_added : (a b : Option Nodes) → AddsFolders root a b → GivesUp refused root path a b
   gives_added a b added = inl added
+
+  pub gives_same : (a b : Option Nodes) → b ≡ a → GivesUp refused root path a b
+  gives_same a b same = inl (adds_same root a b same)
 
   pub gives_unmade : (a b c : Option Nodes) → whole ≡ root ++ path → AddsFolders root a b → MakesNone whole b c → GivesUp refused root path a c
   gives_unmade a b c is added (inl same) = inl (subst (AddsFolders root a) (sym same) added)

@@ -4,3 +4,4 @@ pub mod FolderSink
 pub mod Window
 pub mod Held
 pub mod Removed
+pub mod There

@@ -4,10 +4,12 @@
 
 mod alone;
 mod fault;
+mod file_parts;
 mod folder_files;
 mod folder_sink;
 mod place;
 mod remover;
+mod resumed;
 mod way;
 mod window;
 

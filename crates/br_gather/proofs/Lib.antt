@@ -1,4 +1,6 @@
 mod GivenLaws
+mod PartLaws
+mod PlainFileLaws
 mod PlainLaws
 mod RunLaws
 mod SharingLaws

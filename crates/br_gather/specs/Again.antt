@@ -1,14 +1,10 @@
 -- Files that are made once more.
-use Rattle.std.specs.Prelude.{◌≡◌, ℕ, List, length, Ok, IfOk}
-use Rattle.md5.specs.Md5.{md5}
+use Rattle.std.specs.Prelude.{◌≡◌, List, Ok, IfOk}
 use Rattle.br_model.specs.File.{Item}
 use Rattle.br_model.specs.Meaning.{Hit}
 use Rattle.br_model.specs.Restored.{Restored, fragments_for, outcome_of}
 use Rattle.br_join.specs.Runs.{listed}
-
--- as many bytes, with the same digest
-abbrev pub AreAlike : List ℕ → List ℕ → Type 0
-AreAlike one other = (length one ≡ length other) × (md5 one ≡ md5 other)
+use Rattle.br_sink.specs.FileParts.{AreAlike}
 
 -- Two files differ at most in their bytes, which are as many and have the same digest.
 pub record IsLike (one other : Item) : Type 0 where

@@ -25,7 +25,7 @@ use std::alloc::{AllocError, Global};
 /// # Errors
 ///
 /// Those of `many`, `Changed` if it is not like the file, and `Memory` if memory runs out.
-fn item_once_more<D: Drive>(
+pub(crate) fn item_once_more<D: Drive>(
     alloc: Global,
     many: &mut OverMany<'_, D>,
     hits: &[Hit],

@@ -10,7 +10,8 @@ ghost use Rattle.br_join.specs.Plain.{plain_bytes, plain_of};
 ghost use Rattle.br_join.specs.Runs.{fragments};
 ghost use Rattle.br_reread.specs.Many.{GoOn, HaveFailed};
 
-use crate::light::{DATA, SPARSE_DATA};
+use crate::light::DATA;
+use crate::putting::has_sparse_data;
 use crate::rereading::{outcome_by, push_hit};
 use br_again::{AgainFault, Data, standing_stays};
 use br_body::Reading;
@@ -20,12 +21,6 @@ use br_reread::OverMany;
 use br_types::FileKey;
 use br_volume::Drive;
 use std::alloc::{AllocError, Global};
-
-/// Returns whether some of the data are sparse.
-fn has_sparse_data(hits: &[Hit]) -> bool {
-    hits.iter()
-        .any(|hit| hit.stream.unsigned_abs() == SPARSE_DATA)
-}
 
 /// Digests data.
 ///

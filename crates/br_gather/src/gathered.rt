@@ -1,21 +1,26 @@
-ghost use Rattle.std.specs.Prelude.{◌≡◌, ◌<◌, length, map, Err, OnErr, IfOk};
-ghost use Rattle.std.specs.List.{AllByRecursion, AllZip};
+ghost use Rattle.std.specs.Prelude.{◌≡◌, ◌<◌, ◌≤◌, ◌==◌, length, map, nat_abs, Err, OnErr, OnOk, IfOk};
+ghost use Rattle.std.specs.List.{AllByRecursion, AllZip, list_any};
 ghost use Rattle.br_again.specs.declared.fault.AgainFault.TheVariants.{Failed};
+ghost use Rattle.br_model.specs.Meaning as meaning;
 ghost use Rattle.br_model.specs.Meaning.{hits_of};
 ghost use Rattle.br_join.specs.Outcome.{restored};
 ghost use Rattle.br_reread.specs.Many.{GoOn, HaveFailed};
 ghost use Rattle.br_join.specs.Runs.{files_of};
 ghost use Rattle.br_sink.specs.Delivery.{items_in};
 ghost use Rattle.br_gather.specs.Again.{IsLike, IsMadeOf};
+ghost use Rattle.br_sink.specs.declared.file_parts.PartsFault.TheVariants.{Fault};
+ghost use Rattle.br_gather.specs.FileParts.{GivesItem, PutsAlike};
 ghost use Rattle.br_gather.specs.Given.{GivesHits};
 
 use crate::again::made_once_more;
 use crate::light::lightened;
 use crate::making::files_by;
+use crate::putting::{has_sparse_data, put_file};
 use br_again::AgainFault;
-use br_join::{Joiner, Outcome};
+use br_join::{Item, Joiner, Outcome};
 use br_match::Hit;
 use br_reread::OverMany;
+use br_sink::{PartsFault, Sink};
 use br_types::{FileKey, Names};
 use br_volume::Drive;
 use std::alloc::{AllocError, Global};
@@ -68,6 +73,13 @@ impl Gathered {
         }
     }
 
+    /// Returns whether some of the data are sparse.
+    pub fn has_sparse_data(&self) -> bool
+        ensures { result ≡ list_any (λ (h : meaning.Hit). nat_abs h.fragment.stream == 6) self.now.hits }
+    {
+        has_sparse_data(&self.hits)
+    }
+
     /// Makes the files, in order of key: the planned ones if there is a plan, else those that were found.
     /// Each drive makes some of them, in a thread of its own. It has the data of one fragment at a time in
     /// memory, or those of a file that has sparse data, and the bytes of the file are not kept.
@@ -110,5 +122,33 @@ impl Gathered {
         ensures failed { result ≡ Err Failed → HaveFailed many.old many.new }
     {
         made_once_more(alloc, many, &self.hits, outcomes)
+    }
+
+    /// Puts a file like this one, made of the hits with its key, into a sink. Their paths, numbers, links and
+    /// lengths are the same, and the digests of their bytes. The data are read again while it is put, and those
+    /// of one fragment at a time are in memory. A file with sparse data is in memory as a whole.
+    ///
+    /// # Errors
+    ///
+    /// The sink has what it had; one that does not tell its files may hold a part of this one.
+    ///
+    /// - `NoDriveLeft` if no drive is left that gives such data.
+    /// - `Fault` if the sink failed.
+    /// - `Memory` if memory ran out.
+    pub fn put_by_parts<D: Drive, S: Sink>(
+        &self,
+        alloc: Global,
+        many: &mut OverMany<'_, D>,
+        key: FileKey,
+        item: &Item,
+        sink: &mut S,
+    ) -> Result<(), PartsFault>
+        ensures put { OnOk result (PutsAlike (GivesItem many.old self.now.hits key item.now) item.now (S.has sink.old) (S.has sink.new)) }
+        ensures refused { OnErr result (S.has sink.new ≡ S.has sink.old) }
+        ensures counted { S.failures sink.old ≤ S.failures sink.new }
+        ensures failed { result ≡ Err Fault → S.failures sink.old < S.failures sink.new }
+        ensures on { GoOn many.old many.new }
+    {
+        put_file(alloc, many, &self.hits, key, item, sink)
     }
 }

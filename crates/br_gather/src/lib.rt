@@ -8,11 +8,13 @@
 
 mod again;
 mod digesting;
+mod file_parts;
 mod gathered;
 mod light;
 mod likeness;
 mod made_again;
 mod making;
+mod putting;
 mod rereading;
 mod runs;
 mod sharing;

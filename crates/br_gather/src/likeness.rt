@@ -1,7 +1,8 @@
 //! Whether two files differ at most in their bytes, and in these neither in number nor in digest.
 ghost use Rattle.std.specs.Prelude.{◌≡◌, true, length};
 ghost use Rattle.md5.specs.Md5.{md5};
-ghost use Rattle.br_gather.specs.Again.{AreAlike, IsLike};
+ghost use Rattle.br_sink.specs.FileParts.{AreAlike};
+ghost use Rattle.br_gather.specs.Again.{IsLike};
 
 use br_join::{FileBytes, Item};
 
@@ -25,7 +26,7 @@ fn have_same_numbers(one: &Item, other: &Item) -> bool
 }
 
 /// Returns whether two bodies have as many bytes and the same digest.
-fn are_alike(one: &FileBytes, other: &FileBytes) -> bool
+pub(crate) fn are_alike(one: &FileBytes, other: &FileBytes) -> bool
     ensures alike { result ≡ true → AreAlike one.now other.now }
     ensures same { one.now ≡ other.now → result ≡ true }
 {

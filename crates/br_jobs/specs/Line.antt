@@ -1,5 +1,5 @@
 -- The line of a job.
-use Rattle.std.specs.Prelude.{◌≡◌, ◌⊎◌, ℕ, Bool, true, false, not, ◌&&◌, ◌==◌, if◌then◌else◌, List, [], ◌∷◌, ◌++◌, length, filter, map, flat_map, sum_by, bytes_eq, codes, decimal, Result, Ok, Err}
+use Rattle.std.specs.Prelude.{◌≡◌, ◌⊎◌, ℕ, Bool, not, ◌&&◌, ◌==◌, if◌then◌else◌, List, [], ◌∷◌, ◌++◌, length, filter, flat_map, sum_by, bytes_eq, codes, decimal, Result, Ok, Err}
 use Rattle.std.specs.Borrow.{Bor}
 use Rattle.std.specs.List.{list_any, AllZip}
 use Rattle.br_model.specs.Text.{escaped}
@@ -79,8 +79,3 @@ IsLine chosen j line = (moment : List ℕ) × IsMoment j.row.start moment × (li
 -- a line for each job, of which these are chosen
 abbrev pub AreLines : List (Bor JobRows) → List JobRows → List ℕ → Type 0
 AreLines chosen jobs text = (lines : List (List ℕ)) × AllZip (λ j line. IsLine (is_chosen chosen j) j line) jobs lines × (text ≡ flat_map (λ line. line) lines)
-
--- the line of a job was appended if the job is listed, and nothing otherwise
-abbrev pub AppendsLine : Bool → Bool → JobRows → List ℕ → List ℕ → Type 0
-AppendsLine true chosen j before after = (line : List ℕ) × IsLine chosen j line × (after ≡ before ++ line)
-AppendsLine false chosen j before after = after ≡ before

@@ -9,9 +9,11 @@ use Rattle.br_model.specs.Name.{checked_name}
 use Rattle.br_choose.specs.Wanted.{request_for}
 use Rattle.br_jobs.specs.Filter.{listed}
 use Rattle.br_jobs.specs.Line.{AreLines}
+use Rattle.br_jobs.specs.Local.{AreLinesIn}
 use Rattle.br_jobs.specs.declared.filter.Filter.{Filter}
 use Rattle.br_jobs.specs.Fault.{cause}
 use Rattle.br_jobs.specs.declared.fault.MarkFault.{MarkFault}
+use Rattle.br_jobs.specs.declared.zones.Zones.{Zones}
 
 -- the jobs that are chosen for a client, a file set and a moment; 2 if one of the names is none
 unfoldable pub chosen_for : List JobRows → List ℕ → List ℕ → ℕ → Result (List JobRows) ℕ
@@ -32,3 +34,10 @@ abbrev pub MarksLines : List JobRows → Filter → Result (Vec ℕ) MarkFault �
 MarksLines history f (Ok text) =
     (chosen : List (Bor JobRows)) × (marked history f.client f.fileset f.before ≡ Ok (map (λ (j : Bor JobRows). j.now) chosen)) × AreLines chosen (listed f history) text.items
 MarksLines history f (Err fault) = IsRefusal (cause fault) (marked history f.client f.fileset f.before)
+
+-- the same lines with their moments in these zones, or why none is chosen
+abbrev pub MarksLinesIn : Zones → List JobRows → Filter → Result (Vec ℕ) MarkFault → Type 0
+MarksLinesIn zones history f (Ok text) =
+    (chosen : List (Bor JobRows)) × (marked history f.client f.fileset f.before ≡ Ok (map (λ (j : Bor JobRows). j.now) chosen))
+    × AreLinesIn zones chosen (listed f history) text.items
+MarksLinesIn zones history f (Err fault) = IsRefusal (cause fault) (marked history f.client f.fileset f.before)

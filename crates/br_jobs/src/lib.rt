@@ -8,11 +8,15 @@ mod fault;
 mod filter;
 mod line;
 mod listing;
+mod local;
 mod marking;
 mod moment;
 mod saved;
 mod volumes;
+mod zones;
 
 pub use fault::MarkFault;
 pub use filter::Filter;
-pub use marking::{marked_lines, unmarked_lines};
+pub use marking::{marked_lines, marked_lines_in, unmarked_lines, unmarked_lines_in};
+pub use moment::moment_text;
+pub use zones::Zones;

@@ -1,14 +1,19 @@
 //! The line of a job.
-ghost use Rattle.std.specs.Prelude.{◌≡◌, ◌++◌, IfOk, OnOk};
+ghost use Rattle.std.specs.Prelude.{◌≡◌, ◌++◌, IfOk, OnOk, option_map};
+ghost use Rattle.jiff.specs.Words.{plain_zone};
 ghost use Rattle.br_jobs.specs.Line as model;
 ghost use Rattle.br_jobs.specs.Line.{IsLine, end_text, names_text, rest_text, start_text, sums_text};
+ghost use Rattle.br_jobs.specs.Local.{IsLineIn, IsLocalLine};
 
+use crate::local::local_text;
 use crate::moment::moment_text;
 use crate::saved::{saved_bytes, saved_files};
 use crate::volumes::push_volumes;
+use crate::zones::Zones;
 use br_history::{FileRow, JobRow, JobRows};
 use br_session::Span;
 use br_types::{push_escaped, push_number, push_wide};
+use jiff::tz::TimeZone;
 use std::alloc::{AllocError, Global};
 
 /// Returns the mark of a job by whether it is chosen.
@@ -75,8 +80,8 @@ fn push_rest(text: &mut Vec<u8>, job: &JobRows) -> Result<(), AllocError>
     push_end(text, job.spans())
 }
 
-/// Returns the line of a job.
-pub(crate) fn line_of(alloc: Global, is_chosen: bool, job: &JobRows) -> Result<Vec<u8>, AllocError>
+/// Returns the line of a job with its moment in UTC.
+fn utc_line(alloc: Global, is_chosen: bool, job: &JobRows) -> Result<Vec<u8>, AllocError>
     ensures { IfOk result (λ line. IsLine is_chosen job.now line.items) }
 {
     let moment = moment_text(alloc, job.row().start)?;
@@ -85,4 +90,39 @@ pub(crate) fn line_of(alloc: Global, is_chosen: bool, job: &JobRows) -> Result<V
     text.extend_from_slice(&moment)?;
     push_rest(&mut text, job)?;
     Ok(text)
+}
+
+/// Returns the line of a job with its moment in UTC and in a zone.
+fn local_line(
+    alloc: Global,
+    zone: &Option<TimeZone<'_>>,
+    is_chosen: bool,
+    job: &JobRows,
+) -> Result<Vec<u8>, AllocError>
+    ensures { IfOk result (λ line. IsLocalLine (option_map plain_zone zone.now) is_chosen job.now line.items) }
+{
+    let moment = moment_text(alloc, job.row().start)?;
+    let local = local_text(alloc, zone, job.row().start)?;
+    let mut text = Vec::new(alloc);
+    push_start(&mut text, is_chosen, job)?;
+    text.extend_from_slice(&moment)?;
+    text.push(b' ')?;
+    text.extend_from_slice(&local)?;
+    push_rest(&mut text, job)?;
+    Ok(text)
+}
+
+/// Returns the line of a job with its moment in the given zones.
+pub(crate) fn line_of(
+    alloc: Global,
+    zones: &Zones<'_>,
+    is_chosen: bool,
+    job: &JobRows,
+) -> Result<Vec<u8>, AllocError>
+    ensures { IfOk result (λ line. IsLineIn zones.now is_chosen job.now line.items) }
+{
+    match zones {
+        Zones::Utc => utc_line(alloc, is_chosen, job),
+        Zones::UtcAndLocal(zone) => local_line(alloc, zone, is_chosen, job),
+    }
 }

@@ -1,9 +1,11 @@
 ghost use Rattle.std.specs.Prelude.{◌≡◌, IfOk, OnOk};
-ghost use Rattle.br_jobs.specs.Filter.{is_listed, listed};
-ghost use Rattle.br_jobs.specs.Line.{AppendsLine, AreLines, is_chosen};
+ghost use Rattle.br_jobs.specs.Filter.{listed};
+ghost use Rattle.br_jobs.specs.Line.{is_chosen};
+ghost use Rattle.br_jobs.specs.Local.{AppendsJob, AreLinesIn};
 
 use crate::filter::Filter;
 use crate::line::line_of;
+use crate::zones::Zones;
 use br_history::JobRows;
 use std::alloc::{AllocError, Global};
 
@@ -18,33 +20,35 @@ fn is_among(chosen: &[&JobRows], job: &JobRows) -> bool
 fn push_job(
     alloc: Global,
     filter: &Filter<'_>,
+    zones: &Zones<'_>,
     chosen: &[&JobRows],
     job: &JobRows,
     text: &mut Vec<u8>,
 ) -> Result<(), AllocError>
-    ensures { OnOk result (AppendsLine (is_listed filter.now job.now) (is_chosen chosen.now job.now) job.now text.old.items text.new.items) }
+    ensures { OnOk result (AppendsJob zones.now filter.now chosen.now job.now text.old.items text.new.items) }
 {
     if !filter.admits(job) {
         return Ok(());
     }
-    let line = line_of(alloc, is_among(chosen, job), job)?;
+    let line = line_of(alloc, zones, is_among(chosen, job), job)?;
     text.extend_from_slice(&line)?;
     Ok(())
 }
 
-/// Returns a line for each of the jobs that the filter admits, in their order. It says of each if it is one of
-/// the chosen.
+/// Returns a line for each of the jobs that the filter admits, in their order, with its moment in the given
+/// zones. It says of each if it is one of the chosen.
 pub(crate) fn list_jobs(
     alloc: Global,
     jobs: &[JobRows],
     filter: &Filter<'_>,
+    zones: &Zones<'_>,
     chosen: &[&JobRows],
 ) -> Result<Vec<u8>, AllocError>
-    ensures { IfOk result (λ text. AreLines chosen.now (listed filter.now jobs.now) text.items) }
+    ensures { IfOk result (λ text. AreLinesIn zones.now chosen.now (listed filter.now jobs.now) text.items) }
 {
     let mut text = Vec::new(alloc);
     for job in jobs {
-        push_job(alloc, filter, chosen, job, &mut text)?;
+        push_job(alloc, filter, zones, chosen, job, &mut text)?;
     }
     Ok(text)
 }

@@ -7,11 +7,13 @@ ghost use Rattle.br_jobs.specs.Fault.{cause};
 ghost use Rattle.br_jobs.specs.Marking as model;
 ghost use Rattle.br_jobs.specs.Filter.{listed};
 ghost use Rattle.br_jobs.specs.Line.{AreLines};
-ghost use Rattle.br_jobs.specs.Marking.{MarksLines};
+ghost use Rattle.br_jobs.specs.Local.{AreLinesIn};
+ghost use Rattle.br_jobs.specs.Marking.{MarksLines, MarksLinesIn};
 
 use crate::fault::MarkFault;
 use crate::filter::Filter;
 use crate::listing::list_jobs;
+use crate::zones::Zones;
 use br_choose::choose;
 use br_history::{History, JobRows};
 use br_types::{Name, NameFault};
@@ -63,12 +65,43 @@ fn marked<'h>(
     }
 }
 
-/// Returns the lines of the jobs that the filter lists, with those marked that `console` would choose if
-/// client, file set and moment are given.
+/// Returns the lines of the jobs that the filter lists, with their moments in the given zones, and with those
+/// marked that `console` would choose if client, file set and moment are given.
 ///
 /// # Errors
 ///
 /// `BadName` for the client, then for the file set; then those of the choice.
+pub fn marked_lines_in(
+    alloc: Global,
+    history: &History,
+    filter: &Filter<'_>,
+    zones: &Zones<'_>,
+) -> Result<Vec<u8>, MarkFault>
+    ensures { MarksLinesIn zones.now history.now filter.now result }
+{
+    let chosen = marked(alloc, history, filter)?;
+    let text = list_jobs(alloc, history.jobs(), filter, zones, &chosen)?;
+    Ok(text)
+}
+
+/// Returns the lines of the jobs that the filter lists, with their moments in the given zones; none is marked.
+pub fn unmarked_lines_in(
+    alloc: Global,
+    history: &History,
+    filter: &Filter<'_>,
+    zones: &Zones<'_>,
+) -> Result<Vec<u8>, AllocError>
+    ensures { IfOk result (λ text. AreLinesIn zones.now [] (listed filter.now history.now) text.items) }
+{
+    list_jobs(alloc, history.jobs(), filter, zones, &[])
+}
+
+/// Returns the lines of the jobs that the filter lists, with their moments in UTC, and with those marked that
+/// `console` would choose if client, file set and moment are given.
+///
+/// # Errors
+///
+/// As those of `marked_lines_in`.
 pub fn marked_lines(
     alloc: Global,
     history: &History,
@@ -76,12 +109,10 @@ pub fn marked_lines(
 ) -> Result<Vec<u8>, MarkFault>
     ensures { MarksLines history.now filter.now result }
 {
-    let chosen = marked(alloc, history, filter)?;
-    let text = list_jobs(alloc, history.jobs(), filter, &chosen)?;
-    Ok(text)
+    marked_lines_in(alloc, history, filter, &Zones::Utc)
 }
 
-/// Returns the lines of the jobs that the filter lists, none of which is marked.
+/// Returns the lines of the jobs that the filter lists, with their moments in UTC; none is marked.
 pub fn unmarked_lines(
     alloc: Global,
     history: &History,
@@ -89,5 +120,5 @@ pub fn unmarked_lines(
 ) -> Result<Vec<u8>, AllocError>
     ensures { IfOk result (λ text. AreLines [] (listed filter.now history.now) text.items) }
 {
-    list_jobs(alloc, history.jobs(), filter, &[])
+    unmarked_lines_in(alloc, history, filter, &Zones::Utc)
 }

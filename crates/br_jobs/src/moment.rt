@@ -45,7 +45,7 @@ fn civil_text(alloc: Global, seconds: u64) -> Result<String, AllocError> {
 
 /// Returns a moment as `YYYY-MM-DD HH:MM:SS` in UTC, if that can be read as this moment, else the seconds
 /// after an `@`.
-pub(crate) fn moment_text(alloc: Global, seconds: u64) -> Result<Vec<u8>, AllocError>
+pub fn moment_text(alloc: Global, seconds: u64) -> Result<Vec<u8>, AllocError>
     ensures { IfOk result (λ text. IsMoment seconds text.items) }
 {
     let text = civil_text(alloc, seconds)?;

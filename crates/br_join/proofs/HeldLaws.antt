@@ -1,12 +1,12 @@
 -- Hits in a tree by file and place: the look-ups of the tree are those of the list of its hits.
-use Rattle.std.proofs.Common.{◌≡◌, length, Bool, true, false, cond, Option, Some, None, option_map, List, [], ◌∷◌, ◌++◌, refl, sym, ap, subst, ◌∙◌}
-use Rattle.std.specs.Prelude.{is_some, reverse}
-use Rattle.std.specs.List.{AllByRecursion}
+use Rattle.std.proofs.Common.{◌≡◌, ◌-◌, ◌≤◌, length, Result, Ok, Err, arith, Bool, true, false, cond, Option, Some, None, option_map, List, [], ◌∷◌, ◌++◌, refl, sym, ap, subst, ◌∙◌}
+use Rattle.std.specs.Prelude.{is_some, reverse, OnOk}
+use Rattle.std.specs.List.{AllByRecursion, slice_get}
 use Rattle.std.specs.List.Sorted.{IsStrictlySortedBy}
 use Rattle.std.specs.Map.{keys_of, values_of, lookup}
 use Rattle.std.specs.BTreeMap.{insert_entry, is_at, values}
 use Rattle.std.specs.Cmp.{eq_by_cmp_equiv}
-use Rattle.std.specs.Ordering.{eq_by_cmp, is_eq, match_ordering}
+use Rattle.std.specs.Ordering.{eq_by_cmp, is_eq, is_lt, match_ordering}
 use Rattle.std.specs.declared.cmp.Ordering.{Ordering}
 use Rattle.std.specs.declared.cmp.Ordering.TheVariants.{Less, Equal, Greater}
 use Rattle.std.specs.Option.{option_or, unwrap_or}
@@ -16,10 +16,10 @@ use Rattle.br_model.specs.Name.{FileKey}
 use Rattle.br_model.specs.Block.{Fragment}
 use Rattle.br_model.specs.Meaning.{Spot, Hit, Hits, hit_cmp, hits_of, with_hits}
 use Rattle.br_model.proofs.HitLaws.{hit_cmp_total, hit_cmp-IsAntisymmetric}
-use Rattle.br_join.specs.Held.{HitTree, AreKeyed, HasOneMore, all_held}
+use Rattle.br_join.specs.Held.{HitTree, AreKeyed, HasOneLess, HasOneMore, found_at, taken_in}
 use Rattle.br_join.specs.Runs.{listed, hit_order, AreListed}
-use Rattle.br_join.proofs.SortLaws.{place, place_cmp, place_cmp_is, same_set}
-use Rattle.br_join.proofs.TakingLaws.{find_joined, or_none, taken_together}
+use Rattle.br_join.proofs.SortLaws.{hit_order_total, place, place_cmp, place_cmp_is, same_set}
+use Rattle.br_join.proofs.TakingLaws.{find_joined, or_each, or_none, taken_together}
 
 -- ---- look-ups
 
@@ -57,7 +57,7 @@ test_turned p q = ap is_eq (place_cmp_is p q) ∙ (eq_by_cmp_equiv hit_cmp_total
 -- ---- one hit
 
 -- a hit whose place is taken adds nothing
-taken_already : (m : HitTree) (hit : Hit) → AreKeyed m.entries → is_some (at_place m.entries (place hit)) ≡ true → HasOneMore m m hit
+taken_already : (m : HitTree) (hit : Hit) → AreKeyed m.entries → is_some (at_place m.entries (place hit)) ≡ true → HasOneMore (values m) (values m) hit
 taken_already m hit k there q = go (eq_by_cmp hit_cmp q (place hit)) refl
   where
     held : Option Fragment
@@ -76,7 +76,7 @@ taken_already m hit k there q = go (eq_by_cmp hit_cmp q (place hit)) refl
 
 -- a hit at a new place
 put_one : (m n : HitTree) (hit : Hit) → AreKeyed m.entries → AreKeyed n.entries → at_place m.entries (place hit) ≡ None
-    → ((q : FileKey × Spot) → at_place n.entries q ≡ cond (is_at (place_cmp (place hit)) q) (Some hit) (at_place m.entries q)) → HasOneMore m n hit
+    → ((q : FileKey × Spot) → at_place n.entries q ≡ cond (is_at (place_cmp (place hit)) q) (Some hit) (at_place m.entries q)) → HasOneMore (values m) (values n) hit
 put_one m n hit km kn none put q =
     find_placed n.entries q kn ∙ ap fragment_of (put q)
     ∙ ap (λ b. fragment_of (cond b (Some hit) (at_place m.entries q))) (test_turned (place hit) q)
@@ -106,7 +106,7 @@ none_at None e = refl
 none_at (Some h) e = absurd cc
 
 -- the same, of a hit whose place is known by another name
-pub held_already : (m : HitTree) (p : FileKey × Spot) (hit : Hit) → p ≡ place hit → AreKeyed m.entries → is_some (at_place m.entries p) ≡ true → HasOneMore m m hit
+pub held_already : (m : HitTree) (p : FileKey × Spot) (hit : Hit) → p ≡ place hit → AreKeyed m.entries → is_some (at_place m.entries p) ≡ true → HasOneMore (values m) (values m) hit
 held_already m p hit is k there = taken_already m hit k (subst (λ (q : FileKey × Spot). is_some (at_place m.entries q) ≡ true) is there)
 
 pub keyed_new : (m n : HitTree) (p : FileKey × Spot) (hit : Hit) → p ≡ place hit → AreKeyed m.entries → n.entries ≡ insert_entry place_cmp m.entries p hit → AreKeyed n.entries
@@ -115,7 +115,7 @@ keyed_new m n p hit is k entries =
 
 pub held_new : (m n : HitTree) (p : FileKey × Spot) (hit : Hit) → p ≡ place hit → AreKeyed m.entries → is_some (at_place m.entries p) ≡ false
     → n.entries ≡ insert_entry place_cmp m.entries p hit
-    → ((q : FileKey × Spot) → at_place n.entries q ≡ cond (is_at (place_cmp p) q) (Some hit) (at_place m.entries q)) → HasOneMore m n hit
+    → ((q : FileKey × Spot) → at_place n.entries q ≡ cond (is_at (place_cmp p) q) (Some hit) (at_place m.entries q)) → HasOneMore (values m) (values n) hit
 held_new m n p hit is k there entries put =
     put_one m n hit k (keyed_new m n p hit is k entries) (ap (at_place m.entries) (sym is) ∙ none_at (at_place m.entries p) there)
     (λ q. put q ∙ ap (λ (r : FileKey × Spot). cond (is_at (place_cmp r) q) (Some hit) (at_place m.entries q)) is)
@@ -153,12 +153,53 @@ same_places m n l p hit first found once again q = again q ∙ ap (cond (is_at (
 pub held_back : (m n l : HitTree) (p : FileKey × Spot) (hit first : Hit) → p ≡ place hit → AreKeyed m.entries → at_place m.entries p ≡ Some first
     → n.entries ≡ insert_entry place_cmp m.entries p hit → l.entries ≡ insert_entry place_cmp n.entries p first
     → ((q : FileKey × Spot) → at_place n.entries q ≡ cond (is_at (place_cmp p) q) (Some hit) (at_place m.entries q))
-    → ((q : FileKey × Spot) → at_place l.entries q ≡ cond (is_at (place_cmp p) q) (Some first) (at_place n.entries q)) → HasOneMore m l hit
+    → ((q : FileKey × Spot) → at_place l.entries q ≡ cond (is_at (place_cmp p) q) (Some first) (at_place n.entries q)) → HasOneMore (values m) (values l) hit
 held_back m n l p hit first is k found once again puts back q =
     find_placed l.entries q (keyed_back m n l p hit first is k found once again)
     ∙ ap fragment_of (same_places m n l p hit first found puts back q)
     ∙ sym (find_placed m.entries q k)
     ∙ held_already m p hit is k (ap is_some found) q
+
+-- a hit that is put at its place, whether one was there or not
+pub held_over : (m n : HitTree) (p : FileKey × Spot) (hit : Hit) → p ≡ place hit → AreKeyed m.entries → n.entries ≡ insert_entry place_cmp m.entries p hit
+    → ((q : FileKey × Spot) → at_place n.entries q ≡ cond (is_at (place_cmp p) q) (Some hit) (at_place m.entries q)) → HasOneLess (values m) (values n) hit
+held_over m n p hit is k entries put q =
+    find_placed n.entries q (keyed_new m n p hit is k entries) ∙ ap fragment_of (put q)
+    ∙ ap (λ (r : FileKey × Spot). fragment_of (cond (is_at (place_cmp r) q) (Some hit) (at_place m.entries q))) is
+    ∙ ap (λ b. fragment_of (cond b (Some hit) (at_place m.entries q))) (test_turned (place hit) q)
+    ∙ go (eq_by_cmp hit_cmp q (place hit))
+  where
+    go : (b : Bool) → fragment_of (cond b (Some hit) (at_place m.entries q)) ≡ option_or (cond b (Some hit.fragment) None) (found_at q (values m))
+    go true = refl
+    go false = sym (find_placed m.entries q k)
+
+-- ---- a row before a tree
+
+-- one hit more in the tree is one more of all
+pub beside : (row before after : List Hit) (hit : Hit) → HasOneMore before after hit → HasOneMore (row ++ before) (row ++ after) hit
+beside row before after hit more q =
+    find_joined row after q ∙ ap (option_or (found_at q row)) (more q)
+    ∙ sym (or_each (found_at q row) (found_at q before) (found_at q (hit ∷ [])))
+    ∙ ap (λ (o : Option Fragment). option_or o (found_at q (hit ∷ []))) (sym (find_joined row before q))
+
+-- a hit is appended to the row if the tree has none
+pub appended : (row : List Hit) (m : HitTree) (hit : Hit) → m.entries ≡ [] → HasOneMore (taken_in row m) (taken_in (row ++ hit ∷ []) m) hit
+appended row m hit none q =
+    ap (λ (es : List ((FileKey × Spot) × Hit)). found_at q ((row ++ hit ∷ []) ++ values_of es)) none
+    ∙ ap (found_at q) (append-nil (row ++ hit ∷ []))
+    ∙ find_joined row (hit ∷ []) q
+    ∙ ap (λ (hs : List Hit). option_or (found_at q hs) (found_at q (hit ∷ []))) (sym (append-nil row))
+    ∙ ap (λ (es : List ((FileKey × Spot) × Hit)). option_or (found_at q (row ++ values_of es)) (found_at q (hit ∷ []))) (sym none)
+
+-- the last hit of the row is put into the tree, and the set stays
+pub moved_in : (row : List Hit) (m n : HitTree) (hit : Hit) → HasOneLess (values m) (values n) hit
+    → hits_of (taken_in row n) ≡ hits_of (taken_in (row ++ hit ∷ []) m)
+moved_in row m n hit less =
+    same_set (taken_in (row ++ hit ∷ []) m) (taken_in row n) (λ q.
+    find_joined row (values n) q ∙ ap (option_or (found_at q row)) (less q)
+    ∙ sym (or_each (found_at q row) (found_at q (hit ∷ [])) (found_at q (values m)))
+    ∙ ap (λ (o : Option Fragment). option_or o (found_at q (values m))) (sym (find_joined row (hit ∷ []) q))
+    ∙ sym (find_joined (row ++ hit ∷ []) (values m) q))
 
 -- ---- hits that wait
 
@@ -167,23 +208,24 @@ or_one_more (Some g) p b f = refl
 or_one_more None p true f = refl
 or_one_more None p false f = refl
 
--- the next hit that waits is put in its place, and the set stays
-pub moved_one : (m n : HitTree) (hit : Hit) (front : List Hit) → HasOneMore m n hit
-    → hits_of (values n ++ reverse front) ≡ hits_of (values m ++ reverse (front ++ hit ∷ []))
-moved_one m n hit front more =
-    same_set (values m ++ hit ∷ reverse front) (values n ++ reverse front) (λ q.
-    find_joined (values n) (reverse front) q ∙ ap (λ o. option_or o (find hit_cmp q (listed (reverse front)))) (more q)
-    ∙ or_one_more (find hit_cmp q (listed (values m))) (find hit_cmp q (listed (reverse front))) (eq_by_cmp hit_cmp q (place hit)) hit.fragment
-    ∙ sym (find_joined (values m) (hit ∷ reverse front) q))
-    ∙ ap (λ (hs : List Hit). hits_of (values m ++ hs)) (sym (reverse-append front (hit ∷ [])))
+-- the next hit that waits is kept, and the set stays
+pub moved_one : (before after : List Hit) (hit : Hit) (front : List Hit) → HasOneMore before after hit
+    → hits_of (after ++ reverse front) ≡ hits_of (before ++ reverse (front ++ hit ∷ []))
+moved_one before after hit front more =
+    same_set (before ++ hit ∷ reverse front) (after ++ reverse front) (λ q.
+    find_joined after (reverse front) q ∙ ap (λ o. option_or o (found_at q (reverse front))) (more q)
+    ∙ or_one_more (found_at q before) (found_at q (reverse front)) (eq_by_cmp hit_cmp q (place hit)) hit.fragment
+    ∙ sym (find_joined before (hit ∷ reverse front) q))
+    ∙ ap (λ (hs : List Hit). hits_of (before ++ hs)) (sym (reverse-append front (hit ∷ [])))
 
--- after all hits of a list were put in their places, the set has them
-pub took_all : (start m n : HitTree) (held : Hits) (before waiting rest hits : List Hit) → all_held start before ≡ held → all_held m waiting ≡ all_held start before → length waiting ≡ 0
-    → all_held n rest ≡ all_held m (reverse hits) → all_held n rest ≡ with_hits held hits
-took_all start m n held before waiting rest hits is first none second =
-    second ∙ ap (λ (hs : List Hit). hits_of (values m ++ hs)) (reverse-reverse hits)
-    ∙ sym (taken_together (values m) hits)
-    ∙ ap (λ (s : Hits). with_hits s hits) (ap hits_of (sym (append-nil (values m))) ∙ ap (all_held m) (sym (nil_from_length waiting none)) ∙ first ∙ is)
+-- after all hits of a list were kept the set has them
+pub took_all : (m : List Hit) (held after : Hits) (waiting hits : List Hit) → hits_of (m ++ reverse waiting) ≡ held → length waiting ≡ 0
+    → after ≡ hits_of (m ++ reverse (reverse hits)) → after ≡ with_hits held hits
+took_all m held after waiting hits first none second =
+    second ∙ ap (λ (hs : List Hit). hits_of (m ++ hs)) (reverse-reverse hits)
+    ∙ sym (taken_together m hits)
+    ∙ ap (λ (s : Hits). with_hits s hits)
+    (ap hits_of (sym (append-nil m)) ∙ ap (λ (hs : List Hit). hits_of (m ++ reverse hs)) (sym (nil_from_length waiting none)) ∙ first)
 
 -- ---- the hits in order
 
@@ -200,3 +242,55 @@ keyed_listed (e ∷ es) s k = (all_after es s.0 k.1, keyed_listed es s.1 k.1)
       sym (place_cmp_is (place e.1) (place f.1)) ∙ (λ i. place_cmp (sym k.0 i) (sym kf.0 i)) ∙ a.0,
       all_after fs a.1 kf.1,
     )
+
+-- a row without its last hit is in order
+pub listed_front : (hs : List Hit) (hit : Hit) → AreListed (hs ++ hit ∷ []) → AreListed hs
+unfolding IsStrictlySortedBy
+listed_front [] hit s = tt
+listed_front (g ∷ hs) hit s = (before hs s.0, listed_front hs hit s.1)
+  where
+    before : (fs : List Hit) → AllByRecursion (λ (h : Hit). hit_order g h ≡ Less) (fs ++ hit ∷ []) → AllByRecursion (λ (h : Hit). hit_order g h ≡ Less) fs
+    before [] a = tt
+    before (f ∷ fs) a = (a.0, before fs a.1)
+
+-- a row with one more hit is in order if that is after the last one
+more_after : (g : Hit) (hs : List Hit) (last hit : Hit) → AreListed (g ∷ hs) → slice_get (g ∷ hs) (length hs) ≡ Some last → hit_order last hit ≡ Less
+    → AreListed (g ∷ (hs ++ hit ∷ []))
+unfolding IsStrictlySortedBy
+more_after g [] last hit s is after = ((ap (λ (o : Option Hit). hit_order (unwrap_or o last) hit) is ∙ after, tt), (tt, tt))
+more_after g (h ∷ hs) last hit s is after =
+    let rest : AreListed (h ∷ (hs ++ hit ∷ [])) = more_after h hs last hit s.1 is after in
+    ((s.0.0, all_after (hs ++ hit ∷ []) rest.0), rest)
+  where
+    all_after : (fs : List Hit) → AllByRecursion (λ (f : Hit). hit_order h f ≡ Less) fs → AllByRecursion (λ (f : Hit). hit_order g f ≡ Less) fs
+    all_after [] a = tt
+    all_after (f ∷ fs) a = (hit_order_total.trans g h f s.0.0 a.0, all_after fs a.1)
+
+less_is : (o : Ordering) → is_lt o ≡ true → o ≡ Less
+less_is Less e = refl
+less_is Equal e = absurd cc
+less_is Greater e = absurd cc
+
+pub listed_more : (row : List Hit) (last hit : Hit) (p q : FileKey × Spot) (o : Ordering) → p ≡ place last → q ≡ place hit → AreListed row
+    → slice_get row (length row - 1) ≡ Some last → o ≡ place_cmp p q → is_lt o ≡ true → AreListed (row ++ hit ∷ [])
+listed_more [] last hit p q o p_is q_is s is cmp after = absurd cc
+listed_more (g ∷ hs) last hit p q o p_is q_is s is cmp after =
+    let before : length hs ≡ length (g ∷ hs) - 1 = omega arith in
+    more_after g hs last hit s (ap (slice_get (g ∷ hs)) before ∙ is)
+    (sym (place_cmp_is (place last) (place hit)) ∙ (λ i. place_cmp (sym p_is i) (sym q_is i)) ∙ sym cmp ∙ less_is o after)
+
+pub listed_none : (row : List Hit) → row ≡ [] → AreListed row
+unfolding IsStrictlySortedBy
+listed_none row none = subst AreListed (sym none) tt
+
+-- a row of one hit is in order
+pub listed_one : (row : List Hit) (hit : Hit) → length row ≤ 0 → AreListed (row ++ hit ∷ [])
+unfolding IsStrictlySortedBy
+listed_one [] hit none = (tt, tt)
+listed_one (g ∷ hs) hit none = absurd (omega (arith, none))
+
+-- ---- what follows from a clause of a call
+
+pub if_kept : {T E P Q : Type 0} (r : Result T E) → (P → Q) → OnOk r P → OnOk r Q
+if_kept (Ok x) f p = f p
+if_kept (Err e) f p = tt

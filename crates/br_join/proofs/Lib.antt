@@ -3,7 +3,7 @@ mod DataLaws
 pub mod HeldLaws
 mod JoinLaws
 mod PartLaws
-mod PlainLaws
+pub mod PlainLaws
 pub mod TakingLaws
 pub mod FilesLaws
 pub mod PieceLaws

@@ -12,7 +12,7 @@ use Rattle.br_model.specs.Record.{Record, Begun, with_fragment, still_open, give
 use Rattle.br_model.specs.File.{Fault, Item, Outcome, fault, Extent, attributes_of, checks_digest, content, digest_fits, file_bytes, has_bytes, is_data, is_skipped, is_stream, unsupported}
 use Rattle.br_model.specs.Name.{FileKey}
 use Rattle.br_model.specs.Restored.{outcome_of}
-use Rattle.br_model.proofs.AnswerLaws.{bind_ok, refused_as_ok, chosen, ok_is, err_is_not_ok}
+use Rattle.br_model.proofs.AnswerLaws.{bind_ok, refuse_ok, refused_as_ok, chosen, ok_is, err_is_not_ok}
 use Rattle.br_join.specs.Data.{laid, laid_from}
 use Rattle.br_join.specs.Making.{cause}
 use Rattle.br_join.specs.Plain.{plain_of, plain_data, plain_bytes, fitting_all, bytes_of}
@@ -243,3 +243,83 @@ pub refused_by_records : (key : FileKey) (fs : List Fragment) (e : MakingFault) 
 unfolding outcome_of
 refused_by_records key fs Memory is = tt
 refused_by_records key fs (File f) is = ap (λ x. x >>= content key.index) is
+
+-- ---- a file whose fragments have no sparse data
+
+-- some of the fragments have sparse data
+abbrev pub have_sparse : List Fragment → Bool
+have_sparse fs = list_any (λ (f : Fragment). nat_abs f.stream == 6) fs
+
+-- the record that is open has the stream of its last fragment
+with_stream : (o : Option Begun) (f : Fragment) (b : Begun) → with_fragment o f ≡ Ok b → b.stream ≡ nat_abs f.stream
+unfolding with_fragment
+with_stream None f b is =
+    let first : Begun = record { index = nat_abs f.index; stream = nat_abs f.stream; bytes = f.bytes; left = f.size - length f.bytes } in
+    elim (chosen (is_negative f.stream) (Err 60) (Ok first) (Ok b) is) [
+      | inl p ↦ absurd (err_is_not_ok 60 b p.1)
+      | inr p ↦ ap (λ (x : Begun). x.stream) (sym (ok_is first b p.1))
+    ]
+with_stream (Some d) f b is =
+    let next : Begun = record { index = d.index; stream = d.stream; bytes = d.bytes ++ f.bytes; left = f.size - length f.bytes } in
+    elim (chosen (not (is_negative f.stream && nat_abs f.stream == d.stream)) (Err 61) (cond (not (f.size == d.left)) (Err 62) (Ok next)) (Ok b) is) [
+      | inl p ↦ absurd (err_is_not_ok 61 b p.1)
+      | inr p ↦
+          elim (chosen (not (f.size == d.left)) (Err 62) (Ok next) (Ok b) p.1) [
+            | inl q ↦ absurd (err_is_not_ok 62 b q.1)
+            | inr q ↦
+                let same : nat_abs f.stream ≡ d.stream = search (arith, p.0) in
+                ap (λ (x : Begun). x.stream) (sym (ok_is next b q.1)) ∙ sym same
+          ]
+    ]
+
+-- a record that is given out before others
+sparse_after : (b : Begun) (records : List Record) → (b.stream == 6) ≡ false → list_any (is_stream 6) records ≡ false → list_any (is_stream 6) (given_out b ++ records) ≡ false
+sparse_after b records none rest = go (b.left == 0)
+  where
+    r : Record
+    r = record { index = b.index; stream = b.stream; bytes = b.bytes }
+
+    go : (whole : Bool) → list_any (is_stream 6) (cond whole (r ∷ []) [] ++ records) ≡ false
+    go true = ap (λ (x : Bool). x || list_any (is_stream 6) records) none ∙ rest
+    go false = rest
+
+joined_sparse : (o : Option Begun) (fs : List Fragment) (rs : List Record) → join_from o fs ≡ Ok rs → have_sparse fs ≡ false → list_any (is_stream 6) rs ≡ false
+unfolding join_from
+joined_sparse None [] rs is none = ap (list_any (is_stream 6)) (sym (ok_is [] rs is))
+joined_sparse (Some b) [] rs is none = absurd (err_is_not_ok 61 rs is)
+joined_sparse o (f ∷ fs) rs is none =
+    let first = bind_ok (with_fragment o f) (λ b. join_from (still_open b) fs >>= λ records. Ok (given_out b ++ records)) rs is in
+    let b : Begun = first.0 in
+    let next = bind_ok (join_from (still_open b) fs) (λ records. Ok (given_out b ++ records)) rs first.2 in
+    let records : List Record = next.0 in
+    let parts = or_parts (nat_abs f.stream == 6) (have_sparse fs) none in
+    ap (list_any (is_stream 6)) (sym (ok_is (given_out b ++ records) rs next.2))
+    ∙ sparse_after b records (ap (λ (n : ℕ). n == 6) (with_stream o f b first.1) ∙ parts.0) (joined_sparse (still_open b) fs records next.1 parts.1)
+
+-- the bytes of a file of such a type are the plain data, if these are what it is read from
+bytes_read : (kind : ℕ) (rs : List Record) (plain bytes : List ℕ) → has_bytes kind ≡ true → bytes_by (Read plain) kind rs ≡ Ok bytes → bytes ≡ plain
+unfolding bytes_by
+bytes_read kind rs plain bytes has is = go (ltb (2 ^ 30) (length plain)) (ap (λ (b : Bool). refused_as fault (cond (not b) (Ok []) (fitting_all plain))) (sym has) ∙ is)
+  where
+    go : (over : Bool) → ◌≡◌ {A = Result (List ℕ) Fault} (refused_as fault (cond over (Err 68) (Ok plain))) (Ok bytes) → bytes ≡ plain
+    go true e = absurd cc
+    go false e = cc
+
+-- what fragments without sparse data make, if it is a file of such a type, has their plain data
+pub plain_file : (key : FileKey) (fs : List Fragment) (item : Item) → have_sparse fs ≡ false → outcome_of key fs ≡ Ok item → has_bytes item.kind ≡ true → item.bytes ≡ plain_bytes fs
+unfolding outcome_of content_by join
+plain_file key fs item none is has =
+    let plain : List ℕ = plain_bytes fs in
+    let joined = bind_ok (refused_as fault (join fs)) (content key.index) item is in
+    let rs : List Record = joined.0 in
+    let no_sparse = joined_sparse None fs rs (refused_as_ok fault (join fs) rs joined.1) none in
+    let made : content_by key.index rs (Read plain) ≡ Ok item = made_of_read key.index rs plain no_sparse (plain_read fs rs plain joined.1 refl) ∙ joined.2 in
+    let read = bind_ok (refused_as fault (attributes_of key.index (filter (is_stream 1) rs)))
+    (λ a. (unsupported rs >>= λ _. (bytes_by (Read plain) a.kind rs >>= λ bs. tested a rs bs))) item made in
+    let a : Attributes = read.0 in
+    let supported = bind_ok (unsupported rs) (λ _. (bytes_by (Read plain) a.kind rs >>= λ bs. tested a rs bs)) item read.2 in
+    let given = bind_ok (bytes_by (Read plain) a.kind rs) (λ bs. tested a rs bs) item supported.2 in
+    let bytes : List ℕ = given.0 in
+    let fine = refuse_ok (differs a rs bytes) (fault 66) (λ _. Ok (item_of a rs bytes)) item given.2 in
+    let same = ok_is (item_of a rs bytes) item fine.1 in
+    ap (λ (i : Item). i.bytes) (sym same) ∙ bytes_read a.kind rs plain bytes (ap (λ (i : Item). has_bytes i.kind) same ∙ has) given.1

@@ -36,7 +36,7 @@ pub or_none : (o : Option Fragment) → option_or o None ≡ o
 or_none None = refl
 or_none (Some f) = refl
 
-or_each : (o p r : Option Fragment) → option_or (option_or o p) r ≡ option_or o (option_or p r)
+pub or_each : (o p r : Option Fragment) → option_or (option_or o p) r ≡ option_or o (option_or p r)
 or_each None p r = refl
 or_each (Some f) p r = refl
 

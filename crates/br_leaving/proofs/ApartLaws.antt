@@ -9,9 +9,9 @@ use Rattle.br_model.specs.Name.{FileKey}
 use Rattle.br_model.specs.Restored.{Restored}
 use Rattle.br_join.specs.Outcome.{restored}
 use Rattle.br_join.specs.declared.item.Outcome.{Outcome}
+use Rattle.br_ways.specs.Ways.{Noted}
+use Rattle.br_ways.specs.declared.ways.Ways.{Ways}
 use Rattle.br_leaving.specs.Apart.{ApartStayWhole, IsKept, KeptAreApart, apart, apart_beside, conflicts, conflicts_beside, is_free, wanted_of, with_path}
-use Rattle.br_leaving.specs.Ways.{Noted}
-use Rattle.br_leaving.specs.declared.ways.Ways.{Ways}
 use Rattle.br_leaving.proofs.LeavingLaws.{where_true_both}
 
 -- ---- one outcome

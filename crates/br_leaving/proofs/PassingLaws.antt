@@ -13,8 +13,6 @@ use Rattle.br_join.specs.Outcome.{restored}
 use Rattle.br_join.specs.declared.item.Outcome.{Outcome}
 use Rattle.br_sink.specs.Delivery.{IsStopBelow, items_in}
 use Rattle.br_sink.specs.Sink.{HasMore}
-use Rattle.br_sink.specs.declared.fault.SinkFault.{SinkFault}
-use Rattle.br_sink.specs.declared.fault.SinkFault.TheVariants.{Fault}
 use Rattle.br_sink.proofs.DeliveryLaws.{items_of_both, none_more}
 use Rattle.br_leaving.specs.Leaving.{AreNoted, IsFileAt, Leaves, NotesStop, Takes}
 use Rattle.br_leaving.specs.declared.noted.Noted.{Noted}
@@ -55,12 +53,12 @@ module _ (os : List (FileKey × Outcome)) (stop : Stop) (before middle after : N
 
 -- ---- one file at which a sink fails
 
-pub fault_noted : {A : Type 0} (start had has : Option (List Item)) (earlier later : ℕ) (before after : Noted) (item : Item) (why : SinkFault) (r : Result A SinkFault)
-    → has ≡ had → earlier ≤ later → (why ≡ Fault → earlier < later) → OnOk r ((why ≡ Fault) × Leaves before after item) → OnErr r (Takes before after [])
+pub fault_noted : {A E : Type 0} (start had has : Option (List Item)) (earlier later : ℕ) (before after : Noted) (item : Item) (Failed : Type 0) (r : Result A E)
+    → has ≡ had → earlier ≤ later → (Failed → earlier < later) → OnOk r (Failed × Leaves before after item) → OnErr r (Takes before after [])
     → AreNoted start had earlier before → AreNoted start has later after
-fault_noted start had has earlier later before after item why (Ok a) same counted failed left none noted =
+fault_noted start had has earlier later before after item Failed (Ok a) same counted failed left none noted =
     notes_out start has earlier later before after item (subst (λ (h : Option (List Item)). AreNoted start h earlier before) (sym same) noted) (failed left.0) left.1
-fault_noted start had has earlier later before after item why (Err e) same counted failed left none noted =
+fault_noted start had has earlier later before after item Failed (Err e) same counted failed left none noted =
     notes_more start had has earlier later before after [] noted (subst (λ (h : Option (List Item)). HasMore [] had h) (sym same) (none_more had)) counted none
 
 -- ---- the outcomes that come next

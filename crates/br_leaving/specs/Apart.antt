@@ -8,8 +8,8 @@ use Rattle.br_model.specs.Delivery.{in_the_way, item_of}
 use Rattle.br_join.specs.Outcome.{restored}
 use Rattle.br_join.specs.declared.item.Outcome.{Outcome}
 use Rattle.br_sink.specs.Delivery.{AreApart}
-use Rattle.br_leaving.specs.Ways.{Noted}
-use Rattle.br_leaving.specs.declared.ways.Ways.{Ways}
+use Rattle.br_ways.specs.Ways.{Noted}
+use Rattle.br_ways.specs.declared.ways.Ways.{Ways}
 
 -- whether the path of a file conflicts with none of these; a fault has no path
 abbrev pub is_free : List (List ℕ) → Option Item → Bool

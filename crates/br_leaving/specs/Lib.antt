@@ -1,4 +1,3 @@
-pub mod Ways
 pub mod Apart
 pub mod Leaving
 pub mod Line

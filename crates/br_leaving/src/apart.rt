@@ -3,11 +3,10 @@ ghost use Rattle.std.specs.Prelude.{◌≡◌, ◌&&◌, ◌++◌, [], true, fal
 ghost use Rattle.br_model.specs.Delivery.{item_of};
 ghost use Rattle.br_join.specs.Outcome.{restored};
 ghost use Rattle.br_leaving.specs.Apart.{IsKept, apart, conflicts, wanted_of, with_path};
-ghost use Rattle.br_leaving.specs.Ways.{IsFreeIn, Notes};
 
-use crate::ways::Ways;
 use br_join::Outcome;
 use br_types::{FileKey, Path};
+use br_ways::{Ways, is_next};
 use std::alloc::{AllocError, Global};
 
 /// Which of some outcomes are delivered, and which files are left out.
@@ -17,19 +16,6 @@ pub struct Apart {
     pub flags: Vec<bool>,
     /// The paths of the files that are left out, in their order.
     pub left: Vec<Path>,
-}
-
-/// Returns if the path conflicts with none noted before, and then notes it.
-fn is_next<'p>(ways: &mut Ways<'p>, path: &'p [u8]) -> Result<bool, AllocError>
-    ensures way { IfOk result (IsFreeIn ways.old path.now) }
-    ensures noted { IfOk result (λ free. free ≡ true → Notes ways.old ways.new path.now) }
-    ensures same { IfOk result (λ free. free ≡ false → ways.new ≡ ways.old) }
-{
-    if !ways.is_free(path) {
-        return Ok(false);
-    }
-    ways.note(path)?;
-    Ok(true)
 }
 
 /// Returns if the outcome conflicts with none noted before, and then notes its path.

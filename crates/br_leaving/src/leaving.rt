@@ -1,17 +1,19 @@
 //! A sink around a sink, which goes on after a file at which that one fails.
-ghost use Rattle.std.specs.Prelude.{◌≡◌, ◌<◌, ◌≤◌, ◌∷◌, [], length, map, OnOk, OnErr, IfErr, Err, Some};
+ghost use Rattle.std.specs.Prelude.{◌≡◌, ◌<◌, ◌≤◌, ◌∷◌, [], length, map, OnOk, OnErr, IfErr, IfOk, Err, Some};
 ghost use Rattle.std.specs.Thread.{IsSync};
 ghost use Rattle.br_options.specs.declared.options.Stops.TheVariants.{AtFirst};
 ghost use Rattle.br_sink.specs.Delivery.{IsStopBelow, items_in, items_put};
+ghost use Rattle.br_sink.specs.FileParts.{AreAlike, with_bytes};
 ghost use Rattle.br_sink.specs.Sink.{HasMore};
 ghost use Rattle.br_sink.specs.declared.fault.SinkFault.TheVariants.{Fault};
+ghost use Rattle.br_sink.specs.declared.file_parts.PartsFault.TheVariants as why;
 ghost use Rattle.br_leaving.specs.Leaving.{ArePut};
 
 use crate::noted::Noted;
-use crate::passing::{put_each, put_one};
-use br_join::{Item, Outcome};
+use crate::passing::{put_each, put_one, put_one_by_parts};
+use br_join::{FileBytes, Item, Outcome};
 use br_options::Stops;
-use br_sink::{Sink, SinkFault, SinkStop};
+use br_sink::{Parts, PartsFault, Sink, SinkFault, SinkStop};
 use br_types::{FileKey, Path};
 use std::alloc::Global;
 use std::marker::Model;
@@ -76,6 +78,8 @@ impl<S: Sink + Drop> Sink for Leaving<S> {
         ensures counted { S.failures self.old.inner ≤ S.failures self.new.inner }
         ensures failed { result ≡ Err Fault → S.failures self.old.inner < S.failures self.new.inner }
         ensures first { result ≡ Err Fault → self.old.stops ≡ AtFirst }
+        ensures stops { self.new.stops ≡ self.old.stops }
+        ensures kept { self.old.stops ≡ AtFirst → self.new.left ≡ self.old.left }
     {
         put_one(self.stops, &mut self.inner, &mut self.noted, item)
     }
@@ -92,6 +96,8 @@ impl<S: Sink + Drop> Sink for Leaving<S> {
         ensures counted { S.failures self.old.inner ≤ S.failures self.new.inner }
         ensures failed { IfErr result (λ stop. stop.number ≡ 80 → S.failures self.old.inner < S.failures self.new.inner) }
         ensures first { IfErr result (λ stop. stop.number ≡ 80 → self.old.stops ≡ AtFirst) }
+        ensures stops { self.new.stops ≡ self.old.stops }
+        ensures kept { self.old.stops ≡ AtFirst → self.new.left ≡ self.old.left }
     {
         put_each(
             threads,
@@ -99,6 +105,34 @@ impl<S: Sink + Drop> Sink for Leaving<S> {
             &mut self.inner,
             &mut self.noted,
             outcomes,
+        )
+    }
+
+    /// Puts the file, or leaves it out. Its bytes are read again while it is put.
+    fn put_parts<P: Parts>(
+        &mut self,
+        alloc: Global,
+        item: &Item,
+        parts: &mut P,
+    ) -> Result<FileBytes, PartsFault>
+        ensures put { IfOk result (λ bytes. HasMore (with_bytes item.now bytes ∷ []) (Some self.old.taken) (Some self.new.taken)) }
+        ensures alike { IfOk result (λ bytes. AreAlike bytes item.now.bytes) }
+        ensures same { IfOk result (λ bytes. P.gives parts.old item.now → bytes ≡ item.now.bytes) }
+        ensures refused { OnErr result (Some self.new.taken ≡ Some self.old.taken) }
+        ensures counted { S.failures self.old.inner ≤ S.failures self.new.inner }
+        ensures failed { result ≡ Err why.Fault → S.failures self.old.inner < S.failures self.new.inner }
+        ensures on { P.goes_on parts.old parts.new }
+        ensures first { result ≡ Err why.Fault → self.old.stops ≡ AtFirst }
+        ensures stops { self.new.stops ≡ self.old.stops }
+        ensures kept { self.old.stops ≡ AtFirst → self.new.left ≡ self.old.left }
+    {
+        put_one_by_parts(
+            alloc,
+            self.stops,
+            &mut self.inner,
+            &mut self.noted,
+            item,
+            parts,
         )
     }
 }

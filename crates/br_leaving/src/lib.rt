@@ -11,7 +11,6 @@ mod leaving;
 mod line;
 mod noted;
 mod passing;
-mod ways;
 
 pub use apart::{Apart, keep_apart};
 pub use laws::{apart_stay_whole, kept_are_apart};

@@ -4,19 +4,23 @@ ghost use Rattle.std.specs.Thread.{IsSync};
 ghost use Rattle.br_options.specs.declared.options.Stops.TheVariants.{AtFirst};
 ghost use Rattle.br_sink.specs.Delivery.{IsStopBelow, items_in, items_put};
 ghost use Rattle.br_sink.specs.declared.fault.SinkFault.TheVariants.{Fault};
+ghost use Rattle.br_sink.specs.FileParts.{AreAlike, with_bytes};
+ghost use Rattle.br_sink.specs.declared.file_parts.PartsFault.TheVariants as why;
 ghost use Rattle.br_leaving.specs.Leaving.{Leaves, NotesStop, StaysNoted, Takes, passed};
 
 use crate::noted::{Noted, file_at};
-use br_join::{Item, Outcome};
+use br_join::{FileBytes, Item, Outcome};
 use br_options::Stops;
-use br_sink::{Sink, SinkFault, SinkStop, StopCause, totals};
+use br_sink::{Parts, PartsFault, Sink, SinkFault, SinkStop, StopCause, copy_of, totals};
 use br_types::FileKey;
+use std::alloc::Global;
 use std::thread::Threads;
 
 /// Returns if a delivery goes on after a fault with this number.
 fn goes_on(stops: Stops, number: u32) -> bool
     ensures on { result ≡ true → number ≡ 80 }
     ensures stop { result ≡ false → number ≡ 80 → stops ≡ AtFirst }
+    ensures first { stops ≡ AtFirst → result ≡ false }
 {
     match stops {
         Stops::AtFirst => false,
@@ -30,6 +34,7 @@ fn leave_at(stops: Stops, noted: &mut Noted, item: &Item, fault: SinkFault) -> R
     ensures left { OnOk result ((fault ≡ Fault) × Leaves noted.old noted.new item.now) }
     ensures none { OnErr result (Takes noted.old noted.new []) }
     ensures fault { result ≡ Err Fault → (fault ≡ Fault) × (stops ≡ AtFirst) }
+    ensures kept { stops ≡ AtFirst → noted.new.left.items ≡ noted.old.left.items }
 {
     if !goes_on(stops, fault.number()) {
         return Err(fault);
@@ -51,6 +56,7 @@ pub(crate) fn put_one<S: Sink>(
     ensures counted { S.failures sink.old ≤ S.failures sink.new }
     ensures failed { result ≡ Err Fault → S.failures sink.old < S.failures sink.new }
     ensures first { result ≡ Err Fault → stops ≡ AtFirst }
+    ensures kept { stops ≡ AtFirst → noted.new.left.items ≡ noted.old.left.items }
 {
     match sink.put(item) {
         Ok(()) => {
@@ -58,6 +64,65 @@ pub(crate) fn put_one<S: Sink>(
             Ok(())
         }
         Err(fault) => leave_at(stops, noted, item, fault),
+    }
+}
+
+/// Leaves out a file at which a sink failed while its bytes were read again. Returns the fault if it is not to
+/// be left out, or if memory ran out.
+fn leave_parts_at(
+    stops: Stops,
+    noted: &mut Noted,
+    item: &Item,
+    fault: PartsFault,
+) -> Result<(), PartsFault>
+    ensures left { OnOk result ((fault ≡ why.Fault) × Leaves noted.old noted.new item.now) }
+    ensures none { OnErr result (Takes noted.old noted.new []) }
+    ensures fault { result ≡ Err why.Fault → (fault ≡ why.Fault) × (stops ≡ AtFirst) }
+    ensures kept { stops ≡ AtFirst → noted.new.left.items ≡ noted.old.left.items }
+{
+    match fault {
+        PartsFault::Fault => {
+            leave_at(stops, noted, item, SinkFault::Fault)?;
+            Ok(())
+        }
+        PartsFault::Memory => Err(PartsFault::Memory),
+        PartsFault::NoDriveLeft => Err(PartsFault::NoDriveLeft),
+    }
+}
+
+/// Puts a file like this one into a sink, or leaves it out. Returns the bytes that were read again, or those of
+/// the file if it is left out.
+pub(crate) fn put_one_by_parts<S: Sink, P: Parts>(
+    alloc: Global,
+    stops: Stops,
+    sink: &mut S,
+    noted: &mut Noted,
+    item: &Item,
+    parts: &mut P,
+) -> Result<FileBytes, PartsFault>
+    ensures taken { IfOk result (λ bytes. noted.new.taken.items ≡ noted.old.taken.items ++ with_bytes item.now bytes ∷ []) }
+    ensures alike { IfOk result (λ bytes. AreAlike bytes item.now.bytes) }
+    ensures same { IfOk result (λ bytes. P.gives parts.old item.now → bytes ≡ item.now.bytes) }
+    ensures none { OnErr result (noted.new.taken.items ≡ noted.old.taken.items) }
+    ensures noted { StaysNoted S.has S.failures sink.old sink.new noted.old noted.new }
+    ensures counted { S.failures sink.old ≤ S.failures sink.new }
+    ensures failed { result ≡ Err why.Fault → S.failures sink.old < S.failures sink.new }
+    ensures first { result ≡ Err why.Fault → stops ≡ AtFirst }
+    ensures kept { stops ≡ AtFirst → noted.new.left.items ≡ noted.old.left.items }
+    ensures on { P.goes_on parts.old parts.new }
+{
+    // The copy first, so that nothing fails after the file was put.
+    let mut made = copy_of(alloc, item)?;
+    match sink.put_parts(alloc, item, parts) {
+        Ok(bytes) => {
+            made.bytes = bytes;
+            noted.take_one(&made);
+            Ok(made.bytes)
+        }
+        Err(fault) => {
+            leave_parts_at(stops, noted, item, fault)?;
+            Ok(made.bytes)
+        }
     }
 }
 
@@ -77,6 +142,7 @@ fn pass(
     ensures noted { NotesStop outcomes.now stop noted.old noted.new }
     ensures stopped { IfErr result (IsStopBelow (length (items_in outcomes.now))) }
     ensures fault { IfErr result (λ s. s.number ≡ 80 → (stop.number ≡ 80) × (stops ≡ AtFirst)) }
+    ensures kept { stops ≡ AtFirst → noted.new.left.items ≡ noted.old.left.items }
 {
     let Some((place, item)) = file_at(outcomes, stop.done()) else {
         return Err(stop);
@@ -110,6 +176,7 @@ fn put_some<S: Sink, R: Threads + Sync>(
     ensures counted { S.failures sink.old ≤ S.failures sink.new }
     ensures failed { IfErr result (λ stop. stop.number ≡ 80 → S.failures sink.old < S.failures sink.new) }
     ensures first { IfErr result (λ stop. stop.number ≡ 80 → stops ≡ AtFirst) }
+    ensures kept { stops ≡ AtFirst → noted.new.left.items ≡ noted.old.left.items }
 {
     match sink.put_all(threads, outcomes) {
         Ok(()) => {
@@ -135,6 +202,7 @@ pub(crate) fn put_each<S: Sink, R: Threads + Sync>(
     ensures counted { S.failures sink.old ≤ S.failures sink.new }
     ensures failed { IfErr result (λ stop. stop.number ≡ 80 → S.failures sink.old < S.failures sink.new) }
     ensures first { IfErr result (λ stop. stop.number ≡ 80 → stops ≡ AtFirst) }
+    ensures kept { stops ≡ AtFirst → noted.new.left.items ≡ noted.old.left.items }
 {
     let mut place = 0;
     while place < outcomes.len() {

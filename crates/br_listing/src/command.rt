@@ -1,9 +1,10 @@
 ghost use Rattle.std.specs.Prelude.{◌≡◌, ◌⊎◌, IfOk};
 ghost use Rattle.br_setup.specs.Setup.{AreJobs};
 
+use crate::zone::SystemZones;
 use br_history::History;
-use br_jobs::{Filter, marked_lines, unmarked_lines};
-use br_options::JobsOptions;
+use br_jobs::{Filter, Zones, marked_lines_in, unmarked_lines_in};
+use br_options::{Clock, JobsOptions};
 use br_plan::{BadMoment, read_moment};
 use br_setup::{CLEAN, Catalogue, CatalogueFault, refuse_start};
 use std::fs;
@@ -46,19 +47,34 @@ fn print_lines(rt: &HostRuntime, text: &[u8]) -> io::Result<()> {
 
 /// Prints the lines of the jobs that the filter lists, and why none is marked, if the choice was refused.
 /// Returns the exit status.
-fn print_jobs(rt: &HostRuntime, history: &History, filter: &Filter<'_>) -> io::Result<u8>
+fn print_jobs(
+    rt: &HostRuntime,
+    history: &History,
+    filter: &Filter<'_>,
+    zones: &Zones<'_>,
+) -> io::Result<u8>
     ensures status { IfOk result (λ status. (status ≡ 0) ⊎ (status ≡ 1)) }
 {
-    match marked_lines(rt.alloc(), history, filter) {
+    match marked_lines_in(rt.alloc(), history, filter, zones) {
         Ok(text) => {
             print_lines(rt, &text)?;
             Ok(CLEAN)
         }
         Err(fault) => {
-            print_lines(rt, &unmarked_lines(rt.alloc(), history, filter)?)?;
+            let text = unmarked_lines_in(rt.alloc(), history, filter, zones)?;
+            print_lines(rt, &text)?;
             refuse_start(rt, fault.number())
         }
     }
+}
+
+/// Prints the same lines with moments in UTC and in the time zone of the system. Returns the exit status.
+fn print_local_jobs(rt: &HostRuntime, history: &History, filter: &Filter<'_>) -> io::Result<u8>
+    ensures status { IfOk result (λ status. (status ≡ 0) ⊎ (status ≡ 1)) }
+{
+    let system = SystemZones::read(rt)?;
+    let zones = Zones::UtcAndLocal(system.zone()?);
+    print_jobs(rt, history, filter, &zones)
 }
 
 /// Prints the jobs of a catalogue, a line for each. If client, file set and moment are given, it marks those
@@ -85,5 +101,8 @@ pub fn list<C: Catalogue>(
         Ok(history) => history,
         Err(fault) => return refuse_start(rt, fault.number()),
     };
-    print_jobs(rt, &history, &filter)
+    match given.clock {
+        Clock::Utc => print_jobs(rt, &history, &filter, &Zones::Utc),
+        Clock::UtcAndLocal => print_local_jobs(rt, &history, &filter),
+    }
 }

@@ -4,6 +4,7 @@
 
 mod chosen;
 mod command;
+mod zone;
 
 pub use chosen::tell_chosen;
 pub use command::list;

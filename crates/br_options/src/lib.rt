@@ -4,6 +4,6 @@
 mod options;
 
 pub use options::{
-    CheckOptions, Checksums, ConsoleOptions, Copies, ExtractOptions, Gaps, Invocation, JobsOptions,
-    Progress, ServeOptions, Stops, Target, Wanted,
+    CheckOptions, Checksums, Clock, ConsoleOptions, Copies, ExtractOptions, Gaps, Invocation,
+    JobsOptions, Progress, ServeOptions, Start, Stops, Target, Wanted,
 };

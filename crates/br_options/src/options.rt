@@ -38,6 +38,15 @@ pub enum Stops {
     Never,
 }
 
+/// What the folder that files are put into may hold before.
+#[derive(Clone, Copy, Debug, PartialEq, Eq)]
+pub enum Start {
+    /// Nothing.
+    Empty,
+    /// What a restore that was cut off has put there.
+    Resumed,
+}
+
 /// What `extract` does beside what each restore does.
 #[derive(Clone, Copy, Debug, PartialEq, Eq)]
 pub struct Wanted {
@@ -68,7 +77,11 @@ pub struct ExtractOptions<'a> {
     /// The number of bytes of data that are held in memory.
     pub memory: u64,
     pub wanted: Wanted,
+    /// What the folder of the target may hold. Other targets are new.
+    pub start: Start,
     pub progress: Progress,
+    /// The file that a log of the restore is appended to, if there is one.
+    pub log: Option<&'a str>,
 }
 
 /// What `check` does with the checksums of blocks.
@@ -88,6 +101,8 @@ pub struct CheckOptions<'a> {
     /// The folder of the volumes.
     pub volumes: &'a str,
     pub checksums: Checksums,
+    /// The number of bytes of data that a restore would hold in memory.
+    pub memory: u64,
 }
 
 /// The options of `console`.
@@ -107,6 +122,8 @@ pub struct ConsoleOptions<'a> {
     /// The number of bytes of data that are held in memory.
     pub memory: u64,
     pub progress: Progress,
+    /// The file that a log of the session is appended to, if there is one.
+    pub log: Option<&'a str>,
 }
 
 /// The options of `serve` over files.
@@ -120,6 +137,15 @@ pub struct ServeOptions<'a> {
     pub memory: u64,
 }
 
+/// In which time the moments of jobs are shown.
+#[derive(Clone, Copy, Debug, PartialEq, Eq)]
+pub enum Clock {
+    /// In UTC.
+    Utc,
+    /// In UTC, and in the time zone of this system.
+    UtcAndLocal,
+}
+
 /// The options of `jobs`. A job is listed if it is of the client and of the file set and began before the moment, of those
 /// that are given.
 #[derive(Clone, Copy, Debug, PartialEq, Eq)]
@@ -130,6 +156,7 @@ pub struct JobsOptions<'a> {
     pub fileset: Option<&'a str>,
     /// The moment, as text.
     pub before: Option<&'a str>,
+    pub clock: Clock,
 }
 
 /// A command of the program with its options.

@@ -1,18 +1,24 @@
-//! What is counted while a restore runs, and when it is told.
+//! What is counted while a restore runs, and when and where it is told.
 
 use crate::line::{Standing, seconds_left};
+use crate::log::Log;
+use std::alloc::Global;
+use std::io::{self, IsTerminal, Write};
 use std::sync::atomic::{AtomicBool, AtomicU64, Ordering};
 use std::time::Instant;
 
 /// The shortest time between two lines, in milliseconds.
 const INTERVAL: u64 = 500;
 
-/// Counts how far a restore is, and shows it in a line on standard error, at most twice a second. All that
-/// take part in the restore share it.
+/// Counts how far a restore is, and shows it in a line on standard error, at most twice a second. It tells a
+/// terminal and a log in words what became of the files. All that take part in the restore share it.
 #[derive(Drop)]
 pub struct Gauge<'r> {
     rt: &'r HostRuntime,
-    /// When the gauge was made, if it shows something.
+    /// True if standard error is a terminal.
+    is_terminal: bool,
+    log: Option<Log>,
+    /// When the gauge was made, if it shows how far the restore is.
     begun: Option<Instant>,
     to_read: AtomicU64,
     read: AtomicU64,
@@ -31,7 +37,7 @@ pub struct Gauge<'r> {
 }
 
 impl<'r> Gauge<'r> {
-    /// Creates a gauge, which shows how far the restore is, or nothing at all.
+    /// Creates a gauge without a log, which shows how far the restore is, or does not.
     pub fn new(rt: &'r HostRuntime, is_shown: bool) -> Gauge<'r> {
         let begun = if is_shown {
             Instant::now(rt).ok()
@@ -40,6 +46,8 @@ impl<'r> Gauge<'r> {
         };
         Gauge {
             rt,
+            is_terminal: rt.stderr().is_terminal(),
+            log: None,
             begun,
             to_read: AtomicU64::new(0),
             read: AtomicU64::new(0),
@@ -50,6 +58,21 @@ impl<'r> Gauge<'r> {
             told: AtomicU64::new(0),
             is_up: AtomicBool::new(false),
         }
+    }
+
+    /// Returns the gauge with a log, if there is one.
+    pub fn with_log(self, log: Option<Log>) -> Gauge<'r> {
+        Gauge { log, ..self }
+    }
+
+    /// Returns the allocator.
+    pub(crate) fn alloc(&self) -> Global {
+        self.rt.alloc()
+    }
+
+    /// Returns true if the gauge has something to show or to tell.
+    pub fn is_watching(&self) -> bool {
+        self.is_terminal || self.is_shown() || self.log.is_some()
     }
 
     /// Returns true if the gauge shows how far the restore is.
@@ -81,8 +104,42 @@ impl<'r> Gauge<'r> {
         self.tell();
     }
 
+    /// Returns the number of files that were put and of those in the manifest, once files are put.
+    pub(crate) fn files(&self) -> Option<(u64, u64)> {
+        if !self.is_putting.load(Ordering::SeqCst) {
+            return None;
+        }
+        let put = self.put.load(Ordering::SeqCst);
+        Some((put, self.files.load(Ordering::SeqCst)))
+    }
+
+    /// Returns the log, if there is one.
+    pub(crate) fn log(&self) -> Option<&Log> {
+        self.log.as_ref()
+    }
+
+    /// Prints a text to standard error if that is a terminal.
+    pub(crate) fn show(&self, text: &[u8]) -> io::Result<()> {
+        if !self.is_terminal {
+            return Ok(());
+        }
+        self.clear();
+        self.rt.stderr().write_all(text)
+    }
+
+    /// Prints a line to standard error that the log could not be written, if it could not.
+    pub(crate) fn tell_torn(&self) -> io::Result<()> {
+        match &self.log {
+            Some(log) if log.is_torn() => {
+                eprintln!(self.rt; "brestore: the log could not be written, so it is not whole")
+            }
+            _ => Ok(()),
+        }
+    }
+
     /// Notes that so many more files were put.
-    pub(crate) fn note_put(&self, count: u64) {
+    pub fn note_put(&self, count: u64) {
+        self.is_putting.store(true, Ordering::SeqCst);
         self.put.fetch_add(count, Ordering::SeqCst);
         self.tell();
     }

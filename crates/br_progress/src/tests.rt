@@ -1,4 +1,7 @@
+use crate::faults::Faults;
+use crate::gauge::Gauge;
 use crate::line::{Standing, seconds_left};
+use crate::lines::Lines;
 use std::test::Fail;
 
 /// A restore of which nothing is known.
@@ -83,5 +86,67 @@ fn the_time_that_is_left_is_reckoned(rt: HostRuntime) -> Result<(), Fail> {
     assert_eq!(rt; seconds_left(10_000, 0, 5), None);
     assert_eq!(rt; seconds_left(10_000, 5, 5), None);
     assert_eq!(rt; seconds_left(10_000, 6, 5), None);
+    Ok(())
+}
+
+/// The lines of outcomes that are no files, and others.
+const LINES: [&str; 8] = [
+    "X 1 100 4 63",
+    "X 1 100 5 65 20",
+    "X 1 100 6 63",
+    "X 1 100 7 59",
+    "X 1 100 7 70",
+    "X 1 100 7",
+    "F 1 100 8 3 /X",
+    "total 0 3 0",
+];
+
+#[test]
+fn outcomes_that_are_no_files_are_told(rt: HostRuntime) -> Result<(), Fail> {
+    let mut faults = Faults::new(rt.alloc());
+    for line in LINES {
+        faults.note(rt.alloc(), line.as_bytes())?;
+    }
+    for index in 1..=9 {
+        let line = format!(in rt.alloc(); "X 2 100 {index} 60")?;
+        faults.note(rt.alloc(), line.as_bytes())?;
+    }
+    let mut text = Vec::new(rt.alloc());
+    faults.push(&mut text)?;
+    let mut lines = text.split(|byte| *byte == b'\n');
+    for told in [
+        "outcome 63 of 2 files: 1 100 4, 1 100 6",
+        "outcome 65 of 1 file: 1 100 5 (stream 20)",
+        "outcome 60 of 9 files: 2 100 1, 2 100 2, 2 100 3, 2 100 4, 2 100 5, 2 100 6, 2 100 7, 2 100 8, ..",
+    ] {
+        assert_eq!(rt; lines.next(), Some(told.as_bytes()));
+        assert!(rt; lines.next().is_some_and(|line| line.starts_with(b"  ")));
+        assert!(rt;
+            lines
+                .next()
+                .is_some_and(|line| line.starts_with(b"  Next: "))
+        );
+    }
+    assert_eq!(rt; lines.next(), Some(b"".as_slice()));
+    Ok(())
+}
+
+#[test]
+fn lines_are_noted_in_whatever_parts_they_pass(rt: HostRuntime) -> Result<(), Fail> {
+    let text = b"refused 55\n*F\nF 1 100 1 3 /a\nX 1 100 2 63\nF 1 100 3 3 /b\ntotal 2 1 0\n";
+    for len in [1, 7, 64, text.len()] {
+        let gauge = Gauge::new(&rt, false);
+        let mut lines = Lines::new(Faults::new(rt.alloc()));
+        for part in text.chunks(len) {
+            lines.pass(&gauge, part);
+        }
+        gauge.begin_putting();
+        assert_eq!(rt; gauge.files(), Some((0, 2)));
+        assert_eq!(rt; lines.take_refused(), Some(55));
+        assert_eq!(rt; lines.take_refused(), None);
+        let mut told = Vec::new(rt.alloc());
+        lines.faults().push(&mut told)?;
+        assert!(rt; told.starts_with(b"outcome 63 of 1 file: 1 100 2\n"));
+    }
     Ok(())
 }

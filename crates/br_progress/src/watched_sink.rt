@@ -5,19 +5,25 @@ ghost use Rattle.br_sink.specs.Delivery.{IsStopBelow, items_in, items_put};
 ghost use Rattle.br_sink.specs.Sink.{HasMore};
 
 use crate::gauge::Gauge;
-use br_join::{Item, Outcome};
-use br_sink::{Sink, SinkFault, SinkStop, totals};
-use br_types::FileKey;
+use br_join::{FileBytes, Item, Outcome};
+use br_sink::{Parts, PartsFault, Sink, SinkFault, SinkStop, StopCause, totals};
+use br_types::{FileKey, Path};
+use std::alloc::Global;
 use std::thread::Threads;
 
-/// The number of outcomes after which the gauge is told how many files were put.
+/// The number of outcomes after which the gauge is told which files were put.
 const RUN_LEN: usize = 64;
 
-/// A sink that puts as another one does, and tells a gauge how many files were put.
+/// The most paths that are kept of files at which the sink failed.
+const FAILED_LEN: usize = 8;
+
+/// A sink that puts as another one does, and tells a gauge which files were put.
 #[derive(Drop)]
 pub struct WatchedSink<'g, 'r, S> {
     pub inner: S,
     gauge: &'g Gauge<'r>,
+    /// The paths of the first files at which the sink failed.
+    failed: Vec<Path>,
 }
 
 impl<'g, 'r, S> WatchedSink<'g, 'r, S> {
@@ -25,8 +31,50 @@ impl<'g, 'r, S> WatchedSink<'g, 'r, S> {
     pub fn new(inner: S, gauge: &'g Gauge<'r>) -> WatchedSink<'g, 'r, S>
         ensures { result.inner ≡ inner }
     {
-        WatchedSink { inner, gauge }
+        WatchedSink {
+            inner,
+            gauge,
+            failed: Vec::new(gauge.alloc()),
+        }
     }
+
+    /// Returns the sink inside.
+    pub fn into_inner(self) -> S
+        ensures { result ≡ self.entry.inner }
+    {
+        let WatchedSink { inner, .. } = self;
+        inner
+    }
+
+    /// Returns the paths of the first files at which the sink failed, eight at most. Nothing is
+    /// kept if nobody reads what the gauge tells.
+    pub fn failed(&self) -> &[Path] {
+        &self.failed
+    }
+}
+
+/// Notes that the sink failed at a file. A path for which memory runs out is not kept.
+fn note_failed(gauge: &Gauge<'_>, failed: &mut Vec<Path>, item: &Item) {
+    gauge.log_failed(item);
+    if failed.len() < FAILED_LEN {
+        if let Ok(path) = item.path.copy(gauge.alloc()) {
+            let _kept = failed.push(path);
+        }
+    }
+}
+
+/// Returns the file among the outcomes with this number of files before it.
+fn file_at(outcomes: &[(FileKey, Outcome)], before: u64) -> Option<&Item> {
+    let mut left = before;
+    for (_, outcome) in outcomes {
+        if let Outcome::File(item) = outcome {
+            if left == 0 {
+                return Some(item);
+            }
+            left -= 1;
+        }
+    }
+    None
 }
 
 /// Puts the files among the outcomes into a sink, a run of outcomes after the other, and tells the gauge
@@ -50,10 +98,12 @@ fn put_runs<S: Sink, R: Threads + Sync>(
         let rest = &outcomes[place..];
         let (run, _) = rest.split_at(rest.len().min(RUN_LEN));
         if let Err(stop) = sink.put_all(threads, run) {
-            return Err(SinkStop::new(stop.cause(), done + stop.done()));
+            let put = stop.done();
+            gauge.note_files_put(run, put);
+            return Err(SinkStop::new(stop.cause(), done + put));
         }
         let files = totals(run).files;
-        gauge.note_put(files);
+        gauge.note_files_put(run, files);
         done += files;
         place += run.len();
     }
@@ -66,7 +116,13 @@ impl<'g, 'r, S: Sink> Sink for WatchedSink<'g, 'r, S> {
     ghost failures = { λ s. S.failures s.inner };
 
     fn put(&mut self, item: &Item) -> Result<(), SinkFault> {
-        self.inner.put(item)
+        let put = self.inner.put(item);
+        match &put {
+            Ok(()) => self.gauge.note_file_put(item),
+            Err(SinkFault::Fault) => note_failed(self.gauge, &mut self.failed, item),
+            Err(SinkFault::Memory) => {}
+        }
+        put
     }
 
     fn put_all<R: Threads + Sync>(
@@ -74,10 +130,31 @@ impl<'g, 'r, S: Sink> Sink for WatchedSink<'g, 'r, S> {
         threads: &R,
         outcomes: &[(FileKey, Outcome)],
     ) -> Result<(), SinkStop> {
-        if self.gauge.is_shown() {
-            put_runs(self.gauge, threads, outcomes, &mut self.inner)
-        } else {
-            self.inner.put_all(threads, outcomes)
+        if !self.gauge.is_watching() {
+            return self.inner.put_all(threads, outcomes);
         }
+        let put = put_runs(self.gauge, threads, outcomes, &mut self.inner);
+        if let Err(stop) = &put {
+            if let (StopCause::Fault, Some(item)) = (stop.cause(), file_at(outcomes, stop.done())) {
+                note_failed(self.gauge, &mut self.failed, item);
+            }
+        }
+        put
+    }
+
+    fn put_parts<P: Parts>(
+        &mut self,
+        alloc: Global,
+        item: &Item,
+        parts: &mut P,
+    ) -> Result<FileBytes, PartsFault> {
+        self.gauge.begin_putting();
+        let put = self.inner.put_parts(alloc, item, parts);
+        match &put {
+            Ok(_) => self.gauge.note_file_put(item),
+            Err(PartsFault::Fault) => note_failed(self.gauge, &mut self.failed, item),
+            Err(PartsFault::Memory | PartsFault::NoDriveLeft) => {}
+        }
+        put
     }
 }

@@ -1,38 +1,19 @@
 //! A writer that is watched.
 ghost use Rattle.std.specs.Prelude.{◌≡◌};
 
+use crate::faults::Faults;
 use crate::gauge::Gauge;
+use crate::lines::Lines;
 use std::io::{self, Write};
 
-/// What was read of a line of the manifest.
-#[derive(Clone, Copy, Debug, PartialEq, Eq)]
-enum Place {
-    /// Nothing.
-    Start,
-    /// An `F`.
-    AfterF,
-    /// What decides if the line has a file.
-    Within,
-}
-
-impl Place {
-    /// Returns the place after a byte.
-    fn after(self, byte: u8) -> Place {
-        match (self, byte) {
-            (_, b'\n') => Place::Start,
-            (Place::Start, b'F') => Place::AfterF,
-            _ => Place::Within,
-        }
-    }
-}
-
-/// A writer that writes as another one does, and tells a gauge the files of the manifest. It takes the line
-/// of the gauge from the terminal before it writes.
+/// A writer that writes as another one does, and tells a gauge the files of the manifest. It keeps the
+/// outcomes that are no files, and takes the line of the gauge from the terminal before it writes. A line
+/// `refused N`, which is the answer to a line of the console, is explained once it is flushed.
 #[derive(Drop)]
 pub struct WatchedWriter<'g, 'r, W> {
     pub inner: W,
     gauge: &'g Gauge<'r>,
-    place: Place,
+    lines: Lines,
 }
 
 impl<'g, 'r, W> WatchedWriter<'g, 'r, W> {
@@ -43,22 +24,14 @@ impl<'g, 'r, W> WatchedWriter<'g, 'r, W> {
         WatchedWriter {
             inner,
             gauge,
-            place: Place::Start,
+            lines: Lines::new(Faults::new(gauge.alloc())),
         }
     }
-}
 
-/// Counts the lines of files in a part of the manifest, after this place. Returns the place after it, too.
-fn files_in(start: Place, text: &[u8]) -> (Place, u64) {
-    let mut place = start;
-    let mut files = 0_u64;
-    for byte in text {
-        if place == Place::AfterF && *byte == b' ' {
-            files = files.saturating_add(1);
-        }
-        place = place.after(*byte);
+    /// Returns the outcomes that are no files, of the manifest as far as it is written.
+    pub fn faults(&self) -> &Faults {
+        self.lines.faults()
     }
-    (place, files)
 }
 
 impl<'g, 'r, W: Write> Write for WatchedWriter<'g, 'r, W> {
@@ -66,20 +39,28 @@ impl<'g, 'r, W: Write> Write for WatchedWriter<'g, 'r, W> {
 
     fn write(&mut self, buf: &[u8]) -> io::Result<usize> {
         self.gauge.clear();
-        self.inner.write(buf)
+        let written = self.inner.write(buf);
+        if let Ok(len) = &written {
+            if self.gauge.is_watching() {
+                self.lines.pass(self.gauge, buf.get(..*len).unwrap_or(buf));
+            }
+        }
+        written
     }
 
     fn flush(&mut self) -> io::Result<()> {
         self.gauge.clear();
-        self.inner.flush()
+        let flushed = self.inner.flush();
+        if let Some(number) = self.lines.take_refused() {
+            self.gauge.explain(number);
+        }
+        flushed
     }
 
     fn write_all(&mut self, buf: &[u8]) -> io::Result<()> {
-        if self.gauge.is_shown() {
+        if self.gauge.is_watching() {
             self.gauge.clear();
-            let (place, files) = files_in(self.place, buf);
-            self.place = place;
-            self.gauge.note_files(files);
+            self.lines.pass(self.gauge, buf);
         }
         self.inner.write_all(buf)
     }

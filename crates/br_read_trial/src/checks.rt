@@ -6,9 +6,12 @@ use br_check::check;
 use br_trial_rows::Case;
 use br_volume::MemDrive;
 
+/// The number of bytes of data that a restore holds in memory, if a row gives none.
+const MEMORY: u64 = 1 << 30;
+
 /// Prints what a check of a bootstrap finds, and whether it finds nothing.
-fn push_checked(case: &mut Case, bootstrap: &Bootstrap, drive: &mut MemDrive) {
-    match check(case.alloc(), bootstrap, drive) {
+fn push_checked(case: &mut Case, bootstrap: &Bootstrap, memory: u64, drive: &mut MemDrive) {
+    match check(case.alloc(), bootstrap, memory, drive) {
         Ok(checked) => {
             let mut text = Vec::new(case.alloc());
             case.done(checked.push_text(&mut text));
@@ -19,15 +22,20 @@ fn push_checked(case: &mut Case, bootstrap: &Bootstrap, drive: &mut MemDrive) {
     }
 }
 
-/// Runs a call: a kind of drive, its volumes, the tails by which it grows, and the text of a bootstrap.
+/// Runs a call: a kind of drive, its volumes, the tails by which it grows, the text of a bootstrap, and the
+/// number of bytes of data that a restore holds in memory, which may be missing.
 pub(crate) fn run(case: &mut Case, call: &[&str]) {
-    let [kind, volumes, tails, text] = call else {
+    let [kind, volumes, tails, text, more @ ..] = call else {
         return case.fail("a drive and a bootstrap are needed");
+    };
+    let memory = match more {
+        [memory] => case.u64_of(memory),
+        _ => MEMORY,
     };
     let mut drive = drive_of(case, kind, volumes, tails);
     let text = case.text_of(text);
     match read_bootstrap(case.alloc(), &text) {
-        Ok(bootstrap) => push_checked(case, &bootstrap, &mut drive),
+        Ok(bootstrap) => push_checked(case, &bootstrap, memory, &mut drive),
         Err(_fault) => case.fail("the bootstrap is refused"),
     }
 }

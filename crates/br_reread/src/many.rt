@@ -68,6 +68,24 @@ impl<'b, D: Drive> OverMany<'b, D> {
         self.groups
     }
 
+    /// Takes all of it out: what reads the data again, by the same drives. It has no drives after that.
+    pub fn take(&mut self, alloc: Global) -> OverMany<'b, D>
+        ensures taken { result ≡ self.old }
+        ensures none { self.new ≡ record { drives = []; groups = self.old.groups } }
+    {
+        let none = OverMany::new(alloc, Vec::new(alloc), self.groups);
+        mem::replace(self, none)
+    }
+
+    /// Puts in what was taken out.
+    pub fn put_back(&mut self, taken: OverMany<'b, D>)
+        requires none { self.old.drives ≡ [] }
+        ensures { self.new ≡ taken.entry }
+    {
+        let none = mem::replace(self, taken);
+        none.into_drives().destroy_empty();
+    }
+
     /// Takes the drives out, each in its place.
     pub fn take_drives(&mut self, alloc: Global) -> Vec<D>
         ensures drives { driven_by D.shows D.failures result.items ≡ self.old.drives }

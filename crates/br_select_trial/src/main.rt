@@ -21,6 +21,7 @@ fn run(case: &mut Case, fields: &[&str]) {
         ["history", call @ ..] => histories::run(case, call),
         ["choice", call @ ..] => choices::run(case, call),
         ["list", call @ ..] => listings::run(case, call),
+        ["local", call @ ..] => listings::run_local(case, call),
         ["tree", call @ ..] => trees::run(case, call),
         ["dialogue", call @ ..] => dialogues::run(case, call),
         ["plan", call @ ..] => plans::run(case, call),

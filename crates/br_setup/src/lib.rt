@@ -12,6 +12,6 @@ mod words;
 
 pub use catalogue::{Catalogue, CatalogueFault};
 pub use drives::{HostDrive, drives_over};
-pub use prompt::{Prompted, greet, with_prompt};
+pub use prompt::{Prompted, greet, is_attended, with_prompt};
 pub use status::{CLEAN, REFUSED, refuse_start};
 pub use words::{is_shown, tell_refusal, tell_refusals};

@@ -3,7 +3,7 @@
 use std::io::{self, IsTerminal, Read};
 
 /// Returns true if standard input and standard error are terminals.
-fn is_attended(rt: &HostRuntime) -> bool {
+pub fn is_attended(rt: &HostRuntime) -> bool {
     rt.stdin().is_terminal() && rt.stderr().is_terminal()
 }
 

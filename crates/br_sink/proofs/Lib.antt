@@ -1,4 +1,3 @@
 mod LineLaws
-pub mod WayLaws
 pub mod DeliveryLaws
 mod PartLaws

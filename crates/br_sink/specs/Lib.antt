@@ -1,6 +1,6 @@
 pub mod Fault
 pub mod Sink
+pub mod FileParts
 pub mod MemSink
-pub mod Ways
 pub mod Delivery
 pub mod Parts

@@ -4,28 +4,15 @@ ghost use Rattle.br_model.specs.Delivery.{delivery};
 ghost use Rattle.br_join.specs.Outcome.{restored};
 ghost use Rattle.br_sink.specs.Delivery.{IsStopIn, StandApart, items_in, items_put, stop_cause};
 ghost use Rattle.br_sink.specs.Sink.{HasMore};
-ghost use Rattle.br_sink.specs.Ways.{IsFreeIn, Notes};
 
 use crate::fault::{SinkStop, StopCause};
 use crate::report::{Report, totals};
 use crate::sink::Sink;
-use crate::ways::Ways;
 use br_join::Outcome;
 use br_types::FileKey;
+use br_ways::{Ways, is_next};
 use std::alloc::{AllocError, Global};
 use std::thread::Threads;
-
-/// Returns if the path conflicts with none noted before, and then notes it.
-fn is_next<'p>(ways: &mut Ways<'p>, path: &'p [u8]) -> Result<bool, AllocError>
-    ensures way { IfOk result (IsFreeIn ways.old path.now) }
-    ensures noted { IfOk result (λ free. free ≡ true → Notes ways.old ways.new path.now) }
-{
-    if !ways.is_free(path) {
-        return Ok(false);
-    }
-    ways.note(path)?;
-    Ok(true)
-}
 
 /// Returns the number of outcomes before the first file whose path conflicts with an earlier one, and the
 /// number of files among them.

@@ -7,19 +7,20 @@
 
 mod delivery;
 mod fault;
+mod file_parts;
 mod line;
 mod mem_sink;
 mod parts;
 mod report;
 mod sink;
 mod text;
-mod ways;
 mod writing;
 
 pub use br_join::Item;
 pub use delivery::{deliver, stand_apart};
 pub use fault::{SinkFault, SinkStop, StopCause};
-pub use mem_sink::MemSink;
+pub use file_parts::{Parts, PartsFault};
+pub use mem_sink::{MemSink, copy_of};
 pub use parts::{manifest_room, write_manifest};
 pub use report::{Report, totals};
 pub use sink::Sink;

@@ -55,8 +55,8 @@ impl MemSink {
     }
 }
 
-/// An equal file.
-fn copy_of(alloc: Global, item: &Item) -> Result<Item, AllocError>
+/// Returns an equal file, which shares the bytes.
+pub fn copy_of(alloc: Global, item: &Item) -> Result<Item, AllocError>
     ensures { IfOk result (λ copy. copy ≡ item.now) }
 {
     Ok(Item {

@@ -1,13 +1,17 @@
-ghost use Rattle.std.specs.Prelude.{◌≡◌, ◌∷◌, ℕ, ◌<◌, ◌≤◌, List, [], length, Option, Err, OnOk, OnErr, IfErr};
+ghost use Rattle.std.specs.Prelude.{◌≡◌, ◌∷◌, ℕ, ◌<◌, ◌≤◌, List, [], length, Option, Err, IfOk, OnOk, OnErr, IfErr};
 ghost use Rattle.std.specs.Thread.{IsSync};
 ghost use Rattle.br_model.specs.File as model;
 ghost use Rattle.br_sink.specs.Delivery.{IsStopBelow, items_in, items_put};
+ghost use Rattle.br_sink.specs.FileParts.{AreAlike, with_bytes};
 ghost use Rattle.br_sink.specs.Sink.{HasMore};
 ghost use Rattle.br_sink.specs.declared.fault.SinkFault.TheVariants.{Fault};
+ghost use Rattle.br_sink.specs.declared.file_parts.PartsFault.TheVariants as why;
 
 use crate::fault::{SinkFault, SinkStop};
-use br_join::{Item, Outcome};
+use crate::file_parts::{Parts, PartsFault, whole_of};
+use br_join::{FileBytes, Item, Outcome};
 use br_types::FileKey;
+use std::alloc::Global;
 use std::thread::Threads;
 
 /// What takes the files of a restore, one after another.
@@ -58,5 +62,29 @@ pub trait Sink {
             }
         }
         Ok(())
+    }
+
+    /// Adds a file like this one, of which the bytes are read again while it is put, and returns these. A sink
+    /// that keeps no files in memory has one part of them in memory at a time.
+    ///
+    /// `NoDriveLeft` if the bytes are not given as they were found. Then, and after `Fault` and `Memory`, the
+    /// sink has what it had; one that does not tell its files may hold a part of this one.
+    fn put_parts<P: Parts>(
+        &mut self,
+        alloc: Global,
+        item: &Item,
+        parts: &mut P,
+    ) -> Result<FileBytes, PartsFault>
+        ensures put { IfOk result (λ bytes. HasMore (with_bytes item.now bytes ∷ []) (has self.old) (has self.new)) }
+        ensures alike { IfOk result (λ bytes. AreAlike bytes item.now.bytes) }
+        ensures same { IfOk result (λ bytes. P.gives parts.old item.now → bytes ≡ item.now.bytes) }
+        ensures refused { OnErr result (has self.new ≡ has self.old) }
+        ensures counted { failures self.old ≤ failures self.new }
+        ensures failed { result ≡ Err why.Fault → failures self.old < failures self.new }
+        ensures on { P.goes_on parts.old parts.new }
+    {
+        let whole = whole_of(alloc, item, parts)?;
+        self.put(&whole)?;
+        Ok(whole.bytes)
     }
 }

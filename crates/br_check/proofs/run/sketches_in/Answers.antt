@@ -1,7 +1,7 @@
 use Rattle.std.proofs.Common.{List, ap, sym, ◌∙◌}
 use Rattle.std.specs.FinMap.{entries}
 use Rattle.std.proofs.lemmas.Result.{IfOk-weaker}
-use Rattle.br_model.specs.Meaning.{Hit, hits_of}
+use Rattle.br_model.specs.Meaning.{Hit}
 use Rattle.br_records.specs.Outline.{outlines_found}
 use Rattle.br_records.specs.Runs.{listed}
 use Rattle.br_records.proofs.SortLaws.{listed_is}
@@ -15,5 +15,5 @@ returns c =
     is
     ∙ ap (λ (hs : List Hit). outlines_found (listed hs)) c.deref.ensures.value
     ∙ ap outlines_found
-    (sym (listed_is settled c.in_ok-settle.ensures.listed) ∙ ap entries c.in_ok-settle.ensures.same ∙ ap (λ (hs : List Hit). entries (hits_of hs)) c.in_ok-hits.ensures))
+    (sym (listed_is settled c.in_ok-settle.ensures.listed) ∙ ap entries c.in_ok-settle.ensures.same))
     c.sketches_of.ensures

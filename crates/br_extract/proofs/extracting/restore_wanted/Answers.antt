@@ -91,7 +91,7 @@ returns-clause-extracts g c =
     → AllStand (map shows first) (map shows second) (pieces_of groups) volumes = λ volumes stands.
     stand_midst (pieces_of groups) volumes (map shows first) (map shows second) (map shows third) stands
     (only_grow shows failures first second c.in_ok-made.ensures.places) (only_grow shows failures second third c.deliver_made-end.ensures.places) in
-    let done : Extracted = record { end = c.deliver_made-end.result; missing = prepared.missing; left = prepared.left } in
+    let done : Extracted = record { end = c.deliver_made-end.result; missing = prepared.missing; left = prepared.left; stopped_at = c.path_at_stop-stopped_at.result; outcomes = c.replace-outcomes.result } in
     extracts_like c.args.wanted (map shows first) (map shows third) groups before after had has os kept done given
     (λ volumes stands. c.in_ok-made.ensures.files volumes (midst volumes stands))
     (λ volumes stands. gives_delivered shows failures second groups made.gathered c.args.wanted os kept wanted (c.in_ok-made.ensures.again volumes (midst volumes stands)))

@@ -1,4 +1,4 @@
-use Rattle.std.proofs.Common.{[], refl, ap, sym, ◌∙◌}
+use Rattle.std.proofs.Common.{[]}
 use Rattle.br_jobs.specs.Filter.{is_listed}
 use Rattle.br_jobs.proofs.LineLaws.{lines_more}
 use Rattle.br_jobs.proofs.listing.list_jobs.Goals as goal
@@ -8,5 +8,5 @@ loop-job-init c = ([], tt, c.new-text.ensures.items)
 
 pub loop-job-preserved : goal.loop-job-preserved
 loop-job-preserved c =
-    lines_more c.args.chosen.now (is_listed c.args.filter.now) c.args.jobs.now c.loop-job.job-index c.job-item.result c.loop-job.text.items _
+    lines_more c.args.zones.now c.args.chosen.now (is_listed c.args.filter.now) c.args.jobs.now c.loop-job.job-index c.job-item.result c.loop-job.text.items _
     c.loop-job-test.true c.job-item.is c.loop-job.invariant c.in_ok-push_job.ensures

@@ -29,6 +29,7 @@ loop-place-preserved g c =
           ∙ ap (λ (is : List Item). is ++ items_in (take n (drop place os))) l.taken ∙ append_assoc first (items_in (take place os)) (items_in (take n (drop place os)))
           ∙ sym (ap (λ (is : List Item). first ++ is) (items_next os place n));
       noted = λ start noted. c.put_some.ensures.noted start (l.noted start noted);
+      kept = λ first. c.put_some.ensures.kept first ∙ l.kept first;
       counted = omega (arith, earlier, later);
     }
 

@@ -1,4 +1,5 @@
 use Rattle.std.proofs.Common.{◌≡◌, ◌≤◌, ◌-◌, ◌++◌, length, take}
+use Rattle.br_options.specs.declared.options.Stops.TheVariants.{AtFirst}
 use Rattle.br_sink.specs.Delivery.{items_in}
 use Rattle.br_leaving.specs.Leaving.{StaysNoted}
 use Rattle.br_leaving.proofs.passing.put_each.Given as goal
@@ -9,6 +10,7 @@ invariant-loop-place g l = record {
   within : l.place ≤ length l.outcomes;
   taken : l.noted.taken.items ≡ l.initial.noted.taken.items ++ items_in (take l.place l.outcomes);
   noted : StaysNoted g.S.Sink.has g.S.Sink.failures l.initial.sink l.sink l.initial.noted l.noted;
+  kept : l.stops ≡ AtFirst → l.noted.left.items ≡ l.initial.noted.left.items;
   counted : g.S.Sink.failures l.initial.sink ≤ g.S.Sink.failures l.sink;
 }
 

@@ -1,5 +1,6 @@
-use Rattle.std.proofs.Common.{[], ◌∷◌, Err, ap, ◌∙◌}
+use Rattle.std.proofs.Common.{◌≡◌, [], ◌∷◌, Err, ap, ◌∙◌}
 use Rattle.br_sink.specs.declared.fault.SinkFault.{SinkFault}
+use Rattle.br_sink.specs.declared.fault.SinkFault.TheVariants.{Fault}
 use Rattle.br_leaving.proofs.LeavingLaws.{notes_more}
 use Rattle.br_leaving.proofs.PassingLaws.{fault_noted}
 use Rattle.br_leaving.proofs.passing.put_one.Goals as goal
@@ -12,5 +13,5 @@ returns-in-Ok-clause-noted g c = λ start noted.
 pub returns-in-Err-clause-noted : goal.returns-in-Err-clause-noted
 returns-in-Err-clause-noted g c = λ start noted.
     fault_noted start (g.S.Sink.has c.args.sink.now) (g.S.Sink.has c.put.new.self) (g.S.Sink.failures c.args.sink.now) (g.S.Sink.failures c.put.new.self)
-    c.args.noted.now c.leave_at.new.noted c.args.item.now c.in-Err.fault c.leave_at.result c.in-Err.ensures.refused c.put.ensures.counted
+    c.args.noted.now c.leave_at.new.noted c.args.item.now (c.in-Err.fault ≡ Fault) c.leave_at.result c.in-Err.ensures.refused c.put.ensures.counted
     (λ is. c.put.ensures.failed (c.in-Err.is ∙ ap (λ (f : SinkFault). Err f) is)) c.leave_at.ensures.left c.leave_at.ensures.none noted

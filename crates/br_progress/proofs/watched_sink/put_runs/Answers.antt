@@ -36,7 +36,7 @@ overflow_add-done g c =
     let before = length_taken place os l.within in
     let below = c.in-Err.ensures.stopped.within in
     let fewer = few_items run in
-    let sum : c.loop-place.done + c.done.result ≤ length os = omega (arith, below, fewer, l.few, as_many, taken, before, c.done.ensures) in
+    let sum : c.loop-place.done + c.done-put.result ≤ length os = omega (arith, below, fewer, l.few, as_many, taken, before, c.done-put.ensures) in
     search (rules, sum)
 
 -- ---- the sink stops
@@ -61,7 +61,7 @@ returns-in-Err-clause-put g c =
     let second = g.S.Sink.has c.loop-place.sink in
     let third = g.S.Sink.has c.put_all.new.self in
     let done : Stop = record { number = stop.number; done = length xs + stop.done } in
-    let new : c.new.result ≡ done = c.new.ensures ∙ (λ i. record { number = c.cause.ensures i; done = l.done i + c.done.ensures i }) in
+    let new : c.new.result ≡ done = c.new.ensures ∙ (λ i. record { number = c.cause.ensures i; done = l.done i + c.done-put.ensures i }) in
     let puts : HasMore (take (length xs + stop.done) (xs ++ (ys ++ zs))) first third =
     stops_behind xs ys zs first second third stop.done l.put c.in-Err.ensures.put (omega (arith, below.within)) in
     subst (λ (s : Stop). HasMore (take s.done (items_in os)) first third) (sym new)
@@ -84,7 +84,7 @@ returns-in-Err-clause-stopped g c =
     let ys = items_in run in
     let zs = items_in (drop (place + length run) os) in
     let done : Stop = record { number = stop.number; done = length xs + stop.done } in
-    let new : c.new.result ≡ done = c.new.ensures ∙ (λ i. record { number = c.cause.ensures i; done = l.done i + c.done.ensures i }) in
+    let new : c.new.result ≡ done = c.new.ensures ∙ (λ i. record { number = c.cause.ensures i; done = l.done i + c.done-put.ensures i }) in
     let around = ap length (items_around place n os run is few) ∙ length-append xs (ys ++ zs) in
     let rest = length-append ys zs in
     subst (IsStopBelow (length (items_in os))) (sym new) (record { number = below.number; within = omega (arith, below.within, around, rest) })

@@ -1,0 +1,7 @@
+use Rattle.std.proofs.Common.{◌≡◌, ◌++◌, take, map, flat_map}
+use Rattle.br_records.specs.Shown.{outlined}
+use Rattle.br_check.specs.Findings.{long_line}
+use Rattle.br_check.proofs.long.push_long.Given as goal
+
+abbrev pub invariant-loop-sketch : goal.invariant-loop-sketch
+invariant-loop-sketch l = l.text.items ≡ l.initial.text.items ++ flat_map long_line (map outlined (take l.sketch-index l.sketches))

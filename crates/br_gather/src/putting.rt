@@ -1,0 +1,137 @@
+//! A file that is put into a sink part by part.
+ghost use Rattle.std.specs.Prelude.{◌≡◌, ◌<◌, ◌≤◌, ◌==◌, true, false, nat_abs, Err, OnErr, OnOk};
+ghost use Rattle.std.specs.List.{list_any};
+ghost use Rattle.br_model.specs.File as file;
+ghost use Rattle.br_model.specs.Meaning as meaning;
+ghost use Rattle.br_join.specs.Runs.{AreListed};
+ghost use Rattle.br_reread.specs.Many.{GoOn};
+ghost use Rattle.br_sink.specs.declared.file_parts.PartsFault.TheVariants.{Fault};
+ghost use Rattle.br_gather.specs.FileParts.{GivesFile, GivesItem, PutsAlike};
+
+use crate::again::item_once_more;
+use crate::file_parts::FileParts;
+use crate::light::SPARSE_DATA;
+use br_again::AgainFault;
+use br_join::{Item, around};
+use br_match::Hit;
+use br_reread::OverMany;
+use br_sink::{PartsFault, Sink};
+use br_types::FileKey;
+use br_volume::Drive;
+use std::alloc::Global;
+
+/// Returns whether some of the data are sparse.
+pub(crate) fn has_sparse_data(hits: &[Hit]) -> bool
+    ensures { result ≡ list_any (λ (h : meaning.Hit). nat_abs h.fragment.stream == 6) hits.now }
+{
+    hits.iter()
+        .any(|hit| hit.stream.unsigned_abs() == SPARSE_DATA)
+}
+
+/// Returns whether a file of this type has bytes: types 2 and 3 do.
+fn has_bytes(kind: u32) -> bool
+    ensures { result ≡ file.has_bytes kind }
+{
+    kind == 2 || kind == 3
+}
+
+/// Returns whether a file of this type has the plain data of the hits as its bytes.
+fn is_plain(kind: u32, hits: &[Hit]) -> bool
+    ensures kind { result ≡ true → file.has_bytes kind ≡ true }
+    ensures none { result ≡ true → list_any (λ (h : meaning.Hit). nat_abs h.fragment.stream == 6) hits.now ≡ false }
+{
+    has_bytes(kind) && !has_sparse_data(hits)
+}
+
+/// Puts a file like this one into a sink. The plain data of the hits are read again while it is put.
+///
+/// # Errors
+///
+/// As `Gathered::put_by_parts`.
+fn put_plain<D: Drive, S: Sink>(
+    alloc: Global,
+    many: &mut OverMany<'_, D>,
+    hits: &[Hit],
+    item: &Item,
+    sink: &mut S,
+) -> Result<(), PartsFault>
+    ensures put { OnOk result (PutsAlike (GivesFile many.old hits.now item.now) item.now (S.has sink.old) (S.has sink.new)) }
+    ensures refused { OnErr result (S.has sink.new ≡ S.has sink.old) }
+    ensures counted { S.failures sink.old ≤ S.failures sink.new }
+    ensures failed { result ≡ Err Fault → S.failures sink.old < S.failures sink.new }
+    ensures on { GoOn many.old many.new }
+{
+    let mut parts = FileParts::new(alloc, hits, many.take(alloc));
+    let put = sink.put_parts(alloc, item, &mut parts);
+    many.put_back(parts.into_many());
+    match put {
+        Ok(_bytes) => Ok(()),
+        Err(fault) => Err(fault),
+    }
+}
+
+/// Returns the fault of a file that is not made once more.
+fn parts_fault_of(fault: AgainFault) -> PartsFault
+    ensures { result ≡ Fault → ⊥ }
+{
+    match fault {
+        AgainFault::Memory => PartsFault::Memory,
+        AgainFault::Failed | AgainFault::Changed => PartsFault::NoDriveLeft,
+    }
+}
+
+/// Makes the file once more in memory, and puts it into a sink.
+///
+/// # Errors
+///
+/// As `Gathered::put_by_parts`.
+fn put_whole<D: Drive, S: Sink>(
+    alloc: Global,
+    many: &mut OverMany<'_, D>,
+    hits: &[Hit],
+    key: FileKey,
+    item: &Item,
+    sink: &mut S,
+) -> Result<(), PartsFault>
+    requires { AreListed hits.now }
+    ensures put { OnOk result (PutsAlike (GivesItem many.old hits.now key item.now) item.now (S.has sink.old) (S.has sink.new)) }
+    ensures refused { OnErr result (S.has sink.new ≡ S.has sink.old) }
+    ensures counted { S.failures sink.old ≤ S.failures sink.new }
+    ensures failed { result ≡ Err Fault → S.failures sink.old < S.failures sink.new }
+    ensures on { GoOn many.old many.new }
+{
+    match item_once_more(alloc, many, hits, key, item) {
+        Ok(made) => {
+            sink.put(&made)?;
+            Ok(())
+        }
+        Err(fault) => Err(parts_fault_of(fault)),
+    }
+}
+
+/// Puts a file like this one, made of the hits with its key, into a sink.
+///
+/// # Errors
+///
+/// As `Gathered::put_by_parts`.
+pub(crate) fn put_file<D: Drive, S: Sink>(
+    alloc: Global,
+    many: &mut OverMany<'_, D>,
+    hits: &[Hit],
+    key: FileKey,
+    item: &Item,
+    sink: &mut S,
+) -> Result<(), PartsFault>
+    requires { AreListed hits.now }
+    ensures put { OnOk result (PutsAlike (GivesItem many.old hits.now key item.now) item.now (S.has sink.old) (S.has sink.new)) }
+    ensures refused { OnErr result (S.has sink.new ≡ S.has sink.old) }
+    ensures counted { S.failures sink.old ≤ S.failures sink.new }
+    ensures failed { result ≡ Err Fault → S.failures sink.old < S.failures sink.new }
+    ensures on { GoOn many.old many.new }
+{
+    let (_, run, _) = around(hits, key);
+    if !is_plain(item.kind, run) {
+        return put_whole(alloc, many, hits, key, item, sink);
+    }
+    put_plain(alloc, many, run, item, sink)
+}

@@ -1,0 +1,15 @@
+-- What is told of a restore beside the manifest.
+use Rattle.std.specs.Prelude.{ℕ, List, ◌++◌, codes, decimal}
+use Rattle.br_model.specs.Text.{escaped, line}
+
+-- the line of a file that was put
+abbrev pub put_line : List ℕ → List ℕ
+put_line path = line (codes "put " ++ escaped path)
+
+-- the line of a file at which the sink failed
+abbrev pub failed_line : List ℕ → List ℕ
+failed_line path = line (codes "failed " ++ escaped path)
+
+-- the line that tells how many files of how many were put
+abbrev pub count_line : ℕ → ℕ → List ℕ
+count_line put files = line (decimal put ++ codes " of " ++ decimal files ++ codes " files were put")

@@ -1,0 +1,45 @@
+//! A file to which lines are appended while a restore runs.
+
+use std::fs::{File, OpenOptions};
+use std::io::{self, Write};
+use std::sync::atomic::{AtomicBool, Ordering};
+
+/// A file to which lines are appended while a restore runs. Each part is written at once, so that the file
+/// has it even if the program is killed after that.
+#[derive(Drop)]
+pub struct Log {
+    file: File,
+    /// True once a part was lost.
+    is_torn: AtomicBool,
+}
+
+impl Log {
+    /// Opens the file at a path to append to it, and makes it if it is not there.
+    pub fn open(rt: &HostRuntime, path: &str) -> io::Result<Log> {
+        let mut how = OpenOptions::new();
+        how.append(true).create(true);
+        let file = how.open(rt, path)?;
+        Ok(Log {
+            file,
+            is_torn: AtomicBool::new(false),
+        })
+    }
+
+    /// Appends lines. A log that can't be written stops nothing: it is torn then.
+    pub(crate) fn append(&self, lines: &[u8]) {
+        let mut file = &self.file;
+        if file.write_all(lines).is_err() {
+            self.tear();
+        }
+    }
+
+    /// Notes that a part was lost.
+    pub(crate) fn tear(&self) {
+        self.is_torn.store(true, Ordering::SeqCst);
+    }
+
+    /// Returns true if a part was lost.
+    pub(crate) fn is_torn(&self) -> bool {
+        self.is_torn.load(Ordering::SeqCst)
+    }
+}

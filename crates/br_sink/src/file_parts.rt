@@ -1,0 +1,140 @@
+//! Files of which the bytes are read again, part by part, while they are put.
+ghost use Rattle.std.specs.Prelude.{◌≡◌, Err, IfOk, OnErr};
+ghost use Rattle.std.specs.Io.KnownBytes.{Appends};
+ghost use Rattle.br_model.specs.File as model;
+ghost use Rattle.br_sink.specs.Fault.{cause_number};
+ghost use Rattle.br_sink.specs.FileParts.{AreAlike, WritesSome, parts_fault, parts_number, with_bytes};
+ghost use Rattle.br_sink.specs.declared.file_parts.PartsFault.TheVariants as why;
+
+use crate::fault::{SinkFault, StopCause};
+use br_join::{FileBytes, Item};
+use std::alloc::{AllocError, Global};
+use std::io::Write;
+use thiserror::Error;
+
+/// The reason why a file was not put part by part.
+#[derive(Clone, Copy, Debug, PartialEq, Eq, Error)]
+pub enum PartsFault {
+    #[error("out of memory")]
+    Memory,
+    #[error("the sink failed to put a file")]
+    Fault,
+    /// No drive is left that gives its bytes as they were found.
+    #[error("no drive is left that gives the data of the file")]
+    NoDriveLeft,
+}
+
+impl PartsFault {
+    /// Returns why a delivery stops at the file.
+    pub fn cause(self) -> StopCause
+        ensures { cause_number result ≡ parts_number self }
+    {
+        match self {
+            PartsFault::Memory => StopCause::Memory,
+            PartsFault::Fault => StopCause::Fault,
+            PartsFault::NoDriveLeft => StopCause::NoDriveLeft,
+        }
+    }
+}
+
+impl From<AllocError> for PartsFault {
+    ghost from_gives = { λ _ e. e ≡ why.Memory };
+
+    fn from(_e: AllocError) -> PartsFault {
+        PartsFault::Memory
+    }
+}
+
+impl From<SinkFault> for PartsFault {
+    ghost from_gives = { λ fault e. e ≡ parts_fault fault };
+
+    fn from(fault: SinkFault) -> PartsFault {
+        match fault {
+            SinkFault::Memory => PartsFault::Memory,
+            SinkFault::Fault => PartsFault::Fault,
+        }
+    }
+}
+
+/// What reads the bytes of a file again, one part after another.
+pub trait Parts {
+    /// It gives the bytes of this file as they are.
+    ghost gives: { Self → model.Item → Type 0 };
+
+    /// What it was before it read, and what it may be after that.
+    ghost goes_on: { Self → Self → Type 0 };
+
+    /// Writes the bytes of the file, each part as it is read, and returns them; they are not in memory. They
+    /// are as many as those of the item, and have the same digest.
+    ///
+    /// # Errors
+    ///
+    /// Some bytes may be written, as many as the item has at most.
+    ///
+    /// - `NoDriveLeft` if no drive is left that gives such bytes.
+    /// - `Fault` if the writer failed.
+    /// - `Memory` if memory ran out, also that of the writer.
+    fn write_to<W: Write>(&mut self, item: &Item, writer: &mut W) -> Result<FileBytes, PartsFault>
+        ensures all { IfOk result (λ bytes. Appends (W.contents writer.old) (W.contents writer.new) bytes) }
+        ensures alike { IfOk result (λ bytes. AreAlike bytes item.now.bytes) }
+        ensures same { IfOk result (λ bytes. gives self.old item.now → bytes ≡ item.now.bytes) }
+        ensures front { OnErr result (WritesSome item.now.bytes (W.contents writer.old) (W.contents writer.new)) }
+        ensures on { goes_on self.old self.new };
+
+    /// One that has read nothing went on.
+    ghost stays: { (x : Self) → goes_on x x };
+}
+
+/// Reads the bytes of the file into memory.
+///
+/// # Errors
+///
+/// `NoDriveLeft` and `Memory`, as `Parts::write_to`.
+fn read_all<P: Parts>(alloc: Global, item: &Item, parts: &mut P) -> Result<Vec<u8>, PartsFault>
+    ensures alike { IfOk result (λ bytes. AreAlike bytes.items item.now.bytes) }
+    ensures same { IfOk result (λ bytes. P.gives parts.old item.now → bytes.items ≡ item.now.bytes) }
+    ensures never { result ≡ Err why.Fault → ⊥ }
+    ensures on { P.goes_on parts.old parts.new }
+{
+    let mut bytes = Vec::new(alloc);
+    match parts.write_to(item, &mut bytes) {
+        Ok(_) => Ok(bytes),
+        Err(PartsFault::NoDriveLeft) => Err(PartsFault::NoDriveLeft),
+        Err(PartsFault::Memory | PartsFault::Fault) => Err(PartsFault::Memory),
+    }
+}
+
+/// Returns the file with these bytes.
+fn item_with(alloc: Global, item: &Item, bytes: Vec<u8>) -> Result<Item, AllocError>
+    ensures { IfOk result (λ made. made ≡ with_bytes item.now bytes.items) }
+{
+    Ok(Item {
+        path: item.path.copy(alloc)?,
+        kind: item.kind,
+        stat: item.stat,
+        link: Vec::from_slice(alloc, &item.link)?,
+        bytes: FileBytes::new(alloc, bytes)?,
+        skipped: item.skipped,
+    })
+}
+
+/// Returns the file with its bytes in memory.
+///
+/// # Errors
+///
+/// `NoDriveLeft` and `Memory`, as `Parts::write_to`.
+pub(crate) fn whole_of<P: Parts>(
+    alloc: Global,
+    item: &Item,
+    parts: &mut P,
+) -> Result<Item, PartsFault>
+    ensures made { IfOk result (λ made. made ≡ with_bytes item.now made.bytes) }
+    ensures alike { IfOk result (λ made. AreAlike made.bytes item.now.bytes) }
+    ensures same { IfOk result (λ made. P.gives parts.old item.now → made.bytes ≡ item.now.bytes) }
+    ensures never { result ≡ Err why.Fault → ⊥ }
+    ensures on { P.goes_on parts.old parts.new }
+{
+    let bytes = read_all(alloc, item, parts)?;
+    let whole = item_with(alloc, item, bytes)?;
+    Ok(whole)
+}
