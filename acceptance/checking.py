@@ -4,8 +4,9 @@
     acceptance/checking.py                     needs the program in crates/brestore/out
     acceptance/checking.py --program FILE      another program
 
-What a check of a case must find is worked out from the case's manifest: its files and their bytes, the files that can't be restored, and
-the paths that come more than once. The status is 1 if something is not as expected.
+What a check of a case must find is worked out from the case's manifest: its files and their bytes, the files that can't be restored, the
+paths that conflict, and those that come more than once. The memory is worked out from the fragments that `reading.py` finds. The status is
+1 if something is not as expected.
 """
 
 import argparse
@@ -20,7 +21,10 @@ from pathlib import Path
 sys.dont_write_bytecode = True
 sys.path.insert(0, os.path.join(os.path.dirname(os.path.dirname(os.path.abspath(__file__))), "tools"))
 from cases import unpack
-from common import CASES, PROGRAM, SETS, Checks
+from common import CASES, MIB, PROGRAM, SETS, Checks, unescaped
+from delivered import is_on_the_way
+from leaving import write_volume
+from reading import Fault, groups_of, walk
 
 NAME = "Vol-0001"
 
@@ -36,14 +40,56 @@ def copy_lines(files):
     return lines
 
 
+def conflict_lines(files):
+    """Returns the lines of the files whose paths conflict with one before, and not with one alone that conflicts itself."""
+    lines, kept = [], []
+    for session, time, index, path in files:
+        own = unescaped(path.encode())
+        if any(is_on_the_way(own, other) or is_on_the_way(other, own) for other in kept):
+            lines.append(f"conflict {session} {time} {index} {path}\n")
+        else:
+            kept.append(own)
+    return lines
+
+
 def found(manifest):
     """Returns the findings in the files of a manifest, and the line of their number and bytes."""
     fields = [line.split(" ") for line in manifest.splitlines()]
     files = [it for it in fields if it[0] == "F"]
     faults = [it for it in fields if it[0] == "X"]
     lines = [" ".join(["file", it[4], *it[1:4], *it[5:]]) + "\n" for it in faults]
-    lines += copy_lines([(*it[1:4], it[5]) for it in files])
+    named = [(*it[1:4], it[5]) for it in files]
+    lines += conflict_lines(named) + copy_lines(named)
     return lines, f"total {len(files)} {sum(int(it[-2]) for it in files)}\n"
+
+
+def fragments_of(bsr, volumes):
+    """Returns the fragments that a bootstrap asks for on each volume that can be searched to its end, by file."""
+    groups, fragments = groups_of(Path(bsr).read_bytes()), {}
+    for name in dict.fromkeys(group[b"volume"] for group in groups):
+        volume, on_it = Path(volumes) / name.decode(), {}
+        own = [(n, group) for n, group in enumerate(groups) if group[b"volume"] == name]
+        try:
+            walk(volume.read_bytes() if volume.exists() else b"", own, on_it)
+        except Fault:
+            continue
+        for key, hits in on_it.items():
+            fragments.setdefault(key, []).extend(hits)
+    return fragments
+
+
+def memory_line(bsr, volumes, manifest, budget=1 << 30):
+    """Returns the line of the memory that a restore of the files of a manifest asks for."""
+    fragments = fragments_of(bsr, volumes)
+    files = [line.split(" ") for line in manifest.splitlines() if line.startswith("F ")]
+    paths, size = sum(len(unescaped(it[5].encode())) for it in files), sum(int(it[-2]) for it in files)
+    held = 64 * MIB + 200 * sum(len(hits) for hits in fragments.values()) + 400 * len(fragments)
+    return f"memory {held + paths + min(budget, size)}\n"
+
+
+def with_memory(text, bsr, volumes, manifest):
+    """Returns what is expected of a check with the line of the memory before that of the files."""
+    return text.replace("total ", memory_line(bsr, volumes, manifest) + "total ")
 
 
 class BootstrapChecks(Checks):
@@ -60,9 +106,15 @@ def checks_cases(checks, folder):
         unpack(Path(SETS) / (case / "set").read_text().strip(), volumes)
         before = {it.name: it.read_bytes() for it in volumes.iterdir()}
         refused = (case / "stderr").read_text()
-        lines, total = found((case / "expected").read_text())
-        expected = (1, "", refused) if refused else (1 if lines else 0, "".join(lines) + total, "")
+        manifest = (case / "expected").read_text()
+        lines, total = found(manifest)
+        if refused:
+            expected, small = ((1, "", refused),) * 2
+        else:
+            memories = [memory_line(case / "x.bsr", volumes, manifest, budget) for budget in (1 << 30, 10)]
+            expected, small = [(1 if lines else 0, "".join(lines) + memory + total, "") for memory in memories]
         checks.check(case.name, checks.run(case / "x.bsr", volumes), expected)
+        checks.check("and its memory for 10 bytes of data", checks.run(case / "x.bsr", volumes, "--memory", "10"), small)
         checks.check("and its checksums", checks.run(case / "x.bsr", volumes, "--checksums"), expected)
         checks.check("and its volumes stay", {it.name: it.read_bytes() for it in volumes.iterdir()} == before, True)
 
@@ -83,27 +135,29 @@ def checks_spoilt(checks, folder):
     nothing = f"missing 1 1795302931 1-2 {NAME}\nmissing 1 1795302931 4-5 {NAME}\nmissing 1 1795302940 1 {NAME}\ntotal 0 0\n"
     volumes = new_volumes(folder)
     whole = (volumes / NAME).read_bytes()
-    for name, data, expected in [
-        ("a volume that ends before the last session", whole[:1656], f"missing 1 1795302940 1 {NAME}\n{found(full)[1]}"),
-        ("a volume that ends within a block", whole[:1700], f"volume 12 {NAME} 1656\n{nothing}"),
-        ("an empty volume", b"", nothing),
-        ("other bytes", b"These bytes are no block of a volume.", f"volume 10 {NAME} 0\n{nothing}"),
+    for name, data, expected, files in [
+        ("a volume that ends before the last session", whole[:1656], f"missing 1 1795302940 1 {NAME}\n{found(full)[1]}", full),
+        ("a volume that ends within a block", whole[:1700], f"volume 12 {NAME} 1656\n{nothing}", ""),
+        ("an empty volume", b"", nothing, ""),
+        ("other bytes", b"These bytes are no block of a volume.", f"volume 10 {NAME} 0\n{nothing}", ""),
     ]:
         (volumes / NAME).write_bytes(data)
-        checks.check(name, checks.run(bsr, volumes), (1, expected, ""))
+        checks.check(name, checks.run(bsr, volumes), (1, with_memory(expected, bsr, volumes, files), ""))
     os.remove(volumes / NAME)
-    checks.check("a missing volume", checks.run(bsr, volumes), (1, f"volume 14 {NAME} 0\n{nothing}", ""))
-    checks.check("a missing folder", checks.run(bsr, volumes / "no"), (1, f"volume 14 {NAME} 0\n{nothing}", ""))
+    gone = with_memory(f"volume 14 {NAME} 0\n{nothing}", bsr, volumes, "")
+    checks.check("a missing volume", checks.run(bsr, volumes), (1, gone, ""))
+    checks.check("a missing folder", checks.run(bsr, volumes / "no"), (1, gone, ""))
     (volumes / NAME).write_bytes(whole)
     (volumes / "Vol-0002").write_bytes(whole)
     other = volumes / "other.bsr"
     other.write_text(bsr.read_text().replace(NAME, "Vol-0002"))
-    checks.check("a volume under another name", checks.run(other, volumes), (1, f"label Vol-0002 {NAME}\n{total}", ""))
+    label = with_memory(f"label Vol-0002 {NAME}\n{total}", other, volumes, manifest)
+    checks.check("a volume under another name", checks.run(other, volumes), (1, label, ""))
     many = volumes / "many.bsr"
     many.write_text(f'Volume="A"\nVolume="{NAME}"\nVolSessionId=1\nVolSessionTime=1795302940\nFileIndex=1\nVolume="B C"\nVolume="D"\n')
-    checks.check(
-        "three missing volumes", checks.run(many, volumes), (1, "volume 14 A 0\nvolume 14 B\\x20C 0\nvolume 14 D 0\ntotal 1 24\n", "")
-    )
+    one = "".join(line for line in manifest.splitlines(keepends=True) if line.startswith("F 1 1795302940 "))
+    gone = with_memory("volume 14 A 0\nvolume 14 B\\x20C 0\nvolume 14 D 0\ntotal 1 24\n", many, volumes, one)
+    checks.check("three missing volumes", checks.run(many, volumes), (1, gone, ""))
     status, out, _ = checks.run(volumes / "no.bsr", volumes)
     checks.check("a bootstrap that is not there", (status, out), (3, ""))
 
@@ -130,13 +184,15 @@ def checks_flipped(checks, folder):
         ("a time in the attributes, which is not compared", whole.index(b"BrAiYS", at) + 1, line),
     ]:
         (volumes / NAME).write_bytes(flipped(whole, place))
-        lines, total = found(manifest.replace(line, changed))
-        checks.check(name, checks.run(case / "x.bsr", volumes), (1 if lines else 0, "".join(lines) + total, ""))
+        files = manifest.replace(line, changed)
+        lines, total = found(files)
+        expected = with_memory("".join(lines) + total, case / "x.bsr", volumes, files)
+        checks.check(name, checks.run(case / "x.bsr", volumes), (1 if lines else 0, expected, ""))
     last = at + len(f"2 3 {path}") - 1
     (volumes / NAME).write_bytes(whole[:last] + b"\xff" + whole[last + 1 :])
     _, total = found(manifest)
-    odd = f"name 1 1795302931 2 {path[:-1]}\\xff\n"
-    checks.check("a path that is not UTF-8", checks.run(case / "x.bsr", volumes), (1, odd + total, ""))
+    odd = with_memory(f"name 1 1795302931 2 {path[:-1]}\\xff\n{total}", case / "x.bsr", volumes, manifest)
+    checks.check("a path that is not UTF-8", checks.run(case / "x.bsr", volumes), (1, odd, ""))
     (volumes / NAME).write_bytes(flipped(whole, 206 + 12))
     status, out, _ = checks.run(case / "x.bsr", volumes)
     checks.check("a block of another level", (status, out.splitlines()[0]), (1, f"volume 10 {NAME} 206"))
@@ -155,9 +211,10 @@ def block_at(data, place):
 def checks_sums(checks, folder):
     """Blocks of which one bit is another, with their checksums compared."""
     case = Path(CASES) / "order-inc"
-    lines, total = found((case / "expected").read_text())
-    clean = "".join(lines) + total
+    manifest = (case / "expected").read_text()
+    lines, total = found(manifest)
     volumes = new_volumes(folder)
+    clean = with_memory("".join(lines) + total, case / "x.bsr", volumes, manifest)
     whole = (volumes / NAME).read_bytes()
     # A letter of a time in the attributes of a file, which nothing else compares.
     place = whole.index(b"BrAiYS") + 1
@@ -188,6 +245,42 @@ def checks_sums(checks, folder):
     checks.check("a volume that ends within a later block", (status, told), (1, [f"volume 12 {NAME} 1656", f"checksum {NAME} {address}"]))
 
 
+def checks_long(checks, folder):
+    """Names of 255 and 256 bytes, and paths up to 4,096 bytes: the check says which of them a folder takes, and a restore by them agrees."""
+    deep = b"/".join([b"", *[b"d" * 200] * 20, b""])
+    long = {b"/" + b"n" * 255: False, b"/" + b"n" * 256: True, b"/" + b"m" * 256 + b"/f": True, deep + b"e" * (4094 - len(deep)): False}
+    long[deep + b"e" * (4095 - len(deep))] = long[deep + b"e" * (4096 - len(deep))] = True
+    made = Path(tempfile.mkdtemp(dir=folder))
+    manifest = write_volume(made, [(path, b"data") for path in long])
+    wanted = [line.split(b" ") for line in manifest.splitlines()]
+    lines = [b" ".join([b"long", *it[1:4], it[5]]).decode() + "\n" for it, is_long in zip(wanted, long.values()) if is_long]
+    expected = with_memory("".join(lines) + f"total {len(long)} {4 * len(long)}\n", made / "x.bsr", made / "volumes", manifest.decode())
+    checks.check("long names", checks.run(made / "x.bsr", made / "volumes"), (1, expected, ""))
+    # The folder is named by one byte.
+    (made / "o").mkdir()
+    words = [checks.program, "extract", "--bsr", "x.bsr", "--volumes", "volumes", "--into", "o", "--keep-going"]
+    ran = subprocess.run(words, cwd=made, stdin=subprocess.DEVNULL, capture_output=True)
+    left = b"".join(b"left 80 " + it[5] + b"\n" for it, is_long in zip(wanted, long.values()) if is_long)
+    checks.check("and a restore of them", (ran.returncode, ran.stdout, ran.stderr), (1, manifest, left))
+
+
+def checks_conflicts(checks, folder):
+    """Paths that conflict: the lines of a check are what a restore leaves out for them."""
+    paths = [b"/a/b", b"/a", b"/a/", b"/a/b/c", b"/ab", b"/a/b/", b"/d/e/f", b"/d/e", b"/d/e/g"]
+    made = Path(tempfile.mkdtemp(dir=folder))
+    manifest = write_volume(made, [(path, b"data") for path in paths])
+    odd = [f"name 1 100 {index} {path.decode()}\n" for index, path in enumerate(paths, 1) if path.endswith(b"/")]
+    conflicting = [(2, b"/a"), (4, b"/a/b/c"), (6, b"/a/b/"), (8, b"/d/e")]
+    lines = [f"conflict 1 100 {index} {path.decode()}\n" for index, path in conflicting]
+    expected = with_memory("".join(odd + lines) + "total 9 36\n", made / "x.bsr", made / "volumes", manifest.decode())
+    checks.check("paths that conflict", checks.run(made / "x.bsr", made / "volumes"), (1, expected, ""))
+    (made / "into").mkdir()
+    words = [checks.program, "extract", "--bsr", made / "x.bsr", "--volumes", made / "volumes", "--into", made / "into", "--keep-going"]
+    ran = subprocess.run(words, stdin=subprocess.DEVNULL, capture_output=True)
+    left = b"".join(b"left 81 %s\n" % path for _, path in conflicting) + b"left 80 /a/\n"
+    checks.check("and a restore of them", (ran.returncode, ran.stdout, ran.stderr), (1, manifest, left))
+
+
 def checks_mistakes(checks, folder):
     """What an operator may mistake for the bootstrap or its volumes."""
     bsr = Path(CASES) / "order-inc" / "x.bsr"
@@ -195,7 +288,7 @@ def checks_mistakes(checks, folder):
     lines = bsr.read_text()
     spoilt = volumes / "spoilt.bsr"
     for name, text, expected in [
-        ("an empty bootstrap", "", (0, "total 0 0\n", "")),
+        ("an empty bootstrap", "", (0, f"memory {64 * MIB}\ntotal 0 0\n", "")),
         ("a line that is not supported", lines + "Job=1\n", (1, "", f"refused 32 line {len(lines.splitlines()) + 1}\n")),
         ("an unknown word in the first line", "Volumes=A\n" + lines, (1, "", "refused 31 line 1\n")),
     ]:
@@ -205,7 +298,8 @@ def checks_mistakes(checks, folder):
     checks.check("a folder in place of the bootstrap", (status, out), (3, ""))
     unpack(Path(SETS) / "swap", volumes / "swap")
     missing = f"missing 1 1795302931 1-2 {NAME}\nmissing 1 1795302931 4-5 {NAME}\nmissing 1 1795302940 1 {NAME}\n"
-    checks.check("the volume of another set", checks.run(bsr, volumes / "swap"), (1, f"{missing}total 0 0\n", ""))
+    missing += f"memory {64 * MIB}\ntotal 0 0\n"
+    checks.check("the volume of another set", checks.run(bsr, volumes / "swap"), (1, missing, ""))
     words = [checks.program, "check", "--bsr", bsr, "--volumes", volumes]
     with open("/dev/full", "w") as full:
         ran = subprocess.run(words, stdin=subprocess.DEVNULL, stdout=full, stderr=subprocess.PIPE, text=True)
@@ -221,6 +315,8 @@ def main():
         checks_spoilt(checks, Path(folder))
         checks_flipped(checks, Path(folder))
         checks_sums(checks, Path(folder))
+        checks_long(checks, Path(folder))
+        checks_conflicts(checks, Path(folder))
         checks_mistakes(checks, Path(folder))
     return 1 if checks.failed else 0
 

@@ -21,10 +21,12 @@ import sys
 import tempfile
 import termios
 import time
+from pathlib import Path
 
 # Nothing is left beside the script.
 sys.dont_write_bytecode = True
 sys.path.insert(0, os.path.join(os.path.dirname(os.path.dirname(os.path.abspath(__file__))), "tools"))
+from cases import unpack
 from common import CASES, ORDER_SQL, PROGRAM, SETS, Checks
 from explain import rows
 
@@ -36,7 +38,7 @@ CLEARED = "\r\x1b[K"
 PROMPT = "$ "
 GREETING = [
     "Mark files with `mark NAME`, or all with `mark *`. `ls` lists, `cd NAME` goes into a folder.",
-    "`done` restores what is marked, and `quit` restores nothing.",
+    "`done` restores what is marked, and `quit` restores nothing. `help` lists all commands.",
 ]
 CHOSEN = [
     "chosen: * 1 F T 2026-11-21 23:15:33 peer-fd Peer 5 21 Vol-0001",
@@ -50,6 +52,19 @@ def told(number, line=None):
     """The lines of a refusal at a terminal."""
     _, name, meaning, following = next(row for row in rows() if row[0] == number)
     return [line or f"refused {number}", f"  {name}: {meaning}", f"  Next: {following}"]
+
+
+def words(number):
+    """The two lines beside a refusal."""
+    return told(number)[1:]
+
+
+def count(put, files):
+    return f"{put} of {files} files were put"
+
+
+def files_in(manifest):
+    return sum(line.startswith("F ") for line in manifest.splitlines())
 
 
 def read_until(terminal, text, wanted, ends):
@@ -122,7 +137,8 @@ def restores(checks, folder):
     with open(ORDER_SQL) as text:
         subprocess.run(["sqlite3", db], stdin=text, check=True)
     status, shown, printed = play(checks.program, console_words(db, into), [], folder)
-    checks.check("a folder that is not there", (status, shown, printed), (1, told(81), ""))
+    reason = f"  {into} is refused by the system: No such file or directory (os error 2). Next: Make the folder, or correct its name."
+    checks.check("a folder that is not there", (status, shown, printed), (1, [*told(81), reason], ""))
     os.mkdir(into)
     status, shown, printed = play(checks.program, console_words(os.path.join(folder, "nothing.db"), into), [], folder)
     checks.check("a catalogue that is not there", (status, shown, printed), (1, told(45), ""))
@@ -130,16 +146,20 @@ def restores(checks, folder):
     checks.check("another client", (status, shown, printed), (1, told(53), ""))
     status, shown, printed = play(checks.program, console_words(db, into), typed("done"), folder)
     checks.check("nothing is marked", (status, shown, printed), (1, [*CHOSEN, *GREETING, *told(51, f"{PROMPT}refused 51")], ""))
-    lines = typed("frob", "ls", "mark *", "done")
-    status, shown, printed = play(checks.program, console_words(db, into), lines, folder)
-    checks.check("a session with a line that is refused", (status, shown), (1, [*CHOSEN, *GREETING, PROMPT * 4]))
     with open(os.path.join(CASES, "order-inc", "expected")) as text:
         manifest = text.read()
+    lines = typed("frob", "ls", "mark *", "done")
+    status, shown, printed = play(checks.program, console_words(db, into), lines, folder)
+    put = files_in(manifest)
+    wanted = [*CHOSEN, *GREETING, PROMPT + words(55)[0], words(55)[1], PROMPT * 3 + count(put, put)]
+    checks.check("a session with a line that is refused", (status, shown), (1, wanted))
     checks.check("and its answers", (printed.startswith("refused 55\n"), printed.endswith(manifest)), (True, True))
     with open(os.path.join(into, "tmp/peerlab/src/sub/f2")) as text:
         checks.check("and a file", len(text.read()), 24)
     status, shown, printed = play(checks.program, console_words(db, into), [], folder)
-    checks.check("a second restore into the folder", (status, shown, printed), (1, told(81), ""))
+    reason = f"  {into} is a folder that is not empty. Next: Choose an empty folder; "
+    reason += "`extract --resume` goes on with a restore that was cut off."
+    checks.check("a second restore into the folder", (status, shown, printed), (1, [*told(81), reason], ""))
 
 
 def extracts(checks, folder):
@@ -147,15 +167,47 @@ def extracts(checks, folder):
     empty, cut = os.path.join(folder, "empty"), os.path.join(folder, "cut")
     for place in (empty, cut):
         os.mkdir(place)
-    words = ["extract", "--bsr", BOOTSTRAP, "--volumes"]
-    status, shown, printed = play(checks.program, [*words, empty], [], folder)
+    extract = ["extract", "--bsr", BOOTSTRAP, "--volumes"]
+    status, shown, printed = play(checks.program, [*extract, empty], [], folder)
     checks.check("a volume that is missing", (status, shown, printed), (1, told(14, "refused 14 Vol-0001 0"), ""))
     with open(os.path.join(VOLUMES, "Vol-0001"), "rb") as whole, open(os.path.join(cut, "Vol-0001"), "wb") as part:
         part.write(whole.read()[:300])
-    status, shown, printed = play(checks.program, [*words, cut], [], folder)
+    status, shown, printed = play(checks.program, [*extract, cut], [], folder)
     checks.check("a volume that is cut", (status, shown, printed), (1, told(12, "refused 12 Vol-0001 206"), ""))
-    status, shown, printed = play(checks.program, [*words, VOLUMES], [], folder)
+    status, shown, printed = play(checks.program, [*extract, VOLUMES], [], folder)
     checks.check("a restore without a fault shows nothing", (status, shown), (0, []))
+    spoilt(checks, folder)
+
+
+def spoilt(checks, folder):
+    """A restore of which some outcomes are no files, with a file in the place of a folder, and the same once more with mistakes put right."""
+    case, into, volumes = os.path.join(CASES, "feat-full"), os.path.join(folder, "spoilt"), os.path.join(folder, "feat")
+    unpack(Path(SETS) / "feat", Path(volumes))
+    with open(os.path.join(case, "expected")) as text:
+        manifest = text.read()
+    outcomes = [line.split(" ") for line in manifest.splitlines() if line.startswith("X ")]
+    keys = ", ".join(f"{' '.join(fields[1:4])} (stream {fields[5]})" for fields in outcomes if fields[4] == "65")
+    number = sum(fields[4] == "65" for fields in outcomes)
+    paths = [line.split(" ")[5] for line in manifest.splitlines() if line.startswith("F ")]
+    outcome = [f"outcome 65 of {number} files: {keys}", *words(65)]
+    extract = ["extract", "--bsr", os.path.join(case, "x.bsr"), "--volumes", volumes]
+    status, shown, printed = play(checks.program, extract, [], folder)
+    checks.check("outcomes that are no files", (status, shown, printed), (1, outcome, manifest))
+    os.mkdir(into)
+    top = os.path.join(into, paths[0].split("/")[1])
+    with open(top, "w") as file:
+        file.write("in the way")
+    extract += ["--into", into]
+    reason = f"  {top} is a file, and has to be a folder. Next: Move it away, or choose another folder."
+    status, shown, printed = play(checks.program, [*extract, "--resume"], [], folder)
+    checks.check("a file in the way", (status, shown, printed), (1, [*told(80), reason, *outcome, count(0, len(paths))], manifest))
+    status, shown, printed = play(checks.program, [*extract, "--resume", "--quiet"], [], folder)
+    checks.check("and with --quiet", (status, shown, printed), (1, [*told(80), reason, *outcome, count(0, len(paths))], manifest))
+    os.remove(top)
+    status, shown, printed = play(checks.program, [*extract, "--resume"], [], folder)
+    checks.check("and moved away", (status, shown, printed), (1, [*outcome, count(len(paths), len(paths))], manifest))
+    status, shown, printed = play(checks.program, [*extract, "--resume", "--quiet"], [], folder)
+    checks.check("once more with --quiet", (status, shown, printed), (1, outcome, manifest))
 
 
 def tells(checks, folder):
@@ -165,15 +217,16 @@ def tells(checks, folder):
         os.mkdir(place)
     with open(os.path.join(CASES, "order-inc", "expected")) as text:
         manifest = text.read()
-    files = sum(line.startswith("F ") for line in manifest.splitlines())
-    words = ["extract", "--bsr", BOOTSTRAP, "--volumes", VOLUMES, "--into"]
-    status, shown, printed = play_slowly(checks.program, [*words, into[0]])
+    files = files_in(manifest)
+    extract = ["extract", "--bsr", BOOTSTRAP, "--volumes", VOLUMES, "--into"]
+    status, shown, printed = play_slowly(checks.program, [*extract, into[0]])
     checks.check("a restore that takes its time", (status, printed), (0, manifest))
     begun = f"\r0.0 MiB of 0.0 MiB read, 0 of {files} files put\x1b[K"
-    checks.check("is told", (shown[:len(begun)], shown[-len(CLEARED):]), (begun, CLEARED))
-    status, shown, printed = play_slowly(checks.program, [*words, into[1], "--quiet"])
+    ended = f"{CLEARED}{count(files, files)}\n"
+    checks.check("is told", (shown[:len(begun)], shown[-len(ended):]), (begun, ended))
+    status, shown, printed = play_slowly(checks.program, [*extract, into[1], "--quiet"])
     checks.check("and not with --quiet", (status, shown, printed), (0, "", manifest))
-    status, shown, printed = play_slowly(checks.program, [*words, into[2]], at_terminal=False)
+    status, shown, printed = play_slowly(checks.program, [*extract, into[2]], at_terminal=False)
     checks.check("and not without a terminal", (status, shown, printed), (0, "", manifest))
 
 
@@ -184,8 +237,8 @@ def looks(checks, folder):
         more.write("Job=1\n" + text.read())
     status, shown, printed = play(checks.program, ["check", "--bsr", bsr, "--volumes", VOLUMES], [], folder)
     checks.check("a bootstrap with a refused line", (status, shown, printed), (1, told(32, "refused 32 line 1"), ""))
-    words = ["check", "--bsr", BOOTSTRAP, "--volumes", os.path.join(folder, "nothing")]
-    status, shown, printed = play(checks.program, words, [], folder)
+    checked = ["check", "--bsr", BOOTSTRAP, "--volumes", os.path.join(folder, "nothing")]
+    status, shown, printed = play(checks.program, checked, [], folder)
     checks.check("findings", (status, shown, printed[:21]), (1, [], "volume 14 Vol-0001 0\n"))
 
 
