@@ -113,6 +113,7 @@ fn put_together<D: Drive, S: Sink>(
 
 /// Puts a file like this one into a sink. Its data are read again while it is put.
 fn put_alone<D: Drive, S: Sink>(
+    rt: &impl Threads,
     source: &Source<'_>,
     many: &mut OverMany<'_, D>,
     alone: &Alone<'_>,
@@ -127,7 +128,7 @@ fn put_alone<D: Drive, S: Sink>(
 {
     let put = source
         .gathered
-        .put_by_parts(source.alloc, many, alone.key, alone.item, sink);
+        .put_by_parts(rt, source.alloc, many, alone.key, alone.item, sink);
     match put {
         Ok(()) => Ok(()),
         Err(fault) => Err(SinkStop::new(fault.cause(), 0)),
@@ -151,7 +152,7 @@ fn put_window<D: Drive, S: Sink>(
     ensures failed { IfErr result (λ stop. stop.number ≡ 80 → S.failures sink.old < S.failures sink.new) }
 {
     match alone_in(source.window, window) {
-        Some(alone) => put_alone(source, many, &alone, sink),
+        Some(alone) => put_alone(rt, source, many, &alone, sink),
         None => put_together(rt, source, many, window, sink),
     }
 }

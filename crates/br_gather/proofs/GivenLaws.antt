@@ -23,7 +23,7 @@ all_behind P [] ys all = all
 all_behind P (x ∷ xs) ys all = all_behind P xs ys all.1
 
 -- and of the first ones
-all_before : {X : Type 0} (P : X → Type 0) (xs ys : List X) → AllByRecursion P (xs ++ ys) → AllByRecursion P xs
+pub all_before : {X : Type 0} (P : X → Type 0) (xs ys : List X) → AllByRecursion P (xs ++ ys) → AllByRecursion P xs
 all_before P [] ys all = tt
 all_before P (x ∷ xs) ys all = (all.0, all_before P xs ys all.1)
 

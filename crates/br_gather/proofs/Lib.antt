@@ -6,5 +6,6 @@ mod RunLaws
 mod SharingLaws
 mod StatLaws
 mod TurnLaws
+mod WindowLaws
 pub mod AgainLaws
 pub mod MeantLaws

@@ -11,6 +11,7 @@ use Rattle.br_reread.specs.Many.{RereadingMany}
 use Rattle.br_sink.specs.FileParts.{AreAlike, with_bytes}
 use Rattle.br_sink.specs.Sink.{HasMore}
 use Rattle.br_gather.specs.Given.{GivesHits}
+use Rattle.br_gather.specs.Windows.{data_bytes}
 use Rattle.br_gather.specs.declared.file_parts.Begun.{Begun}
 
 -- the hits are read again as they were found, and their plain data are the bytes of the file
@@ -21,12 +22,11 @@ GivesFile many hits item = GivesHits many hits × (item.bytes ≡ plain_bytes (f
 abbrev pub GivesItem : RereadingMany → List Hit → FileKey → Item → Type 0
 GivesItem many hits key item = GivesHits many hits × (outcome_of key (fragments_for key (listed hits)) ≡ Ok item)
 
--- more bytes of the file were written, and as many fewer may follow
-pub record WritesNext (before after : Option (List ℕ)) (old new : Begun) : Type 0 where
-  pub bytes : List ℕ
-  pub read : new.read ≡ old.read ++ bytes
-  pub left : new.left + length bytes ≡ old.left
-  pub written : Appends before after bytes
+-- the data that came next were digested and written, and as many fewer bytes may follow
+pub record PutsWindow (before after : Option (List ℕ)) (old new : Begun) : Type 0 where
+  pub read : new.read ≡ old.read ++ data_bytes old.window.items
+  pub left : new.left + length (data_bytes old.window.items) ≡ old.left
+  pub written : Appends before after (data_bytes old.window.items)
 
 -- some bytes were written, so many at most
 pub record WritesFew (most : ℕ) (before after : Option (List ℕ)) : Type 0 where

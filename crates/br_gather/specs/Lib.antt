@@ -1,7 +1,9 @@
 pub mod Again
 pub mod Code
+pub mod Digesting
 pub mod FileParts
 pub mod Gathered
 pub mod Given
 pub mod Runs
 pub mod Sharing
+pub mod Windows

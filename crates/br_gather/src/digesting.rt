@@ -1,4 +1,5 @@
-//! Files whose data are read and digested one fragment after another, and not kept.
+//! Files whose data are read and digested one window after another, and not kept. While the data of one
+//! window are digested in another thread, those of the next one are read.
 ghost use Rattle.std.specs.Prelude.{◌≡◌, ◌++◌, [], map, nat_abs, All, Err, IfOk, OnOk};
 ghost use Rattle.std.specs.List.{AllByRecursion};
 ghost use Rattle.br_again.specs.declared.fault.AgainFault.TheVariants.{Failed};
@@ -9,10 +10,13 @@ ghost use Rattle.br_join.specs.Outcome.{shown};
 ghost use Rattle.br_join.specs.Plain.{plain_bytes, plain_of};
 ghost use Rattle.br_join.specs.Runs.{fragments};
 ghost use Rattle.br_reread.specs.Many.{GoOn, HaveFailed};
+ghost use Rattle.br_gather.specs.Digesting.{IsRead};
+ghost use Rattle.br_gather.specs.Windows.{data_bytes};
 
 use crate::light::DATA;
 use crate::putting::has_sparse_data;
 use crate::rereading::{outcome_by, push_hit};
+use crate::windows::{cut_window, digest_window, push_data};
 use br_again::{AgainFault, Data, standing_stays};
 use br_body::Reading;
 use br_join::{Outcome, outcome_with};
@@ -21,53 +25,45 @@ use br_reread::OverMany;
 use br_types::FileKey;
 use br_volume::Drive;
 use std::alloc::{AllocError, Global};
+use std::thread::{Threads, join_mut};
 
-/// Digests data.
+/// If data of this stream are plain, lets them go and appends them to a window.
 ///
 /// # Errors
 ///
-/// `AllocError` if they are not in memory.
-fn digest_data(reading: &mut Reading, found: &Data) -> Result<(), AllocError>
-    ensures { OnOk result (reading.new ≡ reading.old ++ found.now.bytes) }
-{
-    match found.held() {
-        Some(bytes) => reading.push(bytes),
-        None => Err(AllocError),
-    }
-}
-
-/// Digests data of this stream if they are plain, and lets them go.
-fn digest_plain(reading: &mut Reading, stream: i32, mut found: Data) -> Result<Data, AllocError>
+/// `AllocError` if memory runs out.
+fn keep_plain(window: &mut Vec<Data>, stream: i32, mut found: Data) -> Result<Data, AllocError>
     ensures same { IfOk result (λ left. left.bytes ≡ found.bytes) }
-    ensures digested { OnOk result (reading.new ≡ reading.old ++ plain_of (nat_abs stream) found.bytes) }
+    ensures kept { OnOk result (data_bytes window.new.items ≡ data_bytes window.old.items ++ plain_of (nat_abs stream) found.bytes) }
 {
     if stream.unsigned_abs() != DATA {
         return Ok(found);
     }
-    digest_data(reading, &found)?;
+    push_data(window, found.share()?)?;
     found.let_go();
     Ok(found)
 }
 
-/// Reads the data of the hit. Plain data are digested and let go, and others are in memory.
+/// Reads the data of the hit. Plain data are let go and appended to a window, and others are in memory.
 ///
 /// # Errors
 ///
 /// Those of `many`, and `Memory` if memory runs out.
-fn digest_hit<D: Drive>(
+fn read_next<D: Drive>(
     alloc: Global,
     many: &mut OverMany<'_, D>,
-    reading: &mut Reading,
     hit: &Hit,
+    window: &mut Vec<Data>,
 ) -> Result<Hit, AgainFault>
     ensures key { IfOk result (λ read. read.key ≡ hit.now.key) }
     ensures same { IfOk result (λ read. GivesHit many.old hit.now → read ≡ hit.now) }
-    ensures digested { IfOk result (λ read. reading.new ≡ reading.old ++ plain_of (nat_abs read.fragment.stream) read.fragment.bytes) }
+    ensures kept { IfOk result (λ read. data_bytes window.new.items
+        ≡ data_bytes window.old.items ++ plain_of (nat_abs read.fragment.stream) read.fragment.bytes) }
     ensures on { GoOn many.old many.new }
     ensures failed { result ≡ Err Failed → HaveFailed many.old many.new }
 {
     let read = many.read(alloc, hit.spot, &hit.data)?;
-    let data = digest_plain(reading, hit.stream, read)?;
+    let data = keep_plain(window, hit.stream, read)?;
     Ok(Hit {
         key: hit.key,
         spot: hit.spot,
@@ -77,44 +73,160 @@ fn digest_hit<D: Drive>(
     })
 }
 
-/// Reads the data of the hits of a file, one after another. Plain data are digested and let go, and
-/// others are in memory.
+/// Hits that were read, and their plain data in memory. The hits have let them go.
+#[derive(Drop)]
+struct Ahead {
+    hits: Vec<Hit>,
+    window: Vec<Data>,
+}
+
+/// Reads the data of the hits of a window, one after another.
+///
+/// # Errors
+///
+/// Those of `many`, and `Memory` if memory runs out.
+#[tactic(auto, using(br_reread::proofs::GoOnLaws::go_itself, br_reread::proofs::GoOnLaws::go_more, br_reread::proofs::GoOnLaws::failed_on))]
+fn read_ahead<D: Drive>(
+    alloc: Global,
+    many: &mut OverMany<'_, D>,
+    key: FileKey,
+    hits: &[Hit],
+) -> Result<Ahead, AgainFault>
+    requires { AllByRecursion (λ (h : meaning.Hit). h.key ≡ key) hits.now }
+    ensures keys { IfOk result (λ ahead. AllByRecursion (λ (h : meaning.Hit). h.key ≡ key) ahead.hits.items) }
+    ensures same { IfOk result (λ ahead. GivesHits many.old hits.now → ahead.hits.items ≡ hits.now) }
+    ensures window { IfOk result (λ ahead. data_bytes ahead.window.items ≡ plain_bytes (fragments ahead.hits.items)) }
+    ensures on { GoOn many.old many.new }
+    ensures failed { result ≡ Err Failed → HaveFailed many.old many.new }
+{
+    standing_stays();
+    let mut read = Vec::with_capacity(alloc, hits.len())?;
+    let mut window = Vec::with_capacity(alloc, hits.len())?;
+    for hit in hits {
+        let one = read_next(alloc, many, hit, &mut window)?;
+        push_hit(&mut read, one)?;
+    }
+    Ok(Ahead { hits: read, window })
+}
+
+/// The plain data of a file that are digested, the hits that were read, and the plain data of the last of
+/// them, which are digested next.
+#[derive(Drop)]
+struct Digesting {
+    reading: Reading,
+    hits: Vec<Hit>,
+    window: Vec<Data>,
+}
+
+/// Returns hits that were read, of which nothing is digested yet.
+fn begin(ahead: Ahead) -> Digesting
+    requires window { data_bytes ahead.window.items ≡ plain_bytes (fragments ahead.hits.items) }
+    ensures read { IsRead result }
+    ensures hits { result.hits.items ≡ ahead.hits.items }
+{
+    let Ahead { hits, window } = ahead;
+    Digesting {
+        reading: Reading::new(),
+        hits,
+        window,
+    }
+}
+
+/// Takes hits that were read, after the data of those before them were digested.
+///
+/// # Errors
+///
+/// `AllocError` if memory runs out.
+fn take_ahead(begun: &mut Digesting, ahead: Ahead) -> Result<(), AllocError>
+    requires digested { begun.old.reading ≡ plain_bytes (fragments begun.old.hits.items) }
+    requires window { data_bytes ahead.window.items ≡ plain_bytes (fragments ahead.hits.items) }
+    ensures read { OnOk result (IsRead begun.new) }
+    ensures hits { OnOk result (begun.new.hits.items ≡ begun.old.hits.items ++ ahead.hits.items) }
+{
+    let Ahead { mut hits, window } = ahead;
+    begun.hits.append(&mut hits)?;
+    begun.window = window;
+    Ok(())
+}
+
+/// Reads the hits of the next window, while another thread digests the data of this one.
+///
+/// # Errors
+///
+/// Those of `many`, and `Memory` if memory runs out.
+fn digest_beside<D: Drive>(
+    rt: &impl Threads,
+    alloc: Global,
+    many: &mut OverMany<'_, D>,
+    begun: &mut Digesting,
+    key: FileKey,
+    next: &[Hit],
+) -> Result<Ahead, AgainFault>
+    requires { AllByRecursion (λ (h : meaning.Hit). h.key ≡ key) next.now }
+    ensures digested { OnOk result (begun.new.reading ≡ begun.old.reading ++ data_bytes begun.old.window.items) }
+    ensures hits { begun.new.hits.items ≡ begun.old.hits.items }
+    ensures keys { IfOk result (λ ahead. AllByRecursion (λ (h : meaning.Hit). h.key ≡ key) ahead.hits.items) }
+    ensures same { IfOk result (λ ahead. GivesHits many.old next.now → ahead.hits.items ≡ next.now) }
+    ensures window { IfOk result (λ ahead. data_bytes ahead.window.items ≡ plain_bytes (fragments ahead.hits.items)) }
+    ensures on { GoOn many.old many.new }
+    ensures failed { result ≡ Err Failed → HaveFailed many.old many.new }
+{
+    let reading = &mut begun.reading;
+    let window = begun.window.as_slice();
+    let (digested, ahead) = join_mut(
+        rt,
+        &mut || digest_window(reading, window),
+        &mut || read_ahead(alloc, many, key, next),
+    );
+    digested?;
+    ahead
+}
+
+/// Reads the data of the hits of a file, a window of them at a time. Plain data are digested and let go,
+/// and others are in memory. Those of the last window, and so of a file that has no other, are digested in
+/// this thread, and the others in another one.
 ///
 /// # Errors
 ///
 /// Those of `many`, and `Memory` if memory runs out.
 #[tactic(auto, using(br_reread::proofs::GoOnLaws::go_itself, br_reread::proofs::GoOnLaws::go_more, br_reread::proofs::GoOnLaws::failed_on))]
 fn digest_hits<D: Drive>(
+    rt: &impl Threads,
     alloc: Global,
     many: &mut OverMany<'_, D>,
-    reading: &mut Reading,
     key: FileKey,
     hits: &[Hit],
-) -> Result<Vec<Hit>, AgainFault>
-    requires keys { AllByRecursion (λ (h : meaning.Hit). h.key ≡ key) hits.now }
-    requires new { reading.old ≡ [] }
-    ensures keys { IfOk result (λ read. All (λ (h : meaning.Hit). h.key ≡ key) read.items) }
-    ensures same { IfOk result (λ read. GivesHits many.old hits.now → read.items ≡ hits.now) }
-    ensures digested { IfOk result (λ read. reading.new ≡ plain_bytes (fragments read.items)) }
+) -> Result<Digesting, AgainFault>
+    requires { AllByRecursion (λ (h : meaning.Hit). h.key ≡ key) hits.now }
+    ensures keys { IfOk result (λ read. All (λ (h : meaning.Hit). h.key ≡ key) read.hits.items) }
+    ensures same { IfOk result (λ read. GivesHits many.old hits.now → read.hits.items ≡ hits.now) }
+    ensures digested { IfOk result (λ read. read.reading ≡ plain_bytes (fragments read.hits.items)) }
     ensures on { GoOn many.old many.new }
     ensures failed { result ≡ Err Failed → HaveFailed many.old many.new }
 {
     standing_stays();
-    let mut read = Vec::with_capacity(alloc, hits.len())?;
-    for hit in hits {
-        let one = digest_hit(alloc, many, reading, hit)?;
-        push_hit(&mut read, one)?;
+    let first = cut_window(hits);
+    let read = read_ahead(alloc, many, key, first.window)?;
+    let mut begun = begin(read);
+    let mut rest = first.rest;
+    while !rest.is_empty() {
+        let next = cut_window(rest);
+        let ahead = digest_beside(rt, alloc, many, &mut begun, key, next.window)?;
+        take_ahead(&mut begun, ahead)?;
+        rest = next.rest;
     }
-    Ok(read)
+    digest_window(&mut begun.reading, &begun.window)?;
+    Ok(begun)
 }
 
-/// Returns the outcome of a file without sparse data. The data of one fragment at a time are in
-/// memory, and the bytes of the file are not.
+/// Returns the outcome of a file without sparse data. The data of two windows at most are in memory, and
+/// the bytes of the file are not.
 ///
 /// # Errors
 ///
 /// Those of `many`, and `Memory` if memory runs out.
 fn plain_outcome_by<D: Drive>(
+    rt: &impl Threads,
     alloc: Global,
     many: &mut OverMany<'_, D>,
     key: FileKey,
@@ -125,10 +237,9 @@ fn plain_outcome_by<D: Drive>(
     ensures on { GoOn many.old many.new }
     ensures failed { result ≡ Err Failed → HaveFailed many.old many.new }
 {
-    let mut reading = Reading::new();
-    let read = digest_hits(alloc, many, &mut reading, key, hits)?;
-    let bytes = reading.finish(alloc);
-    let outcome = outcome_with(alloc, key, &read, bytes)?;
+    let read = digest_hits(rt, alloc, many, key, hits)?;
+    let bytes = read.reading.finish(alloc);
+    let outcome = outcome_with(alloc, key, &read.hits, bytes)?;
     Ok(outcome)
 }
 
@@ -146,13 +257,14 @@ fn without_bytes(outcome: Outcome) -> Outcome
 }
 
 /// Returns the outcome of a file by its fragments, given in order of place, whose data are read again
-/// if they were let go. The bytes of the file are not in memory after that; while they are read, the
-/// data of one fragment at a time are, or all of them if some are sparse.
+/// if they were let go. The bytes of the file are not in memory after that; while they are read, those of
+/// two windows at most are, or all of them if some are sparse.
 ///
 /// # Errors
 ///
 /// Those of `many`, and `Memory` if memory runs out.
 pub(crate) fn digested_by<D: Drive>(
+    rt: &impl Threads,
     alloc: Global,
     many: &mut OverMany<'_, D>,
     key: FileKey,
@@ -164,7 +276,7 @@ pub(crate) fn digested_by<D: Drive>(
     ensures failed { result ≡ Err Failed → HaveFailed many.old many.new }
 {
     if !has_sparse_data(hits) {
-        return plain_outcome_by(alloc, many, key, hits);
+        return plain_outcome_by(rt, alloc, many, key, hits);
     }
     let outcome = outcome_by(alloc, many, key, hits)?;
     Ok(without_bytes(outcome))

@@ -15,9 +15,9 @@ ghost use Rattle.br_gather.specs.Given.{GivesHits};
 use crate::again::made_once_more;
 use crate::light::lightened;
 use crate::making::files_by;
-use crate::putting::{has_sparse_data, put_file};
+use crate::putting::{has_sparse_data, is_plain, put_plain, put_whole};
 use br_again::AgainFault;
-use br_join::{Item, Joiner, Outcome};
+use br_join::{Item, Joiner, Outcome, around};
 use br_match::Hit;
 use br_reread::OverMany;
 use br_sink::{PartsFault, Sink};
@@ -81,8 +81,9 @@ impl Gathered {
     }
 
     /// Makes the files, in order of key: the planned ones if there is a plan, else those that were found.
-    /// Each drive makes some of them, in a thread of its own. It has the data of one fragment at a time in
-    /// memory, or those of a file that has sparse data, and the bytes of the file are not kept.
+    /// Each drive makes some of them, in a thread of its own. It has the data of at most two windows in memory,
+    /// each of about 1 MiB, of which another thread digests the one, or those of a file that has sparse data. The
+    /// bytes of the file are not kept.
     ///
     /// # Errors
     ///
@@ -125,8 +126,9 @@ impl Gathered {
     }
 
     /// Puts a file like this one, made of the hits with its key, into a sink. Their paths, numbers, links and
-    /// lengths are the same, and the digests of their bytes. The data are read again while it is put, and those
-    /// of one fragment at a time are in memory. A file with sparse data is in memory as a whole.
+    /// lengths are the same, and the digests of their bytes. The data are read again while it is put: at most two
+    /// windows of them are in memory, each of about 1 MiB, of which another thread digests the one. A file with
+    /// sparse data is in memory as a whole.
     ///
     /// # Errors
     ///
@@ -137,6 +139,7 @@ impl Gathered {
     /// - `Memory` if memory ran out.
     pub fn put_by_parts<D: Drive, S: Sink>(
         &self,
+        rt: &impl Threads,
         alloc: Global,
         many: &mut OverMany<'_, D>,
         key: FileKey,
@@ -149,6 +152,10 @@ impl Gathered {
         ensures failed { result ≡ Err Fault → S.failures sink.old < S.failures sink.new }
         ensures on { GoOn many.old many.new }
     {
-        put_file(alloc, many, &self.hits, key, item, sink)
+        let (_, run, _) = around(&self.hits, key);
+        if !is_plain(item.kind, run) {
+            return put_whole(alloc, many, &self.hits, key, item, sink);
+        }
+        put_plain(rt, alloc, many, run, item, sink)
     }
 }

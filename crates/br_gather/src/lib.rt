@@ -18,6 +18,7 @@ mod putting;
 mod rereading;
 mod runs;
 mod sharing;
+mod windows;
 mod work;
 
 pub use gathered::Gathered;

@@ -17,6 +17,7 @@ use br_reread::OverMany;
 use br_types::{FileKey, Path};
 use br_volume::Drive;
 use std::alloc::{AllocError, Global};
+use std::thread::Threads;
 
 /// Appends a file.
 pub(crate) fn push_file(
@@ -34,6 +35,7 @@ pub(crate) fn push_file(
 /// Makes the file with these hits, under its planned path, if it has one. Its bytes are not in memory
 /// after that.
 pub(crate) fn file_by<D: Drive>(
+    rt: &impl Threads,
     alloc: Global,
     many: &mut OverMany<'_, D>,
     key: FileKey,
@@ -46,6 +48,6 @@ pub(crate) fn file_by<D: Drive>(
     ensures on { GoOn many.old many.new }
     ensures failed { result ≡ Err Failed → HaveFailed many.old many.new }
 {
-    let outcome = digested_by(alloc, many, key, hits)?;
+    let outcome = digested_by(rt, alloc, many, key, hits)?;
     Ok(named(path, outcome))
 }

@@ -39,7 +39,7 @@ fn made_of<D: Drive + Send>(
         return made_side_by_side(rt, alloc, many, runs);
     }
     let mut made = Vec::new(alloc);
-    make_left(alloc, many, runs, &mut made)?;
+    make_left(rt, alloc, many, runs, &mut made)?;
     Ok(made)
 }
 

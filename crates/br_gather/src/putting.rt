@@ -12,13 +12,14 @@ use crate::again::item_once_more;
 use crate::file_parts::FileParts;
 use crate::light::SPARSE_DATA;
 use br_again::AgainFault;
-use br_join::{Item, around};
+use br_join::Item;
 use br_match::Hit;
 use br_reread::OverMany;
 use br_sink::{PartsFault, Sink};
 use br_types::FileKey;
 use br_volume::Drive;
 use std::alloc::Global;
+use std::thread::Threads;
 
 /// Returns whether some of the data are sparse.
 pub(crate) fn has_sparse_data(hits: &[Hit]) -> bool
@@ -36,7 +37,7 @@ fn has_bytes(kind: u32) -> bool
 }
 
 /// Returns whether a file of this type has the plain data of the hits as its bytes.
-fn is_plain(kind: u32, hits: &[Hit]) -> bool
+pub(crate) fn is_plain(kind: u32, hits: &[Hit]) -> bool
     ensures kind { result ≡ true → file.has_bytes kind ≡ true }
     ensures none { result ≡ true → list_any (λ (h : meaning.Hit). nat_abs h.fragment.stream == 6) hits.now ≡ false }
 {
@@ -48,7 +49,8 @@ fn is_plain(kind: u32, hits: &[Hit]) -> bool
 /// # Errors
 ///
 /// As `Gathered::put_by_parts`.
-fn put_plain<D: Drive, S: Sink>(
+pub(crate) fn put_plain<D: Drive, S: Sink>(
+    rt: &impl Threads,
     alloc: Global,
     many: &mut OverMany<'_, D>,
     hits: &[Hit],
@@ -61,7 +63,7 @@ fn put_plain<D: Drive, S: Sink>(
     ensures failed { result ≡ Err Fault → S.failures sink.old < S.failures sink.new }
     ensures on { GoOn many.old many.new }
 {
-    let mut parts = FileParts::new(alloc, hits, many.take(alloc));
+    let mut parts = FileParts::new(rt, alloc, hits, many.take(alloc));
     let put = sink.put_parts(alloc, item, &mut parts);
     many.put_back(parts.into_many());
     match put {
@@ -85,7 +87,7 @@ fn parts_fault_of(fault: AgainFault) -> PartsFault
 /// # Errors
 ///
 /// As `Gathered::put_by_parts`.
-fn put_whole<D: Drive, S: Sink>(
+pub(crate) fn put_whole<D: Drive, S: Sink>(
     alloc: Global,
     many: &mut OverMany<'_, D>,
     hits: &[Hit],
@@ -107,31 +109,4 @@ fn put_whole<D: Drive, S: Sink>(
         }
         Err(fault) => Err(parts_fault_of(fault)),
     }
-}
-
-/// Puts a file like this one, made of the hits with its key, into a sink.
-///
-/// # Errors
-///
-/// As `Gathered::put_by_parts`.
-pub(crate) fn put_file<D: Drive, S: Sink>(
-    alloc: Global,
-    many: &mut OverMany<'_, D>,
-    hits: &[Hit],
-    key: FileKey,
-    item: &Item,
-    sink: &mut S,
-) -> Result<(), PartsFault>
-    requires { AreListed hits.now }
-    ensures put { OnOk result (PutsAlike (GivesItem many.old hits.now key item.now) item.now (S.has sink.old) (S.has sink.new)) }
-    ensures refused { OnErr result (S.has sink.new ≡ S.has sink.old) }
-    ensures counted { S.failures sink.old ≤ S.failures sink.new }
-    ensures failed { result ≡ Err Fault → S.failures sink.old < S.failures sink.new }
-    ensures on { GoOn many.old many.new }
-{
-    let (_, run, _) = around(hits, key);
-    if !is_plain(item.kind, run) {
-        return put_whole(alloc, many, hits, key, item, sink);
-    }
-    put_plain(alloc, many, run, item, sink)
 }

@@ -27,12 +27,12 @@ struct Share<'r, 'h, D: Drive> {
 
 impl<'r, 'h, D: Drive> Share<'r, 'h, D> {
     /// Makes the files by the drive, until it fails.
-    fn make(&mut self, alloc: Global, groups: &[Group])
+    fn make(&mut self, rt: &impl Threads, alloc: Global, groups: &[Group])
         ensures { HasMade D.shows D.failures groups.now self.old self.new }
     {
         let taken = mem::replace(&mut self.drives, Vec::new(alloc));
         let mut many = OverMany::new(alloc, taken, groups);
-        self.work.end = make_left(alloc, &mut many, self.work.runs, &mut self.work.made);
+        self.work.end = make_left(rt, alloc, &mut many, self.work.runs, &mut self.work.made);
         let none = mem::replace(&mut self.drives, many.into_drives());
         none.destroy_empty();
     }
@@ -137,7 +137,7 @@ fn run_shares<D: Drive + Send, R: Threads + Sync>(
     if count == 0 {
         return;
     }
-    thread::for_each_mut(rt, shares, count, &|_, share| share.make(alloc, groups));
+    thread::for_each_mut(rt, shares, count, &|_, share| share.make(rt, alloc, groups));
 }
 
 /// Runs the shares, and returns them after their run.
@@ -254,5 +254,5 @@ pub(crate) fn made_side_by_side<D: Drive + Send>(
     standing_stays();
     let works = works_for(alloc, many.count(), runs)?;
     let done = run_works(rt, alloc, many, works)?;
-    finish_all(alloc, many, done)
+    finish_all(rt, alloc, many, done)
 }

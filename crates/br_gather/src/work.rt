@@ -15,6 +15,7 @@ use br_reread::OverMany;
 use br_types::FileKey;
 use br_volume::Drive;
 use std::alloc::Global;
+use std::thread::Threads;
 
 /// Makes the files that are left: those after as many as are made.
 ///
@@ -23,6 +24,7 @@ use std::alloc::Global;
 /// Those of `many`, and `Memory` if memory runs out. Then the files before the fault are made.
 #[tactic(auto, using(br_reread::proofs::GoOnLaws::go_itself, br_reread::proofs::GoOnLaws::go_more, br_reread::proofs::GoOnLaws::failed_on))]
 pub(crate) fn make_left<D: Drive>(
+    rt: &impl Threads,
     alloc: Global,
     many: &mut OverMany<'_, D>,
     runs: &[Run<'_>],
@@ -35,7 +37,7 @@ pub(crate) fn make_left<D: Drive>(
 {
     standing_stays();
     while let Some(next) = runs.get(made.len()) {
-        let outcome = file_by(alloc, many, next.key, next.path, next.hits)?;
+        let outcome = file_by(rt, alloc, many, next.key, next.path, next.hits)?;
         push_file(made, next.key, outcome)?;
     }
     Ok(())
@@ -70,6 +72,7 @@ impl<'r, 'h> Work<'r, 'h> {
     #[tactic(auto, using(br_reread::proofs::GoOnLaws::go_itself))]
     fn finish<D: Drive>(
         &mut self,
+        rt: &impl Threads,
         alloc: Global,
         many: &mut OverMany<'_, D>,
     ) -> Result<(), AgainFault>
@@ -80,7 +83,7 @@ impl<'r, 'h> Work<'r, 'h> {
     {
         match self.end {
             Ok(()) => Ok(()),
-            Err(AgainFault::Failed) => make_left(alloc, many, self.runs, &mut self.made),
+            Err(AgainFault::Failed) => make_left(rt, alloc, many, self.runs, &mut self.made),
             Err(AgainFault::Memory) => Err(AgainFault::Memory),
             Err(AgainFault::Changed) => Err(AgainFault::Changed),
         }
@@ -93,6 +96,7 @@ impl<'r, 'h> Work<'r, 'h> {
 ///
 /// Those of `Work::finish`, and `Memory` if memory runs out.
 fn push_work<D: Drive>(
+    rt: &impl Threads,
     alloc: Global,
     many: &mut OverMany<'_, D>,
     mut work: Work<'_, '_>,
@@ -103,7 +107,7 @@ fn push_work<D: Drive>(
     ensures on { GoOn many.old many.new }
     ensures failed { result ≡ Err Failed → HaveFailed many.old many.new }
 {
-    work.finish(alloc, many)?;
+    work.finish(rt, alloc, many)?;
     made.append(&mut work.made)?;
     Ok(())
 }
@@ -115,6 +119,7 @@ fn push_work<D: Drive>(
 /// Those of `Work::finish`, and `Memory` if memory runs out.
 #[tactic(auto, using(br_reread::proofs::GoOnLaws::go_itself, br_reread::proofs::GoOnLaws::go_more, br_reread::proofs::GoOnLaws::failed_on))]
 pub(crate) fn finish_all<D: Drive>(
+    rt: &impl Threads,
     alloc: Global,
     many: &mut OverMany<'_, D>,
     mut works: Vec<Work<'_, '_>>,
@@ -127,7 +132,7 @@ pub(crate) fn finish_all<D: Drive>(
     standing_stays();
     let mut made = Vec::new(alloc);
     while !works.is_empty() {
-        push_work(alloc, many, works.take_last(), &mut made)?;
+        push_work(rt, alloc, many, works.take_last(), &mut made)?;
     }
     Ok(made)
 }

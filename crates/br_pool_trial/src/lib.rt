@@ -17,6 +17,8 @@ mod jobs;
 #[cfg(test)]
 mod list_tests;
 #[cfg(test)]
+mod long_tests;
+#[cfg(test)]
 mod machine_tests;
 #[cfg(test)]
 mod pool_tests;

@@ -1,17 +1,21 @@
-use Rattle.std.proofs.Common.{◌≡◌, take}
+use Rattle.std.proofs.Common.{◌≡◌, ◌++◌, length}
 use Rattle.std.specs.List.{AllByRecursion}
 use Rattle.br_model.specs.Meaning.{Hit}
-use Rattle.br_join.specs.Plain.{plain_bytes}
-use Rattle.br_join.specs.Runs.{fragments}
 use Rattle.br_reread.specs.Many.{GoOn}
+use Rattle.br_gather.specs.Digesting.{IsRead}
 use Rattle.br_gather.specs.Given.{GivesHits}
 use Rattle.br_gather.proofs.digesting.digest_hits.Given as goal
 
--- the hits so far were read and digested; if all are given, they are the same
-abbrev pub invariant-loop-hit : goal.invariant-loop-hit
-invariant-loop-hit g l = record {
-  on : GoOn l.initial.many l.many;
-  keys : AllByRecursion (λ (h : Hit). h.key ≡ l.fn.key) l.read.items;
-  digested : l.reading ≡ plain_bytes (fragments l.read.items);
-  same : GivesHits l.initial.many l.hits → l.read.items ≡ take l.hit-index l.hits;
+-- the hits that were read and those that are left are all; if they are given, they are the same
+abbrev pub invariant-loop-rest : goal.invariant-loop-rest
+invariant-loop-rest g l = record {
+  on : GoOn l.fn.many l.many;
+  read : IsRead l.begun;
+  keys : AllByRecursion (λ (h : Hit). h.key ≡ l.fn.key) l.begun.hits.items;
+  left : AllByRecursion (λ (h : Hit). h.key ≡ l.fn.key) l.rest;
+  given : GivesHits l.fn.many l.hits → GivesHits l.fn.many l.rest;
+  same : GivesHits l.fn.many l.hits → l.begun.hits.items ++ l.rest ≡ l.hits;
 }
+
+abbrev pub decreases-loop-rest : goal.decreases-loop-rest
+decreases-loop-rest g l = length l.rest

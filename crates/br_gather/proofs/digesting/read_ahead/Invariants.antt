@@ -1,0 +1,18 @@
+use Rattle.std.proofs.Common.{◌≡◌, take}
+use Rattle.std.specs.List.{AllByRecursion}
+use Rattle.br_model.specs.Meaning.{Hit}
+use Rattle.br_join.specs.Plain.{plain_bytes}
+use Rattle.br_join.specs.Runs.{fragments}
+use Rattle.br_reread.specs.Many.{GoOn}
+use Rattle.br_gather.specs.Given.{GivesHits}
+use Rattle.br_gather.specs.Windows.{data_bytes}
+use Rattle.br_gather.proofs.digesting.read_ahead.Given as goal
+
+-- the hits so far were read, and their plain data kept; if all are given, they are the same
+abbrev pub invariant-loop-hit : goal.invariant-loop-hit
+invariant-loop-hit g l = record {
+  on : GoOn l.fn.many l.many;
+  keys : AllByRecursion (λ (h : Hit). h.key ≡ l.fn.key) l.read.items;
+  window : data_bytes l.window.items ≡ plain_bytes (fragments l.read.items);
+  same : GivesHits l.fn.many l.hits → l.read.items ≡ take l.hit-index l.hits;
+}
