@@ -20,13 +20,18 @@ from pathlib import Path
 # Nothing is left beside the script.
 sys.dont_write_bytecode = True
 sys.path.insert(0, os.path.join(os.path.dirname(os.path.dirname(os.path.abspath(__file__))), "tools"))
+from bacula import block_of, volume_label
 from cases import unpack
 from common import CASES, MIB, PROGRAM, SETS, Checks, unescaped
 from delivered import is_on_the_way
-from leaving import write_volume
+from leaving import file_of, write_volume
+from odd import line as manifest_line, record, records
 from reading import Fault, groups_of, walk
 
 NAME = "Vol-0001"
+# What is missing of the case `order-inc` if nothing is there: its bootstrap counts four files of the first session, and one of the second.
+NOTHING = f"missing 1 1795302931 1-2 {NAME}\nmissing 1 1795302931 4-5 {NAME}\nmissing 1 1795302940 1 {NAME}\n"
+NOTHING += f"count 1 1795302931 4 0 {NAME}\ncount 1 1795302940 1 0 {NAME}\n"
 
 
 def copy_lines(files):
@@ -132,11 +137,11 @@ def checks_spoilt(checks, folder):
     bsr, manifest = case / "x.bsr", (case / "expected").read_text()
     full = "".join(line for line in manifest.splitlines(keepends=True) if line.startswith("F 1 1795302931 "))
     total = found(manifest)[1]
-    nothing = f"missing 1 1795302931 1-2 {NAME}\nmissing 1 1795302931 4-5 {NAME}\nmissing 1 1795302940 1 {NAME}\ntotal 0 0\n"
+    nothing = NOTHING + "total 0 0\n"
     volumes = new_volumes(folder)
     whole = (volumes / NAME).read_bytes()
     for name, data, expected, files in [
-        ("a volume that ends before the last session", whole[:1656], f"missing 1 1795302940 1 {NAME}\n{found(full)[1]}", full),
+        ("a volume that ends before the last session", whole[:1656], f"missing 1 1795302940 1 {NAME}\ncount 1 1795302940 1 0 {NAME}\n{found(full)[1]}", full),
         ("a volume that ends within a block", whole[:1700], f"volume 12 {NAME} 1656\n{nothing}", ""),
         ("an empty volume", b"", nothing, ""),
         ("other bytes", b"These bytes are no block of a volume.", f"volume 10 {NAME} 0\n{nothing}", ""),
@@ -160,6 +165,18 @@ def checks_spoilt(checks, folder):
     checks.check("three missing volumes", checks.run(many, volumes), (1, gone, ""))
     status, out, _ = checks.run(volumes / "no.bsr", volumes)
     checks.check("a bootstrap that is not there", (status, out), (3, ""))
+
+
+def write_pair(folder):
+    """Writes two volumes, with a file on the first one, a file on both, and a file on the second one. Returns the manifest."""
+    files = [file_of(path, b"data") for path in (b"/a", b"/b", b"/c")]
+    one, two, three = (records(index, file) for index, file in enumerate(files, 1))
+    data = record(2, 2, b"data")
+    (folder / "volumes").mkdir()
+    for name, blocks in (("V", [one, two[: -len(data)]]), ("W", [data, three])):
+        label = block_of(record(-2, 0, volume_label(name)), 0, 0, 0)
+        (folder / "volumes" / name).write_bytes(label + b"".join(block_of(it, number, 1, 100) for number, it in enumerate(blocks, 1)))
+    return b"".join(manifest_line(index, file) for index, file in enumerate(files, 1)).decode() + "total 3 0 0\n"
 
 
 def flipped(data, at):
@@ -281,6 +298,43 @@ def checks_conflicts(checks, folder):
     checks.check("and a restore of them", (ran.returncode, ran.stdout, ran.stderr), (1, manifest, left))
 
 
+def checks_counts(checks, folder):
+    """Groups that count more files than there are, on a volume that is whole or cut, and on two volumes that share a file."""
+    group = "Volume={}\nVolSessionId=1\nVolSessionTime={}\n"
+    full, last = group.format(NAME, 1795302931), group.format(NAME, 1795302940)
+    volumes = new_volumes(folder)
+    whole = (volumes / NAME).read_bytes()
+    bsr = volumes / "x.bsr"
+    for name, text, size, expected in [
+        ("as many files as are counted", full + "Count=5\n" + last + "Count=1\n", None, ""),
+        ("as many with indexes", full + "FileIndex=1-2147483647\nCount=5\n", None, ""),
+        ("one file too few", full + "Count=6\n", None, f"count 1 1795302931 6 5 {NAME}\n"),
+        ("one file too few with indexes", full + "FileIndex=2-2147483647\nCount=5\n", None, f"count 1 1795302931 5 4 {NAME}\n"),
+        ("a cut volume", full + "Count=5\n" + last + "Count=1\n", 1656, f"count 1 1795302940 1 0 {NAME}\n"),
+        ("a cut volume and all indexes", last + "FileIndex=1-2147483647\nCount=1\n", 1656, f"count 1 1795302940 1 0 {NAME}\n"),
+        ("a cut volume and an index", last + "FileIndex=1\nCount=1\n", 1656, f"missing 1 1795302940 1 {NAME}\ncount 1 1795302940 1 0 {NAME}\n"),
+        ("the last of some counts", last + "Count=7\ncount = 1 # one\nCount=x\n", None, ""),
+    ]:
+        bsr.write_text(text)
+        (volumes / NAME).write_bytes(whole[:size])
+        status, out, told = checks.run(bsr, volumes)
+        lines = "".join(line for line in out.splitlines(keepends=True) if line.split(" ")[0] in ("missing", "count"))
+        checks.check(name, (status if lines else 0, lines, told), (1 if expected else 0, expected, ""))
+        words = [checks.program, "extract", "--bsr", bsr, "--volumes", volumes, "--complete"]
+        ran = subprocess.run(words, stdin=subprocess.DEVNULL, capture_output=True, text=True)
+        checks.check("and --complete", (ran.returncode, ran.stderr), (1 if expected else 0, expected))
+        ran = subprocess.run(words[:-1], stdin=subprocess.DEVNULL, capture_output=True, text=True)
+        checks.check("and a restore without it", (ran.returncode, ran.stderr), (0, ""))
+    # The second file begins on the first volume and ends on the second one, where the third is.
+    made = Path(tempfile.mkdtemp(dir=folder))
+    manifest = write_pair(made)
+    pair = group.format("V", 100) + "FileIndex=1-2\nCount={}\n" + group.format("W", 100) + "FileIndex=2-3\nCount={}\n"
+    for counts, expected in [((2, 2), ""), ((3, 2), "count 1 100 3 2 V\n"), ((2, 3), "count 1 100 3 2 W\n")]:
+        (made / "x.bsr").write_text(pair.format(*counts))
+        lines = with_memory(expected + "total 3 12\n", made / "x.bsr", made / "volumes", manifest)
+        checks.check(f"two volumes of {counts} files", checks.run(made / "x.bsr", made / "volumes"), (1 if expected else 0, lines, ""))
+
+
 def checks_mistakes(checks, folder):
     """What an operator may mistake for the bootstrap or its volumes."""
     bsr = Path(CASES) / "order-inc" / "x.bsr"
@@ -297,8 +351,7 @@ def checks_mistakes(checks, folder):
     status, out, _ = checks.run(volumes, volumes)
     checks.check("a folder in place of the bootstrap", (status, out), (3, ""))
     unpack(Path(SETS) / "swap", volumes / "swap")
-    missing = f"missing 1 1795302931 1-2 {NAME}\nmissing 1 1795302931 4-5 {NAME}\nmissing 1 1795302940 1 {NAME}\n"
-    missing += f"memory {64 * MIB}\ntotal 0 0\n"
+    missing = NOTHING + f"memory {64 * MIB}\ntotal 0 0\n"
     checks.check("the volume of another set", checks.run(bsr, volumes / "swap"), (1, missing, ""))
     words = [checks.program, "check", "--bsr", bsr, "--volumes", volumes]
     with open("/dev/full", "w") as full:
@@ -317,6 +370,7 @@ def main():
         checks_sums(checks, Path(folder))
         checks_long(checks, Path(folder))
         checks_conflicts(checks, Path(folder))
+        checks_counts(checks, Path(folder))
         checks_mistakes(checks, Path(folder))
     return 1 if checks.failed else 0
 

@@ -33,6 +33,8 @@ AT = b"/tmp/peerlab/src/"
 F1, F2, F3 = (AT + b"sub/f%d" % number for number in (1, 2, 3))
 WHOLE = {F1: b"full 1\n", F3: b"full 3\n", F2: b"incremental, the newest\n"}
 MISSING = b"missing 1 1795302931 1-2 %s\nmissing 1 1795302931 4-5 %s\nmissing 1 1795302940 1 %s\n"
+# The bootstrap counts four files of the first session, and one of the second.
+MISSING += b"count 1 1795302931 4 0 %s\ncount 1 1795302940 1 0 %s\n"
 # 64 MiB; 200 bytes for each of 11 fragments; 400 for each of 5 files; their paths of 23, 23, 21, 17 and 23 bytes; 38 bytes of data.
 ALL = b"memory 67113209\ntotal 5 38\n"
 # The same of the 8 fragments and the 4 files of the first session, with 14 bytes.
@@ -115,7 +117,8 @@ def checks_cut(checks, folder):
     made = new_case(folder)
     whole = volume_of(made).read_bytes()
     volume_of(made).write_bytes(whole[:1656])
-    name, lost, some = "a cut incremental", b"missing 1 1795302940 1 Vol-0001\n", {F1: WHOLE[F1], F3: WHOLE[F3]}
+    name, some = "a cut incremental", {F1: WHOLE[F1], F3: WHOLE[F3]}
+    lost = b"missing 1 1795302940 1 Vol-0001\ncount 1 1795302940 1 0 Vol-0001\n"
     manifest = manifest_of(only_first, b"total 4 0 0\n")
     checks.checks_found(name, made, lost + FIRST)
     checks.complete(name, made, 1, manifest, lost)
@@ -131,7 +134,7 @@ def checks_nothing(checks, folder):
         volume_of(made).rename(made / "volumes" / volume)
         if name == "an empty volume":
             volume_of(made).write_bytes(b"")
-        lost, label = MISSING % ((volume.encode(),) * 3), b"label Vol-0002 Vol-0001\n" if volume == "Vol-0002" else b""
+        lost, label = MISSING % ((volume.encode(),) * 5), b"label Vol-0002 Vol-0001\n" if volume == "Vol-0002" else b""
         checks.checks_found(name, made, label + lost + NONE)
         checks.complete(name, made, 1, b"total 0 0 0\n", lost)
         checks.both(name, made, 0, b"total 0 0 0\n", b"", {})

@@ -30,25 +30,25 @@ keys_of os = map (λ (o : Outlined). o.key) os
 abbrev pub folder_lines : List Outlined → List ℕ
 folder_lines os = flat_map name_line os ++ flat_map long_line os ++ conflict_lines os
 
--- the lines of what files a bootstrap asks for and does not get, of files that can't be restored, of those that a folder can't take, and of
--- paths that come more than once
-abbrev pub lines_of : List Group → List Outlined → List ℕ
-lines_of groups os = report groups (keys_of os) ++ flat_map file_line os ++ folder_lines os ++ copy_lines os
+-- the lines of what files a bootstrap asks for and does not get, of groups that get fewer than their counts, of files that can't be restored,
+-- of those that a folder can't take, and of paths that come more than once
+abbrev pub lines_of : List Group → List (Option ℕ) → List Outlined → List ℕ
+lines_of groups counts os = report groups counts (keys_of os) ++ flat_map file_line os ++ folder_lines os ++ copy_lines os
 
 -- A check says of what was found of each piece: which volumes can't be searched, what there is to say of labels, and the lines of the files;
 -- and how many files would be restored, their bytes, and the memory that a restore asks for which holds so many bytes of data.
-pub record IsChecked (groups : List Group) (budget : ℕ) (results : List Searched) (labels : List ℕ) (checked : Checked) : Type 0 where
-  pub findings : checked.findings.items ≡ flat_map volume_line results ++ labels ++ lines_of groups (outlines_of results)
+pub record IsChecked (groups : List Group) (counts : List (Option ℕ)) (budget : ℕ) (results : List Searched) (labels : List ℕ) (checked : Checked) : Type 0 where
+  pub findings : checked.findings.items ≡ flat_map volume_line results ++ labels ++ lines_of groups counts (outlines_of results)
   pub files : checked.files ≡ files_in (outlines_of results)
   pub bytes : checked.bytes ≡ bytes_in (outlines_of results)
   pub memory : checked.memory ≡ memory_for budget (length (all_found results)) (outlines_of results)
 
 -- what was found, over the volumes that the drive may be taken to show, is what is checked, with what is said of labels
-abbrev pub ChecksOver : {D : Type 0} → (D → Option (List Volume)) → (D → ℕ) → D → D → List Group → ℕ → Checked → Type 0
-ChecksOver shows failures earlier later groups budget checked =
+abbrev pub ChecksOver : {D : Type 0} → (D → Option (List Volume)) → (D → ℕ) → D → D → List Group → List (Option ℕ) → ℕ → Checked → Type 0
+ChecksOver shows failures earlier later groups counts budget checked =
     (results : List Searched) × (labels : List (List ℕ)) × AreSearched (shows earlier) (shows later) (pieces_of groups) results
     × TellLabels (shows earlier) (shows later) (failures earlier) (failures later) (pieces_of groups) labels
-    × IsChecked groups budget results (flat_map (λ line. line) labels) checked
+    × IsChecked groups counts budget results (flat_map (λ line. line) labels) checked
 
 -- the findings, the memory, and then the number of files and of their bytes
 abbrev pub checked_text : Checked → List ℕ

@@ -132,18 +132,20 @@ fn push_folder_lines(
     push_conflicts(alloc, text, sketches)
 }
 
-/// Appends the lines of files: those that the bootstrap asks for and does not get, those that can't be
-/// restored, those that a folder can't take, and those whose paths come more than once.
+/// Appends the lines of files: those that the bootstrap asks for and does not get, the groups that get fewer
+/// than their counts, the files that can't be restored, those that a folder can't take, and those whose paths
+/// come more than once.
 fn push_lines(
     alloc: Global,
     text: &mut Vec<u8>,
     groups: &[Group],
+    counts: &[Option<u64>],
     sketches: &[(FileKey, Sketch)],
 ) -> Result<(), AllocError>
-    ensures { OnOk result (text.new.items ≡ text.old.items ++ lines_of groups.now (map outlined sketches.now)) }
+    ensures { OnOk result (text.new.items ≡ text.old.items ++ lines_of groups.now counts.now (map outlined sketches.now)) }
 {
     let keys = keys_in(alloc, sketches)?;
-    let missing = report(alloc, groups, keys)?;
+    let missing = report(alloc, groups, counts, keys)?;
     text.extend_from_slice(&missing)?;
     push_files(text, sketches)?;
     push_folder_lines(alloc, text, sketches)?;
@@ -204,11 +206,12 @@ fn memory_for(budget: u64, fragments: usize, sketches: &[(FileKey, Sketch)]) -> 
 fn checked_of(
     alloc: Global,
     groups: &[Group],
+    counts: &[Option<u64>],
     budget: u64,
     results: Vec<Result<Found, PieceFault>>,
     labels: &[u8],
 ) -> Result<Checked, AllocError>
-    ensures { IfOk result (IsChecked groups.now budget results.items labels.now) }
+    ensures { IfOk result (IsChecked groups.now counts.now budget results.items labels.now) }
 {
     let mut findings = Vec::new(alloc);
     push_volumes(&mut findings, &results)?;
@@ -216,7 +219,7 @@ fn checked_of(
     let hits = hits_of(alloc, results)?;
     let fragments = hits.len();
     let sketches = sketches_in(alloc, hits)?;
-    push_lines(alloc, &mut findings, groups, &sketches)?;
+    push_lines(alloc, &mut findings, groups, counts, &sketches)?;
     Ok(Checked {
         findings,
         files: files_of(&sketches),
@@ -227,24 +230,28 @@ fn checked_of(
 
 /// Checks a bootstrap over the volumes of a drive. Each finding is a line: the volumes that can't be
 /// searched, all of them; those whose labels name other volumes; the indexes that the bootstrap asks for and
-/// that are not there; the files that can't be restored; those that a folder can't take, since their paths
-/// are no names of files there, are too long, or conflict; and the copies of paths that come more than once.
-/// The memory is that of a restore which holds at most `budget` bytes of data.
+/// that are not there; the groups that get fewer files than their counts; the files that can't be restored;
+/// those that a folder can't take, since their paths are no names of files there, are too long, or conflict; and
+/// the copies of paths that come more than once. The memory is that of a restore which holds at most `budget`
+/// bytes of data.
+///
+/// The counts are those of the bootstrap's groups, in the same order, as `counts_of` of br_counts returns them.
 ///
 /// What was found on a volume that can't be searched to its end does not count. The digests of files are
 /// not compared.
 pub fn check<D: Drive>(
     alloc: Global,
     bootstrap: &Bootstrap,
+    counts: &[Option<u64>],
     budget: u64,
     drive: &mut D,
 ) -> Result<Checked, AllocError>
-    ensures checked { IfOk result (ChecksOver D.shows D.failures drive.old drive.new bootstrap.now budget) }
+    ensures checked { IfOk result (ChecksOver D.shows D.failures drive.old drive.new bootstrap.now counts.now budget) }
     ensures grows { OnlyGrows (D.shows drive.old) (D.shows drive.new) }
 {
     let pieces = split(alloc, bootstrap)?;
     let results = search(alloc, &pieces, drive)?;
     let mut labels = Vec::new(alloc);
     push_labels(alloc, &mut labels, &pieces, drive)?;
-    checked_of(alloc, bootstrap.groups(), budget, results, &labels)
+    checked_of(alloc, bootstrap.groups(), counts, budget, results, &labels)
 }

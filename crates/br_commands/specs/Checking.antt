@@ -9,6 +9,7 @@ use Rattle.br_model.specs.Text.{is_empty}
 use Rattle.br_model.specs.Volume.{Volume}
 use Rattle.br_check.specs.Check.{ChecksOver, checked_text}
 use Rattle.br_check.specs.declared.run.Checked.{Checked}
+use Rattle.br_counts.specs.Counts as counted
 use Rattle.br_checksums.specs.Pieces.{SumsOver}
 use Rattle.br_options.specs.declared.options.Checksums.{Checksums}
 use Rattle.br_options.specs.declared.options.Checksums.TheVariants.{Compared, Passed}
@@ -28,25 +29,25 @@ pub record HasSums {D : Type 0} (shows : D → Option (List Volume)) (failures :
   pub bytes : checked.bytes ≡ first.bytes
   pub memory : checked.memory ≡ first.memory
 
--- what a check of these groups finds over the drive for a restore which holds so many bytes of data; then, if checksums are compared, what is
+-- what a check of these groups and their counts finds over the drive for a restore which holds so many bytes of data; then, if checksums are compared, what is
 -- said of those
-abbrev pub ChecksFor : {D : Type 0} → (D → Option (List Volume)) → (D → ℕ) → D → D → List Group → ℕ → Checksums → Checked → Type 0
-ChecksFor shows failures earlier later groups budget Passed checked = ChecksOver shows failures earlier later groups budget checked
-ChecksFor {D} shows failures earlier later groups budget Compared checked =
-    (between : D) × (first : Checked) × ChecksOver shows failures earlier between groups budget first × HasSums shows failures between later (pieces_of groups) first checked
+abbrev pub ChecksFor : {D : Type 0} → (D → Option (List Volume)) → (D → ℕ) → D → D → List Group → List (Option ℕ) → ℕ → Checksums → Checked → Type 0
+ChecksFor shows failures earlier later groups counts budget Passed checked = ChecksOver shows failures earlier later groups counts budget checked
+ChecksFor {D} shows failures earlier later groups counts budget Compared checked =
+    (between : D) × (first : Checked) × ChecksOver shows failures earlier between groups counts budget first × HasSums shows failures between later (pieces_of groups) first checked
 
--- What a check of these groups finds over the drive was written after what the writer held, and the status is that of what was found.
-abbrev pub WritesChecked : {D : Type 0} → (D → Option (List Volume)) → (D → ℕ) → D → D → Option (List ℕ) → Option (List ℕ) → List Group → ℕ → Checksums → ℕ
+-- What a check of these groups and their counts finds over the drive was written after what the writer held, and the status is that of what was found.
+abbrev pub WritesChecked : {D : Type 0} → (D → Option (List Volume)) → (D → ℕ) → D → D → Option (List ℕ) → Option (List ℕ) → List Group → List (Option ℕ) → ℕ → Checksums → ℕ
     → Type 0
-WritesChecked shows failures drive later before after groups budget checksums status =
-    (checked : Checked) × ChecksFor shows failures drive later groups budget checksums checked × Appends before after (checked_text checked)
+WritesChecked shows failures drive later before after groups counts budget checksums status =
+    (checked : Checked) × ChecksFor shows failures drive later groups counts budget checksums checked × Appends before after (checked_text checked)
     × (status ≡ checked_status checked)
 
 -- the bootstrap of the text was checked so; or its first refused line is the expected one
 abbrev pub ChecksText : {D : Type 0} → (D → Option (List Volume)) → (D → ℕ) → D → D → Option (List ℕ) → Option (List ℕ) → List ℕ → ℕ → Checksums
     → Result ℕ ExtractFault → Type 0
 ChecksText shows failures drive later before after text budget checksums (Ok status) =
-    (groups : List Group) × (read_bootstrap text ≡ Ok groups) × WritesChecked shows failures drive later before after groups budget checksums status
+    (groups : List Group) × (read_bootstrap text ≡ Ok groups) × WritesChecked shows failures drive later before after groups (counted.counts text) budget checksums status
 ChecksText shows failures drive later before after text budget checksums (Err fault) = IsRefusal (cause fault) (refused_as OfLine (read_bootstrap text))
 
 -- the bootstrap of a task was checked over its drive, and what was found was written; or the first refused line is the expected one

@@ -12,6 +12,7 @@ use crate::status::{BAD_STREAM, Ending};
 use br_bsr::{Bootstrap, read_bootstrap};
 use br_check::{Checked, check};
 use br_checksums::push_checksums;
+use br_counts::counts_of;
 use br_engine::{ExtractFault, Flush, show};
 use br_folder::FolderDrive;
 use br_options::{CheckOptions, Checksums};
@@ -69,18 +70,20 @@ fn with_checksums<D: Drive>(
 }
 
 /// Checks a bootstrap over the volumes of a drive, and the checksums of its blocks if they are to be
-/// compared. The memory is that of a restore which holds at most `budget` bytes of data.
+/// compared. The counts are those of its groups. The memory is that of a restore which holds at most `budget` bytes
+/// of data.
 fn checked_for<D: Drive>(
     alloc: Global,
     bootstrap: &Bootstrap,
+    counts: &[Option<u64>],
     budget: u64,
     drive: &mut D,
     checksums: Checksums,
 ) -> Result<Checked, AllocError>
-    ensures checked { IfOk result (ChecksFor D.shows D.failures drive.old drive.new bootstrap.now budget checksums) }
+    ensures checked { IfOk result (ChecksFor D.shows D.failures drive.old drive.new bootstrap.now counts.now budget checksums) }
     ensures grows { OnlyGrows (D.shows drive.old) (D.shows drive.new) }
 {
-    let checked = check(alloc, bootstrap, budget, drive)?;
+    let checked = check(alloc, bootstrap, counts, budget, drive)?;
     match checksums {
         Checksums::Passed => Ok(checked),
         Checksums::Compared => with_checksums(alloc, checked, bootstrap, drive),
@@ -135,9 +138,11 @@ pub fn check_over<D: Drive, W: Flush>(
     ensures flushed { OnOk result (W.is_flushed writer.new) }
 {
     let bootstrap = read_bootstrap(alloc, task.bootstrap.text())?;
+    let counts = counts_of(alloc, task.bootstrap.text())?;
     let checked = checked_for(
         alloc,
         &bootstrap,
+        &counts,
         task.memory,
         &mut task.drive,
         task.checksums,

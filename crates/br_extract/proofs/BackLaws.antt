@@ -284,6 +284,6 @@ gives_delivered shows failures drives groups (Some gathered) wanted os rs is giv
     (given.0, subst (AllByRecursion P) (sym is) (all_kept P wanted.stops (of_copies wanted.copies os) (all_of_copies P wanted.copies os given.1)))
 
 -- the same is missing
-pub same_report : (gaps : Gaps) (groups : List Group) (rs os : List Restored) → AllZip IsFileLike rs os → reported gaps groups rs ≡ reported gaps groups os
-same_report Unreported groups rs os like = refl
-same_report Reported groups rs os like = ap (report groups) (same_keys rs os like)
+pub same_report : (gaps : Gaps) (groups : List Group) (counts : List (Option ℕ)) (rs os : List Restored) → AllZip IsFileLike rs os → reported gaps groups counts rs ≡ reported gaps groups counts os
+same_report Unreported groups counts rs os like = refl
+same_report Reported groups counts rs os like = ap (report groups counts) (same_keys rs os like)

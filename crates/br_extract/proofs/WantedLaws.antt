@@ -14,6 +14,7 @@ use Rattle.br_model.specs.Name.{FileKey}
 use Rattle.br_model.specs.Restored.{Restored}
 use Rattle.br_model.specs.Volume.{Volume}
 use Rattle.br_newest.specs.Newest.{Copy, copies_of, copy_of, is_current, is_newest, newest}
+use Rattle.br_counts.specs.Counts as counted
 use Rattle.br_engine.specs.Again.{EndsLike, IsFileLike}
 use Rattle.br_engine.specs.Delivering.{Delivers, EndsWith, IsPut}
 use Rattle.br_engine.specs.Extracting.{OverText, OverVolumes, Said}
@@ -102,17 +103,17 @@ extracts_files wanted over reports before after had has rs kept done given writt
 
 -- The same if the files are like those that are wanted, and are these if they can be given: then the others of all outcomes stay in their
 -- places.
-pub extracts_like : (wanted : Wanted) (earlier later : Told) (groups : List Group) (before after : Option (List ℕ)) (had has : InSink) (os kept : List Restored) (done : Extracted)
+pub extracts_like : (wanted : Wanted) (earlier later : Told) (groups : List Group) (counts : List (Option ℕ)) (before after : Option (List ℕ)) (had has : InSink) (os kept : List Restored) (done : Extracted)
     (given : Type 0) → OverVolumes earlier later groups None (λ expected. expected ≡ Ok os)
     → ((volumes : List Volume) → AllStand earlier later (pieces_of groups) volumes → given) → Appends before after (manifest os) → kept ≡ delivered wanted os
-    → EndsLike given had has kept done.end → done.missing.items ≡ reported wanted.gaps groups os → done.left.items ≡ left_out wanted os
-    → Extracts wanted (λ holds. OverVolumes earlier later groups None holds) (λ rs lines. lines ≡ reported wanted.gaps groups rs) before after had has (Ok done)
-extracts_like wanted earlier later groups before after had has os kept done given made can written is like told left =
+    → EndsLike given had has kept done.end → done.missing.items ≡ reported wanted.gaps groups counts os → done.left.items ≡ left_out wanted os
+    → Extracts wanted (λ holds. OverVolumes earlier later groups None holds) (λ rs lines. lines ≡ reported wanted.gaps groups counts rs) before after had has (Ok done)
+extracts_like wanted earlier later groups counts before after had has os kept done given made can written is like told left =
     let all = in_places wanted os like.rs (subst (AllZip IsFileLike like.rs) is like.like) in
-    extracts_files wanted (λ holds. OverVolumes earlier later groups None holds) (λ rs lines. lines ≡ reported wanted.gaps groups rs) before after had has
+    extracts_files wanted (λ holds. OverVolumes earlier later groups None holds) (λ rs lines. lines ≡ reported wanted.gaps groups counts rs) before after had has
     all.rs like.rs done (λ volumes stands. made volumes stands ∙ ap Ok (sym (all.same (like.same (can volumes stands) ∙ is))))
     (subst (Appends before after) (sym (same_manifest all.rs os all.like)) written) all.chosen like.ends
-    (told ∙ sym (same_report wanted.gaps groups all.rs os all.like)) (left ∙ sym all.left)
+    (told ∙ sym (same_report wanted.gaps groups counts all.rs os all.like)) (left ∙ sym all.left)
 
 -- a refusal is as that of any restore
 pub extracts_refused : (wanted : Wanted) (over : Said → Type 0) (reports : List Restored → List ℕ → Type 0) (before after : Option (List ℕ)) (had has : InSink)
@@ -121,11 +122,11 @@ extracts_refused wanted over reports before after had has fault refused = refuse
 
 -- ---- over what the bootstrap of a text gives
 
-pub text_extracts : (wanted : Wanted) (earlier later : Told) (before after : Option (List ℕ)) (had has : InSink) (text : List ℕ) (groups : List Group)
-    (result : Result Extracted ExtractFault) → read_bootstrap text ≡ Ok groups
-    → Extracts wanted (λ holds. OverVolumes earlier later groups None holds) (λ rs lines. lines ≡ reported wanted.gaps groups rs) before after had has result
+pub text_extracts : (wanted : Wanted) (earlier later : Told) (before after : Option (List ℕ)) (had has : InSink) (text : List ℕ) (groups : List Group) (counts : List (Option ℕ))
+    (result : Result Extracted ExtractFault) → read_bootstrap text ≡ Ok groups → counts ≡ counted.counts text
+    → Extracts wanted (λ holds. OverVolumes earlier later groups None holds) (λ rs lines. lines ≡ reported wanted.gaps groups counts rs) before after had has result
     → Extracts wanted (λ holds. OverText (Some text) earlier later holds) (IsReport wanted.gaps text) before after had has result
-text_extracts wanted earlier later before after had has text groups (Ok done) read h =
-    (h.0, (over_text (Some text) earlier later text groups (λ expected. expected ≡ Ok h.0) refl read h.1.0, h.1.1), h.2, h.3, (groups, read, h.4), h.5)
-text_extracts wanted earlier later before after had has text groups (Err fault) read h =
+text_extracts wanted earlier later before after had has text groups counts (Ok done) read count h =
+    (h.0, (over_text (Some text) earlier later text groups (λ expected. expected ≡ Ok h.0) refl read h.1.0, h.1.1), h.2, h.3, (groups, read, h.4 ∙ ap (λ (cs : List (Option ℕ)). reported wanted.gaps groups cs h.0) count), h.5)
+text_extracts wanted earlier later before after had has text groups counts (Err fault) read count h =
     (over_text (Some text) earlier later text groups (λ expected. IsRefusal (cause fault) expected) refl read h.0, h.1, h.2)

@@ -1,6 +1,5 @@
 -- A restore by a bootstrap of which only some files may be delivered, and of which is reported what is missing.
 use Rattle.std.specs.Prelude.{◌≡◌, ℕ, List, ◌++◌, map, Option, Some, None, Result, Ok, Err}
-use Rattle.br_model.specs.Bootstrap.{Group}
 use Rattle.br_model.specs.File.{Item}
 use Rattle.br_model.specs.Restored.{Restored}
 use Rattle.br_model.specs.Volume.{Volume}
@@ -10,7 +9,8 @@ use Rattle.br_engine.specs.Outputs.{EndTells, InSink, end_text}
 use Rattle.br_engine.specs.declared.outputs.Outputs.{Outputs}
 use Rattle.br_engine.specs.declared.fault.ExtractFault.{ExtractFault}
 use Rattle.br_leaving.specs.Line.{left_lines}
-use Rattle.br_extract.specs.Wanted.{IsReport, delivered, left_out, reported}
+use Rattle.br_extract.specs.Wanted.{IsReport, delivered, left_out, reported_for}
+use Rattle.br_extract.specs.declared.asked.Asked.{Asked}
 use Rattle.br_extract.specs.declared.extracting.Extracted.{Extracted}
 use Rattle.br_options.specs.declared.options.Wanted.{Wanted}
 
@@ -29,11 +29,11 @@ Extracts wanted over reports before after had has (Ok done) =
     × reports rs done.missing.items × (done.left.items ≡ left_out wanted rs)
 Extracts wanted over reports before after had has (Err fault) = IsRefused over before after had has fault
 
--- a restore of what a bootstrap gives
+-- a restore of what the bootstrap gives, with a report of what is asked for
 abbrev pub ExtractsOver : {D W S : Type 0} → (D → Option (List Volume)) → (W → Option (List ℕ)) → (S → Option (List Item))
-    → List D → List D → Outputs W S → Outputs W S → List Group → Wanted → Result Extracted ExtractFault → Type 0
-ExtractsOver shows contents has earlier later before after groups wanted result =
-    Extracts wanted (λ holds. OverVolumes (map shows earlier) (map shows later) groups None holds) (λ rs lines. lines ≡ reported wanted.gaps groups rs)
+    → List D → List D → Outputs W S → Outputs W S → Asked → Wanted → Result Extracted ExtractFault → Type 0
+ExtractsOver shows contents has earlier later before after asked wanted result =
+    Extracts wanted (λ holds. OverVolumes (map shows earlier) (map shows later) asked.bootstrap.now None holds) (λ rs lines. lines ≡ reported_for wanted.gaps asked rs)
     (contents before.writer) (contents after.writer) (in_sink has before) (in_sink has after) result
 
 -- a restore of what the bootstrap of a text gives

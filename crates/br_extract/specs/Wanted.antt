@@ -7,7 +7,9 @@ use Rattle.br_model.specs.BootstrapText.{read_bootstrap}
 use Rattle.br_model.specs.Restored.{Restored}
 use Rattle.br_newest.specs.Newest.{newest}
 use Rattle.br_leaving.specs.Apart.{apart, conflicts}
+use Rattle.br_counts.specs.Counts as counted
 use Rattle.br_missing.specs.Lines.{report}
+use Rattle.br_extract.specs.declared.asked.Asked.{Asked}
 use Rattle.br_options.specs.declared.options.Copies.{Copies}
 use Rattle.br_options.specs.declared.options.Copies.TheVariants.{All, Newest}
 use Rattle.br_options.specs.declared.options.Stops.{Stops}
@@ -39,14 +41,19 @@ delivered wanted rs = kept wanted.stops (of_copies wanted.copies rs)
 abbrev pub left_out : Wanted → List Restored → List (List ℕ)
 left_out wanted rs = conflicting wanted.stops (of_copies wanted.copies rs)
 
--- the lines of the indexes that the bootstrap asks for and that gave no outcome, if they are reported
-abbrev pub reported : Gaps → List Group → List Restored → List ℕ
-reported Unreported groups rs = []
-reported Reported groups rs = report groups (map (λ (r : Restored). r.key) rs)
+-- the lines of what is missing, if they are reported: of the indexes that the bootstrap asks for and that gave no outcome, and of the groups
+-- with fewer outcomes than they count
+abbrev pub reported : Gaps → List Group → List (Option ℕ) → List Restored → List ℕ
+reported Unreported groups counts rs = []
+reported Reported groups counts rs = report groups counts (map (λ (r : Restored). r.key) rs)
+
+-- the same of what is asked for
+abbrev pub reported_for : Gaps → Asked → List Restored → List ℕ
+reported_for gaps asked rs = reported gaps asked.bootstrap.now asked.counts.now rs
 
 -- the same of the bootstrap of a text
 abbrev pub IsReport : Gaps → List ℕ → List Restored → List ℕ → Type 0
-IsReport gaps text rs lines = (groups : List Group) × (read_bootstrap text ≡ Ok groups) × (lines ≡ reported gaps groups rs)
+IsReport gaps text rs lines = (groups : List Group) × (read_bootstrap text ≡ Ok groups) × (lines ≡ reported gaps groups (counted.counts text) rs)
 
 -- flags of what is delivered; without flags it is all
 abbrev pub Flags : Type 0

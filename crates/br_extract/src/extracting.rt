@@ -7,9 +7,11 @@ ghost use Rattle.br_engine.specs.Outputs.{SinkCounts, StopsByFailure};
 ghost use Rattle.br_extract.specs.Extracting.{ExtractsOver, ExtractsText, done_lines};
 ghost use Rattle.br_extract.specs.Wanted.{left_by};
 
+use crate::asked::Asked;
 use crate::preparing::{keep_delivered, prepare};
 use crate::stopping::path_at_stop;
-use br_bsr::{Bootstrap, read_bootstrap};
+use br_bsr::read_bootstrap;
+use br_counts::counts_of;
 use br_engine::{
     Budget, ExtractFault, Flush, Outputs, RestoreEnd, deliver_made, restore_within, write_manifest,
 };
@@ -29,7 +31,8 @@ use std::thread::Threads;
 pub struct Extracted {
     /// How it ended.
     pub end: RestoreEnd,
-    /// The lines of the indexes that the bootstrap asks for and that gave no outcome, if they are reported.
+    /// The lines of the indexes that the bootstrap asks for and that gave no outcome, and of the groups with fewer
+    /// outcomes than they count, if these are reported.
     pub missing: Vec<u8>,
     /// The paths of the files that are left out since they conflict with one that is delivered.
     pub left: Vec<Path>,
@@ -74,13 +77,13 @@ impl Extracted {
 pub fn restore_wanted<D: Drive + Send, W: Flush, S: Sink>(
     rt: &(impl Threads + Wait + Sync),
     budget: Budget,
-    bootstrap: &Bootstrap,
+    asked: &Asked<'_>,
     wanted: Wanted,
     drives: &mut Vec<D>,
     out: &mut Outputs<W, S>,
 ) -> Result<Extracted, ExtractFault>
     requires drives { AreDrives drives.old.items }
-    ensures extracts { ExtractsOver D.shows W.contents S.has drives.old.items drives.new.items out.old out.new bootstrap.now wanted result }
+    ensures extracts { ExtractsOver D.shows W.contents S.has drives.old.items drives.new.items out.old out.new asked.now wanted result }
     ensures flushed { IfOk result (λ _. W.is_flushed out.new.writer) }
     ensures driven { IfErr result IsNoLine }
     ensures places { StayInPlace D.shows D.failures drives.old.items drives.new.items }
@@ -88,11 +91,11 @@ pub fn restore_wanted<D: Drive + Send, W: Flush, S: Sink>(
     ensures sink_counted { CountsFailures S.failures out.old out.new }
 {
     let alloc = budget.alloc;
-    let mut made = restore_within(rt, budget, bootstrap, None, drives)?;
-    let prepared = prepare(alloc, wanted, bootstrap, &made.outcomes)?;
+    let mut made = restore_within(rt, budget, asked.bootstrap, None, drives)?;
+    let prepared = prepare(alloc, wanted, asked, &made.outcomes)?;
     write_manifest(alloc, &made.outcomes, &mut out.writer)?;
     keep_delivered(&mut made.outcomes, &prepared.flags);
-    let groups = bootstrap.groups();
+    let groups = asked.bootstrap.groups();
     let end = deliver_made(rt, alloc, &made, groups, drives, &mut out.sink);
     let stopped_at = path_at_stop(alloc, &made.outcomes, &end);
     let outcomes = mem::replace(&mut made.outcomes, Vec::new(alloc));
@@ -126,5 +129,10 @@ pub fn extract_wanted<D: Drive + Send, W: Flush, S: Sink>(
     ensures sink_counted { CountsFailures S.failures out.old out.new }
 {
     let bootstrap = read_bootstrap(budget.alloc, text)?;
-    restore_wanted(rt, budget, &bootstrap, wanted, drives, out)
+    let counts = counts_of(budget.alloc, text)?;
+    let asked = Asked {
+        bootstrap: &bootstrap,
+        counts: &counts,
+    };
+    restore_wanted(rt, budget, &asked, wanted, drives, out)
 }

@@ -3,10 +3,11 @@ ghost use Rattle.std.specs.Prelude.{◌≡◌, true, length, map, replicate, IfO
 ghost use Rattle.std.specs.List.{items_where_true};
 ghost use Rattle.br_join.specs.Outcome.{restored};
 ghost use Rattle.br_leaving.specs.Apart.{apart, conflicts};
-ghost use Rattle.br_extract.specs.Wanted.{HaveFlags, conflicting, delivered, kept, left_by, left_out, of_copies, reported};
+ghost use Rattle.br_extract.specs.Wanted.{HaveFlags, conflicting, delivered, kept, left_by, left_out, of_copies, reported, reported_for};
 ghost use Rattle.br_options.specs.declared.options.Gaps.TheVariants.{Reported};
 
-use br_bsr::{Bootstrap, Group};
+use crate::asked::Asked;
+use br_bsr::Group;
 use br_current::{flags_of_newest, keep_flagged};
 use br_join::Outcome;
 use br_leaving::keep_apart;
@@ -18,7 +19,7 @@ use std::alloc::{AllocError, Global};
 /// What is made of the outcomes before the manifest is written.
 #[derive(Drop)]
 pub(crate) struct Prepared {
-    /// The lines of the indexes that are missing, if they are reported.
+    /// The lines of what is missing, if they are reported.
     pub(crate) missing: Vec<u8>,
     /// Of each outcome if it is delivered. Without flags each is.
     pub(crate) flags: Option<Vec<bool>>,
@@ -46,30 +47,32 @@ fn keys_of(alloc: Global, outcomes: &[(FileKey, Outcome)]) -> Result<Vec<FileKey
     Ok(keys)
 }
 
-/// Returns the lines of the indexes of which there is no outcome.
+/// Returns the lines of the indexes of which there is no outcome, and of the groups with fewer outcomes than
+/// their counts.
 fn missing_of(
     alloc: Global,
     groups: &[Group],
+    counts: &[Option<u64>],
     outcomes: &[(FileKey, Outcome)],
 ) -> Result<Vec<u8>, AllocError>
-    ensures { IfOk result (λ lines. lines.items ≡ reported Reported groups.now (map restored outcomes.now)) }
+    ensures { IfOk result (λ lines. lines.items ≡ reported Reported groups.now counts.now (map restored outcomes.now)) }
 {
     let keys = keys_of(alloc, outcomes)?;
-    report(alloc, groups, keys)
+    report(alloc, groups, counts, keys)
 }
 
-/// Returns the lines of the indexes of which there is no outcome, if they are reported.
+/// Returns the lines of what is missing, if they are reported.
 fn reported_of(
     alloc: Global,
     gaps: Gaps,
-    bootstrap: &Bootstrap,
+    asked: &Asked<'_>,
     outcomes: &[(FileKey, Outcome)],
 ) -> Result<Vec<u8>, AllocError>
-    ensures { IfOk result (λ lines. lines.items ≡ reported gaps bootstrap.now (map restored outcomes.now)) }
+    ensures { IfOk result (λ lines. lines.items ≡ reported_for gaps asked.now (map restored outcomes.now)) }
 {
     match gaps {
         Gaps::Unreported => Ok(Vec::new(alloc)),
-        Gaps::Reported => missing_of(alloc, bootstrap.groups(), outcomes),
+        Gaps::Reported => missing_of(alloc, asked.bootstrap.groups(), asked.counts, outcomes),
     }
 }
 
@@ -153,14 +156,14 @@ fn chosen_of(
 pub(crate) fn prepare(
     alloc: Global,
     wanted: Wanted,
-    bootstrap: &Bootstrap,
+    asked: &Asked<'_>,
     outcomes: &[(FileKey, Outcome)],
 ) -> Result<Prepared, AllocError>
-    ensures missing { IfOk result (λ p. p.missing.items ≡ reported wanted.gaps bootstrap.now (map restored outcomes.now)) }
+    ensures missing { IfOk result (λ p. p.missing.items ≡ reported_for wanted.gaps asked.now (map restored outcomes.now)) }
     ensures flags { IfOk result (λ p. map restored (left_by p.flags outcomes.now) ≡ delivered wanted (map restored outcomes.now)) }
     ensures left { IfOk result (λ p. p.left.items ≡ left_out wanted (map restored outcomes.now)) }
 {
-    let missing = reported_of(alloc, wanted.gaps, bootstrap, outcomes)?;
+    let missing = reported_of(alloc, wanted.gaps, asked, outcomes)?;
     let flags = flags_of(alloc, wanted.copies, outcomes)?;
     let chosen = chosen_of(alloc, wanted.stops, flags, outcomes)?;
     Ok(Prepared {

@@ -1,3 +1,4 @@
 pub mod GapLaws
 pub mod NearLaws
 pub mod MissingLaws
+pub mod CountLaws

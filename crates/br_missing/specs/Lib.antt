@@ -1,4 +1,5 @@
 pub mod Missing
 pub mod Gaps
 pub mod Near
+pub mod Counted
 pub mod Lines

@@ -26,14 +26,14 @@ fn contains_any(ranges: &[Range], number: u64) -> bool
 }
 
 /// Returns if the ranges admit the number: one of them contains it, or there is none.
-fn admits(ranges: &[Range], number: u64) -> bool
+pub(crate) fn admits(ranges: &[Range], number: u64) -> bool
     ensures { result ≡ admits_number ranges.now number }
 {
     ranges.is_empty() || contains_any(ranges, number)
 }
 
 /// Returns if the group asks for the file by the range.
-fn asks_for(group: &Group, range: Range, key: FileKey) -> bool
+pub(crate) fn asks_for(group: &Group, range: Range, key: FileKey) -> bool
     ensures { result ≡ is_asked group.now range key }
 {
     admits(&group.session_ids, u64::from(key.session.id))
@@ -104,7 +104,11 @@ fn push_group(
 
 /// Returns the runs of all groups, one group after the other.
 #[tactic(auto, unfolding(crate::specs::Missing::missing))]
-fn missing_of(alloc: Global, groups: &[Group], keys: &[FileKey]) -> Result<Vec<Gap>, AllocError>
+pub(crate) fn missing_of(
+    alloc: Global,
+    groups: &[Group],
+    keys: &[FileKey],
+) -> Result<Vec<Gap>, AllocError>
     requires { AreSorted keys.now }
     ensures { IfOk result (λ found. found.items ≡ model.missing groups.now keys.now) }
 {

@@ -1,6 +1,8 @@
-//! The files that a bootstrap asks for by their indexes and that are not there, and a report of them.
+//! The files that a bootstrap asks for by their indexes or by their number and that are not there, and a report
+//! of them.
 #![tactic(auto)]
 
+mod counting;
 mod gaps;
 mod lacking;
 mod lines;

@@ -1,6 +1,7 @@
 //! Checks of bootstraps over volumes in memory.
 
 use crate::again::drive_of;
+use crate::counted::counts_in;
 use br_bsr::{Bootstrap, read_bootstrap};
 use br_check::check;
 use br_trial_rows::Case;
@@ -10,8 +11,14 @@ use br_volume::MemDrive;
 const MEMORY: u64 = 1 << 30;
 
 /// Prints what a check of a bootstrap finds, and whether it finds nothing.
-fn push_checked(case: &mut Case, bootstrap: &Bootstrap, memory: u64, drive: &mut MemDrive) {
-    match check(case.alloc(), bootstrap, memory, drive) {
+fn push_checked(
+    case: &mut Case,
+    bootstrap: &Bootstrap,
+    counts: &[Option<u64>],
+    memory: u64,
+    drive: &mut MemDrive,
+) {
+    match check(case.alloc(), bootstrap, counts, memory, drive) {
         Ok(checked) => {
             let mut text = Vec::new(case.alloc());
             case.done(checked.push_text(&mut text));
@@ -34,8 +41,9 @@ pub(crate) fn run(case: &mut Case, call: &[&str]) {
     };
     let mut drive = drive_of(case, kind, volumes, tails);
     let text = case.text_of(text);
+    let counts = counts_in(case, &text);
     match read_bootstrap(case.alloc(), &text) {
-        Ok(bootstrap) => push_checked(case, &bootstrap, memory, &mut drive),
+        Ok(bootstrap) => push_checked(case, &bootstrap, &counts, memory, &mut drive),
         Err(_fault) => case.fail("the bootstrap is refused"),
     }
 }

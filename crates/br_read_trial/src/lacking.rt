@@ -22,7 +22,7 @@ fn push_key(case: &mut Case, keys: &mut Vec<FileKey>, field: &str) {
 }
 
 /// Reads files.
-fn keys_of(case: &mut Case, fields: &[&str]) -> Vec<FileKey> {
+pub(crate) fn keys_of(case: &mut Case, fields: &[&str]) -> Vec<FileKey> {
     let mut keys = Vec::new(case.alloc());
     for field in fields {
         push_key(case, &mut keys, field);

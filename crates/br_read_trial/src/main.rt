@@ -8,6 +8,7 @@ mod attributes;
 mod blocks;
 mod bootstraps;
 mod checks;
+mod counted;
 mod lacking;
 mod names;
 mod sessions;
@@ -24,6 +25,7 @@ fn run(case: &mut Case, fields: &[&str]) {
         ["block", call @ ..] => blocks::run(case, call),
         ["bootstrap", call @ ..] => bootstraps::run(case, call),
         ["missing", call @ ..] => lacking::run(case, call),
+        ["counts", call @ ..] => counted::run(case, call),
         ["check", call @ ..] => checks::run(case, call),
         ["volume", call @ ..] => volumes::run(case, call),
         ["again", call @ ..] => again::run(case, call),

@@ -18,11 +18,11 @@ returns-clause-checked g c =
     let text = c.push_labels.new.text.items in
     IfOk-weaker c.checked_of.result _ _
     (λ checked done.
-    checked_over g.D.Drive.shows g.D.Drive.failures c.args.drive.now c.search.new.drive c.push_labels.new.drive groups c.args.budget c.deref.result.now c.deref-2.result.now results
+    checked_over g.D.Drive.shows g.D.Drive.failures c.args.drive.now c.search.new.drive c.push_labels.new.drive groups c.args.counts.now c.args.budget c.deref.result.now c.deref-2.result.now results
     c.new-labels.result.items text checked (c.deref.ensures.value ∙ c.in_ok-pieces.ensures) (c.deref-2.ensures.value ∙ c.in_ok-pieces.ensures) c.new-labels.ensures.items
     c.search.ensures.grows c.push_labels.ensures.grows c.search.ensures.counted c.in_ok-results.ensures.searched c.in_ok-push_labels.ensures.tells
-    (subst (λ (gs : List Group). IsChecked gs c.args.budget results text checked) c.groups.ensures.same
-    (subst (λ (xs : List ℕ). IsChecked c.groups.result.now c.args.budget results xs checked) c.deref-3.ensures.value done)))
+    (subst (λ (gs : List Group). IsChecked gs c.args.counts.now c.args.budget results text checked) c.groups.ensures.same
+    (subst (λ (xs : List ℕ). IsChecked c.groups.result.now c.args.counts.now c.args.budget results xs checked) c.deref-3.ensures.value done)))
     c.checked_of.ensures
 
 pub returns-clause-grows : goal.returns-clause-grows

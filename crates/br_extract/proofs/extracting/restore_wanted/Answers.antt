@@ -28,7 +28,7 @@ returns-in_err-made-clause-extracts g c =
     let before = g.W.Write.contents c.args.out.now.writer in
     let fault = c.in_err-made.field-0.0 in
     rw (p.1, p.2)
-    (delivers_refused (map g.D.Drive.shows c.args.drives.now.items) (map g.D.Drive.shows c.restore_within.new.drives.items) c.args.bootstrap.now None before before
+    (delivers_refused (map g.D.Drive.shows c.args.drives.now.items) (map g.D.Drive.shows c.restore_within.new.drives.items) c.args.asked.now.bootstrap.now None before before
     (in_sink g.S.Sink.has c.args.out.now) fault c.in_err-made.ensures.files (nothing_written before fault))
 
 -- ---- memory runs out before the manifest
@@ -38,7 +38,7 @@ returns-in_err-prepared-clause-extracts g c =
     let p = err_from_is_err_and c.from_residual-in_err-prepared.result c.from_residual-in_err-prepared.ensures.1 in
     let earlier = map g.D.Drive.shows c.args.drives.now.items in
     let later = map g.D.Drive.shows c.restore_within.new.drives.items in
-    let groups = c.args.bootstrap.now in
+    let groups = c.args.asked.now.bootstrap.now in
     let before = g.W.Write.contents c.args.out.now.writer in
     rw (p.1, p.2)
     (delivers_refused earlier later groups None before before (in_sink g.S.Sink.has c.args.out.now) Memory
@@ -51,7 +51,7 @@ returns-in_err-write_manifest-clause-extracts g c =
     let p = err_from_is_err_and c.from_residual-in_err-write_manifest.result c.from_residual-in_err-write_manifest.ensures.1 in
     let earlier = map g.D.Drive.shows c.args.drives.now.items in
     let later = map g.D.Drive.shows c.restore_within.new.drives.items in
-    let groups = c.args.bootstrap.now in
+    let groups = c.args.asked.now.bootstrap.now in
     let fault = c.in_err-write_manifest.field-0.0 in
     rw (p.1, p.2)
     (delivers_refused earlier later groups None (g.W.Write.contents c.args.out.now.writer) (g.W.Write.contents c.write_manifest.new.writer) (in_sink g.S.Sink.has c.args.out.now) fault
@@ -76,7 +76,7 @@ returns-clause-extracts g c =
     let first = c.args.drives.now.items in
     let second = c.restore_within.new.drives.items in
     let third = c.deliver_made-end.new.drives.items in
-    let groups = c.args.bootstrap.now in
+    let groups = c.args.asked.now.bootstrap.now in
     let before = g.W.Write.contents c.args.out.now.writer in
     let after = g.W.Write.contents c.write_manifest.new.writer in
     let had = in_sink g.S.Sink.has c.args.out.now in
@@ -92,7 +92,7 @@ returns-clause-extracts g c =
     stand_midst (pieces_of groups) volumes (map shows first) (map shows second) (map shows third) stands
     (only_grow shows failures first second c.in_ok-made.ensures.places) (only_grow shows failures second third c.deliver_made-end.ensures.places) in
     let done : Extracted = record { end = c.deliver_made-end.result; missing = prepared.missing; left = prepared.left; stopped_at = c.path_at_stop-stopped_at.result; outcomes = c.replace-outcomes.result } in
-    extracts_like c.args.wanted (map shows first) (map shows third) groups before after had has os kept done given
+    extracts_like c.args.wanted (map shows first) (map shows third) groups c.args.asked.now.counts.now before after had has os kept done given
     (λ volumes stands. c.in_ok-made.ensures.files volumes (midst volumes stands))
     (λ volumes stands. gives_delivered shows failures second groups made.gathered c.args.wanted os kept wanted (c.in_ok-made.ensures.again volumes (midst volumes stands)))
     (subst (λ os. Appends before after (manifest (map restored os))) c.deref-2.ensures.value c.in_ok-write_manifest.ensures.written)

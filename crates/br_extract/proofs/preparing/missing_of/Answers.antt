@@ -9,5 +9,5 @@ use Rattle.br_extract.proofs.preparing.missing_of.Goals as goal
 pub returns : goal.returns
 returns c =
     IfOk-weaker c.report.result _ _
-    (λ lines is. is ∙ ap (report c.args.groups.now) (c.in_ok-keys.ensures ∙ sym (map-map (λ (r : Restored). r.key) restored c.args.outcomes.now)))
+    (λ lines is. is ∙ ap (report c.args.groups.now c.args.counts.now) (c.in_ok-keys.ensures ∙ sym (map-map (λ (r : Restored). r.key) restored c.args.outcomes.now)))
     c.report.ensures

@@ -1,0 +1,97 @@
+//! Lines of a bootstrap, and their parts.
+ghost use Rattle.std.specs.Prelude.{◌≡◌, ◌==◌, ◌<◌, ◌∷◌, true, false, length, position, MatchOption};
+ghost use Rattle.std.specs.List.{before_first, after_first, list_any};
+ghost use Rattle.std.specs.Str.Lines.{lines, strip_carriage_return};
+ghost use Rattle.br_model.specs.Text.{is_blank, trim_front};
+ghost use Rattle.br_model.specs.BootstrapText.{trimmed, before_comment};
+
+use br_types::is_blank_byte;
+use bstr::ByteSlice;
+
+/// Returns the text without the blanks at its front.
+fn trimmed_front(text: &[u8]) -> &[u8]
+    ensures { result.now ≡ trim_front is_blank text.now }
+{
+    let mut rest = text;
+    while let [first, following @ ..] = rest {
+        if !is_blank_byte(*first) {
+            break;
+        }
+        rest = following;
+    }
+    rest
+}
+
+/// Returns the text without the blanks at its two ends.
+pub(crate) fn trimmed_of(text: &[u8]) -> &[u8]
+    ensures { result.now ≡ trimmed text.now }
+{
+    let mut rest = trimmed_front(text);
+    while let [before @ .., last] = rest {
+        if !is_blank_byte(*last) {
+            break;
+        }
+        rest = before;
+    }
+    rest
+}
+
+/// Returns the place of the first byte `end`, if there is one.
+fn place_of(text: &[u8], end: u8) -> Option<usize>
+    ensures { result ≡ position (λ c. c == end) text.now }
+{
+    text.find_byte(end)
+}
+
+/// Returns the text before the first byte `end` and the text after it; `None` if there is no such
+/// byte.
+pub(crate) fn cut(text: &[u8], end: u8) -> Option<(&[u8], &[u8])>
+    ensures { MatchOption result
+        ((list_any (λ c. c == end) text.now ≡ false) × (before_first (λ c. c == end) text.now ≡ text.now))
+        (λ x. (list_any (λ c. c == end) text.now ≡ true) × (x.0.now ≡ before_first (λ c. c == end) text.now)
+        × (x.1.now ≡ after_first (λ c. c == end) text.now) × (length x.1.now < length text.now)) }
+{
+    match place_of(text, end) {
+        Some(i) => Some((&text[..i], &text[i + 1..])),
+        None => None,
+    }
+}
+
+/// Returns the text before its comment, which begins with the first `#` outside quotes.
+pub(crate) fn without_comment(text: &[u8]) -> &[u8]
+    ensures { result.now ≡ before_comment false text.now }
+{
+    let mut is_quoted = false;
+    for (i, byte) in text.iter().enumerate() {
+        if *byte == b'#' && !is_quoted {
+            return &text[..i];
+        }
+        if *byte == b'"' {
+            is_quoted = !is_quoted;
+        }
+    }
+    text
+}
+
+/// Returns the line without the CR at its end, if it has one.
+fn without_return(line: &[u8]) -> &[u8]
+    ensures { result.now ≡ strip_carriage_return line.now }
+{
+    if !line.is_empty() && line[line.len() - 1] == b'\r' {
+        &line[..line.len() - 1]
+    } else {
+        line
+    }
+}
+
+/// Returns the first line of a text without its end, and the text after it.
+pub(crate) fn first_line(text: &[u8]) -> (&[u8], &[u8])
+    requires { 0 < length text.now }
+    ensures first { lines text.now ≡ result.0.now ∷ lines result.1.now }
+    ensures shorter { length result.1.now < length text.now }
+{
+    match cut(text, b'\n') {
+        Some((line, rest)) => (without_return(line), rest),
+        None => (text, &text[text.len()..]),
+    }
+}
