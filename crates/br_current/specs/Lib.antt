@@ -1,1 +1,2 @@
 pub mod Current
+pub mod Older

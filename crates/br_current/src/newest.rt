@@ -22,7 +22,10 @@ fn note<'o>(copies: &mut Copies<'o>, key: FileKey, outcome: &'o Outcome) -> Resu
 }
 
 /// Returns the files among the outcomes as copies of their paths.
-fn noted<'o>(alloc: Global, outcomes: &'o [(FileKey, Outcome)]) -> Result<Copies<'o>, AllocError>
+pub(crate) fn noted<'o>(
+    alloc: Global,
+    outcomes: &'o [(FileKey, Outcome)],
+) -> Result<Copies<'o>, AllocError>
     ensures { IfOk result (λ copies. AreNoted copies (copies_of (map restored outcomes.now))) }
 {
     let mut copies = Copies::new(alloc);
@@ -33,7 +36,7 @@ fn noted<'o>(alloc: Global, outcomes: &'o [(FileKey, Outcome)]) -> Result<Copies
 }
 
 /// Returns if no copy is newer than an outcome. One that is no file is always current.
-fn is_current(copies: &Copies<'_>, key: FileKey, outcome: &Outcome) -> bool
+pub(crate) fn is_current(copies: &Copies<'_>, key: FileKey, outcome: &Outcome) -> bool
     ensures { SaysCurrent copies.now (restored (key, outcome.now)) result }
 {
     match outcome {
