@@ -117,13 +117,13 @@ all_rows =
     (codes "Write it in quotes, in UTC and with all digits, such as `'2026-11-21 23:15:45'`.") ∷
     row_with 53 (codes "UnknownClient")
     (codes "No job in the catalogue names this client.")
-    (codes "Take the client's name from the catalogue; upper and lower case differ.") ∷
+    (codes "Take the client's name from the list that `brestore jobs` prints; upper and lower case differ.") ∷
     row_with 54 (codes "UnknownFileSet")
     (codes "No job of this client names this file set.")
-    (codes "Take the file set's name from the catalogue; upper and lower case differ.") ∷
+    (codes "Take the file set's name from the list that `brestore jobs` prints; upper and lower case differ.") ∷
     row_with 55 (codes "UnknownCommand")
     (codes "The line is no console command with its arguments, or has more than 4,096 bytes.")
-    (codes "Type `cd`, `pwd`, `ls`, `mark`, `unmark`, `markdir`, `unmarkdir`, `count`, `lsmark`, `find`, `estimate`, `done` or `quit`.") ∷
+    (codes "Type `cd`, `pwd`, `ls`, `mark`, `unmark`, `markdir`, `unmarkdir`, `count`, `lsmark`, `find`, `estimate`, `done` or `quit`; at a terminal also `help` or `dir`.") ∷
     row_with 56 (codes "NoSuchDirectory")
     (codes "The argument of `cd` is no directory at this moment.")
     (codes "Look with `pwd` and `ls`, and type names without quotes or escapes.") ∷
@@ -147,7 +147,7 @@ all_rows =
     (codes "Give the groups of a bootstrap in the order of writing; else try another copy or choose an earlier moment.") ∷
     row_with 63 (codes "NoAttributes")
     (codes "The volumes have no attribute record of the file, or no part at all of a planned file.")
-    (codes "Check that volumes and catalogue belong together; else try another copy or choose an earlier moment.") ∷
+    (codes "Copy the volume again, since it may be cut, and check that volumes and catalogue belong together; else try another copy or choose an earlier moment.") ∷
     row_with 64 (codes "BadAttributes")
     (codes "The file has two attribute records, or one that cannot be read.")
     (codes "Try another copy or choose an earlier moment.") ∷

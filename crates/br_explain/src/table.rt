@@ -198,19 +198,19 @@ pub const REFUSALS: [Refusal; 54] = [
         number: 53,
         name: "UnknownClient",
         meaning: "No job in the catalogue names this client.",
-        next: "Take the client's name from the catalogue; upper and lower case differ.",
+        next: "Take the client's name from the list that `brestore jobs` prints; upper and lower case differ.",
     },
     Refusal {
         number: 54,
         name: "UnknownFileSet",
         meaning: "No job of this client names this file set.",
-        next: "Take the file set's name from the catalogue; upper and lower case differ.",
+        next: "Take the file set's name from the list that `brestore jobs` prints; upper and lower case differ.",
     },
     Refusal {
         number: 55,
         name: "UnknownCommand",
         meaning: "The line is no console command with its arguments, or has more than 4,096 bytes.",
-        next: "Type `cd`, `pwd`, `ls`, `mark`, `unmark`, `markdir`, `unmarkdir`, `count`, `lsmark`, `find`, `estimate`, `done` or `quit`.",
+        next: "Type `cd`, `pwd`, `ls`, `mark`, `unmark`, `markdir`, `unmarkdir`, `count`, `lsmark`, `find`, `estimate`, `done` or `quit`; at a terminal also `help` or `dir`.",
     },
     Refusal {
         number: 56,
@@ -258,7 +258,7 @@ pub const REFUSALS: [Refusal; 54] = [
         number: 63,
         name: "NoAttributes",
         meaning: "The volumes have no attribute record of the file, or no part at all of a planned file.",
-        next: "Check that volumes and catalogue belong together; else try another copy or choose an earlier moment.",
+        next: "Copy the volume again, since it may be cut, and check that volumes and catalogue belong together; else try another copy or choose an earlier moment.",
     },
     Refusal {
         number: 64,
