@@ -14,8 +14,10 @@ import argparse
 import fcntl
 import os
 import pty
+import re
 import select
 import shutil
+import struct
 import subprocess
 import sys
 import tempfile
@@ -27,7 +29,8 @@ from pathlib import Path
 sys.dont_write_bytecode = True
 sys.path.insert(0, os.path.join(os.path.dirname(os.path.dirname(os.path.abspath(__file__))), "tools"))
 from cases import unpack
-from common import CASES, ORDER_SQL, PROGRAM, SETS, Checks
+from commands import small_blocks
+from common import CASES, ORDER_SQL, PROGRAM, SETS, Checks, escaped
 from explain import rows
 
 VOLUMES = os.path.join(SETS, "order")
@@ -61,6 +64,15 @@ def words(number):
 
 def count(put, files):
     return f"{put} of {files} files were put"
+
+
+def paths_saved(volume):
+    """Returns the paths in the attributes of a volume by the index of their file."""
+    paths = {}
+    for found in re.finditer(rb"(?s)(.{4})\0\0\0\x01.{4}(\d+) \d+ (/[^\0]*)\0", volume):
+        if struct.unpack(">I", found[1])[0] == int(found[2]):
+            paths[int(found[2])] = found[3]
+    return paths
 
 
 def files_in(manifest):
@@ -103,19 +115,30 @@ def play(program, words, lines, folder):
         return status, shown.splitlines(), printed.read()
 
 
-def play_slowly(program, words, at_terminal=True):
-    """Runs the program with a pipe as standard output that takes nothing for two seconds. Standard error is a terminal, or a pipe.
-    Returns the exit status, what came on standard error, and standard output."""
+def length_in(pipe):
+    """Returns the number of bytes in a pipe."""
+    return struct.unpack("i", fcntl.ioctl(pipe, termios.FIONREAD, b"\0\0\0\0"))[0]
+
+
+def play_slowly(program, words, at_terminal=True, lines="", room=0):
+    """Runs the program with a pipe as standard output that takes `room` bytes, and then nothing for two seconds after it has them. Standard
+    input has these lines, and standard error is a terminal, or a pipe. Returns the exit status, what came on standard error, and standard
+    output."""
     errors, inner = pty.openpty() if at_terminal else os.pipe()
     output, into = os.pipe()
     fcntl.fcntl(into, fcntl.F_SETPIPE_SZ, PIPE_LEN)
-    os.write(into, b"x" * PIPE_LEN)
-    child = subprocess.Popen([program, *words], stdin=subprocess.DEVNULL, stdout=into, stderr=inner)
+    os.write(into, b"x" * (PIPE_LEN - room))
+    child = subprocess.Popen([program, *words], stdin=subprocess.PIPE, stdout=into, stderr=inner)
+    child.stdin.write(lines.encode())
+    child.stdin.close()
     os.close(into)
     os.close(inner)
+    ends = time.monotonic() + SECONDS
+    while length_in(output) < PIPE_LEN and time.monotonic() < ends:
+        time.sleep(0.05)
     time.sleep(2)
     with open(output, "rb") as printed:
-        text = printed.read()[PIPE_LEN:].decode()
+        text = printed.read()[PIPE_LEN - room:].decode()
     shown = read_until(errors, "", None, time.monotonic() + SECONDS)
     os.close(errors)
     return child.wait(), shown, text
@@ -169,7 +192,12 @@ def extracts(checks, folder):
         os.mkdir(place)
     extract = ["extract", "--bsr", BOOTSTRAP, "--volumes"]
     status, shown, printed = play(checks.program, [*extract, empty], [], folder)
-    checks.check("a volume that is missing", (status, shown, printed), (1, told(14, "refused 14 Vol-0001 0"), ""))
+    lost = f"  {empty}/Vol-0001 can't be read: No such file or directory (os error 2). Next: Copy it there, or correct the folder's name."
+    checks.check("a volume that is missing", (status, shown, printed), (1, [*told(14, "refused 14 Vol-0001 0"), lost], ""))
+    os.mkdir(os.path.join(empty, "Vol-0001"))
+    status, shown, printed = play(checks.program, [*extract, empty], [], folder)
+    lost = f"  {empty}/Vol-0001 is a folder, and has to be a file. Next: Move it away, or choose another folder."
+    checks.check("a folder in its place", (status, shown, printed), (1, [*told(70), lost], ""))
     with open(os.path.join(VOLUMES, "Vol-0001"), "rb") as whole, open(os.path.join(cut, "Vol-0001"), "wb") as part:
         part.write(whole.read()[:300])
     status, shown, printed = play(checks.program, [*extract, cut], [], folder)
@@ -190,6 +218,9 @@ def spoilt(checks, folder):
     number = sum(fields[4] == "65" for fields in outcomes)
     paths = [line.split(" ")[5] for line in manifest.splitlines() if line.startswith("F ")]
     outcome = [f"outcome 65 of {number} files: {keys}", *words(65)]
+    with open(os.path.join(volumes, "Vol-0001"), "rb") as volume:
+        saved = paths_saved(volume.read())
+    outcome += [f"  {' '.join(fields[1:4])} on Vol-0001 is {escaped(saved[int(fields[3])])}" for fields in outcomes]
     extract = ["extract", "--bsr", os.path.join(case, "x.bsr"), "--volumes", volumes]
     status, shown, printed = play(checks.program, extract, [], folder)
     checks.check("outcomes that are no files", (status, shown, printed), (1, outcome, manifest))
@@ -230,6 +261,49 @@ def tells(checks, folder):
     checks.check("and not without a terminal", (status, shown, printed), (0, "", manifest))
 
 
+def tells_a_session(checks, folder):
+    """The same line of a console session, which knows how much it reads once its bootstrap is printed."""
+    db, into = os.path.join(folder, "told.db"), os.path.join(folder, "told3")
+    with open(ORDER_SQL) as text:
+        subprocess.run(["sqlite3", db], stdin=text, check=True)
+    os.mkdir(into)
+    with open(os.path.join(CASES, "order-inc", "expected")) as text:
+        manifest = text.read()
+    files, lines = files_in(manifest), "mark *\ndone\n"
+    session = console_words(db, into)
+    whole = subprocess.run([checks.program, *session[:-2]], input=lines.encode(), capture_output=True).stdout.decode()
+    checks.check("what a session prints ends with the manifest", whole.endswith(manifest), True)
+    # What comes before the manifest goes into the pipe.
+    room = len(whole) - len(manifest)
+    status, shown, printed = play_slowly(checks.program, session, lines=lines, room=room)
+    checks.check("a session that takes its time", (status, printed), (0, whole))
+    told = f"\r0.0 MiB of 0.0 MiB read, 0 of {files} files put\x1b[K{CLEARED}{count(files, files)}\n"
+    checks.check("is told", shown[-len(told):], told)
+
+
+def leaves_unsaid(checks, folder):
+    """Restores without `--newest` and `--complete`: a later job of a storage daemon that began to count anew, and a volume that was cut."""
+    volumes, bsr = os.path.join(folder, "anew"), os.path.join(folder, "anew.bsr")
+    os.mkdir(volumes)
+    for name, session in (("A", (5, 100)), ("B", (1, 200))):
+        with open(os.path.join(volumes, name), "wb") as volume:
+            volume.write(b"".join(small_blocks(struct.pack(">II", *session), b"/a")))
+    with open(bsr, "w") as text:
+        text.write("Volume=A\nVolSessionId=5\nVolSessionTime=100\nFileIndex=1-3\n")
+        text.write("Volume=B\nVolSessionId=1\nVolSessionTime=200\nFileIndex=1\n")
+    extract = ["extract", "--bsr", bsr, "--volumes", volumes]
+    absent = "indexes that the bootstrap asks for and that gave no outcome: 2. Next: `--complete` names them."
+    older = "older copies among the files: 1, paths at which one is put last: 1. Next: `check` names them, `--newest` leaves them out."
+    status, shown, printed = play(checks.program, extract, [], folder)
+    checks.check("what is left unsaid", (status, shown, files_in(printed)), (0, [absent, older], 2))
+    status, shown, printed = play(checks.program, [*extract, "--newest"], [], folder)
+    checks.check("with --newest", (status, shown, files_in(printed)), (0, [absent], 2))
+    status, shown, printed = play(checks.program, [*extract, "--complete"], [], folder)
+    checks.check("with --complete", (status, shown, files_in(printed)), (1, ["missing 5 100 2-3 A", older], 2))
+    status, shown, printed = play(checks.program, [*extract, "--complete", "--newest"], [], folder)
+    checks.check("with both", (status, shown, files_in(printed)), (1, ["missing 5 100 2-3 A"], 2))
+
+
 def looks(checks, folder):
     """Checks of bootstraps: findings go to standard output, and a line that is refused is explained."""
     bsr = os.path.join(folder, "x.bsr")
@@ -255,7 +329,7 @@ def main():
     checks = Checks(os.path.abspath(options.program))
     folder = tempfile.mkdtemp(prefix="brestore-terminal-")
     try:
-        for plays in (restores, extracts, tells, looks, waits):
+        for plays in (restores, extracts, tells, tells_a_session, leaves_unsaid, looks, waits):
             plays(checks, folder)
     finally:
         shutil.rmtree(folder)

@@ -17,6 +17,7 @@ use crate::status::{BAD_STREAM, Ending};
 use crate::tar::{Channel, Extent, TarEnd, TarFault, add_tar_end, end_stream, tar_into, tar_onto};
 use crate::telling::{log_fault, refuse_place, say_stop};
 use crate::watching::{gauge_of, refuse_log, watched_drives, watched_sink, watched_writer};
+use br_advice::{Told, say_volumes, tell_outcomes};
 use br_console::{ConsoleFault, ConsoleRun, End, JobSelection, Lines, run_console};
 use br_dir::with_help;
 use br_engine::{Budget, Flush, Outputs, RestoreEnd};
@@ -25,7 +26,7 @@ use br_history::History;
 use br_listing::tell_chosen;
 use br_options::{ConsoleOptions, Target};
 use br_plan::Request;
-use br_progress::{Faults, Gauge, WatchedDrive, WatchedSink, WatchedWriter};
+use br_progress::{Gauge, WatchedDrive, WatchedSink, WatchedWriter};
 use br_request::{RequestFault, read_request};
 use br_setup::{CLEAN, Catalogue, CatalogueFault, HostDrive, REFUSED, drives_over, with_prompt};
 use br_sink::Sink;
@@ -123,15 +124,12 @@ fn say_end(
     rt: &HostRuntime,
     gauge: &Gauge<'_>,
     target: Target<'_>,
-    run: &Result<ConsoleRun, ConsoleFault>,
+    end: &End,
     failed: Option<&Path>,
 ) -> io::Result<()> {
-    match run {
-        Ok(run) => match &run.end {
-            End::Quit => Ok(()),
-            End::Done(end) => say_stop(rt, gauge, target, end, failed),
-        },
-        Err(_) => Ok(()),
+    match end {
+        End::Quit => Ok(()),
+        End::Done(end) => say_stop(rt, gauge, target, end, failed),
     }
 }
 
@@ -140,19 +138,22 @@ fn say_end(
 fn report(
     rt: &HostRuntime,
     gauge: &Gauge<'_>,
-    target: Target<'_>,
-    told: (&Faults, Option<&Path>),
+    given: &ConsoleOptions<'_>,
+    (told, failed): (&Told<'_>, Option<&Path>),
     run: &Result<ConsoleRun, ConsoleFault>,
     ending: &Ending,
 ) -> io::Result<u8> {
-    let (faults, failed) = told;
     if let Err(fault) = run {
         tell_stream(rt, gauge, fault)?;
     }
     gauge.log_refusals(&ending.refusal);
     let status = ending.print(rt)?;
-    say_end(rt, gauge, target, run, failed)?;
-    gauge.tell_end(faults, b"")?;
+    match run {
+        Ok(run) => say_end(rt, gauge, given.target, &run.end, failed)?,
+        Err(fault) => say_volumes(rt, gauge, given.volumes, told, fault.number())?,
+    }
+    tell_outcomes(rt, gauge, given.volumes, told)?;
+    gauge.tell_end()?;
     Ok(status)
 }
 
@@ -517,8 +518,9 @@ fn restore_into<C: Catalogue, R: BufRead + Drop>(
     let run = console_over(threads, rt.alloc(), &mut task, reader);
     gauge.clear();
     let ending = console_ending(rt.alloc(), &run)?;
-    let told = (task.out.writer.faults(), failed_at(&task.out.sink));
-    report(rt, gauge, given.target, told, &run, &ending)
+    let told = Told::of_session(&task.out.writer);
+    let failed = failed_at(&task.out.sink);
+    report(rt, gauge, given, (&told, failed), &run, &ending)
 }
 
 /// Makes all that is there before a line is read, to deliver into a new file as a tar stream. The file is
@@ -559,6 +561,28 @@ fn set_up_tar_output<'r, C: Catalogue>(
     set_up_over(rt, catalogue, given, request, Some(sink))
 }
 
+/// Carries out a task whose sink writes a tar stream, by lines, with what watches the restore. Returns the exit status.
+fn restore_task<R: BufRead + Drop, T: Channel + Drop, W: Channel + Drop>(
+    threads: &(impl Threads + Wait + Sync),
+    rt: &HostRuntime,
+    gauge: &Gauge<'_>,
+    given: &ConsoleOptions<'_>,
+    task: ConsoleTask<HostDrive<'_>, BufWriter<W>, TarSink<BufWriter<T>>>,
+    reader: &mut R,
+) -> io::Result<u8>
+    requires few { AreFew (length task.drives.items) }
+    requires sink { IsSome task.out.sink }
+{
+    let watched = task.watched(rt.alloc(), gauge)?;
+    let mut task = watched.with_watched_sink(gauge);
+    let stream = console_stream(threads, rt.alloc(), &mut task, reader);
+    gauge.clear();
+    let mut ending = console_ending(rt.alloc(), &stream.run)?;
+    add_tar_end(&mut ending, stream.end)?;
+    let told = Told::of_session(&task.out.writer);
+    report(rt, gauge, given, (&told, None), &stream.run, &ending)
+}
+
 /// Restores by lines into the tar stream that was set up, with the answers to this writer: standard output,
 /// or something else if the stream goes there.
 fn restore_onto<R: BufRead + Drop, T: Channel + Drop, W: Channel + Drop>(
@@ -577,14 +601,7 @@ fn restore_onto<R: BufRead + Drop, T: Channel + Drop, W: Channel + Drop>(
     let (rt, gauge) = watch;
     tell_chosen(rt, &setup.history, &setup.request)?;
     let writer = BufWriter::new(rt.alloc(), answers)?;
-    let watched = setup.onto(writer).watched(rt.alloc(), gauge)?;
-    let mut task = watched.with_watched_sink(gauge);
-    let stream = console_stream(threads, rt.alloc(), &mut task, reader);
-    gauge.clear();
-    let mut ending = console_ending(rt.alloc(), &stream.run)?;
-    add_tar_end(&mut ending, stream.end)?;
-    let told = (task.out.writer.faults(), None);
-    report(rt, gauge, given.target, told, &stream.run, &ending)
+    restore_task(threads, rt, gauge, given, setup.onto(writer), reader)
 }
 
 /// Reads lines and answers them on standard output, over the jobs of a client's file set before a
@@ -613,7 +630,7 @@ pub fn restore_by_lines<C: Catalogue, R: BufRead + Drop>(
 ) -> io::Result<u8>
     requires few { AreFew given.now.drives }
 {
-    match gauge_of(rt, given.progress, given.log) {
+    match gauge_of(rt, given.volumes, given.progress, given.log) {
         Ok(gauge) => restore_told(rt, threads, catalogue, &gauge, given, reader),
         Err(error) => refuse_log(rt, given.log, error),
     }

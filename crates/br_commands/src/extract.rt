@@ -12,15 +12,14 @@ use crate::folders::{LeavingSink, folder_of, leaving_over};
 use crate::status::{BAD_STREAM, Ending};
 use crate::tar::{Channel, Extent, TarEnd, TarFault, add_tar_end, end_stream, tar_into, tar_onto};
 use crate::telling::{log_fault, refuse_place, say_conflicts, say_files, say_stop, tell_others};
-use crate::watching::{
-    expect_volumes, gauge_of, refuse_log, watched_drives, watched_sink, watched_writer,
-};
+use crate::watching::{gauge_of, refuse_log, watched_drives, watched_sink, watched_writer};
+use br_advice::{Told, advise, say_volumes, tell_outcomes};
 use br_engine::{Budget, ExtractFault, Flush, Outputs, RestoreEnd, read_text};
 use br_extract::{Extracted, extract_wanted};
 use br_folder_sink::FolderFault;
 use br_leaving::Leaving;
 use br_options::{ExtractOptions, Start, Target, Wanted};
-use br_progress::{Faults, Gauge, WatchedDrive, WatchedSink, WatchedWriter};
+use br_progress::{Gauge, WatchedDrive, WatchedSink, WatchedWriter};
 use br_setup::{CLEAN, HostDrive, REFUSED, drives_over, refuse_start};
 use br_sink::Sink;
 use br_tar::TarSink;
@@ -123,21 +122,29 @@ fn tell_stream(rt: &HostRuntime, gauge: &Gauge<'_>, fault: &ExtractFault) -> io:
 fn report(
     rt: &HostRuntime,
     gauge: &Gauge<'_>,
-    target: Target<'_>,
-    faults: &Faults,
+    given: &ExtractOptions<'_>,
+    told: &Told<'_>,
     run: &Result<Extracted, ExtractFault>,
-    failed: &[Path],
+    (failed, end): (&[Path], Option<TarEnd>),
 ) -> io::Result<u8> {
-    let ending = extract_ending(rt.alloc(), run, failed)?;
+    let mut ending = extract_ending(rt.alloc(), run, failed)?;
+    if let Some(end) = end {
+        add_tar_end(&mut ending, end)?;
+    }
     if let Err(fault) = run {
         tell_stream(rt, gauge, fault)?;
     }
     gauge.log_refusals(&ending.refusal);
     let status = ending.print(rt)?;
-    if let Ok(done) = run {
-        say_done(rt, gauge, target, done, failed)?;
+    match run {
+        Ok(done) => say_done(rt, gauge, given.target, done, failed)?,
+        Err(fault) => say_volumes(rt, gauge, given.volumes, told, fault.number())?,
     }
-    gauge.tell_end(faults, b"")?;
+    tell_outcomes(rt, gauge, given.volumes, told)?;
+    if let Ok(done) = run {
+        advise(rt, gauge, given.wanted, &done.outcomes, told)?;
+    }
+    gauge.tell_end()?;
     Ok(status)
 }
 
@@ -481,30 +488,6 @@ fn extract_stream<D: Drive + Send, W: Flush, T: Flush + Drop>(
     ExtractStream { run, end, writer }
 }
 
-/// Prints how a run with a tar stream ended to standard error, and tells a terminal and the log what it means.
-/// Returns the exit status.
-fn report_tar(
-    rt: &HostRuntime,
-    gauge: &Gauge<'_>,
-    target: Target<'_>,
-    faults: &Faults,
-    run: &Result<Extracted, ExtractFault>,
-    end: TarEnd,
-) -> io::Result<u8> {
-    let mut ending = extract_ending(rt.alloc(), run, &[])?;
-    add_tar_end(&mut ending, end)?;
-    if let Err(fault) = run {
-        tell_stream(rt, gauge, fault)?;
-    }
-    gauge.log_refusals(&ending.refusal);
-    let status = ending.print(rt)?;
-    if let Ok(done) = run {
-        say_done(rt, gauge, target, done, &[])?;
-    }
-    gauge.tell_end(faults, b"")?;
-    Ok(status)
-}
-
 /// Names what else is in the folder of a restore that is resumed, if it wrote its manifest.
 fn name_others(
     rt: &HostRuntime,
@@ -534,14 +517,14 @@ fn extract_into(
         Ok(setup) => setup,
         Err(fault) => return refuse_told(rt, gauge, given, fault),
     };
-    expect_volumes(rt, gauge, given.volumes, setup.bootstrap.text());
+    gauge.expect_volumes(setup.bootstrap.text());
     let writer = BufWriter::new(rt.alloc(), io::writer(rt))?;
     let mut task = setup.onto(writer).watched(rt.alloc(), gauge)?;
     let run = extract_over(threads, rt.alloc(), &mut task);
     gauge.clear();
     name_others(rt, gauge, given, &run)?;
-    let faults = task.out.writer.faults();
-    report(rt, gauge, given.target, faults, &run, task.left_out())
+    let told = Told::by(&task.out.writer, &task.text);
+    report(rt, gauge, given, &told, &run, (task.left_out(), None))
 }
 
 /// Restores into the tar stream of a sink, with the manifest to this writer: standard output, or something
@@ -562,14 +545,21 @@ fn extract_onto<T: Channel + Drop, W: Channel + Drop>(
         Ok(setup) => setup,
         Err(fault) => return refuse_told(rt, gauge, given, fault),
     };
-    expect_volumes(rt, gauge, given.volumes, setup.bootstrap.text());
+    gauge.expect_volumes(setup.bootstrap.text());
     let writer = BufWriter::new(rt.alloc(), manifest)?;
     let watched = setup.onto(writer).watched(rt.alloc(), gauge)?;
     let mut task = watched.with_watched_sink(gauge);
     let stream = extract_stream(threads, rt.alloc(), &mut task);
     gauge.clear();
-    let faults = task.out.writer.faults();
-    report_tar(rt, gauge, given.target, faults, &stream.run, stream.end)
+    let told = Told::by(&task.out.writer, &task.text);
+    report(
+        rt,
+        gauge,
+        given,
+        &told,
+        &stream.run,
+        (&[], Some(stream.end)),
+    )
 }
 
 /// Restores by the bootstrap in a file over the volumes in a folder. The manifest goes to standard
@@ -595,7 +585,7 @@ pub(crate) fn extract_files(
 ) -> io::Result<u8>
     requires few { AreFew given.now.drives }
 {
-    match gauge_of(rt, given.progress, given.log) {
+    match gauge_of(rt, given.volumes, given.progress, given.log) {
         Ok(gauge) => extract_told(rt, threads, &gauge, given),
         Err(error) => refuse_log(rt, given.log, error),
     }

@@ -2,21 +2,18 @@
 ghost use Rattle.std.specs.Prelude.{◌≡◌, is_some, length, IfOk};
 
 use crate::status::BAD_STREAM;
-use br_bsr::read_bootstrap;
 use br_engine::Outputs;
-use br_folder::FolderStore;
 use br_options::Progress;
-use br_piece::split;
 use br_progress::{Gauge, Log, WatchedDrive, WatchedSink, WatchedWriter};
 use br_setup::is_shown;
-use br_volume::VolumeStore;
 use std::alloc::{AllocError, Global};
 use std::io::{self, ErrorKind};
 
-/// Returns the gauge of a restore. It shows how far the restore is if that is asked for and standard error is a
-/// terminal, and appends to the file of a log if one is given.
+/// Returns the gauge of a restore from volumes in the folder with this path. It shows how far the restore is if that
+/// is asked for and standard error is a terminal, and appends to the file of a log if one is given.
 pub(crate) fn gauge_of<'r>(
     rt: &'r HostRuntime,
+    volumes: &'r str,
     progress: Progress,
     log: Option<&str>,
 ) -> io::Result<Gauge<'r>> {
@@ -24,7 +21,7 @@ pub(crate) fn gauge_of<'r>(
         Some(path) => Some(Log::open(rt, path)?),
         None => None,
     };
-    let gauge = Gauge::new(rt, progress == Progress::Shown && is_shown(rt));
+    let gauge = Gauge::new(rt, volumes, progress == Progress::Shown && is_shown(rt));
     Ok(gauge.with_log(log))
 }
 
@@ -37,25 +34,6 @@ pub(crate) fn refuse_log(rt: &HostRuntime, log: Option<&str>, error: io::Error) 
             Ok(BAD_STREAM)
         }
         _ => Err(error),
-    }
-}
-
-/// Returns the number of bytes of the volumes in a folder that a bootstrap names, if it can be told.
-fn len_of_volumes(rt: &HostRuntime, folder: &str, text: &[u8]) -> Option<u64> {
-    let bootstrap = read_bootstrap(rt.alloc(), text).ok()?;
-    let pieces = split(rt.alloc(), &bootstrap).ok()?;
-    let mut store = FolderStore::new(rt.alloc(), rt, folder).ok()?;
-    let mut len = 0_u64;
-    for piece in &pieces {
-        len = len.saturating_add(store.length(&piece.vol).ok()?);
-    }
-    Some(len)
-}
-
-/// Tells a gauge that shows something how many bytes the volumes of a bootstrap have.
-pub(crate) fn expect_volumes(rt: &HostRuntime, gauge: &Gauge<'_>, folder: &str, text: &[u8]) {
-    if gauge.is_shown() {
-        gauge.expect(len_of_volumes(rt, folder, text).unwrap_or(0));
     }
 }
 

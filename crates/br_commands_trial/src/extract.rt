@@ -63,11 +63,17 @@ const OLDER: &[u8] = b"\0\0\0\0\0\0\0\x5b\0\0\0\0BB02\0\0\0\x02\0\0\0\x32\
     \0\0\0\x01\0\0\0\x01\0\0\0\x261 3 /a\0A A IGk B A A A F A A A A A A\0\0\
     \0\0\0\x01\0\0\0\x02\0\0\0\x05older";
 
-/// Two files; an older copy of one; two files that begin on one volume and go on on another; a path in the way of
+/// A block of session 3 at 300: the attributes of the file `/s`, and a record of stream 20.
+const STRANGE: &[u8] = b"\0\0\0\0\0\0\0\x57\0\0\0\0BB02\0\0\0\x03\0\0\x01\x2c\
+    \0\0\0\x01\0\0\0\x01\0\0\0\x261 3 /s\0A A IGk B A A A F A A A A A A\0\0\
+    \0\0\0\x01\0\0\0\x14\0\0\0\x01x";
+
+/// Two files; an older copy of one; a file that can't be restored; two files that begin on one volume and go on on another; a path in the way of
 /// another; and a path that is no text.
 const VOLUMES: &[Volume] = &[
     ("V", [FRONT, b"/d/b", BACK]),
     ("O", [OLDER, b"", b""]),
+    ("S", [STRANGE, b"", b""]),
     ("A", [FIRST_OF_A, REST_OF_B, b""]),
     ("B", [REST_OF_A, FIRST_OF_B, b""]),
     ("C", [FRONT, b"/a/b", BACK]),
@@ -289,6 +295,47 @@ fn restores_are_logged(rt: HostRuntime) -> Result<(), Fail> {
     fs::remove_dir_all(&rt, place.as_str())?;
     assert_eq!(rt; ([none, first, second], untouched), ([3, 0, 1], 0));
     assert!(rt; log.starts_with(b"put /a\nput /d/b\n2 of 2 files were put\nrefused 81\n  "));
+    Ok(())
+}
+
+/// The newest copies alone, with a report of what is missing.
+const WHOLE: Wanted = Wanted {
+    copies: Copies::Newest,
+    gaps: Gaps::Reported,
+    stops: Stops::AtFirst,
+};
+
+/// A log says where a file comes from that can't be restored, how many indexes have no outcome, and how many files are
+/// older copies; and of the last two nothing if the options for them are given.
+#[test]
+fn a_log_says_what_is_left_unsaid(rt: HostRuntime) -> Result<(), Fail> {
+    let place = new_place(&rt, "unsaid", VOLUMES)?;
+    fs::write(
+        &rt,
+        path_in(&rt, place.as_str(), "x.bsr")?.as_str(),
+        b"Volume=V\nVolSessionId=1\nVolSessionTime=100\nFileIndex=1-4\nVolume=O\nVolume=S\n",
+    )?;
+    let (plain, whole) = (
+        path_in(&rt, place.as_str(), "plain")?,
+        path_in(&rt, place.as_str(), "whole")?,
+    );
+    for (log, wanted) in [(&plain, PLAIN), (&whole, WHOLE)] {
+        let how = (Target::Nowhere, Start::Empty, Some(log.as_str()));
+        let status = logged_status_by(&rt, &rt, place.as_str(), "x.bsr", how, wanted)?;
+        assert_eq!(rt; status, 1);
+    }
+    let told = fs::read(&rt, plain.as_str())?;
+    let silent = fs::read(&rt, whole.as_str())?;
+    fs::remove_dir_all(&rt, place.as_str())?;
+    assert!(rt;
+        told.ends_with(
+            b"\n  3 300 1 on S is /s\n\
+        indexes that the bootstrap asks for and that gave no outcome: 2. Next: `--complete` names them.\n\
+        older copies among the files: 1, paths at which one is put last: 1. \
+        Next: `check` names them, `--newest` leaves them out.\n"
+        )
+    );
+    assert!(rt; silent.ends_with(b"\n  3 300 1 on S is /s\n"));
     Ok(())
 }
 

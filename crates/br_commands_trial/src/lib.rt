@@ -12,4 +12,8 @@ mod extract;
 #[cfg(test)]
 mod places;
 #[cfg(test)]
+mod progress;
+#[cfg(test)]
+mod reason;
+#[cfg(test)]
 mod serving;

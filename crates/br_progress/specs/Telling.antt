@@ -1,5 +1,6 @@
 -- What is told of a restore beside the manifest.
-use Rattle.std.specs.Prelude.{ℕ, List, ◌++◌, codes, decimal}
+use Rattle.std.specs.Prelude.{ℕ, List, ◌++◌, ◌∷◌, codes, decimal}
+use Rattle.br_model.specs.Name.{FileKey}
 use Rattle.br_model.specs.Text.{escaped, line}
 
 -- the line of a file that was put
@@ -13,3 +14,7 @@ failed_line path = line (codes "failed " ++ escaped path)
 -- the line that tells how many files of how many were put
 abbrev pub count_line : ℕ → ℕ → List ℕ
 count_line put files = line (decimal put ++ codes " of " ++ decimal files ++ codes " files were put")
+
+-- session and index of a file
+abbrev pub key_text : FileKey → List ℕ
+key_text key = decimal key.session.id ++ 32 ∷ decimal key.session.time ++ 32 ∷ decimal key.index

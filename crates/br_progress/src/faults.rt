@@ -1,42 +1,81 @@
 //! The outcomes that are no files, noted as their lines of the manifest pass.
 
-use br_fields::read_number;
-use br_types::push_number;
+ghost use Rattle.std.specs.Prelude.{◌≡◌, ◌++◌, OnOk};
+ghost use Rattle.br_progress.specs.Telling.{key_text};
+
+use crate::outcome_line::Why;
+use br_types::{FileKey, push_number};
 use br_words::push_words;
 use std::alloc::{AllocError, Global};
 
 /// The most outcomes of one number that are told one by one.
-const TOLD_LEN: u64 = 8;
+const TOLD_LEN: usize = 8;
 
-/// The first number of an outcome that is no file, and the last.
-const NUMBERS: (u64, u64) = (60, 69);
+/// An outcome that is no file, and the stream that is not supported.
+#[derive(Clone, Copy, Debug)]
+struct Told {
+    key: FileKey,
+    stream: Option<u32>,
+}
+
+impl Told {
+    /// Appends its key, and its stream if it has one.
+    fn push(&self, text: &mut Vec<u8>) -> Result<(), AllocError> {
+        push_key(text, self.key)?;
+        if let Some(stream) = self.stream {
+            text.extend_from_slice(b" (stream ")?;
+            push_number(text, u64::from(stream))?;
+            text.extend_from_slice(b")")?;
+        }
+        Ok(())
+    }
+}
+
+/// Appends VolSessionId, VolSessionTime and FileIndex.
+pub fn push_key(text: &mut Vec<u8>, key: FileKey) -> Result<(), AllocError>
+    ensures { OnOk result (text.new.items ≡ text.old.items ++ key_text key) }
+{
+    push_number(text, u64::from(key.session.id))?;
+    text.push(b' ')?;
+    push_number(text, u64::from(key.session.time))?;
+    text.push(b' ')?;
+    push_number(text, u64::from(key.index.get()))
+}
 
 /// The outcomes of one number.
 #[derive(Debug, Drop)]
 struct Kind {
-    number: u64,
+    number: u32,
     count: u64,
-    /// The first of them, as their lines have them, with commas between them.
-    told: Vec<u8>,
+    /// The first of them.
+    told: Vec<Told>,
 }
 
 impl Kind {
     /// Notes an outcome.
-    fn note(&mut self, fault: &Fault<'_>) -> Result<(), AllocError> {
-        if self.count < TOLD_LEN {
-            if self.count > 0 {
-                self.told.extend_from_slice(b", ")?;
-            }
-            fault.push(&mut self.told)?;
+    fn note(&mut self, told: Told) -> Result<(), AllocError> {
+        if self.told.len() < TOLD_LEN {
+            self.told.push(told)?;
         }
         self.count = self.count.saturating_add(1);
+        Ok(())
+    }
+
+    /// Appends the first of them, with commas between them.
+    fn push_told(&self, text: &mut Vec<u8>) -> Result<(), AllocError> {
+        for (place, told) in self.told.iter().enumerate() {
+            if place > 0 {
+                text.extend_from_slice(b", ")?;
+            }
+            told.push(text)?;
+        }
         Ok(())
     }
 
     /// Appends how many there are and the first of them, and what the number means.
     fn push(&self, text: &mut Vec<u8>) -> Result<(), AllocError> {
         text.extend_from_slice(b"outcome ")?;
-        push_number(text, self.number)?;
+        push_number(text, u64::from(self.number))?;
         text.extend_from_slice(b" of ")?;
         push_number(text, self.count)?;
         text.extend_from_slice(if self.count == 1 {
@@ -44,59 +83,12 @@ impl Kind {
         } else {
             b" files: "
         })?;
-        text.extend_from_slice(&self.told)?;
-        if self.count > TOLD_LEN {
+        self.push_told(text)?;
+        if self.count > self.told.len() as u64 {
             text.extend_from_slice(b", ..")?;
         }
         text.extend_from_slice(b"\n")?;
-        match u32::try_from(self.number) {
-            Ok(number) => push_words(text, number),
-            Err(_) => Ok(()),
-        }
-    }
-}
-
-/// An outcome that is no file.
-#[derive(Drop)]
-struct Fault<'l> {
-    /// VolSessionId, VolSessionTime and FileIndex, as the line has them.
-    key: &'l [u8],
-    number: u64,
-    /// The stream that is not supported, as the line has it.
-    stream: Option<&'l [u8]>,
-}
-
-impl<'l> Fault<'l> {
-    /// Reads a line `X ID TIME INDEX NUMBER`, or one with a stream after the number.
-    fn read(line: &'l [u8]) -> Option<Fault<'l>> {
-        let rest = line.strip_prefix(b"X ")?;
-        let end = rest
-            .iter()
-            .enumerate()
-            .filter(|pair| *pair.1 == b' ')
-            .nth(2)?
-            .0;
-        let mut words = rest.get(end + 1..)?.split(|byte| *byte == b' ');
-        let number = read_number(words.next()?, NUMBERS.1)?;
-        if number < NUMBERS.0 {
-            return None;
-        }
-        Some(Fault {
-            key: rest.get(..end)?,
-            number,
-            stream: words.next(),
-        })
-    }
-
-    /// Appends its key, and its stream if it has one.
-    fn push(&self, text: &mut Vec<u8>) -> Result<(), AllocError> {
-        text.extend_from_slice(self.key)?;
-        if let Some(stream) = self.stream {
-            text.extend_from_slice(b" (stream ")?;
-            text.extend_from_slice(stream)?;
-            text.extend_from_slice(b")")?;
-        }
-        Ok(())
+        push_words(text, self.number)
     }
 }
 
@@ -114,31 +106,54 @@ impl Faults {
         }
     }
 
-    /// Notes a line of the manifest, if it is that of an outcome that is no file.
-    pub(crate) fn note(&mut self, alloc: Global, line: &[u8]) -> Result<(), AllocError> {
-        let Some(fault) = Fault::read(line) else {
-            return Ok(());
+    /// Notes an outcome that is no file.
+    pub(crate) fn note(&mut self, alloc: Global, key: FileKey, why: Why) -> Result<(), AllocError> {
+        let told = Told {
+            key,
+            stream: why.stream,
         };
         for kind in &mut self.kinds {
-            if kind.number == fault.number {
-                return kind.note(&fault);
+            if kind.number == why.number {
+                return kind.note(told);
             }
         }
         let mut kind = Kind {
-            number: fault.number,
+            number: why.number,
             count: 0,
             told: Vec::new(alloc),
         };
-        kind.note(&fault)?;
+        kind.note(told)?;
         self.kinds.push(kind)?;
         Ok(())
     }
 
+    /// Returns true if each outcome is a file.
+    pub fn are_none(&self) -> bool {
+        self.kinds.is_empty()
+    }
+
+    /// Returns the keys of the outcomes that are told one by one: of each number the first eight.
+    pub fn told_keys(&self, alloc: Global) -> Result<Vec<FileKey>, AllocError> {
+        let mut keys = Vec::new(alloc);
+        for kind in &self.kinds {
+            push_keys(&mut keys, &kind.told)?;
+        }
+        Ok(keys)
+    }
+
     /// Appends for each number how many outcomes have it and which, what it means and what to do next.
-    pub(crate) fn push(&self, text: &mut Vec<u8>) -> Result<(), AllocError> {
+    pub fn push(&self, text: &mut Vec<u8>) -> Result<(), AllocError> {
         for kind in &self.kinds {
             kind.push(text)?;
         }
         Ok(())
     }
+}
+
+/// Appends the keys of outcomes.
+fn push_keys(keys: &mut Vec<FileKey>, told: &[Told]) -> Result<(), AllocError> {
+    for one in told {
+        keys.push(one.key)?;
+    }
+    Ok(())
 }

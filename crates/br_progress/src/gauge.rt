@@ -1,5 +1,6 @@
 //! What is counted while a restore runs, and when and where it is told.
 
+use crate::expecting::len_of_volumes;
 use crate::line::{Standing, seconds_left};
 use crate::log::Log;
 use std::alloc::Global;
@@ -18,6 +19,8 @@ pub struct Gauge<'r> {
     /// True if standard error is a terminal.
     is_terminal: bool,
     log: Option<Log>,
+    /// The path of the folder with the volumes.
+    volumes: &'r str,
     /// When the gauge was made, if it shows how far the restore is.
     begun: Option<Instant>,
     to_read: AtomicU64,
@@ -37,8 +40,9 @@ pub struct Gauge<'r> {
 }
 
 impl<'r> Gauge<'r> {
-    /// Creates a gauge without a log, which shows how far the restore is, or does not.
-    pub fn new(rt: &'r HostRuntime, is_shown: bool) -> Gauge<'r> {
+    /// Creates a gauge without a log, of a restore from volumes in the folder with this path. It shows how far the
+    /// restore is, or does not.
+    pub fn new(rt: &'r HostRuntime, volumes: &'r str, is_shown: bool) -> Gauge<'r> {
         let begun = if is_shown {
             Instant::now(rt).ok()
         } else {
@@ -48,6 +52,7 @@ impl<'r> Gauge<'r> {
             rt,
             is_terminal: rt.stderr().is_terminal(),
             log: None,
+            volumes,
             begun,
             to_read: AtomicU64::new(0),
             read: AtomicU64::new(0),
@@ -80,9 +85,13 @@ impl<'r> Gauge<'r> {
         self.begun.is_some()
     }
 
-    /// Notes the number of bytes of the volumes that will be read.
-    pub fn expect(&self, bytes: u64) {
-        self.to_read.store(bytes, Ordering::SeqCst);
+    /// Notes the number of bytes of the volumes that a bootstrap names, as those that will be read, if how far the
+    /// restore is is shown. It is 0 if it can't be told.
+    pub fn expect_volumes(&self, bootstrap: &[u8]) {
+        if self.is_shown() {
+            let len = len_of_volumes(self.rt, self.volumes, bootstrap);
+            self.to_read.store(len.unwrap_or(0), Ordering::SeqCst);
+        }
     }
 
     /// Notes that so many bytes were passed.

@@ -5,24 +5,23 @@
 //! what they do.
 #![tactic(auto)]
 
+mod expecting;
 mod faults;
 mod gauge;
 mod line;
 mod lines;
 mod log;
+mod outcome_line;
 mod telling;
 mod text;
 mod watched_drive;
 mod watched_sink;
 mod watched_writer;
 
-pub use faults::Faults;
+pub use faults::{Faults, push_key};
 pub use gauge::Gauge;
-pub use line::Standing;
+pub use line::{Standing, seconds_left};
 pub use log::Log;
 pub use watched_drive::WatchedDrive;
 pub use watched_sink::WatchedSink;
 pub use watched_writer::WatchedWriter;
-
-#[cfg(test)]
-mod tests;

@@ -123,7 +123,7 @@ const FIRST_ESTIMATE: u64 = 2000;
 
 /// Returns the seconds that are left of something of which so much was done in this many milliseconds, if
 /// something was done, something is left, and two seconds are over.
-pub(crate) fn seconds_left(elapsed: u64, done: u64, all: u64) -> Option<u64> {
+pub fn seconds_left(elapsed: u64, done: u64, all: u64) -> Option<u64> {
     if elapsed < FIRST_ESTIMATE || done == 0 || all <= done {
         return None;
     }

@@ -2,9 +2,13 @@
 
 use crate::faults::Faults;
 use crate::gauge::Gauge;
+use crate::outcome_line::OutcomeLine;
+use br_types::FileKey;
 use br_words::refused_number;
+use std::alloc::Global;
 
-/// The most bytes of a line that are looked at: a line of an outcome that is no file is shorter.
+/// The most bytes of a line that are looked at: a line of an outcome that is no file is shorter, and the numbers of
+/// any other outcome are among them.
 const START_LEN: usize = 64;
 
 /// What has passed of a line.
@@ -38,33 +42,55 @@ impl LineStart {
 pub(crate) struct Lines {
     start: LineStart,
     faults: Faults,
+    /// The keys of the outcomes, unless memory ran out.
+    keys: Option<Vec<FileKey>>,
     /// The number of the last line `refused N`, until it is taken.
     refused: Option<u32>,
 }
 
+/// Adds a key, or lets all go if memory runs out.
+fn add_key(keys: &mut Option<Vec<FileKey>>, key: FileKey) {
+    let is_added = match keys {
+        Some(keys) => keys.push(key).is_ok(),
+        None => false,
+    };
+    if !is_added {
+        *keys = None;
+    }
+}
+
 impl Lines {
     /// Creates it before the first line.
-    pub(crate) fn new(faults: Faults) -> Lines {
+    pub(crate) fn new(alloc: Global) -> Lines {
         Lines {
             start: LineStart {
                 bytes: [0; START_LEN],
                 len: 0,
             },
-            faults,
+            faults: Faults::new(alloc),
+            keys: Some(Vec::new(alloc)),
             refused: None,
         }
     }
 
-    /// Notes what a line is, at its end. Tells the gauge the files of the manifest, and the outcomes that
-    /// are no files.
+    /// Notes an outcome. Tells the gauge a file of the manifest, and a line of an outcome that is no file.
+    fn note_outcome(&mut self, gauge: &Gauge<'_>, outcome: &OutcomeLine) {
+        add_key(&mut self.keys, outcome.key);
+        match outcome.why {
+            None => gauge.note_files(1),
+            Some(why) => {
+                gauge.log_fault(self.start.text());
+                // An outcome for which memory runs out is not told at the end.
+                let _noted = self.faults.note(gauge.alloc(), outcome.key, why);
+            }
+        }
+    }
+
+    /// Notes what a line is, at its end.
     fn end_line(&mut self, gauge: &Gauge<'_>) {
         let line = self.start.text();
-        if line.starts_with(b"F ") {
-            gauge.note_files(1);
-        } else if line.starts_with(b"X ") {
-            gauge.log_fault(line);
-            // An outcome for which memory runs out is not told at the end.
-            let _noted = self.faults.note(gauge.alloc(), line);
+        if let Some(outcome) = OutcomeLine::read(line) {
+            self.note_outcome(gauge, &outcome);
         } else if let Some(number) = refused_number(line) {
             self.refused = Some(number);
         }
@@ -90,5 +116,13 @@ impl Lines {
     /// Returns the outcomes that are no files.
     pub(crate) fn faults(&self) -> &Faults {
         &self.faults
+    }
+
+    /// Returns the keys of the outcomes, unless memory ran out.
+    pub(crate) fn keys(&self) -> Option<&[FileKey]> {
+        match &self.keys {
+            Some(keys) => Some(keys),
+            None => None,
+        }
     }
 }

@@ -108,10 +108,7 @@ impl<'r> Gauge<'r> {
     ///
     /// If memory ran out or standard error failed.
     pub fn say(&self, line: &str) -> io::Result<()> {
-        let text = ended(self.alloc(), line.as_bytes())?;
-        self.show(&text)?;
-        self.log_lines(Ok(text));
-        Ok(())
+        self.tell_lines(ended(self.alloc(), line.as_bytes())?)
     }
 
     /// Returns the line that tells how many files were put if some were to be put, and if it is told to a
@@ -125,19 +122,35 @@ impl<'r> Gauge<'r> {
         Ok((text, self.is_shown() || put < files))
     }
 
-    /// Tells a terminal and the log how a restore ended: the outcomes that are no files, in words, and how
-    /// many files were put. The log gets the lines of what is refused before, with words. If the log could not
-    /// be written, a line on standard error says so.
+    /// Tells a terminal and the log the outcomes that are no files, in words.
     ///
     /// # Errors
     ///
     /// If memory ran out or standard error failed.
-    pub fn tell_end(&self, faults: &Faults, refusal: &[u8]) -> io::Result<()> {
-        self.log_refusals(refusal);
+    pub fn tell_faults(&self, faults: &Faults) -> io::Result<()> {
         let mut text = Vec::new(self.alloc());
         faults.push(&mut text)?;
-        self.show(&text)?;
-        self.log_lines(Ok(text));
+        self.tell_lines(text)
+    }
+
+    /// Tells lines to a terminal and to the log.
+    ///
+    /// # Errors
+    ///
+    /// If standard error failed.
+    pub fn tell_lines(&self, lines: Vec<u8>) -> io::Result<()> {
+        self.show(&lines)?;
+        self.log_lines(Ok(lines));
+        Ok(())
+    }
+
+    /// Tells a terminal and the log how many files were put. If the log could not be written, a line on standard
+    /// error says so.
+    ///
+    /// # Errors
+    ///
+    /// If memory ran out or standard error failed.
+    pub fn tell_end(&self) -> io::Result<()> {
         let (count, is_told) = self.count_text()?;
         if is_told {
             self.show(&count)?;

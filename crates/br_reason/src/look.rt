@@ -4,7 +4,7 @@ use crate::matter::{Matter, Reason, Thing};
 use br_types::push_escaped;
 use std::alloc::AllocError;
 use std::fs::{self, DirBuilder, File, FileType, OpenOptions};
-use std::io::{self, ErrorKind};
+use std::io::{self, ErrorKind, Read};
 use std::os::unix::fs::{DirBuilderExt, OpenOptionsExt};
 use std::str;
 
@@ -155,4 +155,41 @@ fn matter_of_new_file(rt: &HostRuntime, path: &str) -> Matter {
 /// Returns the reason why a new file could not be made.
 pub fn reason_of_new_file(rt: &HostRuntime, path: &str) -> Result<Reason, AllocError> {
     reason_at(rt, path.as_bytes(), matter_of_new_file(rt, path))
+}
+
+/// Reads the first byte of a file, if it has one.
+fn try_reading(rt: &HostRuntime, path: &str) -> io::Result<()> {
+    let mut file = File::open(rt, path)?;
+    let mut first = [0; 1];
+    let _len = file.read(&mut first)?;
+    Ok(())
+}
+
+/// Returns what is the matter with the path of a file to read, if something is. A link is followed.
+fn matter_of_read(rt: &HostRuntime, path: &str) -> Option<Matter> {
+    match fs::metadata(rt, path) {
+        Err(error) => Some(Matter::Unread(error)),
+        Ok(metadata) => match thing_of(metadata.file_type()) {
+            Thing::File => try_reading(rt, path).err().map(Matter::Unread),
+            thing => Some(Matter::NotFile(thing)),
+        },
+    }
+}
+
+/// Returns the reason why the file with this name in a folder can't be read, if there is one.
+pub fn reason_of_read(
+    rt: &HostRuntime,
+    folder: &str,
+    name: &[u8],
+) -> Result<Option<Reason>, AllocError> {
+    let Ok(name) = str::from_utf8(name) else {
+        return Ok(None);
+    };
+    let mut path = String::from_str(rt.alloc(), folder)?;
+    path.push('/')?;
+    path.push_str(name)?;
+    match matter_of_read(rt, path.as_str()) {
+        Some(matter) => Ok(Some(reason_at(rt, path.as_bytes(), matter)?)),
+        None => Ok(None),
+    }
 }

@@ -41,6 +41,8 @@ pub enum Matter {
     NotEmpty,
     /// The system refuses it.
     Refused(io::Error),
+    /// The system refuses to read it.
+    Unread(io::Error),
     /// A file can be made there, so its bytes could not be written.
     Unwritten,
     /// Nothing that can still be seen.
@@ -57,6 +59,7 @@ impl fmt::Display for Matter {
             Matter::Taken(thing) => write!(f, "is {thing} already"),
             Matter::NotEmpty => f.write_str("is a folder that is not empty"),
             Matter::Refused(error) => write!(f, "is refused by the system: {error}"),
+            Matter::Unread(error) => write!(f, "can't be read: {error}"),
             Matter::Unwritten => {
                 f.write_str("can be made but not written: the disk is full, or it fails")
             }
@@ -85,6 +88,15 @@ fn next_after(kind: ErrorKind) -> &'static str {
     }
 }
 
+/// Returns what to do after the system refused to read a file with an error of this kind.
+fn next_after_reading(kind: ErrorKind) -> &'static str {
+    match kind {
+        ErrorKind::NotFound => "Copy it there, or correct the folder's name.",
+        ErrorKind::PermissionDenied => "Run the command as a user who may read it.",
+        _ => "See what the system says of the disk, or take another copy.",
+    }
+}
+
 impl Matter {
     /// Returns what to do next.
     pub fn next(&self) -> &'static str {
@@ -98,6 +110,7 @@ impl Matter {
                 "Choose an empty folder; `extract --resume` goes on with a restore that was cut off."
             }
             Matter::Refused(error) => next_after(error.kind()),
+            Matter::Unread(error) => next_after_reading(error.kind()),
             Matter::Unwritten => "Free space (`df` shows it), or choose a folder on another disk.",
             Matter::Gone => "Run the command again.",
         }

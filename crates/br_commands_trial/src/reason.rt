@@ -1,4 +1,5 @@
-use crate::look::{reason_of_file, reason_of_folder, reason_of_new_file};
+//! Why files could not be written or read.
+use br_reason::{reason_of_file, reason_of_folder, reason_of_new_file, reason_of_read};
 use std::test::Fail;
 use std::{env, fs, process};
 
@@ -106,5 +107,38 @@ fn folders_and_new_files_have_their_reasons(rt: HostRuntime) -> Result<(), Fail>
         no_way.as_str(),
         "is refused by the system: No such file or directory (os error 2)"
     );
+    Ok(())
+}
+
+/// Returns the words of the reason why a file of a place can't be read, after the path of the place.
+fn read_words(rt: &HostRuntime, place: &str, name: &[u8]) -> Result<String, Fail> {
+    let Some(reason) = reason_of_read(rt, place, name)? else {
+        return Ok(String::new(rt.alloc()));
+    };
+    let words = format!(in rt.alloc(); "{reason}")?;
+    match words.as_str().strip_prefix(place) {
+        Some(rest) => Ok(String::from_str(rt.alloc(), rest)?),
+        None => Ok(words),
+    }
+}
+
+#[test]
+fn what_can_not_be_read_is_named(rt: HostRuntime) -> Result<(), Fail> {
+    let place = new_place(&rt, "read")?;
+    let mut told = Vec::new(rt.alloc());
+    for name in [b"f".as_slice(), b"l", b"d", b"e", b"\xff"] {
+        told.push(read_words(&rt, place.as_str(), name)?)?;
+    }
+    fs::remove_dir_all(&rt, place.as_str())?;
+    let wanted = [
+        "",
+        "",
+        "/d is a folder, and has to be a file. Next: Move it away, or choose another folder.",
+        "/e can't be read: No such file or directory (os error 2). Next: Copy it there, or correct the folder's name.",
+        "",
+    ];
+    for (words, wanted) in told.iter().zip(wanted) {
+        assert_eq!(rt; words.as_str(), wanted);
+    }
     Ok(())
 }

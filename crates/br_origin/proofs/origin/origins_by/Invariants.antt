@@ -1,0 +1,6 @@
+use Rattle.std.proofs.Common.{◌≡◌, take, map}
+use Rattle.br_origin.specs.Origins.{origin_of}
+use Rattle.br_origin.proofs.origin.origins_by.Given as goal
+
+abbrev pub invariant-loop-key : goal.invariant-loop-key
+invariant-loop-key l = l.origins.items ≡ map (origin_of l.groups l.hits) (take l.key-index l.keys)

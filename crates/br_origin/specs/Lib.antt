@@ -1,0 +1,3 @@
+pub mod Narrowing
+pub mod Attributes
+pub mod Origins
