@@ -8,6 +8,8 @@ mod checking;
 #[cfg(test)]
 mod console;
 #[cfg(test)]
+mod dir;
+#[cfg(test)]
 mod extract;
 #[cfg(test)]
 mod places;
@@ -17,3 +19,5 @@ mod progress;
 mod reason;
 #[cfg(test)]
 mod serving;
+#[cfg(test)]
+mod words;

@@ -76,7 +76,7 @@ fn asked_by(word: &[u8]) -> Asked
     }
 }
 
-/// Returns what a line asks for: `help` and `dir` stand alone in it, with or without blanks around them.
+/// Returns what a line asks for: `help` and `dir` are alone in it, with or without blanks around them.
 pub fn asked_of(line: &[u8]) -> Asked
     ensures { result ≡ asked_of line.now }
 {

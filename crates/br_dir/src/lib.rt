@@ -12,8 +12,7 @@ mod jobs;
 mod listing;
 mod place;
 
+pub use asked::{Asked, asked_of};
 pub use helped::{Helped, with_help};
 pub use jobs::{DirFault, Jobs};
-
-#[cfg(test)]
-mod tests;
+pub use listing::{Named, push_name};

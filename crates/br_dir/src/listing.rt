@@ -13,11 +13,13 @@ const MOMENT: &[u8] = b"                   ";
 
 /// A name of a folder, with what is known of it.
 #[derive(Clone, Copy)]
-pub(crate) struct Named<'n> {
-    pub(crate) name: &'n [u8],
-    pub(crate) size: Option<u64>,
+pub struct Named<'n> {
+    /// As it is in the catalogue.
+    pub name: &'n [u8],
+    /// In bytes.
+    pub size: Option<u64>,
     /// When the file was written, in seconds since 1970.
-    pub(crate) moment: Option<u64>,
+    pub moment: Option<u64>,
 }
 
 /// Returns a size, `-` if there is none.
@@ -64,11 +66,7 @@ fn push_with(text: &mut Vec<u8>, size: &[u8], moment: &[u8], name: &[u8]) -> Res
 }
 
 /// Appends the line of a name: its size, its moment, and the name.
-pub(crate) fn push_name(
-    alloc: Global,
-    text: &mut Vec<u8>,
-    named: &Named<'_>,
-) -> Result<(), AllocError>
+pub fn push_name(alloc: Global, text: &mut Vec<u8>, named: &Named<'_>) -> Result<(), AllocError>
     ensures { OnOk result (AppendsName named.now.size named.now.moment named.now.name.now text.old.items text.new.items) }
 {
     let size = size_text(alloc, named.size)?;

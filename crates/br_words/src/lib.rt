@@ -4,6 +4,3 @@
 mod words;
 
 pub use words::{push_with_words, push_words, refused_number};
-
-#[cfg(test)]
-mod tests;

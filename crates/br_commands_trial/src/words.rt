@@ -1,4 +1,5 @@
-use crate::words::{push_with_words, push_words, refused_number};
+//! What a refusal means, in words.
+use br_words::{push_with_words, push_words, refused_number};
 use std::test::Fail;
 
 /// What the refusal 14 means, as docs/RESTORING.md has it.

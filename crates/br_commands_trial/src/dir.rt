@@ -1,5 +1,5 @@
-use crate::asked::{Asked, asked_of};
-use crate::listing::{Named, push_name};
+//! Which lines `help` and `dir` are, and the line of a name.
+use br_dir::{Asked, Named, asked_of, push_name};
 use std::test::Fail;
 
 #[test]
