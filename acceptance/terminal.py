@@ -62,8 +62,8 @@ def words(number):
     return told(number)[1:]
 
 
-def count(put, files):
-    return f"{put} of {files} files were put"
+def count(put, files, older=0):
+    return f"{put} of {files} files were put" + (f", older copies left out: {older}" if older else "")
 
 
 def paths_saved(volume):
@@ -302,6 +302,11 @@ def leaves_unsaid(checks, folder):
     checks.check("with --complete", (status, shown, files_in(printed)), (1, ["missing 5 100 2-3 A", older], 2))
     status, shown, printed = play(checks.program, [*extract, "--complete", "--newest"], [], folder)
     checks.check("with both", (status, shown, files_in(printed)), (1, ["missing 5 100 2-3 A"], 2))
+    for quiet, told in (([], [absent, count(1, 2, older=1)]), (["--quiet"], [absent])):
+        into = os.path.join(folder, f"newest{len(quiet)}")
+        os.mkdir(into)
+        status, shown, printed = play(checks.program, [*extract, "--newest", "--into", into, *quiet], [], folder)
+        checks.check(f"the newest into a folder {quiet}", (status, shown, files_in(printed), os.listdir(into)), (0, told, 2, ["a"]))
 
 
 def looks(checks, folder):

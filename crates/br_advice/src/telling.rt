@@ -101,8 +101,21 @@ fn older_lines(rt: &HostRuntime, outcomes: &[(FileKey, Outcome)]) -> Result<Vec<
     Ok(text)
 }
 
-/// Tells a terminal and the log what `--complete` and `--newest` would say or change, if they were not given. The
-/// outcomes are those that were to be delivered. What memory runs out for is not told.
+/// Returns the number of outcomes that are files.
+fn count_files(outcomes: &[(FileKey, Outcome)]) -> u64 {
+    let mut count: u64 = 0;
+    for (_, outcome) in outcomes {
+        if let Outcome::File(_) = outcome {
+            count = count.saturating_add(1);
+        }
+    }
+    count
+}
+
+/// Tells a terminal and the log what `--complete` and `--newest` would say or change, if they were not given. Notes
+/// how many older copies are left out, if `--newest` was given. The outcomes are those that were to be delivered,
+/// and `conflicts` is the number of files beside them that are left out since they conflict. What memory runs out
+/// for is not told.
 ///
 /// # Errors
 ///
@@ -112,6 +125,7 @@ pub fn advise(
     gauge: &Gauge<'_>,
     wanted: Wanted,
     outcomes: &[(FileKey, Outcome)],
+    conflicts: u64,
     told: &Told<'_>,
 ) -> io::Result<()> {
     if !gauge.is_watching() {
@@ -122,12 +136,16 @@ pub fn advise(
             gauge.tell_lines(lines)?;
         }
     }
-    if wanted.copies == Copies::All {
-        if let Ok(lines) = older_lines(rt, outcomes) {
-            gauge.tell_lines(lines)?;
+    match wanted.copies {
+        Copies::All => match older_lines(rt, outcomes) {
+            Ok(lines) => gauge.tell_lines(lines),
+            Err(_) => Ok(()),
+        },
+        Copies::Newest => {
+            gauge.note_others(count_files(outcomes).saturating_add(conflicts));
+            Ok(())
         }
     }
-    Ok(())
 }
 
 /// Says why a volume in a folder can't be read, if it can't. Returns true if it said so.

@@ -142,7 +142,8 @@ fn report(
     }
     tell_outcomes(rt, gauge, given.volumes, told)?;
     if let Ok(done) = run {
-        advise(rt, gauge, given.wanted, &done.outcomes, told)?;
+        let conflicts = done.left.len() as u64;
+        advise(rt, gauge, given.wanted, &done.outcomes, conflicts, told)?;
     }
     gauge.tell_end()?;
     Ok(status)

@@ -27,6 +27,8 @@ pub struct Gauge<'r> {
     read: AtomicU64,
     files: AtomicU64,
     put: AtomicU64,
+    /// The number of files of the manifest that are older copies and are left out.
+    older: AtomicU64,
     /// True once files are put.
     is_putting: AtomicBool,
     /// When the reading began, and later when files were first put, in milliseconds since the gauge was
@@ -58,6 +60,7 @@ impl<'r> Gauge<'r> {
             read: AtomicU64::new(0),
             files: AtomicU64::new(0),
             put: AtomicU64::new(0),
+            older: AtomicU64::new(0),
             is_putting: AtomicBool::new(false),
             step: AtomicU64::new(0),
             told: AtomicU64::new(0),
@@ -120,6 +123,18 @@ impl<'r> Gauge<'r> {
         }
         let put = self.put.load(Ordering::SeqCst);
         Some((put, self.files.load(Ordering::SeqCst)))
+    }
+
+    /// Notes that the files of the manifest are older copies that are left out, but for so many others.
+    pub fn note_others(&self, others: u64) {
+        let files = self.files.load(Ordering::SeqCst);
+        self.older
+            .store(files.saturating_sub(others), Ordering::SeqCst);
+    }
+
+    /// Returns the number of older copies that are left out.
+    pub(crate) fn older(&self) -> u64 {
+        self.older.load(Ordering::SeqCst)
     }
 
     /// Returns the log, if there is one.

@@ -112,14 +112,16 @@ impl<'r> Gauge<'r> {
     }
 
     /// Returns the line that tells how many files were put if some were to be put, and if it is told to a
-    /// terminal: one that is not told how far the restore is reads it only if a file was not put.
+    /// terminal: one that is not told how far the restore is reads it only if a file was neither put nor an older copy that is
+    /// left out.
     fn count_text(&self) -> Result<(Vec<u8>, bool), AllocError> {
         let mut text = Vec::new(self.alloc());
         let Some((put, files)) = self.files() else {
             return Ok((text, false));
         };
-        push_count(&mut text, put, files)?;
-        Ok((text, self.is_shown() || put < files))
+        let older = self.older();
+        push_count(&mut text, put, files, older)?;
+        Ok((text, self.is_shown() || put.saturating_add(older) < files))
     }
 
     /// Tells a terminal and the log the outcomes that are no files, in words.
