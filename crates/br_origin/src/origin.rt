@@ -1,7 +1,8 @@
 //! Where files come from.
 ghost use Rattle.std.specs.Prelude.{◌≡◌, ◌++◌, ◌∷◌, [], find, map, option_map, IfOk, OnOk};
+ghost use Rattle.std.specs.Option.{option_copied};
 ghost use Rattle.br_origin.specs.Narrowing.{asks_for};
-ghost use Rattle.br_origin.specs.Origins.{AreOrigins, ComeFrom, volume_for};
+ghost use Rattle.br_origin.specs.Origins.{AreOrigins, ComeFrom, group_hit as hit_by, is_of, volume_for};
 
 use crate::attributes::path_of;
 use crate::narrowing::{first_for, narrowed_to};
@@ -17,19 +18,52 @@ use std::alloc::{AllocError, Global};
 #[derive(Debug, Drop)]
 pub struct Origin {
     pub key: FileKey,
-    /// The volume of the first group that asks for the file.
+    /// The volume on which its attributes were found, or else that of the first group that asks for the file.
     pub vol: Option<VolName>,
     /// The path in the attributes of the file, if they can be read.
     pub path: Option<Path>,
 }
 
-/// Returns the volume of the first group that asks for the file.
-fn vol_of(alloc: Global, groups: &[Group], key: FileKey) -> Result<Option<VolName>, AllocError>
-    ensures { IfOk result (λ vol. vol ≡ volume_for groups.now key) }
+/// Returns the first hit of the file.
+fn first_hit(hits: &[Hit], key: FileKey) -> Option<&Hit>
+    ensures { option_copied result ≡ find (is_of key) hits.now }
 {
-    match first_for(groups, key) {
+    hits.iter().find(|hit| hit.key == key)
+}
+
+/// Returns the group, of those by which the volumes were searched, that has the first hit of the file.
+fn group_hit<'g>(searched: &'g [Group], hits: &[Hit], key: FileKey) -> Option<&'g Group>
+    ensures { option_copied result ≡ hit_by searched.now hits.now key }
+{
+    match first_hit(hits, key) {
+        Some(hit) => searched.get(hit.spot.group as usize),
+        None => None,
+    }
+}
+
+/// Returns the volume of a group, if there is one.
+fn vol_in(alloc: Global, group: Option<&Group>) -> Result<Option<VolName>, AllocError>
+    ensures { IfOk result (λ vol. vol ≡ option_map (λ g. g.volume) (option_copied group)) }
+{
+    match group {
         Some(group) => Ok(Some(group.vol.copy(alloc)?)),
         None => Ok(None),
+    }
+}
+
+/// Returns the volume on which the file was hit, or else that of the first group that asks for the file.
+fn vol_of(
+    alloc: Global,
+    groups: &[Group],
+    searched: &[Group],
+    hits: &[Hit],
+    key: FileKey,
+) -> Result<Option<VolName>, AllocError>
+    ensures { IfOk result (λ vol. vol ≡ volume_for groups.now searched.now hits.now key) }
+{
+    match group_hit(searched, hits, key) {
+        Some(group) => Ok(Some(group.vol.copy(alloc)?)),
+        None => vol_in(alloc, first_for(groups, key)),
     }
 }
 
@@ -56,35 +90,22 @@ fn hits_of<D: Drive>(
     Ok(hits)
 }
 
-/// Returns what a drive finds of the attributes of files, by the groups that ask for them.
-fn found_by<D: Drive>(
-    alloc: Global,
-    groups: Vec<Group>,
-    drive: &mut D,
-) -> Result<Vec<Hit>, AllocError> {
-    match Bootstrap::new(groups) {
-        Some(bootstrap) => {
-            let pieces = split(alloc, &bootstrap)?;
-            hits_of(alloc, &pieces, drive)
-        }
-        None => Ok(Vec::new(alloc)),
-    }
-}
-
-/// Returns where each of the files comes from, by the hits of their attributes.
+/// Returns where each of the files comes from, by the hits of their attributes, for which the volumes were searched
+/// by groups.
 fn origins_by(
     alloc: Global,
     groups: &[Group],
+    searched: &[Group],
     keys: &[FileKey],
     hits: &[Hit],
 ) -> Result<Vec<Origin>, AllocError>
-    ensures { IfOk result (λ origins. AreOrigins groups.now keys.now hits.now origins.items) }
+    ensures { IfOk result (λ origins. AreOrigins groups.now searched.now keys.now hits.now origins.items) }
 {
     let mut origins = Vec::with_capacity(alloc, keys.len())?;
     for key in keys {
         let origin = Origin {
             key: *key,
-            vol: vol_of(alloc, groups, *key)?,
+            vol: vol_of(alloc, groups, searched, hits, *key)?,
             path: path_of(alloc, *key, hits)?,
         };
         origins.push(origin)?;
@@ -105,7 +126,11 @@ pub fn origins<D: Drive>(
     ensures { IfOk result (λ origins. ComeFrom bootstrap.now keys.now origins.items) }
 {
     let groups = bootstrap.groups();
-    let narrow = narrowed_to(alloc, groups, keys)?;
-    let hits = found_by(alloc, narrow, drive)?;
-    origins_by(alloc, groups, keys, &hits)
+    match Bootstrap::new(narrowed_to(alloc, groups, keys)?) {
+        Some(narrow) => {
+            let hits = hits_of(alloc, &split(alloc, &narrow)?, drive)?;
+            origins_by(alloc, groups, narrow.groups(), keys, &hits)
+        }
+        None => origins_by(alloc, groups, &[], keys, &[]),
+    }
 }

@@ -3,4 +3,4 @@ use Rattle.br_origin.specs.Origins.{origin_of}
 use Rattle.br_origin.proofs.origin.origins_by.Given as goal
 
 abbrev pub invariant-loop-key : goal.invariant-loop-key
-invariant-loop-key l = l.origins.items ≡ map (origin_of l.groups l.hits) (take l.key-index l.keys)
+invariant-loop-key l = l.origins.items ≡ map (origin_of l.groups l.searched l.hits) (take l.key-index l.keys)
