@@ -184,7 +184,8 @@ def checks_faults(checks):
         told = b"brestore: the log could not be written, so it is not whole\n"
         checks.check("a log that can't be written", (found, held(into)), ((0, manifest, told), dict(SOME)))
         (folder / "volumes" / "V").rename(folder / "V")
-        told = ["refused 14 V 0", *words_of(14)]
+        why = f"  {folder}/volumes/V can't be read: No such file or directory (os error 2). Next: Copy it there, or correct the folder's name."
+        told = ["refused 14 V 0", *words_of(14), why]
         checks.check_run("a volume that is missing", folder, [], (1, b"", b"refused 14 V 0\n"), told)
         (folder / "x.bsr").unlink()
         told = [f"brestore: {folder}/x.bsr: No such file or directory (os error 2)"]
