@@ -15,14 +15,18 @@ is_of key h = same_key h.key key
 abbrev pub group_hit : List Group → List Hit → FileKey → Option Group
 group_hit searched hits key = option_and_then (λ (h : Hit). slice_get searched h.spot.group) (find (is_of key) hits)
 
--- the volume of the first of two groups that there is
-abbrev pub volume_by : Option Group → Option Group → Option (List ℕ)
-volume_by (Some hit) asked = Some hit.volume
-volume_by None asked = option_map (λ (g : Group). g.volume) asked
+-- the volume of the first group that asks for the file
+abbrev pub volume_asked : List Group → FileKey → Option (List ℕ)
+volume_asked groups key = option_map (λ (g : Group). g.volume) (find (asks_for key) groups)
+
+-- the volume of a group, if there is one, or else another
+abbrev pub volume_or : Option (List ℕ) → Option Group → Option (List ℕ)
+volume_or other (Some group) = Some group.volume
+volume_or other None = other
 
 -- the volume on which the file was hit, or else that of the first group that asks for the file
 abbrev pub volume_for : List Group → List Group → List Hit → FileKey → Option (List ℕ)
-volume_for groups searched hits key = volume_by (group_hit searched hits key) (find (asks_for key) groups)
+volume_for groups searched hits key = volume_or (volume_asked groups key) (group_hit searched hits key)
 
 -- where the file comes from, by the hits of its attributes
 abbrev pub origin_of : List Group → List Group → List Hit → FileKey → Origin

@@ -2,7 +2,7 @@
 ghost use Rattle.std.specs.Prelude.{◌≡◌, ◌++◌, ◌∷◌, [], find, map, option_map, IfOk, OnOk};
 ghost use Rattle.std.specs.Option.{option_copied};
 ghost use Rattle.br_origin.specs.Narrowing.{asks_for};
-ghost use Rattle.br_origin.specs.Origins.{AreOrigins, ComeFrom, group_hit as hit_by, is_of, volume_for};
+ghost use Rattle.br_origin.specs.Origins.{AreOrigins, ComeFrom, group_hit as hit_by, is_of, volume_asked, volume_for};
 
 use crate::attributes::path_of;
 use crate::narrowing::{first_for, narrowed_to};
@@ -41,11 +41,11 @@ fn group_hit<'g>(searched: &'g [Group], hits: &[Hit], key: FileKey) -> Option<&'
     }
 }
 
-/// Returns the volume of a group, if there is one.
-fn vol_in(alloc: Global, group: Option<&Group>) -> Result<Option<VolName>, AllocError>
-    ensures { IfOk result (λ vol. vol ≡ option_map (λ g. g.volume) (option_copied group)) }
+/// Returns the volume of the first group that asks for the file.
+fn vol_asked(alloc: Global, groups: &[Group], key: FileKey) -> Result<Option<VolName>, AllocError>
+    ensures { IfOk result (λ vol. vol ≡ volume_asked groups.now key) }
 {
-    match group {
+    match first_for(groups, key) {
         Some(group) => Ok(Some(group.vol.copy(alloc)?)),
         None => Ok(None),
     }
@@ -63,7 +63,7 @@ fn vol_of(
 {
     match group_hit(searched, hits, key) {
         Some(group) => Ok(Some(group.vol.copy(alloc)?)),
-        None => vol_in(alloc, first_for(groups, key)),
+        None => vol_asked(alloc, groups, key),
     }
 }
 
