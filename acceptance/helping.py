@@ -22,7 +22,7 @@ import tempfile
 sys.dont_write_bytecode = True
 sys.path.insert(0, os.path.join(os.path.dirname(os.path.dirname(os.path.abspath(__file__))), "tools"))
 from common import CASES, ORDER_SQL, PROGRAM, Checks
-from terminal import CHOSEN, GREETING, PROMPT, console_words, play, told, typed
+from terminal import CHOSEN, GREETING, NOWHERE, PROMPT, QUIT, console_words, play, told, typed
 
 COMMANDS = ["ls", "dir", "cd", "pwd", "find", "mark", "unmark", "markdir", "unmarkdir", "lsmark", "count", "estimate", "done", "quit", "help"]
 SOURCE = "/tmp/peerlab/src/"
@@ -67,11 +67,11 @@ def helps(checks, folder, db):
 def lists(checks, folder, db):
     """`dir` lists the names of the folder, wherever the console is."""
     status, shown, printed = session(checks, folder, db, ["dir", "quit"])
-    checks.check("dir at /", (status, shown, printed), (0, asked([f"{NO_ROW}tmp/"], []), ""))
+    checks.check("dir at /", (status, shown, printed), (0, [*asked([f"{NO_ROW}tmp/"]), PROMPT + QUIT], ""))
     lines = ["cd tmp/peerlab", "cd src/sub", "dir", "cd ..", " \tdir  ", "cd nowhere", "dir", "cd /", "dir", "quit"]
     status, shown, printed = session(checks, folder, db, lines)
     sub, source = listed(f"{SOURCE}sub/"), listed(SOURCE)
-    answers = [[], [], sub, [], source, told(56)[1:], source, [], [f"{NO_ROW}tmp/"], []]
+    answers = [[], [], sub, [], source, told(56)[1:], source, [], [f"{NO_ROW}tmp/"], [QUIT]]
     checks.check("dir after some steps", (status, shown), (1, asked(*answers)))
     wanted = ["/tmp/peerlab/", f"{SOURCE}sub/", SOURCE, None, "/"]
     lines = "".join("refused 56\n" if place is None else f"cwd is: {place}\n" for place in wanted)
@@ -80,7 +80,7 @@ def lists(checks, folder, db):
     status, shown, printed = session(checks, folder, db, lines)
     with open(os.path.join(CASES, "order-inc", "expected")) as text:
         manifest = text.read()
-    answers = [[], [f"{NO_ROW}tmp/"], [], source, told(55)[1:], told(55)[1:], []]
+    answers = [[], [f"{NO_ROW}tmp/"], [], source, told(55)[1:], told(55)[1:], [NOWHERE]]
     checks.check("a restore with dir between", (status, shown), (1, asked(*answers)))
     checks.check("and what it prints", (printed.split("Volume=")[0], printed.endswith(manifest)), (f"5 marked\ncwd is: {SOURCE}\nrefused 55\nrefused 55\n", True))
 

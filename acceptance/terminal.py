@@ -48,6 +48,8 @@ CHOSEN = [
     "chosen: * 2 D T 2026-11-21 23:15:38 peer-fd Peer 1 13 Vol-0001",
     "chosen: * 3 I T 2026-11-21 23:15:45 peer-fd Peer 1 24 Vol-0001",
 ]
+NOWHERE = "no file was written. Next: `--into` and `--tar` say where to."
+QUIT = "nothing was restored. `done` restores what is marked."
 AWAITED = "brestore: reads a script from standard input. `brestore --help` lists the commands; Ctrl-D ends the input."
 
 
@@ -62,8 +64,11 @@ def words(number):
     return told(number)[1:]
 
 
-def count(put, files, older=0):
-    return f"{put} of {files} files were put" + (f", older copies left out: {older}" if older else "")
+def count(put, files, older=0, lost=0):
+    line = f"{put} of {files} files were put"
+    if older:
+        line += f", older copies left out: {older}"
+    return line + (f", not restored: {lost}" if lost else "")
 
 
 def paths_saved(volume):
@@ -203,7 +208,9 @@ def extracts(checks, folder):
     status, shown, printed = play(checks.program, [*extract, cut], [], folder)
     checks.check("a volume that is cut", (status, shown, printed), (1, told(12, "refused 12 Vol-0001 206"), ""))
     status, shown, printed = play(checks.program, [*extract, VOLUMES], [], folder)
-    checks.check("a restore without a fault shows nothing", (status, shown), (0, []))
+    checks.check("a restore without a fault, into no folder", (status, shown), (0, [NOWHERE]))
+    status, shown, printed = play(checks.program, [*extract, VOLUMES, "--quiet"], [], folder)
+    checks.check("and with --quiet", (status, shown), (0, []))
     spoilt(checks, folder)
 
 
@@ -223,7 +230,7 @@ def spoilt(checks, folder):
     outcome += [f"  {' '.join(fields[1:4])} on Vol-0001 is {escaped(saved[int(fields[3])])}" for fields in outcomes]
     extract = ["extract", "--bsr", os.path.join(case, "x.bsr"), "--volumes", volumes]
     status, shown, printed = play(checks.program, extract, [], folder)
-    checks.check("outcomes that are no files", (status, shown, printed), (1, outcome, manifest))
+    checks.check("outcomes that are no files", (status, shown, printed), (1, [*outcome, NOWHERE], manifest))
     os.mkdir(into)
     top = os.path.join(into, paths[0].split("/")[1])
     with open(top, "w") as file:
@@ -231,12 +238,12 @@ def spoilt(checks, folder):
     extract += ["--into", into]
     reason = f"  {top} is a file, and has to be a folder. Next: Move it away, or choose another folder."
     status, shown, printed = play(checks.program, [*extract, "--resume"], [], folder)
-    checks.check("a file in the way", (status, shown, printed), (1, [*told(80), reason, *outcome, count(0, len(paths))], manifest))
+    checks.check("a file in the way", (status, shown, printed), (1, [*told(80), reason, *outcome, count(0, len(paths), lost=number)], manifest))
     status, shown, printed = play(checks.program, [*extract, "--resume", "--quiet"], [], folder)
-    checks.check("and with --quiet", (status, shown, printed), (1, [*told(80), reason, *outcome, count(0, len(paths))], manifest))
+    checks.check("and with --quiet", (status, shown, printed), (1, [*told(80), reason, *outcome, count(0, len(paths), lost=number)], manifest))
     os.remove(top)
     status, shown, printed = play(checks.program, [*extract, "--resume"], [], folder)
-    checks.check("and moved away", (status, shown, printed), (1, [*outcome, count(len(paths), len(paths))], manifest))
+    checks.check("and moved away", (status, shown, printed), (1, [*outcome, count(len(paths), len(paths), lost=number)], manifest))
     status, shown, printed = play(checks.program, [*extract, "--resume", "--quiet"], [], folder)
     checks.check("once more with --quiet", (status, shown, printed), (1, outcome, manifest))
 
@@ -295,13 +302,13 @@ def leaves_unsaid(checks, folder):
     absent = "indexes that the bootstrap asks for and that gave no outcome: 2. Next: `--complete` names them."
     older = "older copies among the files: 1, paths at which one is put last: 1. Next: `check` names them, `--newest` leaves them out."
     status, shown, printed = play(checks.program, extract, [], folder)
-    checks.check("what is left unsaid", (status, shown, files_in(printed)), (0, [absent, older], 2))
+    checks.check("what is left unsaid", (status, shown, files_in(printed)), (0, [absent, older, NOWHERE], 2))
     status, shown, printed = play(checks.program, [*extract, "--newest"], [], folder)
-    checks.check("with --newest", (status, shown, files_in(printed)), (0, [absent], 2))
+    checks.check("with --newest", (status, shown, files_in(printed)), (0, [absent, NOWHERE], 2))
     status, shown, printed = play(checks.program, [*extract, "--complete"], [], folder)
-    checks.check("with --complete", (status, shown, files_in(printed)), (1, ["missing 5 100 2-3 A", older], 2))
+    checks.check("with --complete", (status, shown, files_in(printed)), (1, ["missing 5 100 2-3 A", older, NOWHERE], 2))
     status, shown, printed = play(checks.program, [*extract, "--complete", "--newest"], [], folder)
-    checks.check("with both", (status, shown, files_in(printed)), (1, ["missing 5 100 2-3 A"], 2))
+    checks.check("with both", (status, shown, files_in(printed)), (1, ["missing 5 100 2-3 A", NOWHERE], 2))
     for quiet, told in (([], [absent, count(1, 2, older=1)]), (["--quiet"], [absent])):
         into = os.path.join(folder, f"newest{len(quiet)}")
         os.mkdir(into)

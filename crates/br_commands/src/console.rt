@@ -15,7 +15,7 @@ ghost use Rattle.br_commands.specs.declared.console.ConsoleStartFault.TheVariant
 use crate::folders::{HostSink, folder_of, sink_over};
 use crate::status::{BAD_STREAM, Ending};
 use crate::tar::{Channel, Extent, TarEnd, TarFault, add_tar_end, end_stream, tar_into, tar_onto};
-use crate::telling::{log_fault, refuse_place, say_stop};
+use crate::telling::{log_fault, refuse_place, say_nowhere, say_stop};
 use crate::watching::{gauge_of, refuse_log, watched_drives, watched_sink, watched_writer};
 use br_advice::{Told, say_volumes, tell_outcomes};
 use br_console::{ConsoleFault, ConsoleRun, End, JobSelection, Lines, run_console};
@@ -118,8 +118,16 @@ fn tell_stream(rt: &HostRuntime, gauge: &Gauge<'_>, fault: &ConsoleFault) -> io:
     }
 }
 
-/// Tells a terminal and the log why the delivery stopped, if it did. The sink failed at a file with the first of
-/// the paths.
+/// Tells a terminal, unless it is to be quiet, that nothing was restored.
+fn say_quit(gauge: &Gauge<'_>) -> io::Result<()> {
+    if gauge.is_shown() {
+        return gauge.say("nothing was restored. `done` restores what is marked.");
+    }
+    Ok(())
+}
+
+/// Tells a terminal and the log why the delivery stopped, if it did, or that nothing was written. The sink failed at a
+/// file with the first of the paths.
 fn say_end(
     rt: &HostRuntime,
     gauge: &Gauge<'_>,
@@ -128,8 +136,11 @@ fn say_end(
     failed: Option<&Path>,
 ) -> io::Result<()> {
     match end {
-        End::Quit => Ok(()),
-        End::Done(end) => say_stop(rt, gauge, target, end, failed),
+        End::Quit => say_quit(gauge),
+        End::Done(end) => {
+            say_stop(rt, gauge, target, end, failed)?;
+            say_nowhere(gauge, target)
+        }
     }
 }
 

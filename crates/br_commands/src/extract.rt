@@ -11,7 +11,9 @@ ghost use Rattle.br_commands.specs.Tasks.{ExtractsTask, StreamsTask};
 use crate::folders::{LeavingSink, folder_of, leaving_over};
 use crate::status::{BAD_STREAM, Ending};
 use crate::tar::{Channel, Extent, TarEnd, TarFault, add_tar_end, end_stream, tar_into, tar_onto};
-use crate::telling::{log_fault, refuse_place, say_conflicts, say_files, say_stop, tell_others};
+use crate::telling::{
+    log_fault, refuse_place, say_conflicts, say_files, say_nowhere, say_stop, tell_others,
+};
 use crate::watching::{gauge_of, refuse_log, watched_drives, watched_sink, watched_writer};
 use br_advice::{Told, advise, say_volumes, tell_outcomes};
 use br_engine::{Budget, ExtractFault, Flush, Outputs, RestoreEnd, read_text};
@@ -144,6 +146,7 @@ fn report(
     if let Ok(done) = run {
         let conflicts = done.left.len() as u64;
         advise(rt, gauge, given.wanted, &done.outcomes, conflicts, told)?;
+        say_nowhere(gauge, given.target)?;
     }
     gauge.tell_end()?;
     Ok(status)

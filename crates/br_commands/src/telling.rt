@@ -141,6 +141,16 @@ pub(crate) fn say_stop(
     }
 }
 
+/// Tells a terminal, unless it is to be quiet, that no file was written if there is no place for one.
+pub(crate) fn say_nowhere(gauge: &Gauge<'_>, target: Target<'_>) -> io::Result<()> {
+    match target {
+        Target::Nowhere if gauge.is_shown() => {
+            gauge.say("no file was written. Next: `--into` and `--tar` say where to.")
+        }
+        _ => Ok(()),
+    }
+}
+
 /// Says why the place for the restored files is not taken.
 pub(crate) fn say_place(rt: &HostRuntime, gauge: &Gauge<'_>, target: Target<'_>) -> io::Result<()> {
     if !gauge.is_watching() {

@@ -39,7 +39,7 @@ all_rows =
     (codes "Copy the volume again, since the copy is probably incomplete; without a whole one, choose an earlier moment.") ∷
     row_with 13 (codes "DriveFault")
     (codes "A drive failed while it read a volume.")
-    (codes "Only library calls return it: a command reads on with the other drives, or prints 70.") ∷
+    (codes "A restore reads on with the other drives, or prints 70. If `check` prints it, do what 70 says.") ∷
     row_with 14 (codes "UnknownVolume")
     (codes "The volume is not in the folder of volumes.")
     (codes "Copy the volume into the folder under exactly the printed name, or correct `--volumes`.") ∷
@@ -96,13 +96,13 @@ all_rows =
     (codes "In a script, free memory and run it again; in a folder, check space and permissions.") ∷
     row_with 45 (codes "StoreFault")
     (codes "The catalogue is missing, in use, cannot be opened, or is no sound database with the tables of this program.")
-    (codes "Check `--db`. If a `-wal` lies beside the file, let `serve` open it once, in a folder that can be written. Else try another copy, or restore by a bootstrap with `extract`.") ∷
+    (codes "Check `--db`. If a `-wal` lies beside the file, let `serve` open it once, in a folder that can be written. If the file has a second name (a hard link), copy it. Else try another copy, or restore by a bootstrap with `extract`; a catalogue that Bacula made cannot be used.") ∷
     row_with 46 (codes "StoredNotPublished")
     (codes "The job is in the catalogue, but restores do not see it yet.")
     (codes "In a script, free memory and commit again, which publishes the job first.") ∷
     row_with 47 (codes "BadCatalogue")
     (codes "The catalogue is not of version 2, for `migrate` not of version 1, or its rows contradict each other.")
-    (codes "If `migrate` says it, try `console`; else try another copy, or restore by a bootstrap with `extract`; a catalogue that Bacula made cannot be used.") ∷
+    (codes "If `migrate` says it, try `console`; else try another copy, or restore by a bootstrap with `extract`.") ∷
     row_with 48 (codes "OldCatalogue")
     (codes "The catalogue is of version 1, which this program no longer reads as it is.")
     (codes "Keep a copy of the file, and make it version 2 with `migrate`.") ∷
@@ -126,10 +126,10 @@ all_rows =
     (codes "Type `cd`, `pwd`, `ls`, `mark`, `unmark`, `markdir`, `unmarkdir`, `count`, `lsmark`, `find`, `estimate`, `done` or `quit`; at a terminal also `help` or `dir`.") ∷
     row_with 56 (codes "NoSuchDirectory")
     (codes "The argument of `cd` is no directory at this moment.")
-    (codes "Look with `pwd` and `ls`, and type names without quotes or escapes.") ∷
+    (codes "Look with `pwd` and `ls`, and type names without quotes or escapes. For a file go to its folder.") ∷
     row_with 57 (codes "NoMatch")
     (codes "Nothing in the current directory matches the pattern, or for `find` nothing at all.")
-    (codes "Look with `pwd`, `ls` and `find`, type names without quotes or escapes, or choose another moment.") ∷
+    (codes "Type one name of this folder, without `/`, quotes or escapes: `cd` goes to another folder, and `ls` and `find` show names. Else choose another moment.") ∷
     row_with 58 (codes "StrangerPiece")
     (codes "The hits that were handed in belong to a piece that the restore does not have.")
     (codes "Only library calls return it: hand in hits of the restore's own pieces.") ∷
@@ -165,7 +165,7 @@ all_rows =
     (codes "Restore the file with Bacula's `bextract`, which takes the same bootstrap.") ∷
     row_with 69 (codes "NameDiffers")
     (codes "The file has another path on the volume than in the catalogue.")
-    (codes "Check that volumes and catalogue belong together; else choose an earlier moment.") ∷
+    (codes "Try another copy, and check that volumes and catalogue belong together; else choose an earlier moment.") ∷
     row_with 70 (codes "NoDriveLeft")
     (codes "Every drive failed before all volumes were read.")
     (codes "Check that `--volumes` names a folder, check permissions and the system's log, and run the command again or try another copy.") ∷
@@ -174,7 +174,7 @@ all_rows =
     (codes "Only library calls return it: keep the list of each thread.") ∷
     row_with 80 (codes "SinkFault")
     (codes "A file or folder could not be written, or its path is not UTF-8.")
-    (codes "The first file of the manifest that is not whole in the folder is the one: check space and permissions, or leave it out.") ∷
+    (codes "The first file of the manifest that is not whole in the folder is the one: check space and whether you may write there, or leave it out.") ∷
     row_with 81 (codes "PathInTheWay")
     (codes "The target folder does not exist or is not empty; or one path of the restore is both a file and a folder.")
     (codes "Make an empty folder for `--into`; if the manifest was printed, restore the two paths into two folders.") ∷

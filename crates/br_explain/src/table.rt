@@ -42,7 +42,7 @@ pub const REFUSALS: [Refusal; 54] = [
         number: 13,
         name: "DriveFault",
         meaning: "A drive failed while it read a volume.",
-        next: "Only library calls return it: a command reads on with the other drives, or prints 70.",
+        next: "A restore reads on with the other drives, or prints 70. If `check` prints it, do what 70 says.",
     },
     Refusal {
         number: 14,
@@ -156,7 +156,7 @@ pub const REFUSALS: [Refusal; 54] = [
         number: 45,
         name: "StoreFault",
         meaning: "The catalogue is missing, in use, cannot be opened, or is no sound database with the tables of this program.",
-        next: "Check `--db`. If a `-wal` lies beside the file, let `serve` open it once, in a folder that can be written. Else try another copy, or restore by a bootstrap with `extract`.",
+        next: "Check `--db`. If a `-wal` lies beside the file, let `serve` open it once, in a folder that can be written. If the file has a second name (a hard link), copy it. Else try another copy, or restore by a bootstrap with `extract`; a catalogue that Bacula made cannot be used.",
     },
     Refusal {
         number: 46,
@@ -168,7 +168,7 @@ pub const REFUSALS: [Refusal; 54] = [
         number: 47,
         name: "BadCatalogue",
         meaning: "The catalogue is not of version 2, for `migrate` not of version 1, or its rows contradict each other.",
-        next: "If `migrate` says it, try `console`; else try another copy, or restore by a bootstrap with `extract`; a catalogue that Bacula made cannot be used.",
+        next: "If `migrate` says it, try `console`; else try another copy, or restore by a bootstrap with `extract`.",
     },
     Refusal {
         number: 48,
@@ -216,13 +216,13 @@ pub const REFUSALS: [Refusal; 54] = [
         number: 56,
         name: "NoSuchDirectory",
         meaning: "The argument of `cd` is no directory at this moment.",
-        next: "Look with `pwd` and `ls`, and type names without quotes or escapes.",
+        next: "Look with `pwd` and `ls`, and type names without quotes or escapes. For a file go to its folder.",
     },
     Refusal {
         number: 57,
         name: "NoMatch",
         meaning: "Nothing in the current directory matches the pattern, or for `find` nothing at all.",
-        next: "Look with `pwd`, `ls` and `find`, type names without quotes or escapes, or choose another moment.",
+        next: "Type one name of this folder, without `/`, quotes or escapes: `cd` goes to another folder, and `ls` and `find` show names. Else choose another moment.",
     },
     Refusal {
         number: 58,
@@ -294,7 +294,7 @@ pub const REFUSALS: [Refusal; 54] = [
         number: 69,
         name: "NameDiffers",
         meaning: "The file has another path on the volume than in the catalogue.",
-        next: "Check that volumes and catalogue belong together; else choose an earlier moment.",
+        next: "Try another copy, and check that volumes and catalogue belong together; else choose an earlier moment.",
     },
     Refusal {
         number: 70,
@@ -312,7 +312,7 @@ pub const REFUSALS: [Refusal; 54] = [
         number: 80,
         name: "SinkFault",
         meaning: "A file or folder could not be written, or its path is not UTF-8.",
-        next: "The first file of the manifest that is not whole in the folder is the one: check space and permissions, or leave it out.",
+        next: "The first file of the manifest that is not whole in the folder is the one: check space and whether you may write there, or leave it out.",
     },
     Refusal {
         number: 81,

@@ -3,6 +3,7 @@
 use crate::expecting::len_of_volumes;
 use crate::line::{Standing, seconds_left};
 use crate::log::Log;
+use crate::text::Count;
 use std::alloc::Global;
 use std::io::{self, IsTerminal, Write};
 use std::sync::atomic::{AtomicBool, AtomicU64, Ordering};
@@ -29,6 +30,8 @@ pub struct Gauge<'r> {
     put: AtomicU64,
     /// The number of files of the manifest that are older copies and are left out.
     older: AtomicU64,
+    /// The number of outcomes that are no files.
+    lost: AtomicU64,
     /// True once files are put.
     is_putting: AtomicBool,
     /// When the reading began, and later when files were first put, in milliseconds since the gauge was
@@ -61,6 +64,7 @@ impl<'r> Gauge<'r> {
             files: AtomicU64::new(0),
             put: AtomicU64::new(0),
             older: AtomicU64::new(0),
+            lost: AtomicU64::new(0),
             is_putting: AtomicBool::new(false),
             step: AtomicU64::new(0),
             told: AtomicU64::new(0),
@@ -116,13 +120,22 @@ impl<'r> Gauge<'r> {
         self.tell();
     }
 
-    /// Returns the number of files that were put and of those in the manifest, once files are put.
-    pub(crate) fn files(&self) -> Option<(u64, u64)> {
+    /// Returns what became of the files, once files are put.
+    pub(crate) fn count(&self) -> Option<Count> {
         if !self.is_putting.load(Ordering::SeqCst) {
             return None;
         }
-        let put = self.put.load(Ordering::SeqCst);
-        Some((put, self.files.load(Ordering::SeqCst)))
+        Some(Count {
+            put: self.put.load(Ordering::SeqCst),
+            files: self.files.load(Ordering::SeqCst),
+            older: self.older.load(Ordering::SeqCst),
+            lost: self.lost.load(Ordering::SeqCst),
+        })
+    }
+
+    /// Notes that an outcome is no file.
+    pub(crate) fn note_lost(&self) {
+        self.lost.fetch_add(1, Ordering::SeqCst);
     }
 
     /// Notes that the files of the manifest are older copies that are left out, but for so many others.
@@ -130,11 +143,6 @@ impl<'r> Gauge<'r> {
         let files = self.files.load(Ordering::SeqCst);
         self.older
             .store(files.saturating_sub(others), Ordering::SeqCst);
-    }
-
-    /// Returns the number of older copies that are left out.
-    pub(crate) fn older(&self) -> u64 {
-        self.older.load(Ordering::SeqCst)
     }
 
     /// Returns the log, if there is one.

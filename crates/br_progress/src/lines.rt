@@ -79,6 +79,7 @@ impl Lines {
         match outcome.why {
             None => gauge.note_files(1),
             Some(why) => {
+                gauge.note_lost();
                 gauge.log_fault(self.start.text());
                 // An outcome for which memory runs out is not told at the end.
                 let _noted = self.faults.note(gauge.alloc(), outcome.key, why);

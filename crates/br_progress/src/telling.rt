@@ -116,12 +116,12 @@ impl<'r> Gauge<'r> {
     /// left out.
     fn count_text(&self) -> Result<(Vec<u8>, bool), AllocError> {
         let mut text = Vec::new(self.alloc());
-        let Some((put, files)) = self.files() else {
+        let Some(count) = self.count() else {
             return Ok((text, false));
         };
-        let older = self.older();
-        push_count(&mut text, put, files, older)?;
-        Ok((text, self.is_shown() || put.saturating_add(older) < files))
+        push_count(&mut text, count)?;
+        let done = count.put.saturating_add(count.older);
+        Ok((text, self.is_shown() || done < count.files))
     }
 
     /// Tells a terminal and the log the outcomes that are no files, in words.

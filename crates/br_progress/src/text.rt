@@ -1,10 +1,23 @@
 //! What is told of a restore beside the manifest, as text.
 ghost use Rattle.std.specs.Prelude.{◌≡◌, ◌++◌, OnOk};
-ghost use Rattle.br_progress.specs.Telling.{count_line, failed_line, older_text, put_line};
+ghost use Rattle.br_progress.specs.Telling.{count_line, failed_line, lost_front, noted_text, older_front, put_line, put_of};
 
 use br_join::Outcome;
 use br_types::{FileKey, Path, push_escaped, push_number};
 use std::alloc::{AllocError, Global};
+
+/// What became of the files of a restore.
+#[derive(Clone, Copy)]
+pub(crate) struct Count {
+    /// Those that were put.
+    pub(crate) put: u64,
+    /// Those of the manifest, but for those that are lost.
+    pub(crate) files: u64,
+    /// Those of these that are older copies and are left out.
+    pub(crate) older: u64,
+    /// The outcomes that are no files.
+    pub(crate) lost: u64,
+}
 
 /// Appends the line of a file that was put.
 pub(crate) fn push_put(text: &mut Vec<u8>, path: &Path) -> Result<(), AllocError>
@@ -24,32 +37,50 @@ pub(crate) fn push_failed(text: &mut Vec<u8>, path: &Path) -> Result<(), AllocEr
     text.extend_from_slice(b"\n")
 }
 
-/// Appends how many older copies were left out, if some were.
-fn push_older(text: &mut Vec<u8>, older: u64) -> Result<(), AllocError>
-    ensures { OnOk result (text.new.items ≡ text.old.items ++ older_text older) }
+/// Appends a text and a number, or nothing if the number is 0.
+fn push_noted(text: &mut Vec<u8>, front: &[u8], count: u64) -> Result<(), AllocError>
+    ensures { OnOk result (text.new.items ≡ text.old.items ++ noted_text front.now count) }
 {
-    if older == 0 {
-        Ok(())
-    } else {
-        text.extend_from_slice(b", older copies left out: ")?;
-        push_number(text, older)
+    if count == 0 {
+        return Ok(());
     }
+    text.extend_from_slice(front)?;
+    push_number(text, count)
 }
 
-/// Appends the line that tells how many files of how many were put, and how many older copies were left out.
-pub(crate) fn push_count(
-    text: &mut Vec<u8>,
-    put: u64,
-    files: u64,
-    older: u64,
-) -> Result<(), AllocError>
-    ensures { OnOk result (text.new.items ≡ text.old.items ++ count_line put files older) }
+/// Appends how many older copies were left out, if some were.
+#[tactic(auto, unfolding(crate::specs::Telling::older_front))]
+fn push_older(text: &mut Vec<u8>, older: u64) -> Result<(), AllocError>
+    ensures { OnOk result (text.new.items ≡ text.old.items ++ noted_text older_front older) }
+{
+    push_noted(text, b", older copies left out: ", older)
+}
+
+/// Appends how many files can't be restored, if there are some.
+#[tactic(auto, unfolding(crate::specs::Telling::lost_front))]
+fn push_lost(text: &mut Vec<u8>, lost: u64) -> Result<(), AllocError>
+    ensures { OnOk result (text.new.items ≡ text.old.items ++ noted_text lost_front lost) }
+{
+    push_noted(text, b", not restored: ", lost)
+}
+
+/// Appends how many files of how many were put.
+fn push_put_of(text: &mut Vec<u8>, put: u64, files: u64) -> Result<(), AllocError>
+    ensures { OnOk result (text.new.items ≡ text.old.items ++ put_of put files) }
 {
     push_number(text, put)?;
     text.extend_from_slice(b" of ")?;
     push_number(text, files)?;
-    text.extend_from_slice(b" files were put")?;
-    push_older(text, older)?;
+    text.extend_from_slice(b" files were put")
+}
+
+/// Appends the line that tells what became of the files.
+pub(crate) fn push_count(text: &mut Vec<u8>, count: Count) -> Result<(), AllocError>
+    ensures { OnOk result (text.new.items ≡ text.old.items ++ count_line count) }
+{
+    push_put_of(text, count.put, count.files)?;
+    push_older(text, count.older)?;
+    push_lost(text, count.lost)?;
     text.push(b'\n')?;
     Ok(())
 }
