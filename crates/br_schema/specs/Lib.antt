@@ -2,3 +2,4 @@ pub mod Places
 pub mod Tables
 pub mod Old
 pub mod Shapes
+pub mod Stands

@@ -1,6 +1,6 @@
 -- The trees that hold the tables, and the places of the columns in their rows: the row's number
 -- comes first, then the columns in the order of the table.
-use Rattle.std.specs.Prelude.{◌≡◌, ◌⊎◌, ℕ}
+use Rattle.std.specs.Prelude.{ℕ}
 
 -- the trees that hold the catalogue's tables
 pub record Layout : Type 0 where
@@ -22,10 +22,6 @@ new_layout = record { version = 0; client = 1; fileset = 3; media = 5; path = 7;
 -- and its number with it.
 abbrev pub moved_layout : Layout
 moved_layout = record { version = 0; client = 1; fileset = 3; media = 5; path = 7; job = 11; job_media = 13; file = 15 }
-
--- the tables are in the trees of a new catalogue, or of one that was of version 1
-abbrev pub IsLayout : Layout → Type 0
-IsLayout l = (l ≡ new_layout) ⊎ (l ≡ moved_layout)
 
 -- ---- columns
 

@@ -1,21 +1,25 @@
 -- The columns, references, tables and indexes that shapes describe (`src/shape.rt`).
-use Rattle.std.specs.Prelude.{◌≡◌, Bool, true, false, [], ◌∷◌, List, ℕ, Option, Some, None, map}
+use Rattle.std.specs.Prelude.{◌≡◌, Bool, true, false, [], ◌∷◌, List, ℕ, ◌^◌, nat_le, ◌==◌, Option, Some, None, map, drop, length, codes, ◌++◌}
+use Rattle.std.specs.List.{position_from}
 use Rattle.std.specs.Borrow.{Bor}
 use Rattle.sqlite.specs.Collation.TheVariants.{Binary}
 use Rattle.sqlite.specs.declared.types.Value.TheVariants.{Null}
 use Rattle.sqlite.specs.Kind.{Kind}
 use Rattle.sqlite.specs.Kind.TheVariants as kind
 use Rattle.sqlite.specs.Table.{Table}
+use Rattle.sqlite.specs.Schema.{Schema}
 use Rattle.sqlite_value.specs.declared.keys.Order.{Order}
 use Rattle.sqlite_schema.specs.declared.schema.Action.TheVariants.{NoAction}
 use Rattle.sqlite_schema.specs.declared.schema.Column.{Column}
 use Rattle.sqlite_schema.specs.declared.schema.Index.{Index}
 use Rattle.sqlite_schema.specs.declared.schema.Reference.{Reference}
+use Rattle.sqlite_schema.specs.Names.{column_named}
 use Rattle.br_schema.specs.Tables.{column, key_column, refers, unique_index}
 use Rattle.br_schema.specs.declared.shape.ColumnShape.{ColumnShape}
 use Rattle.br_schema.specs.declared.shape.ColumnShape.TheVariants.{Key, Integer, Text, Any}
 use Rattle.br_schema.specs.declared.shape.IndexShape.{IndexShape}
 use Rattle.br_schema.specs.declared.shape.ReferenceShape.{ReferenceShape}
+use Rattle.br_schema.specs.Stands.{Own, Stands, with_own}
 use Rattle.br_schema.specs.declared.shape.TableShape.{TableShape}
 
 -- a column that is not STRICT, has no default and compares bytes
@@ -63,11 +67,24 @@ abbrev pub orders_of : Option (Bor (List ℕ)) → List Order
 orders_of None = []
 orders_of (Some places) = record { digits = 0 } ∷ []
 
+-- a list begins with these elements
+abbrev pub Begins : {A : Type 0} → List A → List A → Type 0
+Begins front xs = xs ≡ front ++ drop (length front) xs
+
 -- a table with this name, and with no check, no computed default and no count
 abbrev pub bare : List ℕ → Table → Table
 bare name table = record table {
   name = name;
   checks = [];
+  computed = [];
+  stamps = record { places = []; terms = []; formats = [] };
+  is_counted = false;
+}
+
+-- a table with this name, and with no computed default and no count
+abbrev pub simple : List ℕ → Table → Table
+simple name table = record table {
+  name = name;
   computed = [];
   stamps = record { places = []; terms = []; formats = [] };
   is_counted = false;
@@ -94,3 +111,30 @@ table_of s tree = record {
 abbrev pub placed : List TableShape → List ℕ → List Table
 placed (s ∷ shapes) (tree ∷ trees) = table_of s tree ∷ placed shapes trees
 placed _ _ = []
+
+-- what a table has after what its shape has
+abbrev pub own_of : TableShape → Table → Own
+own_of s t = record {
+  columns = drop (length s.columns.now) t.columns;
+  uniques = drop (length (uniques_of s.unique)) t.uniques;
+  orders = drop (length (orders_of s.unique)) t.orders;
+  checks = t.checks;
+  references = drop (length s.references.now) t.references;
+}
+
+-- The tree is one of stored tables and, if the table has no key, no column has the name of a row's
+-- number.
+abbrev pub IsReadable : Table → Type 0
+IsReadable t = (nat_le (2 ^ 31) t.tree ≡ false) × (t.key ≡ None → column_named t (codes "rowid") ≡ None)
+
+-- the table is the first in its tree, at this place of the schema, and can be read by its names
+abbrev pub IsFound : Schema → ℕ → Table → Type 0
+IsFound schema place t = (position_from (λ (u : Table). u.tree == t.tree) 0 schema.tables ≡ Some place) × IsReadable t
+
+-- the table at a place of a schema has this shape and more at most, and is where it is found
+abbrev pub Fits : Schema → TableShape → ℕ → Table → Type 0
+Fits schema s place t = (t ≡ with_own (table_of s t.tree) (own_of s t)) × IsFound schema place t
+
+-- the schema has a table of this shape, with more at most
+abbrev pub HasShape : Schema → TableShape → Type 0
+HasShape schema s = (tree : ℕ) × (own : Own) × Stands schema (with_own (table_of s tree) own)

@@ -1,5 +1,5 @@
 -- The tables of the catalogue.
-use Rattle.std.specs.Prelude.{◌≡◌, true, false, [], ◌∷◌, ◌++◌, Some, None, codes, drop, List, ℕ, ◌+◌, map}
+use Rattle.std.specs.Prelude.{true, false, [], ◌∷◌, Some, None, codes, List, ℕ, ◌+◌, map}
 use Rattle.sqlite.specs.Collation.TheVariants.{Binary}
 use Rattle.sqlite.specs.declared.types.Value.TheVariants.{Null}
 use Rattle.sqlite.specs.Table.{Table}
@@ -11,8 +11,7 @@ use Rattle.sqlite_schema.specs.declared.schema.Column.{Column}
 use Rattle.sqlite_schema.specs.declared.schema.Reference.{Reference}
 use Rattle.sqlite_schema.specs.declared.schema.Index.{Index}
 use Rattle.sqlite_schema.specs.declared.schema.Action.TheVariants.{NoAction}
-use Rattle.sqlite_schema.specs.declared.schema.View.{View}
-use Rattle.br_schema.specs.Places.{IsLayout, Layout, new_layout, row_number, name_column}
+use Rattle.br_schema.specs.Places.{Layout, new_layout, row_number, name_column}
 use Rattle.br_schema.specs.Places.{job_client, job_fileset, job_session_id, job_session_time, span_job, span_media, span_vol_index}
 use Rattle.br_schema.specs.Places.{file_job, file_path}
 
@@ -166,49 +165,9 @@ file tree = keyed_table (codes "File") tree file_columns [] file_references
 
 -- ---- schemas
 
--- what a schema has beside the catalogue's tables: tables after them, indexes and views
-pub record Beside : Type 0 where
-  pub others : List Table
-  pub indexes : List Index
-  pub views : List View
-
 -- the catalogue's tables in these trees
 abbrev pub tables_at : Layout → List Table
 tables_at l = version l.version ∷ client l.client ∷ fileset l.fileset ∷ media l.media ∷ path l.path ∷ job l.job ∷ job_media l.job_media ∷ file l.file ∷ []
-
--- a schema with the catalogue's tables in these trees, and what is beside them
-abbrev pub schema_at : Layout → Beside → Schema
-schema_at l beside = record { tables = tables_at l ++ beside.others; indexes = beside.indexes; views = beside.views }
-
--- the tree of the first table
-abbrev pub first_tree : List Table → ℕ
-first_tree [] = 0
-first_tree (t ∷ tables) = t.tree
-
--- the trees of the first tables of a schema, in their order
-abbrev pub layout_of : Schema → Layout
-layout_of schema = record {
-  version = first_tree schema.tables;
-  client = first_tree (drop 1 schema.tables);
-  fileset = first_tree (drop 2 schema.tables);
-  media = first_tree (drop 3 schema.tables);
-  path = first_tree (drop 4 schema.tables);
-  job = first_tree (drop 5 schema.tables);
-  job_media = first_tree (drop 6 schema.tables);
-  file = first_tree (drop 7 schema.tables);
-}
-
--- what comes after the first eight tables of a schema, its indexes and its views
-abbrev pub beside_of : Schema → Beside
-beside_of schema = record { others = drop 8 schema.tables; indexes = schema.indexes; views = schema.views }
-
--- the schema begins with the catalogue's tables in these trees
-abbrev pub IsSchemaAt : Layout → Schema → Type 0
-IsSchemaAt l schema = schema ≡ schema_at l (beside_of schema)
-
--- the schema begins with the catalogue's tables
-abbrev pub IsStoreSchema : Schema → Type 0
-IsStoreSchema schema = IsSchemaAt (layout_of schema) schema × IsLayout (layout_of schema)
 
 -- ---- the schemas of a new catalogue, as its tables are made
 
@@ -264,9 +223,9 @@ seven_tables = record { tables = version 0 ∷ client 1 ∷ fileset 3 ∷ media 
 abbrev pub key_indexes : Layout → List Index
 key_indexes l = client_index l.client ∷ fileset_index l.fileset ∷ media_index l.media ∷ path_index l.path ∷ job_index l.job ∷ job_media_index l.job_media ∷ []
 
--- nothing but the indexes of the keys
-abbrev pub only_keys : Layout → Beside
-only_keys l = record { others = []; indexes = key_indexes l; views = [] }
+-- the catalogue's tables in these trees, and nothing else but the indexes of their keys
+abbrev pub only_tables : Layout → Schema
+only_tables l = record { tables = tables_at l; indexes = key_indexes l; views = [] }
 
 abbrev pub new_schema : Schema
-new_schema = schema_at new_layout (only_keys new_layout)
+new_schema = only_tables new_layout

@@ -5,4 +5,4 @@
 mod ours;
 mod shape;
 
-pub use ours::{is_empty, is_old, is_ours};
+pub use ours::{is_empty, is_moved, is_old, is_ours};

@@ -1,14 +1,19 @@
 //! Whether a schema is the catalogue's, or that of version 1.
 
-ghost use Rattle.std.specs.Prelude.{◌≡◌, ◌↔◌, IsTrue, [], ◌∷◌, ◌++◌, drop, length, map};
-ghost use Rattle.br_schema.specs.Shapes.{HasNoAction, any_column, bare, column_of, index_of, key_of, orders_of};
-ghost use Rattle.br_schema.specs.Shapes.{placed, primary_of, reference_of, table_of, uniques_of};
-ghost use Rattle.br_schema.specs.Places.{IsLayout, Layout, moved_layout, new_layout};
-ghost use Rattle.br_schema.specs.Tables.{Beside, IsSchemaAt, IsStoreSchema, no_schema, schema_at};
+ghost use Rattle.std.specs.Prelude.{◌≡◌, ◌↔◌, IsTrue, [], ◌∷◌, ◌++◌, ◌^◌, ◌==◌, nat_le, false, Some, None};
+ghost use Rattle.std.specs.Prelude.{codes, drop, length, map, slice_get};
+ghost use Rattle.std.specs.List.{AllByRecursion, position_from};
+ghost use Rattle.sqlite_schema.specs.Names.{column_named};
+ghost use Rattle.br_schema.specs.Shapes.{Begins, Fits, HasNoAction, HasShape, IsFound, IsReadable, any_column, bare, column_of};
+ghost use Rattle.br_schema.specs.Shapes.{index_of, key_of, orders_of};
+ghost use Rattle.br_schema.specs.Shapes.{own_of, placed, primary_of, reference_of, simple, table_of, uniques_of};
+ghost use Rattle.br_schema.specs.Places.{Layout, moved_layout};
+ghost use Rattle.br_schema.specs.Stands.{HasAll, IsStoreSchema, Owns, with_own};
+ghost use Rattle.br_schema.specs.Tables.{no_schema, only_tables};
 ghost use Rattle.br_schema.specs.Old.{old_schema};
 
 use crate::shape::{
-    ColumnShape, IndexShape, MOVED_TREES, NEW_TREES, OLD_INDEXES, OLD_TABLES, OLD_TREES,
+    ColumnShape, IndexShape, MOVED_INDEXES, MOVED_TREES, OLD_INDEXES, OLD_TABLES, OLD_TREES,
     ReferenceShape, TABLES, TableShape,
 };
 use sqlite_schema::code::Terms;
@@ -234,48 +239,174 @@ fn are_indexes(indexes: &[Index], shapes: &[IndexShape]) -> bool
     }
 }
 
-/// Returns whether the first tables have these shapes, and are in these trees.
-fn begin_at(tables: &[Table], shapes: &[TableShape], trees: &[u32]) -> bool
-    ensures { IsTrue result ↔ (tables.now ≡ placed shapes.now trees.now ++ drop (length (placed shapes.now trees.now)) tables.now) }
+/// Returns whether columns begin with these shapes.
+fn begin_columns(columns: &[Column], shapes: &[ColumnShape]) -> bool
+    ensures { IsTrue result ↔ (columns.now ≡ map column_of shapes.now ++ drop (length shapes.now) columns.now) }
 {
     match shapes {
-        [shape, others @ ..] => match trees {
-            [tree, later @ ..] => match tables {
-                [table, more @ ..] => {
-                    is_placed(table, shape, *tree) && begin_at(more, others, later)
+        [] => true,
+        [shape, others @ ..] => match columns {
+            [column, more @ ..] => is_column(column, shape) && begin_columns(more, others),
+            _ => false,
+        },
+    }
+}
+
+/// Returns whether references begin with these shapes.
+fn begin_references(references: &[Reference], shapes: &[ReferenceShape]) -> bool
+    ensures { IsTrue result ↔ (references.now ≡ map reference_of shapes.now ++ drop (length shapes.now) references.now) }
+{
+    match shapes {
+        [] => true,
+        [shape, others @ ..] => match references {
+            [reference, more @ ..] => {
+                is_reference(reference, shape) && begin_references(more, others)
+            }
+            _ => false,
+        },
+    }
+}
+
+/// Returns whether orders begin with a plain one.
+fn begin_plain(orders: &[Order]) -> bool
+    ensures { IsTrue result ↔ (orders.now ≡ record { digits = 0 } ∷ drop 1 orders.now) }
+{
+    match orders {
+        [order, ..] => order.digits == 0,
+        _ => false,
+    }
+}
+
+/// Returns whether the keys of a table, and their orders, begin with the one over these places, if
+/// there are some.
+fn begins_unique(table: &Table, unique: Option<&[usize]>) -> bool
+    ensures { IsTrue result ↔ (Begins (uniques_of unique.entry) table.now.uniques × Begins (orders_of unique.entry) table.now.orders) }
+{
+    match unique {
+        Some(places) => {
+            match table.uniques.as_slice() {
+                [first, ..] => {
+                    are_places(first.as_slice(), places) && begin_plain(table.orders.as_slice())
                 }
                 _ => false,
-            },
-            _ => true,
-        },
-        _ => true,
+            }
+        }
+        None => true,
     }
 }
 
-/// Returns whether a schema begins with the tables of a new catalogue.
-fn is_new(schema: &Schema) -> bool
-    ensures { IsTrue result ↔ IsSchemaAt new_layout schema.now }
+/// Returns whether a table has this name, and no computed default or count.
+fn is_simple(table: &Table, name: &[u8]) -> bool
+    ensures { IsTrue result ↔ (table.now ≡ simple name.now table.now) }
 {
-    begin_at(schema.tables.as_slice(), &TABLES, &NEW_TREES)
+    table.name.as_slice() == name
+        && table.computed.is_empty()
+        && reads_no_time(&table.stamps)
+        && !table.is_counted
 }
 
-/// Returns whether a schema begins with the tables of a catalogue that was of version 1.
-fn is_moved(schema: &Schema) -> bool
-    ensures { IsTrue result ↔ IsSchemaAt moved_layout schema.now }
+/// Returns whether a table has this shape, and what is somebody's own after it.
+fn begins_as(table: &Table, shape: &TableShape) -> bool
+    ensures { IsTrue result ↔ (table.now ≡ with_own (table_of shape.now table.now.tree) (own_of shape.now table.now)) }
 {
-    begin_at(schema.tables.as_slice(), &TABLES, &MOVED_TREES)
+    is_simple(table, shape.name)
+        && begin_columns(table.columns.as_slice(), shape.columns)
+        && has_key(table, shape.is_keyed)
+        && begins_unique(table, shape.unique)
+        && begin_references(table.references.as_slice(), shape.references)
 }
 
-/// Returns whether a schema begins with the catalogue's tables, in the trees of a new catalogue or
-/// of one that was of version 1. There may be more tables after them, any indexes and any views.
+/// Returns whether a tree is one of stored tables.
+fn is_stored(tree: u32) -> bool
+    ensures { IsTrue result ↔ (nat_le (2 ^ 31) tree ≡ false) }
+{
+    tree < 1 << 31
+}
+
+/// Returns the place of the first table in a tree.
+fn place_in(tables: &[Table], tree: u32) -> Option<usize>
+    ensures { result ≡ position_from (λ (u : _). u.tree == tree) 0 tables.now }
+{
+    tables.iter().position(|table| table.tree == tree)
+}
+
+/// Returns whether the first table in a tree is at this place.
+fn is_first(schema: &Schema, tree: u32, place: usize) -> bool
+    ensures { IsTrue result ↔ (position_from (λ (u : _). u.tree == tree) 0 schema.now.tables ≡ Some place) }
+{
+    match place_in(schema.tables.as_slice(), tree) {
+        Some(first) => first == place,
+        None => false,
+    }
+}
+
+/// Returns whether a table has a key, or no column with the name of a row's number.
+fn is_numbered(table: &Table) -> bool
+    ensures { IsTrue result ↔ (table.now.key ≡ None → column_named table.now (codes "rowid") ≡ None) }
+{
+    table.key.is_some() || table.column_named(b"rowid").is_none()
+}
+
+/// Returns whether a table is in a tree of stored tables, and has a key or no column with the name of
+/// a row's number.
+fn is_readable(table: &Table) -> bool
+    ensures { IsTrue result ↔ IsReadable table.now }
+{
+    is_stored(table.tree) && is_numbered(table)
+}
+
+/// Returns whether a table at a place of a schema is found by its tree, and can be read by its names.
+fn is_found(schema: &Schema, place: usize, table: &Table) -> bool
+    ensures { IsTrue result ↔ IsFound schema.now place table.now }
+{
+    is_first(schema, table.tree, place) && is_readable(table)
+}
+
+/// Returns whether a table at a place of a schema has this shape, and is where it is found.
+fn fits(schema: &Schema, shape: &TableShape, place: usize, table: &Table) -> bool
+    ensures { IsTrue result ↔ Fits schema.now shape.now place table.now }
+{
+    begins_as(table, shape) && is_found(schema, place, table)
+}
+
+/// Returns whether the table at a place of a schema has this shape, and is where it is found.
+fn is_at(schema: &Schema, shape: &TableShape, place: usize) -> bool
+    ensures { IsTrue result ↔ ((t : _) × (slice_get schema.now.tables place ≡ Some t) × Fits schema.now shape.now place t) }
+{
+    match schema.tables.as_slice().get(place) {
+        Some(table) => fits(schema, shape, place, table),
+        None => false,
+    }
+}
+
+/// Returns whether a schema has a table of this shape.
+fn has_shape(schema: &Schema, shape: &TableShape) -> bool
+    ensures { IsTrue result ↔ HasShape schema.now shape.now }
+{
+    match schema.table_named(shape.name) {
+        Some(place) => is_at(schema, shape, place),
+        None => false,
+    }
+}
+
+/// Returns whether a schema has tables of these shapes.
+fn have_shapes(schema: &Schema, shapes: &[TableShape]) -> bool
+    ensures { IsTrue result ↔ AllByRecursion (HasShape schema.now) shapes.now }
+{
+    match shapes {
+        [] => true,
+        [shape, others @ ..] => has_shape(schema, shape) && have_shapes(schema, others),
+    }
+}
+
+/// Returns whether a schema has the catalogue's tables, in any order and in any trees. Each may have
+/// columns of somebody's own after those of the catalogue, and there may be other tables, any
+/// indexes and any views.
 pub fn is_ours(schema: &Schema) -> bool
     ensures ours { IsTrue result → IsStoreSchema schema.now }
-    ensures known { (l : Layout) (beside : Beside) → IsLayout l → schema.now ≡ schema_at l beside → IsTrue result }
+    ensures known { (l : Layout) (o : Owns) → HasAll schema.now l o → IsTrue result }
 {
-    if is_new(schema) {
-        return true;
-    }
-    is_moved(schema)
+    have_shapes(schema, &TABLES)
 }
 
 /// Returns whether a schema has the tables of version 1 in the trees in which they are made, the
@@ -286,6 +417,17 @@ pub fn is_old(schema: &Schema) -> bool
 {
     are_tables(schema.tables.as_slice(), &OLD_TABLES, &OLD_TREES)
         && are_indexes(schema.indexes.as_slice(), &OLD_INDEXES)
+        && schema.views.is_empty()
+}
+
+/// Returns whether a schema has the catalogue's tables in the trees where a migration makes them, the
+/// indexes of their keys, and nothing else.
+pub fn is_moved(schema: &Schema) -> bool
+    ensures moved { IsTrue result → schema.now ≡ only_tables moved_layout }
+    ensures known { schema.now ≡ only_tables moved_layout → IsTrue result }
+{
+    are_tables(schema.tables.as_slice(), &TABLES, &MOVED_TREES)
+        && are_indexes(schema.indexes.as_slice(), &MOVED_INDEXES)
         && schema.views.is_empty()
 }
 

@@ -193,12 +193,6 @@ pub(crate) const TABLES: [TableShape; 8] = [
     VERSION, CLIENT, FILESET, MEDIA, PATH, JOB, JOB_MEDIA, FILE,
 ];
 
-/// The trees of the tables of a new catalogue.
-pub(crate) const NEW_TREES: [u32; 8] = [0, 1, 3, 5, 7, 9, 11, 13];
-
-/// The trees of the tables of a catalogue that was of version 1.
-pub(crate) const MOVED_TREES: [u32; 8] = [0, 1, 3, 5, 7, 11, 13, 15];
-
 const FILENAME_COLUMNS: [ColumnShape; 2] = [Key(b"FilenameId"), Any(b"Name")];
 
 const OLD_FILE_COLUMNS: [ColumnShape; 7] = [
@@ -253,48 +247,77 @@ pub(crate) const OLD_TABLES: [TableShape; 9] = [
 /// The trees of the tables of version 1.
 pub(crate) const OLD_TREES: [u32; 9] = [0, 1, 3, 5, 7, 9, 11, 13, 15];
 
+// The indexes of the keys of version 1's tables.
+
+const CLIENT_INDEX: IndexShape = IndexShape {
+    name: b"sqlite_autoindex_Client_1",
+    tree: 2,
+    table: 1,
+    columns: &[2],
+};
+
+const FILESET_INDEX: IndexShape = IndexShape {
+    name: b"sqlite_autoindex_FileSet_1",
+    tree: 4,
+    table: 3,
+    columns: &[2],
+};
+
+const MEDIA_INDEX: IndexShape = IndexShape {
+    name: b"sqlite_autoindex_Media_1",
+    tree: 6,
+    table: 5,
+    columns: &[2],
+};
+
+const PATH_INDEX: IndexShape = IndexShape {
+    name: b"sqlite_autoindex_Path_1",
+    tree: 8,
+    table: 7,
+    columns: &[2],
+};
+
+const FILENAME_INDEX: IndexShape = IndexShape {
+    name: b"sqlite_autoindex_Filename_1",
+    tree: 10,
+    table: 9,
+    columns: &[2],
+};
+
+const JOB_INDEX: IndexShape = IndexShape {
+    name: b"sqlite_autoindex_Job_1",
+    tree: 12,
+    table: 11,
+    columns: &[8, 9],
+};
+
+const JOB_MEDIA_INDEX: IndexShape = IndexShape {
+    name: b"sqlite_autoindex_JobMedia_1",
+    tree: 14,
+    table: 13,
+    columns: &[2, 10],
+};
+
 /// The indexes of the tables of version 1.
 pub(crate) const OLD_INDEXES: [IndexShape; 7] = [
-    IndexShape {
-        name: b"sqlite_autoindex_Client_1",
-        tree: 2,
-        table: 1,
-        columns: &[2],
-    },
-    IndexShape {
-        name: b"sqlite_autoindex_FileSet_1",
-        tree: 4,
-        table: 3,
-        columns: &[2],
-    },
-    IndexShape {
-        name: b"sqlite_autoindex_Media_1",
-        tree: 6,
-        table: 5,
-        columns: &[2],
-    },
-    IndexShape {
-        name: b"sqlite_autoindex_Path_1",
-        tree: 8,
-        table: 7,
-        columns: &[2],
-    },
-    IndexShape {
-        name: b"sqlite_autoindex_Filename_1",
-        tree: 10,
-        table: 9,
-        columns: &[2],
-    },
-    IndexShape {
-        name: b"sqlite_autoindex_Job_1",
-        tree: 12,
-        table: 11,
-        columns: &[8, 9],
-    },
-    IndexShape {
-        name: b"sqlite_autoindex_JobMedia_1",
-        tree: 14,
-        table: 13,
-        columns: &[2, 10],
-    },
+    CLIENT_INDEX,
+    FILESET_INDEX,
+    MEDIA_INDEX,
+    PATH_INDEX,
+    FILENAME_INDEX,
+    JOB_INDEX,
+    JOB_MEDIA_INDEX,
+];
+
+/// The trees of the catalogue's tables where those of version 1 were before.
+pub(crate) const MOVED_TREES: [u32; 8] = [0, 1, 3, 5, 7, 11, 13, 15];
+
+/// The indexes of the catalogue's tables where those of version 1 were before.
+pub(crate) const MOVED_INDEXES: [IndexShape; 6] = [
+    CLIENT_INDEX,
+    FILESET_INDEX,
+    MEDIA_INDEX,
+    PATH_INDEX,
+    JOB_INDEX,
+    JOB_MEDIA_INDEX,
 ];

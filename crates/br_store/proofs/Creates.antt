@@ -1,5 +1,5 @@
 -- What a CREATE TABLE does.
-use Rattle.std.proofs.Common.{◌≡◌, inl, ℕ, List, [], ◌∷◌, ◌++◌, pos, false, None, Ok, map, refl, sym, ap, subst, ◌∙◌}
+use Rattle.std.proofs.Common.{◌≡◌, ℕ, List, [], ◌∷◌, ◌++◌, pos, false, None, Ok, map, refl, sym, ap, subst, ◌∙◌}
 use Rattle.std.specs.List.{AllByRecursion}
 use Rattle.sqlite.specs.Order.{Row, column}
 use Rattle.sqlite.specs.declared.types.Value.TheVariants.{Int}
@@ -16,12 +16,14 @@ use Rattle.sqlite.specs.Effect.{Database, IsDatabase}
 use Rattle.sqlite.specs.State.{State, Writes, Executes}
 use Rattle.sqlite.proofs.Callers.{runs_as}
 use Rattle.br_schema.specs.Places.{Layout, new_layout}
-use Rattle.br_schema.specs.Tables.{new_schema, only_keys, tables_at}
+use Rattle.br_schema.specs.Tables.{new_schema, tables_at}
+use Rattle.br_schema.specs.Stands.{HasAll, no_owns}
 use Rattle.br_rows.specs.Rows.{no_rows}
 use Rattle.br_store.specs.Held.{Added, rows_at}
 use Rattle.br_store.specs.Made.{HasEmptied, IsMade}
 use Rattle.br_store.proofs.Inserts.{went, same_value}
-use Rattle.br_store.proofs.Layouts.{layout_is, schema_is}
+use Rattle.br_store.proofs.Layouts.{has_here, layout_is}
+use Rattle.br_store.proofs.Lookups.{new_stands}
 use Rattle.br_store.proofs.Writes.{shaped_all, four}
 use Rattle.br_store.proofs.Makes.{Makes, Follows}
 
@@ -73,23 +75,24 @@ shaped_empty : (tables : List Table) (trees : Trees) → AllByRecursion (λ (t :
 shaped_empty [] trees empty = tt
 shaped_empty (t ∷ tables) trees empty = (subst (IsShaped Shaped) (sym empty.0) (tt, tt), shaped_empty tables trees empty.1)
 
-pub made_version : (old new : Database) → HasEmptied new_schema old → Added new_layout (only_keys new_layout) 0 (Int (next_rowid (old.trees 0)) ∷ Int (pos 2) ∷ []) old new → IsMade new
-made_version old new was a =
-    let row : Row = Int (next_rowid (old.trees 0)) ∷ Int (pos 2) ∷ [] in
+pub made_version : (old new : Database) → HasEmptied new_schema old → (more : Row) → Added new_schema new_layout 0 (Int (next_rowid (old.trees 0)) ∷ Int (pos 2) ∷ more) old new → IsMade new
+made_version old new was more a =
+    let row : Row = Int (next_rowid (old.trees 0)) ∷ Int (pos 2) ∷ more in
     let l = new_layout in
     let first : new.trees 0 ≡ row ∷ [] = a.rows ∙ ap (put_row row) was.empty.0 in
     let jobs : new.trees 9 ≡ [] = a.others.1.1.1.1.1.0 (λ e. cc) ∙ was.empty.1.1.1.1.1.0 in
     let spans : new.trees 11 ≡ [] = a.others.1.1.1.1.1.1.0 (λ e. cc) ∙ was.empty.1.1.1.1.1.1.0 in
     let files : new.trees 13 ≡ [] = a.others.1.1.1.1.1.1.1.0 (λ e. cc) ∙ was.empty.1.1.1.1.1.1.1.0 in
-    let now = sym (layout_is l (only_keys l) new a.schema a.sound) in
+    let has = subst (λ (s : Schema). HasAll s l no_owns) (sym a.schema) new_stands in
+    let now = sym (layout_is l no_owns new has a.sound) in
     let all = shaped_all 0 row old.trees new.trees refl a.rows (tables_at l) a.others (shaped_empty (tables_at l) old.trees was.empty) in
     let rows : rows_at l new.trees ≡ no_rows = four (rows_at l new.trees) no_rows (ap (map (λ (r : Row). column r 1 ∷ [])) first) (ap (map _) jobs) (ap (map _) spans) (ap (map _) files) in
     record {
       tables = record {
-        schema = schema_is l (only_keys l) new a.schema a.sound;
+        own = no_owns;
+        schema = has_here l no_owns new has a.sound;
         sound = a.sound;
         shaped = subst (λ (m : Layout). AllByRecursion (λ (t : Table). IsShaped Shaped (new.trees t.tree)) (tables_at m)) now all;
-        known = inl (sym now);
       };
       rows = ap (λ (m : Layout). rows_at m new.trees) (sym now) ∙ rows;
     }

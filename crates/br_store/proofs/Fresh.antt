@@ -21,7 +21,9 @@ use Rattle.sqlite_value.proofs.OrderLemmas.{value_cmp_total}
 use Rattle.sqlite_rules.specs.Lists.{Has}
 use Rattle.sqlite_rules.proofs.ListLemmas.{all_has}
 use Rattle.br_model.specs.Job.{JobRow}
-use Rattle.br_schema.specs.Tables.{beside_of, job, schema_at}
+use Rattle.br_schema.specs.Tables.{job}
+use Rattle.br_schema.specs.Stands.{with_own}
+use Rattle.br_store.proofs.Inserts.{has_table}
 use Rattle.br_rows.specs.Inserted.{IsNewIn}
 use Rattle.br_store.specs.Held.{HasTables, Added, job_shown, layout_in, rows_in}
 use Rattle.br_store.proofs.Values.{names_self}
@@ -82,18 +84,19 @@ sessions_differ rows x row none has a b first second other =
 
 -- a job whose row was added was new
 pub new_job : (j : JobRow) (id client fileset start session time : ℕ) (kind level status : List ℕ) (old new : Database) → id ≡ j.id → session ≡ j.session.id → time ≡ j.session.time → HasTables old
-    → Added (layout_in old.trees) (beside_of old.schema) (layout_in old.trees).job (Int (pos id) ∷ Null ∷ Text kind ∷ Text level ∷ Int (pos client) ∷ Text status ∷ Int (pos start) ∷ Int (pos fileset) ∷ Int (pos session) ∷ Int (pos time) ∷ []) old new
+    → (more : Row) → Added old.schema (layout_in old.trees) (layout_in old.trees).job (Int (pos id) ∷ Null ∷ Text kind ∷ Text level ∷ Int (pos client) ∷ Text status ∷ Int (pos start) ∷ Int (pos fileset) ∷ Int (pos session) ∷ Int (pos time) ∷ more) old new
     → IsNewIn j (rows_in old.trees)
-new_job j id client fileset start session time kind level status old new e1 e2 e3 tables a =
-    let row : Row = Int (pos id) ∷ Null ∷ Text kind ∷ Text level ∷ Int (pos client) ∷ Text status ∷ Int (pos start) ∷ Int (pos fileset) ∷ Int (pos session) ∷ Int (pos time) ∷ [] in
+new_job j id client fileset start session time kind level status old new e1 e2 e3 tables more a =
+    let row : Row = Int (pos id) ∷ Null ∷ Text kind ∷ Text level ∷ Int (pos client) ∷ Text status ∷ Int (pos start) ∷ Int (pos fileset) ∷ Int (pos session) ∷ Int (pos time) ∷ more in
     let l = layout_in old.trees in
     let jobs = old.trees l.job in
     let f = job_shown (old.trees l.client) (old.trees l.fileset) in
     let numbered = tables.shaped.1.1.1.1.1.0.1 in
-    let b = beside_of old.schema in
+    let schema = old.schema in
+    let t = with_own (job l.job) tables.own.job in
     let sound = subst (λ s. IsSound s new.trees) a.schema a.sound in
     let here = subst (λ rows. Has rows row) (sym a.rows) (put_is_there row jobs a.fresh) in
-    let none = keys_are_unique (schema_at l b) new.trees (job l.job) 0 (8 ∷ 9 ∷ []) row sound (inr (inr (inr (inr (inr (inl refl)))))) refl here in
+    let none = keys_are_unique schema new.trees t 0 (8 ∷ 9 ∷ []) row sound (has_table schema t tables.schema.job) refl here in
     record {
       number = λ r has is.
           let it = shown_of f jobs r has in

@@ -1,5 +1,5 @@
 -- What an INSERT of one row does.
-use Rattle.std.proofs.Common.{◌≡◌, ◌⊎◌, inl, inr, ℕ, ℤ, pos, List, [], ◌∷◌, ◌/◌, length, map, drop, ◌++◌, slice_get, Bool, true, false, not, ◌&&◌, cond, codes, Some, None, Ok, Err, Result, refl, sym, ap, subst, subst₂, ◌∙◌, MatchBool}
+use Rattle.std.proofs.Common.{◌≡◌, ◌⊎◌, inl, inr, ℕ, ℤ, ◌+◌, pos, List, [], ◌∷◌, ◌/◌, length, ◌++◌, slice_get, Bool, true, false, not, ◌&&◌, cond, codes, Some, None, Ok, Err, Result, refl, sym, ap, subst, subst₂, ◌∙◌, MatchBool}
 use Rattle.std.specs.List.{AllByRecursion}
 use Rattle.sqlite.specs.declared.types.Value.{Value}
 use Rattle.sqlite.specs.declared.types.Value.TheVariants.{Null, Int, Text, Blob}
@@ -13,24 +13,28 @@ use Rattle.sqlite.specs.Kind.TheVariants.{Integer}
 use Rattle.sqlite.specs.Source.TheVariants.{Values}
 use Rattle.sqlite.specs.Command.TheVariants.{Insert}
 use Rattle.sqlite.specs.Edit.{edit_of, next_rowid, numbered, are_fresh, put_all, Applies}
-use Rattle.sqlite.specs.Cast.{cast, cast_row}
+use Rattle.sqlite.specs.Cast.{cast, cast_all, cast_row}
 use Rattle.sqlite.specs.Rowids.TheVariants.{Chosen, Above}
 use Rattle.sqlite_rules.proofs.ActionLemmas.{no_works}
+use Rattle.sqlite_rules.specs.Lists.{Has}
+use Rattle.sqlite_rules.proofs.ListLemmas.{all_has, has_got}
 use Rattle.sqlite.specs.Does.{Tally, Does, OnRows, AtPlace}
 use Rattle.sqlite.specs.Effect.{Database, IsDatabase, value_rows}
 use Rattle.sqlite.specs.Rows.{Written, Task, stamped, rowids_for, count_of}
-use Rattle.sqlite.specs.Tree.{put_row}
 use Rattle.sqlite.specs.Listing.{understood}
-use Rattle.sqlite.specs.State.{State, mode_of, Executes}
+use Rattle.sqlite.specs.State.{State, mode_of, Executes, ExecutesIn}
 use Rattle.sqlite.proofs.Callers.{IsPlain, command_of, statement_of, runs_as, one_step}
+use Rattle.sqlite_sql.specs.Term.{eval_all}
+use Rattle.sqlite_resolve.specs.declared.error.CompileError.{CompileError}
 use Rattle.br_store.specs.declared.names.Dictionary.{Dictionary}
 use Rattle.br_store.specs.declared.names.Dictionary.TheVariants.{Client, FileSet, Media, Path}
 use Rattle.br_schema.specs.Places.{Layout}
-use Rattle.br_schema.specs.Tables.{Beside, schema_at, tables_at, version, client, fileset, media, path, job, job_media, file}
+use Rattle.br_schema.specs.Tables.{tables_at, version, client, fileset, media, path, job, job_media, file}
+use Rattle.br_schema.specs.Stands.{HasAll, Owns, Stands, with_own}
 use Rattle.br_store.specs.Names.{tree_of, word, name_row, insert_text}
 use Rattle.br_store.specs.Held.{Added}
-use Rattle.br_store.proofs.RowTexts.{insert_version, insert_version_is, version_terms, insert_job, insert_job_is, job_terms, insert_span, insert_span_is, span_terms, insert_file, insert_file_is, file_terms}
-use Rattle.br_store.proofs.NameTexts.{insert_is, name_terms}
+use Rattle.br_store.proofs.Inserted.{MayInsert, one_value_row}
+use Rattle.br_store.proofs.InsertTexts.{insert_version, insert_version_is, version_row, insert_job, insert_job_is, job_row, insert_span, insert_span_is, span_row, insert_file, insert_file_is, file_row, insert_name_is, name_cells}
 
 pub either : (b : Bool) (x : Value) → cond b x x ≡ x
 either true x = refl
@@ -98,95 +102,133 @@ pub all_front : {X : Type 0} (P : X → Type 0) (xs ys : List X) → AllByRecurs
 all_front P [] ys all = tt
 all_front P (x ∷ xs) ys all = (all.0, all_front P xs ys all.1)
 
-module _ (l : Layout) (b : Beside) where
-  -- an edit that adds one row
-  pub one_row : (tree : ℕ) (table : Table) (row : Row) (old new : Database) (rows : List Row) → table.tree ≡ tree
-      → new.schema ≡ schema_at l b → IsDatabase new → Applies (schema_at l b) Enforced old.trees (edit_of old.trees table [] Chosen 0 rows) new.trees
-      → (edit_of old.trees table [] Chosen 0 rows).news ≡ row ∷ [] → Added l b tree row old new
-  one_row tree table row old new rows at schema sound h news = record {
-    schema = schema;
-    sound = sound;
-    rows = ap new.trees (sym at) ∙ h.rows ∙ ap (λ all. put_all (old.trees table.tree) all) news ∙ ap (λ t. put_row row (old.trees t)) at;
-    fresh = is_fresh _ (ap (λ all. are_fresh (old.trees tree) all) (sym news) ∙ ap (λ t. are_fresh (old.trees t) (edit_of old.trees table [] Chosen 0 rows).news) (sym at) ∙ h.fresh);
-    others = all_front (λ (t : Table). (t.tree ≡ tree → ⊥) → new.trees t.tree ≡ old.trees t.tree) (tables_at l) b.others
-        (subst (λ n. AllByRecursion (λ (t : Table). (t.tree ≡ n → ⊥) → new.trees t.tree ≡ old.trees t.tree) (schema_at l b).tables) at h.tables);
-  }
+-- a table of the schema is among its tables
+pub has_table : (schema : Schema) (t : Table) → Stands schema t → Has schema.tables t
+has_table schema t s = has_got schema.tables s.place t s.is
+
+-- what holds of all tables of a schema, holds of the catalogue's
+pub all_ours : (P : ℕ → Type 0) (schema : Schema) (l : Layout) (o : Owns) → HasAll schema l o → AllByRecursion (λ (t : Table). P t.tree) schema.tables → AllByRecursion (λ (t : Table). P t.tree) (tables_at l)
+all_ours P schema l o has all =
+    let at = λ (t : Table) (s : Stands schema t). all_has (λ (u : Table). P u.tree) schema.tables t all (has_table schema t s) in
+    (at _ has.version, (at _ has.client, (at _ has.fileset, (at _ has.media, (at _ has.path, (at _ has.job, (at _ has.job_media, (at _ has.file, tt))))))))
+
+-- a text that was executed was not refused
+not_refused : (schema : Schema) (sql : List ℕ) (params : Row) (old new : State) (count : ℕ) (e : CompileError) → old.now.schema ≡ schema → understood schema sql ≡ Err e → Executes sql params old new (Ok count) → ⊥
+unfolding ExecutesIn
+not_refused schema sql params old new count e has refused h =
+    let both = sym h.1.is ∙ ap (λ s. understood s sql) has ∙ refused in cc
+
+-- what a text adds that inserts one row
+pub adds : (schema : Schema) (l : Layout) (o : Owns) → HasAll schema l o → (t : Table) (s : Stands schema t) → t.is_counted ≡ false
+    → (sql : List ℕ) (params : Row) (old new : State) (count : ℕ) (terms : List Term) (width : ℕ) → MayInsert schema sql s.place terms (width + 1) → length terms ≡ width + 1
+    → stamped t params ≡ params → old.now.schema ≡ schema → Executes sql params old new (Ok count)
+    → (row : Row) → numbered Chosen (old.now.trees t.tree) (cast_row t (eval_all terms (params ∷ [])) ∷ []) ≡ row ∷ []
+    → Added schema l t.tree row old.now new.now
+adds schema l o all t s simple sql params old new count terms width (inr refused) wide timeless has h row news = absurd (not_refused schema sql params old new count refused.0 has refused.1 h)
+adds schema l o all t s simple sql params old new count terms width (inl is) wide timeless has h row news =
+    let did = inserts schema s.place t (record { found = s.is; uncounted = simple }) sql params old new has terms (width + 1) is.command is.plain count h in
+    let rows : value_rows (stamped t params) (width + 1) (length terms / (width + 1)) terms ≡ eval_all terms (params ∷ []) ∷ [] =
+    ap (λ p. value_rows p (width + 1) (length terms / (width + 1)) terms) timeless ∙ one_value_row params terms width wide in
+    let source = eval_all terms (params ∷ []) in
+    let a : Applies schema Enforced old.now.trees (edit_of old.now.trees t [] Chosen 0 (source ∷ [])) new.now.trees =
+    subst (λ r. Applies schema Enforced old.now.trees (edit_of old.now.trees t [] Chosen 0 r) new.now.trees) rows did.1 in
+    record {
+      schema = did.0;
+      sound = did.2;
+      rows = a.rows ∙ ap (λ all. put_all (old.now.trees t.tree) all) news;
+      fresh = is_fresh _ (ap (λ all. are_fresh (old.now.trees t.tree) all) (sym news) ∙ a.fresh);
+      others = all_ours (λ n. (n ≡ t.tree → ⊥) → new.now.trees n ≡ old.now.trees n) schema l o all a.tables;
+    }
+
+module _ (schema : Schema) (l : Layout) (o : Owns) (has : HasAll schema l o) where
+  pub puts_version : (old new : State) (count : ℕ) → old.now.schema ≡ schema → Executes insert_version [] old new (Ok count)
+      → (more : Row) × Added schema l l.version (Int (next_rowid (old.now.trees l.version)) ∷ Int (pos 2) ∷ more) old.now new.now
+  puts_version old new count at h =
+      let t = with_own (version l.version) o.version in
+      let is = insert_version_is schema l o has in
+      let rest = eval_all is.more ([] ∷ []) in
+      let more = cast_all o.version.columns rest in
+      let row : Row = Null ∷ Int (pos 2) ∷ more in
+      let cast_is : cast_row t (Null ∷ Int (pos 2) ∷ rest) ≡ row = rw (cast_null, cast_int (pos 2)) refl in
+      (more, adds schema l o has t has.version refl insert_version [] old new count (version_row is.more) _ is.inserts is.wide refl at h _ (ap (λ r. numbered Chosen (old.now.trees l.version) (r ∷ [])) cast_is))
+
+  pub puts_job : (old new : State) (id client start fileset session time : ℤ) (kind level status : List ℕ) (count : ℕ) → old.now.schema ≡ schema
+      → Executes insert_job (Int id ∷ Text kind ∷ Text level ∷ Int client ∷ Text status ∷ Int start ∷ Int fileset ∷ Int session ∷ Int time ∷ []) old new (Ok count)
+      → (more : Row) × Added schema l l.job (Int id ∷ Null ∷ Text kind ∷ Text level ∷ Int client ∷ Text status ∷ Int start ∷ Int fileset ∷ Int session ∷ Int time ∷ more) old.now new.now
+  puts_job old new id client start fileset session time kind level status count at h =
+      let params : Row = Int id ∷ Text kind ∷ Text level ∷ Int client ∷ Text status ∷ Int start ∷ Int fileset ∷ Int session ∷ Int time ∷ [] in
+      let t = with_own (job l.job) o.job in
+      let is = insert_job_is schema l o has in
+      let rest = eval_all is.more (params ∷ []) in
+      let more = cast_all o.job.columns rest in
+      let front = λ (r : Row). Int id ∷ Null ∷ Text kind ∷ Text level ∷ Int client ∷ Text status ∷ Int start ∷ Int fileset ∷ Int session ∷ Int time ∷ r in
+      let cast_is : cast_row t (front rest) ≡ front more = rw (cast_int id, cast_null, cast_int client, cast_int start, cast_int fileset, cast_int session, cast_int time) refl in
+      (more, adds schema l o has t has.job refl insert_job params old new count (job_row is.more) _ is.inserts is.wide refl at h _ (ap (λ r. numbered Chosen (old.now.trees l.job) (r ∷ [])) cast_is))
+
+  pub puts_span : (old new : State) (job media first last start_file end_file start_block end_block vol_index : ℤ) (count : ℕ) → old.now.schema ≡ schema
+      → Executes insert_span (Int job ∷ Int media ∷ Int first ∷ Int last ∷ Int start_file ∷ Int end_file ∷ Int start_block ∷ Int end_block ∷ Int vol_index ∷ []) old new (Ok count)
+      → (more : Row) × Added schema l l.job_media (Int (next_rowid (old.now.trees l.job_media)) ∷ Null ∷ Int job ∷ Int media ∷ Int first ∷ Int last ∷ Int start_file ∷ Int end_file ∷ Int start_block ∷ Int end_block ∷ Int vol_index ∷ more) old.now new.now
+  puts_span old new job media first last start_file end_file start_block end_block vol_index count at h =
+      let params : Row = Int job ∷ Int media ∷ Int first ∷ Int last ∷ Int start_file ∷ Int end_file ∷ Int start_block ∷ Int end_block ∷ Int vol_index ∷ [] in
+      let t = with_own (job_media l.job_media) o.job_media in
+      let is = insert_span_is schema l o has in
+      let rest = eval_all is.more (params ∷ []) in
+      let more = cast_all o.job_media.columns rest in
+      let front = λ (r : Row). Null ∷ Null ∷ Int job ∷ Int media ∷ Int first ∷ Int last ∷ Int start_file ∷ Int end_file ∷ Int start_block ∷ Int end_block ∷ Int vol_index ∷ r in
+      let cast_is : cast_row t (front rest) ≡ front more =
+      rw (cast_null, cast_int job, cast_int media, cast_int first, cast_int last, cast_int start_file, cast_int end_file, cast_int start_block, cast_int end_block, cast_int vol_index) refl in
+      (more, adds schema l o has t has.job_media refl insert_span params old new count (span_row is.more) _ is.inserts is.wide refl at h _ (ap (λ r. numbered Chosen (old.now.trees l.job_media) (r ∷ [])) cast_is))
+
+  pub puts_file : (old new : State) (index job path : ℤ) (name lstat digest : List ℕ) (count : ℕ) → old.now.schema ≡ schema
+      → Executes insert_file (Int index ∷ Int job ∷ Int path ∷ Blob name ∷ Text lstat ∷ Text digest ∷ []) old new (Ok count)
+      → (more : Row) × Added schema l l.file (Int (next_rowid (old.now.trees l.file)) ∷ Null ∷ Int index ∷ Int job ∷ Int path ∷ Blob name ∷ Text lstat ∷ Text digest ∷ more) old.now new.now
+  puts_file old new index job path name lstat digest count at h =
+      let params : Row = Int index ∷ Int job ∷ Int path ∷ Blob name ∷ Text lstat ∷ Text digest ∷ [] in
+      let t = with_own (file l.file) o.file in
+      let is = insert_file_is schema l o has in
+      let rest = eval_all is.more (params ∷ []) in
+      let more = cast_all o.file.columns rest in
+      let front = λ (r : Row). Null ∷ Null ∷ Int index ∷ Int job ∷ Int path ∷ Blob name ∷ Text lstat ∷ Text digest ∷ r in
+      let cast_is : cast_row t (front rest) ≡ front more = rw (cast_null, cast_int index, cast_int job, cast_int path) refl in
+      (more, adds schema l o has t has.file refl insert_file params old new count (file_row is.more) _ is.inserts is.wide refl at h _ (ap (λ r. numbered Chosen (old.now.trees l.file) (r ∷ [])) cast_is))
 
   -- what the texts over names add
-  pub puts_name : (d : Dictionary) (old new : State) (name : List ℕ) (count : ℕ) → old.now.schema ≡ schema_at l b
-      → Executes (insert_text d) (word d name ∷ []) old new (Ok count) → Added l b (tree_of l d) (name_row d (next_rowid (old.now.trees (tree_of l d))) name) old.now new.now
-  puts_name Client old new name count has h =
-      let row : Row = Null ∷ Null ∷ Text name ∷ [] in
-      let table = client l.client in
-      let is = insert_is l b Client in
-      let did = inserts (schema_at l b) 1 table (record { found = refl; uncounted = refl }) (insert_text Client) (Text name ∷ []) old new has (name_terms Client) 3 is.command is.plain count h in
-      let as_it_is : map (λ s. cast_row table (drop 0 s)) (row ∷ []) ≡ row ∷ [] = rw cast_null refl in
-      one_row l.client table _ old.now new.now (row ∷ []) refl did.0 did.2 did.1 (ap (numbered Chosen (old.now.trees l.client)) as_it_is)
-  puts_name FileSet old new name count has h =
-      let row : Row = Null ∷ Null ∷ Text name ∷ [] in
-      let table = fileset l.fileset in
-      let is = insert_is l b FileSet in
-      let did = inserts (schema_at l b) 2 table (record { found = refl; uncounted = refl }) (insert_text FileSet) (Text name ∷ []) old new has (name_terms FileSet) 3 is.command is.plain count h in
-      let as_it_is : map (λ s. cast_row table (drop 0 s)) (row ∷ []) ≡ row ∷ [] = rw cast_null refl in
-      one_row l.fileset table _ old.now new.now (row ∷ []) refl did.0 did.2 did.1 (ap (numbered Chosen (old.now.trees l.fileset)) as_it_is)
-  puts_name Media old new name count has h =
-      let row : Row = Null ∷ Null ∷ Text name ∷ Text (codes "File") ∷ [] in
-      let table = media l.media in
-      let is = insert_is l b Media in
-      let did = inserts (schema_at l b) 3 table (record { found = refl; uncounted = refl }) (insert_text Media) (Text name ∷ []) old new has (name_terms Media) 4 is.command is.plain count h in
-      let as_it_is : map (λ s. cast_row table (drop 0 s)) (row ∷ []) ≡ row ∷ [] = rw cast_null refl in
-      one_row l.media table _ old.now new.now (row ∷ []) refl did.0 did.2 did.1 (ap (numbered Chosen (old.now.trees l.media)) as_it_is)
-  puts_name Path old new name count has h =
-      let row : Row = Null ∷ Null ∷ Blob name ∷ [] in
-      let table = path l.path in
-      let is = insert_is l b Path in
-      let did = inserts (schema_at l b) 4 table (record { found = refl; uncounted = refl }) (insert_text Path) (Blob name ∷ []) old new has (name_terms Path) 3 is.command is.plain count h in
-      let as_it_is : map (λ s. cast_row table (drop 0 s)) (row ∷ []) ≡ row ∷ [] = rw cast_null refl in
-      one_row l.path table _ old.now new.now (row ∷ []) refl did.0 did.2 did.1 (ap (numbered Chosen (old.now.trees l.path)) as_it_is)
-
-  pub puts_version : (old new : State) (count : ℕ) → old.now.schema ≡ schema_at l b → Executes insert_version [] old new (Ok count)
-      → Added l b l.version (Int (next_rowid (old.now.trees l.version)) ∷ Int (pos 2) ∷ []) old.now new.now
-  puts_version old new count has h =
-      let row : Row = Null ∷ Int (pos 2) ∷ [] in
-      let table = version l.version in
-      let is = insert_version_is l b in
-      let did = inserts (schema_at l b) 0 table (record { found = refl; uncounted = refl }) insert_version [] old new has version_terms 2 is.command is.plain count h in
-      let as_it_is : map (λ s. cast_row table (drop 0 s)) (row ∷ []) ≡ row ∷ [] = rw (cast_null, cast_int (pos 2)) refl in
-      one_row l.version table _ old.now new.now (row ∷ []) refl did.0 did.2 did.1 (ap (numbered Chosen (old.now.trees l.version)) as_it_is)
-
-  pub puts_job : (old new : State) (id client start fileset session time : ℤ) (kind level status : List ℕ) (count : ℕ) → old.now.schema ≡ schema_at l b
-      → Executes insert_job (Int id ∷ Text kind ∷ Text level ∷ Int client ∷ Text status ∷ Int start ∷ Int fileset ∷ Int session ∷ Int time ∷ []) old new (Ok count)
-      → Added l b l.job (Int id ∷ Null ∷ Text kind ∷ Text level ∷ Int client ∷ Text status ∷ Int start ∷ Int fileset ∷ Int session ∷ Int time ∷ []) old.now new.now
-  puts_job old new id client start fileset session time kind level status count has h =
-      let row : Row = Int id ∷ Null ∷ Text kind ∷ Text level ∷ Int client ∷ Text status ∷ Int start ∷ Int fileset ∷ Int session ∷ Int time ∷ [] in
-      let params : Row = Int id ∷ Text kind ∷ Text level ∷ Int client ∷ Text status ∷ Int start ∷ Int fileset ∷ Int session ∷ Int time ∷ [] in
-      let table = job l.job in
-      let is = insert_job_is l b in
-      let did = inserts (schema_at l b) 5 table (record { found = refl; uncounted = refl }) insert_job params old new has job_terms 10 is.command is.plain count h in
-      let as_it_is : map (λ s. cast_row table (drop 0 s)) (row ∷ []) ≡ row ∷ [] = rw (cast_int id, cast_null, cast_int client, cast_int start, cast_int fileset, cast_int session, cast_int time) refl in
-      one_row l.job table row old.now new.now (row ∷ []) refl did.0 did.2 did.1 (ap (numbered Chosen (old.now.trees l.job)) as_it_is)
-
-  pub puts_span : (old new : State) (job media first last start_file end_file start_block end_block vol_index : ℤ) (count : ℕ) → old.now.schema ≡ schema_at l b
-      → Executes insert_span (Int job ∷ Int media ∷ Int first ∷ Int last ∷ Int start_file ∷ Int end_file ∷ Int start_block ∷ Int end_block ∷ Int vol_index ∷ []) old new (Ok count)
-      → Added l b l.job_media (Int (next_rowid (old.now.trees l.job_media)) ∷ Null ∷ Int job ∷ Int media ∷ Int first ∷ Int last ∷ Int start_file ∷ Int end_file ∷ Int start_block ∷ Int end_block ∷ Int vol_index ∷ []) old.now new.now
-  puts_span old new job media first last start_file end_file start_block end_block vol_index count has h =
-      let params : Row = Int job ∷ Int media ∷ Int first ∷ Int last ∷ Int start_file ∷ Int end_file ∷ Int start_block ∷ Int end_block ∷ Int vol_index ∷ [] in
-      let row : Row = Null ∷ Null ∷ params in
-      let table = job_media l.job_media in
-      let is = insert_span_is l b in
-      let did = inserts (schema_at l b) 6 table (record { found = refl; uncounted = refl }) insert_span params old new has span_terms 11 is.command is.plain count h in
-      let as_it_is : map (λ s. cast_row table (drop 0 s)) (row ∷ []) ≡ row ∷ [] =
-      rw (cast_null, cast_int job, cast_int media, cast_int first, cast_int last, cast_int start_file, cast_int end_file, cast_int start_block, cast_int end_block, cast_int vol_index) refl in
-      one_row l.job_media table _ old.now new.now (row ∷ []) refl did.0 did.2 did.1 (ap (numbered Chosen (old.now.trees l.job_media)) as_it_is)
-
-  pub puts_file : (old new : State) (index job path : ℤ) (name lstat digest : List ℕ) (count : ℕ) → old.now.schema ≡ schema_at l b
-      → Executes insert_file (Int index ∷ Int job ∷ Int path ∷ Blob name ∷ Text lstat ∷ Text digest ∷ []) old new (Ok count)
-      → Added l b l.file (Int (next_rowid (old.now.trees l.file)) ∷ Null ∷ Int index ∷ Int job ∷ Int path ∷ Blob name ∷ Text lstat ∷ Text digest ∷ []) old.now new.now
-  puts_file old new index job path name lstat digest count has h =
-      let params : Row = Int index ∷ Int job ∷ Int path ∷ Blob name ∷ Text lstat ∷ Text digest ∷ [] in
-      let row : Row = Null ∷ Null ∷ params in
-      let table = file l.file in
-      let is = insert_file_is l b in
-      let did = inserts (schema_at l b) 7 table (record { found = refl; uncounted = refl }) insert_file params old new has file_terms 8 is.command is.plain count h in
-      let as_it_is : map (λ s. cast_row table (drop 0 s)) (row ∷ []) ≡ row ∷ [] = rw (cast_null, cast_int index, cast_int job, cast_int path) refl in
-      one_row l.file table _ old.now new.now (row ∷ []) refl did.0 did.2 did.1 (ap (numbered Chosen (old.now.trees l.file)) as_it_is)
+  pub puts_name : (d : Dictionary) (old new : State) (name : List ℕ) (count : ℕ) → old.now.schema ≡ schema
+      → Executes (insert_text d) (word d name ∷ []) old new (Ok count)
+      → (more : Row) × Added schema l (tree_of l d) (name_row d (next_rowid (old.now.trees (tree_of l d))) name ++ more) old.now new.now
+  puts_name Client old new name count at h =
+      let params : Row = Text name ∷ [] in
+      let t = with_own (client l.client) o.client in
+      let is = insert_name_is schema l o has Client in
+      let rest = eval_all is.more (params ∷ []) in
+      let more = cast_all o.client.columns rest in
+      let front = λ (r : Row). Null ∷ Null ∷ Text name ∷ r in
+      let cast_is : cast_row t (front rest) ≡ front more = rw cast_null refl in
+      (more, adds schema l o has t has.client refl (insert_text Client) params old new count (name_cells Client is.more) _ is.inserts is.wide refl at h _ (ap (λ r. numbered Chosen (old.now.trees l.client) (r ∷ [])) cast_is))
+  puts_name FileSet old new name count at h =
+      let params : Row = Text name ∷ [] in
+      let t = with_own (fileset l.fileset) o.fileset in
+      let is = insert_name_is schema l o has FileSet in
+      let rest = eval_all is.more (params ∷ []) in
+      let more = cast_all o.fileset.columns rest in
+      let front = λ (r : Row). Null ∷ Null ∷ Text name ∷ r in
+      let cast_is : cast_row t (front rest) ≡ front more = rw cast_null refl in
+      (more, adds schema l o has t has.fileset refl (insert_text FileSet) params old new count (name_cells FileSet is.more) _ is.inserts is.wide refl at h _ (ap (λ r. numbered Chosen (old.now.trees l.fileset) (r ∷ [])) cast_is))
+  puts_name Media old new name count at h =
+      let params : Row = Text name ∷ [] in
+      let t = with_own (media l.media) o.media in
+      let is = insert_name_is schema l o has Media in
+      let rest = eval_all is.more (params ∷ []) in
+      let more = cast_all o.media.columns rest in
+      let front = λ (r : Row). Null ∷ Null ∷ Text name ∷ Text (codes "File") ∷ r in
+      let cast_is : cast_row t (front rest) ≡ front more = rw cast_null refl in
+      (more, adds schema l o has t has.media refl (insert_text Media) params old new count (name_cells Media is.more) _ is.inserts is.wide refl at h _ (ap (λ r. numbered Chosen (old.now.trees l.media) (r ∷ [])) cast_is))
+  puts_name Path old new name count at h =
+      let params : Row = Blob name ∷ [] in
+      let t = with_own (path l.path) o.path in
+      let is = insert_name_is schema l o has Path in
+      let rest = eval_all is.more (params ∷ []) in
+      let more = cast_all o.path.columns rest in
+      let front = λ (r : Row). Null ∷ Null ∷ Blob name ∷ r in
+      let cast_is : cast_row t (front rest) ≡ front more = rw cast_null refl in
+      (more, adds schema l o has t has.path refl (insert_text Path) params old new count (name_cells Path is.more) _ is.inserts is.wide refl at h _ (ap (λ r. numbered Chosen (old.now.trees l.path) (r ∷ [])) cast_is))

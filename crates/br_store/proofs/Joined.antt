@@ -20,7 +20,13 @@ use Rattle.sqlite_value.proofs.OrderLemmas.{value_cmp_total}
 use Rattle.sqlite_rules.specs.Lists.{Has}
 use Rattle.sqlite_rules.proofs.ListLemmas.{some_has, all_has, all_from}
 use Rattle.br_schema.specs.Places.{Layout}
-use Rattle.br_schema.specs.Tables.{Beside, job, job_media, file, schema_at}
+use Rattle.sqlite.specs.Schema.{Schema}
+use Rattle.sqlite.specs.Table.{Table}
+use Rattle.sqlite_schema.specs.declared.schema.Constraint.{Constraint}
+use Rattle.br_schema.specs.Tables.{job, job_media, file}
+use Rattle.br_schema.specs.Stands.{HasAll, Owns, Stands, with_own}
+use Rattle.br_store.proofs.Inserts.{has_table}
+use Rattle.br_store.proofs.Lookups.{by_name}
 use Rattle.br_store.specs.Held.{is_named, job_shown, span_shown, file_shown}
 use Rattle.br_store.proofs.Values.{tied, names_itself}
 
@@ -81,11 +87,12 @@ referred v rows rest h full = go (is_null v) full (list_any (λ r. is_named v r 
 abbrev pub Knows : List Row → Value → Type 0
 Knows rows id = list_any (is_named id) rows ≡ true
 
-module _ (l : Layout) (b : Beside) where
-  job_known : (trees : Trees) (row : Row) → passes ForeignKey (schema_at l b) trees (job l.job) row ≡ true → passes NotNull (schema_at l b) trees (job l.job) row ≡ true
+module _ (schema : Schema) (l : Layout) (o : Owns) (has : HasAll schema l o) where
+  job_known : (trees : Trees) (row : Row) → passes ForeignKey schema trees (with_own (job l.job) o.job) row ≡ true → passes NotNull schema trees (with_own (job l.job) o.job) row ≡ true
       → Knows (trees l.client) (column row 4) × Knows (trees l.fileset) (column row 7)
   unfolding first_key joined same_name
-  job_known trees row key full =
+  job_known trees row keys full =
+      let key = rw (by_name schema _ has.client, by_name schema _ has.fileset) at keys in
       let a = present (is_null (column row 2)) _ full in
       let b = present (is_null (column row 3)) _ a.1 in
       let c = present (is_null (column row 4)) _ b.1 in
@@ -95,19 +102,21 @@ module _ (l : Layout) (b : Beside) where
       let one = referred (column row 4) (trees l.client) _ key c.0 in
       (one.0, (referred (column row 7) (trees l.fileset) _ one.1 f.0).0)
 
-  span_known : (trees : Trees) (row : Row) → passes ForeignKey (schema_at l b) trees (job_media l.job_media) row ≡ true → passes NotNull (schema_at l b) trees (job_media l.job_media) row ≡ true
+  span_known : (trees : Trees) (row : Row) → passes ForeignKey schema trees (with_own (job_media l.job_media) o.job_media) row ≡ true → passes NotNull schema trees (with_own (job_media l.job_media) o.job_media) row ≡ true
       → Knows (trees l.media) (column row 3)
   unfolding first_key joined same_name
-  span_known trees row key full =
+  span_known trees row keys full =
+      let key = rw (by_name schema _ has.job, by_name schema _ has.media) at keys in
       let a = present (is_null (column row 2)) _ full in
       let b = present (is_null (column row 3)) _ a.1 in
       let one = referred (column row 2) (trees l.job) _ key a.0 in
       (referred (column row 3) (trees l.media) _ one.1 b.0).0
 
-  file_known : (trees : Trees) (row : Row) → passes ForeignKey (schema_at l b) trees (file l.file) row ≡ true → passes NotNull (schema_at l b) trees (file l.file) row ≡ true
+  file_known : (trees : Trees) (row : Row) → passes ForeignKey schema trees (with_own (file l.file) o.file) row ≡ true → passes NotNull schema trees (with_own (file l.file) o.file) row ≡ true
       → Knows (trees l.path) (column row 4)
   unfolding first_key joined same_name
-  file_known trees row key full =
+  file_known trees row keys full =
+      let key = rw (by_name schema _ has.job, by_name schema _ has.path) at keys in
       let a = present (is_null (column row 2)) _ full in
       let b = present (is_null (column row 3)) _ a.1 in
       let c = present (is_null (column row 4)) _ b.1 in
@@ -120,14 +129,16 @@ pub record AreKnown (l : Layout) (trees : Trees) : Type 0 where
   pub spans : AllByRecursion (λ row. Knows (trees l.media) (column row 3)) (trees l.job_media)
   pub files : AllByRecursion (λ row. Knows (trees l.path) (column row 4)) (trees l.file)
 
-pub are_known : (l : Layout) (b : Beside) (db : Database) → db.schema ≡ schema_at l b → IsDatabase db → AreKnown l db.trees
-are_known l b db has sound =
-    let keys = subst (λ s. Keeps ForeignKey s db.trees) has (sound.obeys.rules ForeignKey) in
-    let full = subst (λ s. Keeps NotNull s db.trees) has (sound.obeys.rules NotNull) in
+pub are_known : (l : Layout) (o : Owns) (db : Database) → HasAll db.schema l o → IsDatabase db → AreKnown l db.trees
+are_known l o db has sound =
+    let keys = sound.obeys.rules ForeignKey in
+    let full = sound.obeys.rules NotNull in
+    let of = λ (rule : Constraint) (all : Keeps rule db.schema db.trees) (t : Table) (s : Stands db.schema t) (row : Row) (in_it : Has (db.trees t.tree) row).
+    all_has _ (db.trees t.tree) row (all_has _ db.schema.tables t all (has_table db.schema t s)) in_it in
     record {
-      jobs = all_from _ (db.trees l.job) (λ row in_it. job_known l b db.trees row (all_has _ (db.trees l.job) row keys.1.1.1.1.1.0 in_it) (all_has _ (db.trees l.job) row full.1.1.1.1.1.0 in_it));
-      spans = all_from _ (db.trees l.job_media) (λ row in_it. span_known l b db.trees row (all_has _ (db.trees l.job_media) row keys.1.1.1.1.1.1.0 in_it) (all_has _ (db.trees l.job_media) row full.1.1.1.1.1.1.0 in_it));
-      files = all_from _ (db.trees l.file) (λ row in_it. file_known l b db.trees row (all_has _ (db.trees l.file) row keys.1.1.1.1.1.1.1.0 in_it) (all_has _ (db.trees l.file) row full.1.1.1.1.1.1.1.0 in_it));
+      jobs = all_from _ (db.trees l.job) (λ row in_it. job_known db.schema l o has db.trees row (of ForeignKey keys _ has.job row in_it) (of NotNull full _ has.job row in_it));
+      spans = all_from _ (db.trees l.job_media) (λ row in_it. span_known db.schema l o has db.trees row (of ForeignKey keys _ has.job_media row in_it) (of NotNull full _ has.job_media row in_it));
+      files = all_from _ (db.trees l.file) (λ row in_it. file_known db.schema l o has db.trees row (of ForeignKey keys _ has.file row in_it) (of NotNull full _ has.file row in_it));
     }
 
 -- ---- a table that has gained a row at most

@@ -8,7 +8,11 @@ use Rattle.sqlite.specs.Effect.{Database, IsDatabase}
 use Rattle.sqlite_trees.specs.Objects.{catalog_tree, number_in}
 use Rattle.sqlite_catalog.specs.Listing.{IsTableRow, is_table_row}
 use Rattle.br_schema.specs.Places.{Layout}
-use Rattle.br_schema.specs.Tables.{Beside, beside_of, schema_at}
+use Rattle.br_schema.specs.Stands.{HasAll, Owns, Stands}
+use Rattle.std.proofs.lemmas.Slice.Eq.{bytes_eq-Decides}
+use Rattle.sqlite.specs.Schema.{Schema}
+use Rattle.sqlite_schema.specs.Names.{same_name}
+use Rattle.br_store.proofs.Lookups.{by_name}
 use Rattle.br_store.specs.Held.{has_name, is_text, tree_named, layout_in}
 
 abbrev pub tree_in : Option Table → ℕ
@@ -69,11 +73,39 @@ layout_from trees tables all =
     ∙ ap₂ (λ p j. record a { version = b.version; client = b.client; fileset = b.fileset; media = b.media; path = p; job = j }) (at (codes "Path")) (at (codes "Job"))
     ∙ ap₂ (λ s f. record b { job_media = s; file = f }) (at (codes "JobMedia")) (at (codes "File"))
 
+-- what passes one test first passes a stricter one first
+stricter : {X : Type 0} (p q : X → Bool) (xs : List X) (x : X) → ((y : X) → q y ≡ true → p y ≡ true) → q x ≡ true → find p xs ≡ Some x → find q xs ≡ Some x
+stricter p q [] x weaker is h = absurd cc
+stricter {X} p q (y ∷ xs) x weaker is h = go (p y) (q y) refl refl h (stricter p q xs x weaker is)
+  where
+    go : (a b : Bool) → p y ≡ a → q y ≡ b → cond a (Some y) (find p xs) ≡ Some x → (find p xs ≡ Some x → find q xs ≡ Some x) → cond b (Some y) (find q xs) ≡ Some x
+    go true true e f h more = h
+    go true false e f h more = let same : y ≡ x = cc in absurd (let no = sym f ∙ ap q same ∙ is in cc)
+    go false true e f h more = absurd (let no = sym e ∙ weaker y f in cc)
+    go false false e f h more = more h
+
+-- a table of a schema is the first with just its name
+called : (schema : Schema) (t : Table) → Stands schema t → same_name t.name t.name ≡ true → find (is_called t.name) schema.tables ≡ Some t
+called schema t s self =
+    stricter (λ (u : Table). same_name u.name t.name) (is_called t.name) schema.tables t
+    (λ u same. ap (λ (name : List ℕ). same_name name t.name) ((bytes_eq-Decides u.name t.name).0 same) ∙ self) ((bytes_eq-Decides t.name t.name).1 refl) (by_name schema t s)
+
+tree_at : (schema : Schema) (t : Table) → Stands schema t → same_name t.name t.name ≡ true → tree_in (find (is_called t.name) schema.tables) ≡ t.tree
+tree_at schema t s self = ap tree_in (called schema t s self)
+
+among : (schema : Schema) (l : Layout) (o : Owns) → HasAll schema l o → layout_among schema.tables ≡ l
+unfolding same_name
+among schema l o has =
+    let a = layout_among schema.tables in
+    ap₂ (λ v c. record a { version = v; client = c }) (tree_at schema _ has.version refl) (tree_at schema _ has.client refl)
+    ∙ ap₂ (λ f m. record a { version = l.version; client = l.client; fileset = f; media = m }) (tree_at schema _ has.fileset refl) (tree_at schema _ has.media refl)
+    ∙ ap₂ (λ p j. record a { version = l.version; client = l.client; fileset = l.fileset; media = l.media; path = p; job = j }) (tree_at schema _ has.path refl) (tree_at schema _ has.job refl)
+    ∙ ap₂ (λ s f. record l { job_media = s; file = f }) (tree_at schema _ has.job_media refl) (tree_at schema _ has.file refl)
+
 -- the tables of a sound database are in the trees in which its schema has them
-pub layout_is : (l : Layout) (b : Beside) (db : Database) → db.schema ≡ schema_at l b → IsDatabase db → layout_in db.trees ≡ l
-layout_is l b db has sound =
-    layout_from db.trees (schema_at l b).tables (subst (λ s. AllZip IsTableRow (filter is_table_row (db.trees catalog_tree)) s.tables) has sound.lists.listed.tables)
+pub layout_is : (l : Layout) (o : Owns) (db : Database) → HasAll db.schema l o → IsDatabase db → layout_in db.trees ≡ l
+layout_is l o db has sound = layout_from db.trees db.schema.tables sound.lists.listed.tables ∙ among db.schema l o has
 
 -- so the schema says of itself where its tables are
-pub schema_is : (l : Layout) (b : Beside) (db : Database) → db.schema ≡ schema_at l b → IsDatabase db → db.schema ≡ schema_at (layout_in db.trees) (beside_of db.schema)
-schema_is l b db has sound = has ∙ ap₂ schema_at (sym (layout_is l b db has sound)) (sym (ap beside_of has))
+pub has_here : (l : Layout) (o : Owns) (db : Database) → HasAll db.schema l o → IsDatabase db → HasAll db.schema (layout_in db.trees) o
+has_here l o db has sound = subst (λ (m : Layout). HasAll db.schema m o) (sym (layout_is l o db has sound)) has

@@ -15,14 +15,13 @@ use Rattle.sqlite_sql.proofs.QueryLemmas.{key_cmp_total}
 use Rattle.sqlite_keyed.proofs.SortLemmas.{sorted_unique}
 use Rattle.sqlite_rules.proofs.ListLemmas.{all_has, all_from}
 use Rattle.br_schema.specs.Places.{Layout}
-use Rattle.br_schema.specs.Tables.{beside_of}
 use Rattle.br_rows.specs.Rows.{Rows}
 use Rattle.br_store.specs.Held.{HasTables, is_named, named, layout_in, rows_at, rows_in, job_shown, span_shown, file_shown}
 use Rattle.br_store.proofs.Values.{tied}
 use Rattle.br_store.proofs.Joined.{Knows, are_known}
 use Rattle.br_store.proofs.Writes.{four}
 use Rattle.br_store.proofs.Selects.{not_over}
-use Rattle.br_store.proofs.RowTexts.{versions_query, jobs_query, spans_query, files_query}
+use Rattle.br_store.proofs.Asks.{versions_query, jobs_query, spans_query, files_query}
 
 abbrev picks : {X : Type 0} → (Row → X) → Value → Row → List X
 picks f id c = cond (is_named id c && true) (f c ∷ []) []
@@ -123,7 +122,7 @@ record AreRead (l : Layout) (trees : Trees) : Type 0 where
 are_read : (db : Database) → HasTables db → AreRead (layout_in db.trees) (overlay db.trees [])
 are_read db tables =
     let l = layout_in db.trees in
-    let known = are_known l (beside_of db.schema) db tables.schema tables.sound in
+    let known = are_known l tables.own db tables.schema tables.sound in
     let same = λ (tree : ℕ). sym (not_over db.trees tree) in
     let jobs = λ (c f rows : List Row). AllByRecursion (λ row. Knows c (column row 4) × Knows f (column row 7)) rows in
     let spans = λ (m rows : List Row). AllByRecursion (λ row. Knows m (column row 3)) rows in

@@ -68,7 +68,7 @@ same_history r jobs first is = rw first is
 -- the rows of all files can be written once the tables were replaced
 pub can_move : (d e : State) (files : List Row) → HasOld d.now → files ≡ moved_rows d.now.trees → Replaces d e → AreMoved e files
 can_move d e files has read one =
-    subst (AreMoved e) (sym (read ∙ moved_rows_are d.now has)) (are_moved e (d.now.trees 9) (d.now.trees 15) one.is.files has.rising.1.1.1.1.1.1.1.1.0)
+    subst (AreMoved e) (sym (read ∙ moved_rows_are d.now has)) (are_moved e (d.now.trees 9) (d.now.trees 15) one.is.schema one.is.files has.rising.1.1.1.1.1.1.1.1.0)
 
 -- the version stays until it is written
 pub version_stays : (d e f : State) (rows : List Row) → Replaces d e → PutsFiles rows e f → is_first (rows_in d.now.trees).versions ≡ true → is_first (rows_in f.now.trees).versions ≡ true

@@ -1,21 +1,29 @@
--- What the texts over names mean.
-use Rattle.std.proofs.Common.{◌≡◌, inl, inr, sym, subst, ℕ, pos, negsuc, List, [], ◌∷◌, codes, false, None, refl}
-use Rattle.sqlite.specs.declared.types.Value.TheVariants.{Null, Int, Text}
+-- What the texts over names mean, in any schema with the catalogue's tables.
+use Rattle.std.proofs.Common.{◌≡◌, ℕ, pos, negsuc, List, [], ◌∷◌, codes, true, false, None, Ok, refl}
+use Rattle.sqlite.specs.declared.types.Value.TheVariants.{Int}
 use Rattle.sqlite.specs.Collation.TheVariants.{Binary}
-use Rattle.sqlite.specs.Term.{Term, lit, col, op2}
+use Rattle.sqlite.specs.Kind.TheVariants.{Text, Any}
+use Rattle.sqlite.specs.Schema.{Schema}
+use Rattle.sqlite.specs.Term.{lit, col, op2}
 use Rattle.sqlite_sql.specs.declared.ops.BinaryOp.TheVariants.{Compare}
 use Rattle.sqlite_sql.specs.declared.ops.CompareOp.TheVariants.{Eq}
 use Rattle.sqlite.specs.Query.{Query, inner, end}
-use Rattle.sqlite.specs.Source.TheVariants.{Values}
-use Rattle.sqlite.specs.Command.TheVariants.{Insert, Select}
-use Rattle.sqlite.specs.Listing.{understood, reads_listing}
+use Rattle.sqlite_resolve.specs.Lowering.{chosen, first_found, nothing}
+use Rattle.sqlite_resolve.specs.Compare.{compared, affinity_of, of_column, converted, spelled}
+use Rattle.sqlite_resolve.specs.Program.{program}
 use Rattle.sqlite_tied.specs.Compute.{everything}
-use Rattle.sqlite.proofs.Callers.{IsPlain, command_of}
 use Rattle.br_store.specs.declared.names.Dictionary.{Dictionary}
 use Rattle.br_store.specs.declared.names.Dictionary.TheVariants.{Client, FileSet, Media, Path}
-use Rattle.br_schema.specs.Places.{IsLayout, Layout, moved_layout, new_layout}
-use Rattle.br_schema.specs.Tables.{Beside, schema_at}
-use Rattle.br_store.specs.Names.{place_of, tree_of, select_text, insert_text}
+use Rattle.br_schema.specs.Places.{Layout}
+use Rattle.br_schema.specs.Tables.{column, key_column, client, fileset, media, path}
+use Rattle.br_schema.specs.Stands.{HasAll, Owns, with_own}
+use Rattle.br_store.specs.Names.{tree_of, select_text}
+use Rattle.br_store.proofs.Asks.{Shows}
+use Rattle.br_store.proofs.NameQueries.{CanAsk, asked_of, asks_is, bound_of, draft_of}
+use Rattle.br_store.proofs.Found.{over}
+use Rattle.br_store.proofs.Columns.{carried}
+use Rattle.sqlite_resolve.specs.declared.scope.Output.{Output}
+use Rattle.br_store.proofs.Lookups.{by_tree}
 
 abbrev pub name_query : ℕ → Query
 name_query tree = record {
@@ -36,46 +44,89 @@ key_name FileSet = codes "FileSetId"
 key_name Media = codes "MediaId"
 key_name Path = codes "PathId"
 
-pub record Asks (l : Layout) (b : Beside) (text : List ℕ) (tree : ℕ) (key : List ℕ) : Type 0 where
-  pub command : command_of (understood (schema_at l b) text) ≡ Select (record { lets = []; body = name_query tree }) (key ∷ [])
-  pub unlisted : reads_listing (schema_at l b) text ≡ false
-  pub plain : IsPlain (understood (schema_at l b) text)
+module _ (schema : Schema) (l : Layout) (o : Owns) (has : HasAll schema l o) where
+  compared_client : (shown : List Output) → compared (over schema (bound_of (with_own (client l.client) o.client) has.client.place) shown false true) (Compare Eq (chosen (carried (asked_of (with_own (client l.client) o.client) has.client.place (codes "Name") 1 (column (codes "Name") Text))) nothing)) (col 1 2) (col 0 0) ≡ op2 (Compare Eq Binary) (col 1 2) (col 0 0)
+  unfolding compared affinity_of of_column converted chosen first_found spelled
+  compared_client shown = rw has.client.is refl
 
-select_is_new : (b : Beside) (d : Dictionary) → Asks new_layout b (select_text d) (tree_of new_layout d) (key_name d)
-unfolding understood everything
-select_is_new b Client = record { command = refl; unlisted = refl; plain = (refl, refl) }
-select_is_new b FileSet = record { command = refl; unlisted = refl; plain = (refl, refl) }
-select_is_new b Media = record { command = refl; unlisted = refl; plain = (refl, refl) }
-select_is_new b Path = record { command = refl; unlisted = refl; plain = (refl, refl) }
+  typed_client : program schema [] (draft_of (with_own (client l.client) o.client)) ≡ Ok (record { lets = []; body = name_query l.client })
+  unfolding program
+  typed_client = rw (has.client.stored, by_tree schema (with_own (client l.client) o.client) has.client) refl
 
-select_is_moved : (b : Beside) (d : Dictionary) → Asks moved_layout b (select_text d) (tree_of moved_layout d) (key_name d)
-unfolding understood everything
-select_is_moved b Client = record { command = refl; unlisted = refl; plain = (refl, refl) }
-select_is_moved b FileSet = record { command = refl; unlisted = refl; plain = (refl, refl) }
-select_is_moved b Media = record { command = refl; unlisted = refl; plain = (refl, refl) }
-select_is_moved b Path = record { command = refl; unlisted = refl; plain = (refl, refl) }
+  compared_fileset : (shown : List Output) → compared (over schema (bound_of (with_own (fileset l.fileset) o.fileset) has.fileset.place) shown false true) (Compare Eq (chosen (carried (asked_of (with_own (fileset l.fileset) o.fileset) has.fileset.place (codes "FileSet") 1 (column (codes "FileSet") Text))) nothing)) (col 1 2) (col 0 0) ≡ op2 (Compare Eq Binary) (col 1 2) (col 0 0)
+  unfolding compared affinity_of of_column converted chosen first_found spelled
+  compared_fileset shown = rw has.fileset.is refl
 
-pub select_is : (l : Layout) (b : Beside) (d : Dictionary) → IsLayout l → Asks l b (select_text d) (tree_of l d) (key_name d)
-select_is l b d (inl e) = subst (λ (m : Layout). Asks m b (select_text d) (tree_of m d) (key_name d)) (sym e) (select_is_new b d)
-select_is l b d (inr e) = subst (λ (m : Layout). Asks m b (select_text d) (tree_of m d) (key_name d)) (sym e) (select_is_moved b d)
+  typed_fileset : program schema [] (draft_of (with_own (fileset l.fileset) o.fileset)) ≡ Ok (record { lets = []; body = name_query l.fileset })
+  unfolding program
+  typed_fileset = rw (has.fileset.stored, by_tree schema (with_own (fileset l.fileset) o.fileset) has.fileset) refl
 
-abbrev pub name_terms : Dictionary → List Term
-name_terms Client = lit Null ∷ lit Null ∷ col 0 0 ∷ []
-name_terms FileSet = lit Null ∷ lit Null ∷ col 0 0 ∷ []
-name_terms Media = lit Null ∷ lit Null ∷ col 0 0 ∷ lit (Text (codes "File")) ∷ []
-name_terms Path = lit Null ∷ lit Null ∷ col 0 0 ∷ []
+  compared_media : (shown : List Output) → compared (over schema (bound_of (with_own (media l.media) o.media) has.media.place) shown false true) (Compare Eq (chosen (carried (asked_of (with_own (media l.media) o.media) has.media.place (codes "VolumeName") 1 (column (codes "VolumeName") Text))) nothing)) (col 1 2) (col 0 0) ≡ op2 (Compare Eq Binary) (col 1 2) (col 0 0)
+  unfolding compared affinity_of of_column converted chosen first_found spelled
+  compared_media shown = rw has.media.is refl
 
-abbrev pub name_width : Dictionary → ℕ
-name_width Media = 4
-name_width _ = 3
+  typed_media : program schema [] (draft_of (with_own (media l.media) o.media)) ≡ Ok (record { lets = []; body = name_query l.media })
+  unfolding program
+  typed_media = rw (has.media.stored, by_tree schema (with_own (media l.media) o.media) has.media) refl
 
-pub record Inserts (l : Layout) (b : Beside) (text : List ℕ) (place : ℕ) (terms : List Term) (width : ℕ) : Type 0 where
-  pub command : command_of (understood (schema_at l b) text) ≡ Insert place (Values terms width)
-  pub plain : IsPlain (understood (schema_at l b) text)
+  compared_path : (shown : List Output) → compared (over schema (bound_of (with_own (path l.path) o.path) has.path.place) shown false true) (Compare Eq (chosen (carried (asked_of (with_own (path l.path) o.path) has.path.place (codes "Path") 1 (column (codes "Path") Any))) nothing)) (col 1 2) (col 0 0) ≡ op2 (Compare Eq Binary) (col 1 2) (col 0 0)
+  unfolding compared affinity_of of_column converted chosen first_found spelled
+  compared_path shown = rw has.path.is refl
 
-pub insert_is : (l : Layout) (b : Beside) (d : Dictionary) → Inserts l b (insert_text d) (place_of d) (name_terms d) (name_width d)
-unfolding understood everything
-insert_is l b Client = record { command = refl; plain = (refl, refl) }
-insert_is l b FileSet = record { command = refl; plain = (refl, refl) }
-insert_is l b Media = record { command = refl; plain = (refl, refl) }
-insert_is l b Path = record { command = refl; plain = (refl, refl) }
+  typed_path : program schema [] (draft_of (with_own (path l.path) o.path)) ≡ Ok (record { lets = []; body = name_query l.path })
+  unfolding program
+  typed_path = rw (has.path.stored, by_tree schema (with_own (path l.path) o.path) has.path) refl
+
+  asks_client : CanAsk schema (with_own (client l.client) o.client) has.client.place (codes "ClientId") (codes "Name") (select_text Client) (key_column (codes "ClientId")) (column (codes "Name") Text)
+  unfolding everything
+  asks_client = record {
+    sees_key = record { only = refl; got = has.client.is; has = refl };
+    sees_name = record { only = refl; got = has.client.is; has = refl };
+    test = λ shown. compared_client shown;
+    typed = typed_client;
+    read = refl;
+    parsed = refl;
+    timeless = refl;
+  }
+
+  asks_fileset : CanAsk schema (with_own (fileset l.fileset) o.fileset) has.fileset.place (codes "FileSetId") (codes "FileSet") (select_text FileSet) (key_column (codes "FileSetId")) (column (codes "FileSet") Text)
+  unfolding everything
+  asks_fileset = record {
+    sees_key = record { only = refl; got = has.fileset.is; has = refl };
+    sees_name = record { only = refl; got = has.fileset.is; has = refl };
+    test = λ shown. compared_fileset shown;
+    typed = typed_fileset;
+    read = refl;
+    parsed = refl;
+    timeless = refl;
+  }
+
+  asks_media : CanAsk schema (with_own (media l.media) o.media) has.media.place (codes "MediaId") (codes "VolumeName") (select_text Media) (key_column (codes "MediaId")) (column (codes "VolumeName") Text)
+  unfolding everything
+  asks_media = record {
+    sees_key = record { only = refl; got = has.media.is; has = refl };
+    sees_name = record { only = refl; got = has.media.is; has = refl };
+    test = λ shown. compared_media shown;
+    typed = typed_media;
+    read = refl;
+    parsed = refl;
+    timeless = refl;
+  }
+
+  asks_path : CanAsk schema (with_own (path l.path) o.path) has.path.place (codes "PathId") (codes "Path") (select_text Path) (key_column (codes "PathId")) (column (codes "Path") Any)
+  unfolding everything
+  asks_path = record {
+    sees_key = record { only = refl; got = has.path.is; has = refl };
+    sees_name = record { only = refl; got = has.path.is; has = refl };
+    test = λ shown. compared_path shown;
+    typed = typed_path;
+    read = refl;
+    parsed = refl;
+    timeless = refl;
+  }
+
+  pub select_is : (d : Dictionary) → Shows schema (select_text d) (name_query (tree_of l d)) (key_name d ∷ [])
+  select_is Client = asks_is schema (with_own (client l.client) o.client) has.client (codes "ClientId") (codes "Name") (select_text Client) _ _ asks_client
+  select_is FileSet = asks_is schema (with_own (fileset l.fileset) o.fileset) has.fileset (codes "FileSetId") (codes "FileSet") (select_text FileSet) _ _ asks_fileset
+  select_is Media = asks_is schema (with_own (media l.media) o.media) has.media (codes "MediaId") (codes "VolumeName") (select_text Media) _ _ asks_media
+  select_is Path = asks_is schema (with_own (path l.path) o.path) has.path (codes "PathId") (codes "Path") (select_text Path) _ _ asks_path

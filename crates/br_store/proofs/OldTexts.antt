@@ -13,14 +13,13 @@ use Rattle.sqlite.specs.Command.TheVariants.{Select}
 use Rattle.sqlite.specs.Listing.{understood, reads_listing}
 use Rattle.sqlite_tied.specs.Compute.{everything}
 use Rattle.sqlite.proofs.Callers.{IsPlain, command_of}
-use Rattle.br_schema.specs.Places.{Layout}
-use Rattle.br_schema.specs.Tables.{Beside, create_file, file, version, client, fileset, media, path, job, job_media}
+use Rattle.br_schema.specs.Tables.{create_file, file, version, client, fileset, media, path, job, job_media}
 use Rattle.br_schema.specs.Tables.{client_index, fileset_index, media_index, path_index, job_index, job_media_index}
 use Rattle.br_schema.specs.Old.{filename, filename_index, old_file, old_schema}
 use Rattle.br_store.specs.Old.{moved_schema}
 use Rattle.br_store.proofs.Drops.{CanDrop}
 use Rattle.br_store.proofs.Makes.{Makes, Follows}
-use Rattle.br_store.proofs.NameTexts.{Inserts}
+use Rattle.br_store.proofs.Inserted.{Inserts}
 
 -- ---- schemas on the way
 
@@ -70,9 +69,9 @@ insert_moved = codes "INSERT INTO File (FileId, FileIndex, JobId, PathId, Filena
 abbrev pub moved_terms : List Term
 moved_terms = col 0 0 ∷ lit Null ∷ col 0 1 ∷ col 0 2 ∷ col 0 3 ∷ col 0 4 ∷ col 0 5 ∷ col 0 6 ∷ []
 
-pub insert_moved_is : (l : Layout) (b : Beside) → Inserts l b insert_moved 7 moved_terms 8
+pub insert_moved_is : Inserts moved_schema insert_moved 7 moved_terms 8
 unfolding understood everything
-insert_moved_is l b = record { command = refl; plain = (refl, refl) }
+insert_moved_is = record { command = refl; plain = (refl, refl) }
 
 abbrev pub select_old_files : List ℕ
 select_old_files = codes "SELECT File.FileId, File.FileIndex, File.JobId, File.PathId, Filename.Name, File.LStat, File.MD5 FROM File JOIN Filename ON Filename.FilenameId = File.FilenameId ORDER BY File.FileId"

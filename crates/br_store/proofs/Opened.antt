@@ -1,5 +1,5 @@
 -- Connections over files and in memory that were just opened.
-use Rattle.std.proofs.Common.{◌≡◌, IsTrue, ap, refl}
+use Rattle.std.proofs.Common.{IsTrue, ap, refl}
 use Rattle.std.proofs.Math.Logic.{∥∥₁_elim}
 use Rattle.sqlite_disk.specs.declared.Disk.{Ghosts}
 use Rattle.sqlite_wal.proofs.StateLemmas.{clean_of}

@@ -1,5 +1,5 @@
 -- The tables of a sound database in a store ascend.
-use Rattle.std.proofs.Common.{◌≡◌, inl, inr, Bool, true, false, IsTrue, List, [], ◌∷◌, filter, refl, sym, ap, subst, subst₂, ◌∙◌}
+use Rattle.std.proofs.Common.{◌≡◌, inl, inr, ℕ, slice_get, Some, Bool, true, false, IsTrue, List, [], ◌∷◌, filter, refl, sym, ap, subst, subst₂, ◌∙◌}
 use Rattle.std.specs.List.{AllByRecursion, AllZip}
 use Rattle.sqlite.specs.Schema.{Schema}
 use Rattle.sqlite.specs.Tree.{Trees}
@@ -10,14 +10,14 @@ use Rattle.sqlite_trees.specs.Objects.{catalog_tree, IsListed}
 use Rattle.sqlite_trees.specs.declared.store.Shape.TheVariants.{Table}
 use Rattle.sqlite_catalog.specs.Listing.{AreListed, IsTableRow, is_table_row}
 use Rattle.sqlite_catalog.proofs.LayoutLemmas.{laid_out, objects_rise}
-use Rattle.br_schema.specs.Places.{IsLayout, Layout}
-use Rattle.br_schema.specs.Tables.{Beside, IsStoreSchema, beside_of, layout_of, no_schema, schema_at, tables_at}
-use Rattle.br_schema.specs.Tables.{version, client, fileset, media, path, job, job_media, file}
+use Rattle.br_schema.specs.Places.{Layout}
+use Rattle.br_schema.specs.Tables.{no_schema, tables_at}
+use Rattle.br_schema.specs.Stands.{IsStoreSchema}
 use Rattle.br_store.specs.Held.{HasTables}
 use Rattle.br_store.specs.Made.{Finds, IsMade}
 use Rattle.br_store.specs.Old.{AreRising}
-use Rattle.br_store.proofs.Inserts.{all_front}
-use Rattle.br_store.proofs.Layouts.{layout_is, schema_is}
+use Rattle.br_store.proofs.Inserts.{all_ours}
+use Rattle.br_store.proofs.Layouts.{has_here, layout_is}
 
 shaped : (v : View) (trees : Trees) → trees ≡ v.trees → IsOrdered v.shape v.trees → (tables : List Declared) → AllByRecursion (λ (t : Declared). v.shape t.tree ≡ Table) tables
     → AllByRecursion (λ (t : Declared). IsShaped Table (trees t.tree)) tables
@@ -35,28 +35,26 @@ rising_in v db trees sound listed ordered =
 -- a sound database with the catalogue's tables, if its rows ascend
 pub has_tables : (db : Database) → IsStoreSchema db.schema → IsDatabase db → AreRising db → HasTables db
 has_tables db schema sound rising =
-    let l = layout_of db.schema in
-    let b = beside_of db.schema in
-    let Rises : Declared → Type 0 = λ t. IsShaped Table (db.trees t.tree) in
-    let now = sym (layout_is l b db schema.0 sound) in
-    let all = all_front Rises (tables_at l) b.others (subst (λ (s : Schema). AllByRecursion Rises s.tables) schema.0 rising) in
+    let l = schema.0 in
+    let o = schema.1 in
+    let now = sym (layout_is l o db schema.2 sound) in
+    let all = all_ours (λ n. IsShaped Table (db.trees n)) db.schema l o schema.2 rising in
     record {
-      schema = schema_is l b db schema.0 sound;
+      own = o;
+      schema = has_here l o db schema.2 sound;
       sound = sound;
-      shaped = subst (λ (m : Layout). AllByRecursion Rises (tables_at m)) now all;
-      known = subst IsLayout now schema.1;
+      shaped = subst (λ (m : Layout). AllByRecursion (λ (t : Declared). IsShaped Table (db.trees t.tree)) (tables_at m)) now all;
     }
 
 -- a database that lists no table has none of these
-zipped : {X Y : Type 0} (R : X → Y → Type 0) (xs : List X) (y : Y) (ys : List Y) → AllZip R xs [] → AllZip R xs (y ∷ ys) → ⊥
-zipped R [] y ys none some = some
-zipped R (x ∷ xs) y ys none some = none
+none_zipped : {X Y : Type 0} (R : X → Y → Type 0) (xs : List X) (ys : List Y) (at : ℕ) (y : Y) → AllZip R xs [] → AllZip R xs ys → slice_get ys at ≡ Some y → ⊥
+none_zipped R [] [] at y none all is = absurd cc
+none_zipped R [] (z ∷ ys) at y none all is = all
+none_zipped R (x ∷ xs) ys at y none all is = none
 
-pub not_both : (l : Layout) (b : Beside) (trees : Trees) → IsDatabase (record { schema = no_schema; trees = trees }) → IsDatabase (record { schema = schema_at l b; trees = trees }) → ⊥
-not_both l b trees none all =
-    zipped IsTableRow (filter is_table_row (trees catalog_tree)) (version l.version)
-    (client l.client ∷ fileset l.fileset ∷ media l.media ∷ path l.path ∷ job l.job ∷ job_media l.job_media ∷ file l.file ∷ b.others)
-    none.lists.listed.tables all.lists.listed.tables
+pub not_both : (schema : Schema) (trees : Trees) → IsStoreSchema schema → IsDatabase (record { schema = no_schema; trees = trees }) → IsDatabase (record { schema = schema; trees = trees }) → ⊥
+not_both schema trees is none all =
+    none_zipped IsTableRow (filter is_table_row (trees catalog_tree)) schema.tables is.2.version.place _ none.lists.listed.tables all.lists.listed.tables is.2.version.is
 
 -- what is not broken is not shut
 pub is_up : (up broken : Bool) → (up ≡ false → IsTrue broken) → broken ≡ false → IsTrue up
@@ -72,5 +70,4 @@ pub finds_kept : (before now : Database) → now.trees ≡ before.trees → Find
 finds_kept before now trees = inl trees
 
 pub not_fresh : (P : Type 0) (now : Database) → IsDatabase now → IsStoreSchema now.schema → IsDatabase (record { schema = no_schema; trees = now.trees }) → P
-not_fresh P now sound schema none =
-    absurd (not_both (layout_of now.schema) (beside_of now.schema) now.trees none (subst (λ s. IsDatabase (record { schema = s; trees = now.trees })) schema.0 sound))
+not_fresh P now sound schema none = absurd (not_both now.schema now.trees schema none sound)

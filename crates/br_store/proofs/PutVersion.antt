@@ -1,5 +1,5 @@
 -- What the text that makes the version 2 of a catalogue does.
-use Rattle.std.proofs.Common.{arith, inl, inr, IsTrue, ◌≡◌, ℕ, ℤ, pos, negsuc, List, [], ◌∷◌, length, map, flat_map, filter_map, ◌==◌, drop, codes, Bool, true, false, None, Ok, refl, sym, ap, ap₂, subst, ◌∙◌}
+use Rattle.std.proofs.Common.{arith, inl, IsTrue, ◌≡◌, ℕ, ℤ, pos, negsuc, List, [], ◌∷◌, length, map, flat_map, filter_map, ◌==◌, drop, codes, Bool, true, false, None, Ok, refl, sym, ap, ap₂, subst, ◌∙◌}
 use Rattle.std.specs.List.{AllByRecursion}
 use Rattle.std.proofs.lemmas.Cmp.{tied_itself}
 use Rattle.std.proofs.lemmas.List.Sorted.{length_permutation}
@@ -32,10 +32,13 @@ use Rattle.sqlite.specs.declared.types.Value.{Value}
 use Rattle.sqlite.specs.View.{IsShaped, is_int}
 use Rattle.sqlite_trees.specs.declared.store.Shape.TheVariants.{Table as Shaped}
 use Rattle.br_schema.specs.Places.{Layout, moved_layout}
-use Rattle.br_schema.specs.Tables.{only_keys, tables_at, version}
+use Rattle.sqlite.specs.Schema.{Schema}
+use Rattle.br_schema.specs.Tables.{tables_at, version}
+use Rattle.br_schema.specs.Stands.{HasAll, no_owns}
 use Rattle.br_store.specs.Held.{GoesOn, HasTables, IsNameAt, Wrote, file_shown, job_shown, rows_at, rows_in, span_shown}
 use Rattle.br_store.specs.Made.{is_first}
-use Rattle.br_store.proofs.Layouts.{layout_is, schema_is}
+use Rattle.br_store.proofs.Layouts.{has_here, layout_is}
+use Rattle.br_store.proofs.Lookups.{moved_stands}
 use Rattle.br_store.proofs.Writes.{HasNames, four, names_kept}
 use Rattle.br_store.proofs.Inserts.{cast_int, same_value, went}
 use Rattle.br_store.specs.Old.{moved_schema, renewed}
@@ -145,12 +148,13 @@ renewed_version old new count tables on has first h =
     let l = moved_layout in
     let before = old.now.trees in
     let after = new.now.trees in
-    let was = layout_is l (only_keys l) old.now has tables.sound in
+    let stands = λ (d : Database) (is : d.schema ≡ moved_schema). subst (λ (s : Schema). HasAll s l no_owns) (sym is) moved_stands in
+    let was = layout_is l no_owns old.now (stands old.now has) tables.sound in
     let one = one_row_of (before 0) (subst (λ (m : Layout). is_first (rows_at m before).versions ≡ true) was first) in
     let shaped = subst (λ (m : Layout). AllByRecursion (λ (t : Table). IsShaped Shaped (before t.tree)) (tables_at m)) was tables.shaped in
     let id = number_is (column one.0 0) (subst (AllByRecursion (λ (r : Row). IsTrue (is_int (rowid r)))) one.1 shaped.0.1).0 in
     let it = renews old new one.0 id.0 count has one.1 id.1 h in
-    let now = layout_is l (only_keys l) new.now it.schema it.sound in
+    let now = layout_is l no_owns new.now (stands new.now it.schema) it.sound in
     let o = it.others in
     let clients : after 1 ≡ before 1 = o.1.0 (λ e. cc) in
     let filesets : after 3 ≡ before 3 = o.1.1.0 (λ e. cc) in
@@ -173,10 +177,10 @@ renewed_version old new count tables on has first h =
       mode = subst IsTrue (sym on.mode) refl;
       committed = on.committed_is;
       tables = record {
-        schema = schema_is l (only_keys l) new.now it.schema it.sound;
+        own = no_owns;
+        schema = has_here l no_owns new.now (stands new.now it.schema) it.sound;
         sound = it.sound;
         shaped = subst (λ (m : Layout). AllByRecursion (λ (t : Table). IsShaped Shaped (after t.tree)) (tables_at m)) (sym now) all;
-        known = inr now;
       };
       names = λ d name n is. subst (λ (m : Layout). IsNameAt m after d name n) (sym now) (names_kept l before after grown d name n (subst (λ (m : Layout). IsNameAt m before d name n) was is));
       has = ap (λ (m : Layout). rows_at m after) now ∙ rows ∙ ap (λ (m : Layout). renewed (rows_at m before)) (sym was);

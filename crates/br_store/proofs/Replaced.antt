@@ -1,5 +1,5 @@
 -- The tables of version 2 in place of those of version 1.
-use Rattle.std.proofs.Common.{◌≡◌, inr, List, [], ◌∷◌, map, sym, ap, ap₂, subst, ◌∙◌}
+use Rattle.std.proofs.Common.{◌≡◌, List, [], ◌∷◌, map, sym, ap, ap₂, subst, ◌∙◌}
 use Rattle.std.specs.List.{AllByRecursion}
 use Rattle.sqlite.specs.Order.{Row, column}
 use Rattle.sqlite.specs.Table.{Table}
@@ -7,12 +7,15 @@ use Rattle.sqlite.specs.View.{IsShaped}
 use Rattle.sqlite_trees.specs.declared.store.Shape.TheVariants.{Table as Shaped}
 use Rattle.sqlite.specs.Effect.{Database}
 use Rattle.br_schema.specs.Places.{Layout, moved_layout}
-use Rattle.br_schema.specs.Tables.{only_keys, tables_at}
+use Rattle.sqlite.specs.Schema.{Schema}
+use Rattle.br_schema.specs.Tables.{tables_at}
+use Rattle.br_schema.specs.Stands.{HasAll, no_owns}
 use Rattle.br_store.specs.Held.{job_shown, rows_at, span_shown}
 use Rattle.br_store.specs.Old.{HasOld, HasReplaced, moved_schema}
 use Rattle.br_store.proofs.Creates.{Created}
 use Rattle.br_store.proofs.Drops.{Dropped}
-use Rattle.br_store.proofs.Layouts.{layout_is, schema_is}
+use Rattle.br_store.proofs.Layouts.{has_here, layout_is}
+use Rattle.br_store.proofs.Lookups.{moved_stands}
 use Rattle.br_store.proofs.Olds.{old_layout}
 use Rattle.br_store.proofs.OldTexts.{without_file, without_names}
 use Rattle.br_store.proofs.Writes.{four}
@@ -29,7 +32,8 @@ replaced a b c d has one two three =
     let spans : d.trees 13 ≡ a.trees 13 = three.others.1.1.1.1.1.1.0 ∙ two.others.1.1.1.1.1.1.0 ∙ one.others.1.1.1.1.1.1.1.0 in
     let r = has.rising in
     let shape = λ (x y : List Row) (same : x ≡ y) (up : IsShaped Shaped y). subst (IsShaped Shaped) (sym same) up in
-    let now = sym (layout_is l (only_keys l) d three.schema_is three.sound) in
+    let stands = subst (λ (s : Schema). HasAll s l no_owns) (sym three.schema_is) moved_stands in
+    let now = sym (layout_is l no_owns d stands three.sound) in
     let all : AllByRecursion (λ (t : Table). IsShaped Shaped (d.trees t.tree)) (tables_at l) =
     (shape _ _ versions r.0, (shape _ _ clients r.1.0, (shape _ _ filesets r.1.1.0, (shape _ _ media r.1.1.1.0, (shape _ _ paths r.1.1.1.1.0, (shape _ _ jobs r.1.1.1.1.1.1.0, (shape _ _ spans r.1.1.1.1.1.1.1.0, (shape _ _ three.empty (tt, tt), tt)))))))) in
     let rows : rows_at l d.trees ≡ record (rows_at l a.trees) { files = [] } =
@@ -37,10 +41,10 @@ replaced a b c d has one two three =
     (ap₂ (λ x y. map (job_shown x y) (d.trees 11)) clients filesets ∙ ap (map (job_shown (a.trees 1) (a.trees 3))) jobs) (ap₂ (λ m s. map (span_shown m) s) media spans) (ap (map _) three.empty) in
     record {
       tables = record {
-        schema = schema_is l (only_keys l) d three.schema_is three.sound;
+        own = no_owns;
+        schema = has_here l no_owns d stands three.sound;
         sound = three.sound;
         shaped = subst (λ (m : Layout). AllByRecursion (λ (t : Table). IsShaped Shaped (d.trees t.tree)) (tables_at m)) now all;
-        known = inr (sym now);
       };
       schema = three.schema_is;
       layout = sym now ∙ sym (old_layout a has);

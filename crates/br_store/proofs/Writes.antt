@@ -1,10 +1,12 @@
 -- What helpers write, as the rows that are then there.
-use Rattle.std.proofs.Common.{◌≡◌, ◌⊎◌, inl, inr, ℕ, ℤ, List, [], ◌∷◌, ◌++◌, Bool, true, false, map, Option, unwrap_or, IsTrue, ◌==◌, append-nil, append_assoc, Result, Ok, Err, OnOk, refl, sym, ap, ap₂, subst, pos, ◌∙◌}
+use Rattle.std.proofs.Common.{◌≡◌, ◌⊎◌, inl, inr, ℕ, ℤ, List, [], ◌∷◌, ◌++◌, Bool, true, false, map, find, bytes_eq, Option, unwrap_or, IsTrue, ◌==◌, append-nil, append_assoc, Result, Ok, Err, OnOk, refl, sym, ap, ap₂, subst, pos, ◌∙◌}
 use Rattle.std.proofs.lemmas.Bool.Decides.{Decides-eqb}
+use Rattle.std.proofs.lemmas.Slice.Eq.{bytes_eq-Decides}
 use Rattle.std.specs.List.{AllByRecursion}
 use Rattle.sqlite.specs.declared.types.Value.TheVariants.{Null, Int, Text, Blob}
 use Rattle.sqlite.specs.Order.{Row, column}
 use Rattle.sqlite.specs.Edit.{is_taken, next_rowid}
+use Rattle.sqlite.specs.Schema.{Schema}
 use Rattle.sqlite.specs.Table.{Table}
 use Rattle.sqlite.specs.Tree.{Trees, IsAscending, IsTable, put_row, rowid}
 use Rattle.sqlite.specs.Effect.{Database}
@@ -14,8 +16,9 @@ use Rattle.sqlite_trees.proofs.TreeLemmas.{IsShaped-put_row}
 use Rattle.sqlite.specs.State.{State, KeepsCommit, IsUnchanged}
 use Rattle.br_store.specs.declared.names.Dictionary.{Dictionary}
 use Rattle.br_store.specs.declared.names.Dictionary.TheVariants.{Client, FileSet, Media, Path}
-use Rattle.br_schema.specs.Places.{IsLayout, Layout, moved_layout, new_layout}
-use Rattle.br_schema.specs.Tables.{Beside, beside_of, tables_at}
+use Rattle.br_schema.specs.Places.{Layout}
+use Rattle.br_schema.specs.Tables.{tables_at}
+use Rattle.br_schema.specs.Stands.{HasAll, Owns, Stands}
 use Rattle.br_store.specs.Names.{tree_of, word, name_row}
 use Rattle.br_rows.specs.Decode.{job_row, span_row, file_row, digest_text, front, rest, high, low}
 use Rattle.br_model.specs.Job.{JobRow, FileRow, Span, JobRows}
@@ -23,7 +26,8 @@ use Rattle.br_rows.specs.Rows.{Rows, with_job, with_spans, with_files, with_rows
 use Rattle.br_store.specs.Held.{name_at, Added, HasTables, Wrote, GoesOn, IsNameAt, IsName, layout_in, rows_at, rows_in, job_shown, span_shown, file_shown}
 use Rattle.br_store.proofs.Joined.{HasGrown, AreKnown, are_known, grown_has, find_row, put-map, same_jobs, same_spans, same_files}
 use Rattle.br_store.proofs.Appends.{map-append, put_next}
-use Rattle.br_store.proofs.Layouts.{layout_is, schema_is}
+use Rattle.br_store.proofs.Layouts.{has_here, layout_is}
+use Rattle.br_store.proofs.Lookups.{by_tree}
 
 decide : (a b : ℕ) → (a ≡ b) ⊎ (a ≡ b → ⊥)
 decide a b = go (a == b) refl
@@ -47,8 +51,8 @@ pub record HasNames (l : Layout) (old new : Trees) : Type 0 where
   pub media : HasGrown (old l.media) (new l.media)
   pub paths : HasGrown (old l.path) (new l.path)
 
-pub names_grow : (l : Layout) (b : Beside) (tree : ℕ) (row : Row) (old new : Database) → Added l b tree row old new → HasNames l old.trees new.trees
-names_grow l b tree row old new a = record {
+pub names_grow : (s : Schema) (l : Layout) (tree : ℕ) (row : Row) (old new : Database) → Added s l tree row old new → HasNames l old.trees new.trees
+names_grow s l tree row old new a = record {
   clients = grown_at l.client tree row old.trees new.trees a.rows a.fresh a.others.1.0;
   filesets = grown_at l.fileset tree row old.trees new.trees a.rows a.fresh a.others.1.1.0;
   media = grown_at l.media tree row old.trees new.trees a.rows a.fresh a.others.1.1.1.0;
@@ -77,30 +81,36 @@ shaped_all tree row old new keyed put (t ∷ tables) same shaped =
     (shaped_at t.tree tree row old new keyed put same.0 shaped.0, shaped_all tree row old new keyed put tables same.1 shaped.1)
 
 -- a catalogue to which one row was added is one still, with its tables in the same trees
-pub still_stands : (l : Layout) (b : Beside) (tree : ℕ) (row : Row) (old new : Database) → IsTrue (is_int (rowid row)) → layout_in old.trees ≡ l → HasTables old → Added l b tree row old new → HasTables new
-still_stands l b tree row old new keyed was tables a =
-    let now = sym (layout_is l b new a.schema a.sound) in
+pub still_stands : (l : Layout) (tree : ℕ) (row : Row) (old new : Database) → IsTrue (is_int (rowid row)) → layout_in old.trees ≡ l → HasTables old → Added old.schema l tree row old new
+    → (layout_in new.trees ≡ l) × HasTables new
+still_stands l tree row old new keyed was tables a =
+    let o = tables.own in
+    let has = subst (λ (s : Schema). HasAll s l o) (sym a.schema) (subst (λ (m : Layout). HasAll old.schema m o) was tables.schema) in
+    let now = layout_is l o new has a.sound in
     let all : AllByRecursion (λ (t : Table). IsShaped Shaped (new.trees t.tree)) (tables_at l) =
-    shaped_all tree row old.trees new.trees keyed a.rows (tables_at l) a.others (subst (λ (m : Layout). AllByRecursion (λ (t : Table). IsShaped Shaped (old.trees t.tree)) (tables_at m)) was tables.shaped) in
-    record {
-      schema = schema_is l b new a.schema a.sound;
-      sound = a.sound;
-      shaped = subst (λ (m : Layout). AllByRecursion (λ (t : Table). IsShaped Shaped (new.trees t.tree)) (tables_at m)) now all;
-      known = subst IsLayout (was ∙ now) tables.known;
-    }
+    shaped_all tree row old.trees new.trees keyed a.rows (tables_at l) a.others (subst (λ (m : Layout). AllByRecursion (λ (t : Table). IsShaped Shaped (old.trees t.tree)) (tables_at m)) was tables.shaped) in (
+      now,
+      record {
+        own = o;
+        schema = has_here l o new has a.sound;
+        sound = a.sound;
+        shaped = subst (λ (m : Layout). AllByRecursion (λ (t : Table). IsShaped Shaped (new.trees t.tree)) (tables_at m)) (sym now) all;
+      },
+    )
 
 -- what one more row of a table makes of the rows
-pub wrote_row : (l : Layout) (b : Beside) (tree : ℕ) (row : Row) (rows : Rows) (old new : State) → IsTrue (is_int (rowid row)) → layout_in old.now.trees ≡ l → HasTables old.now → GoesOn old new
-    → Added l b tree row old.now new.now → rows_at l new.now.trees ≡ rows → Wrote rows old new
-wrote_row l b tree row rows old new keyed was tables on a has =
-    let now = layout_is l b new.now a.schema a.sound in
+pub wrote_row : (l : Layout) (tree : ℕ) (row : Row) (rows : Rows) (old new : State) → IsTrue (is_int (rowid row)) → layout_in old.now.trees ≡ l → HasTables old.now → GoesOn old new
+    → Added old.now.schema l tree row old.now new.now → rows_at l new.now.trees ≡ rows → Wrote rows old new
+wrote_row l tree row rows old new keyed was tables on a has =
+    let still = still_stands l tree row old.now new.now keyed was tables a in
+    let now = still.0 in
     record {
       was_open = λ up. on.was_open;
       mode = subst IsTrue (sym on.mode) refl;
       committed = on.committed_is;
-      tables = still_stands l b tree row old.now new.now keyed was tables a;
+      tables = still.1;
       names = λ d name id is. subst (λ (m : Layout). IsNameAt m new.now.trees d name id) (sym now)
-          (names_kept l old.now.trees new.now.trees (names_grow l b tree row old.now new.now a) d name id (subst (λ (m : Layout). IsNameAt m old.now.trees d name id) was is));
+          (names_kept l old.now.trees new.now.trees (names_grow old.now.schema l tree row old.now new.now a) d name id (subst (λ (m : Layout). IsNameAt m old.now.trees d name id) was is));
       has = ap (λ (m : Layout). rows_at m new.now.trees) now ∙ has;
     }
 
@@ -125,17 +135,19 @@ trees_at l = l.version ∷ l.client ∷ l.fileset ∷ l.media ∷ l.path ∷ l.j
 abbrev pub AreApart : Layout → Type 0
 AreApart l = IsAscending (λ (tree other : ℕ). tree ≡ other → ⊥) (trees_at l)
 
-new_apart : AreApart new_layout
-new_apart =
-    (((λ e. cc), ((λ e. cc), ((λ e. cc), ((λ e. cc), ((λ e. cc), ((λ e. cc), ((λ e. cc), tt))))))), (((λ e. cc), ((λ e. cc), ((λ e. cc), ((λ e. cc), ((λ e. cc), ((λ e. cc), tt)))))), (((λ e. cc), ((λ e. cc), ((λ e. cc), ((λ e. cc), ((λ e. cc), tt))))), (((λ e. cc), ((λ e. cc), ((λ e. cc), ((λ e. cc), tt)))), (((λ e. cc), ((λ e. cc), ((λ e. cc), tt))), (((λ e. cc), ((λ e. cc), tt)), (((λ e. cc), tt), (tt, tt))))))))
+-- two tables of a schema with different names are in different trees
+differ_in : (schema : Schema) (t u : Table) → Stands schema t → Stands schema u → bytes_eq t.name u.name ≡ false → t.tree ≡ u.tree → ⊥
+differ_in schema t u s r other same =
+    let both = sym (by_tree schema t s) ∙ ap (λ (n : ℕ). find (λ (x : Table). x.tree == n) schema.tables) same ∙ by_tree schema u r in
+    let is : t ≡ u = cc in
+    let equal = (bytes_eq-Decides t.name u.name).1 (ap (λ (x : Table). x.name) is) in
+    let no = sym equal ∙ other in
+    absurd cc
 
-moved_apart : AreApart moved_layout
-moved_apart =
-    (((λ e. cc), ((λ e. cc), ((λ e. cc), ((λ e. cc), ((λ e. cc), ((λ e. cc), ((λ e. cc), tt))))))), (((λ e. cc), ((λ e. cc), ((λ e. cc), ((λ e. cc), ((λ e. cc), ((λ e. cc), tt)))))), (((λ e. cc), ((λ e. cc), ((λ e. cc), ((λ e. cc), ((λ e. cc), tt))))), (((λ e. cc), ((λ e. cc), ((λ e. cc), ((λ e. cc), tt)))), (((λ e. cc), ((λ e. cc), ((λ e. cc), tt))), (((λ e. cc), ((λ e. cc), tt)), (((λ e. cc), tt), (tt, tt))))))))
-
-pub apart_of : (l : Layout) → IsLayout l → AreApart l
-apart_of l (inl e) = subst AreApart (sym e) new_apart
-apart_of l (inr e) = subst AreApart (sym e) moved_apart
+pub apart_of : (schema : Schema) (l : Layout) (o : Owns) → HasAll schema l o → AreApart l
+apart_of schema l o has =
+    let differ = λ (t u : Table) (s : Stands schema t) (r : Stands schema u) (other : bytes_eq t.name u.name ≡ false). differ_in schema t u s r other in
+    ((differ _ _ has.version has.client refl, (differ _ _ has.version has.fileset refl, (differ _ _ has.version has.media refl, (differ _ _ has.version has.path refl, (differ _ _ has.version has.job refl, (differ _ _ has.version has.job_media refl, (differ _ _ has.version has.file refl, tt))))))), ((differ _ _ has.client has.fileset refl, (differ _ _ has.client has.media refl, (differ _ _ has.client has.path refl, (differ _ _ has.client has.job refl, (differ _ _ has.client has.job_media refl, (differ _ _ has.client has.file refl, tt)))))), ((differ _ _ has.fileset has.media refl, (differ _ _ has.fileset has.path refl, (differ _ _ has.fileset has.job refl, (differ _ _ has.fileset has.job_media refl, (differ _ _ has.fileset has.file refl, tt))))), ((differ _ _ has.media has.path refl, (differ _ _ has.media has.job refl, (differ _ _ has.media has.job_media refl, (differ _ _ has.media has.file refl, tt)))), ((differ _ _ has.path has.job refl, (differ _ _ has.path has.job_media refl, (differ _ _ has.path has.file refl, tt))), ((differ _ _ has.job has.job_media refl, (differ _ _ has.job has.file refl, tt)), ((differ _ _ has.job_media has.file refl, tt), (tt, tt))))))))
 
 -- the trees of rows are not those of names
 apart : (l : Layout) (d : Dictionary) (P : ℕ → Type 0) → P l.client → P l.fileset → P l.media → P l.path → P (tree_of l d)
@@ -144,23 +156,23 @@ apart l FileSet P a b c d = b
 apart l Media P a b c d = c
 apart l Path P a b c d = d
 
-name_keyed : (d : Dictionary) (id : ℤ) (name : List ℕ) → IsTrue (is_int (rowid (name_row d id name)))
-name_keyed Client id name = refl
-name_keyed FileSet id name = refl
-name_keyed Media id name = refl
-name_keyed Path id name = refl
+name_keyed : (d : Dictionary) (id : ℤ) (name : List ℕ) (more : Row) → IsTrue (is_int (rowid (name_row d id name ++ more)))
+name_keyed Client id name more = refl
+name_keyed FileSet id name more = refl
+name_keyed Media id name more = refl
+name_keyed Path id name more = refl
 
 pub wrote_name : (d : Dictionary) (name : List ℕ) (old new : State) → HasTables old.now → GoesOn old new
-    → Added (layout_in old.now.trees) (beside_of old.now.schema) (tree_of (layout_in old.now.trees) d) (name_row d (next_rowid (old.now.trees (tree_of (layout_in old.now.trees) d))) name) old.now new.now → Wrote (rows_in old.now.trees) old new
-wrote_name d name old new tables on a =
+    → (more : Row) → Added old.now.schema (layout_in old.now.trees) (tree_of (layout_in old.now.trees) d) (name_row d (next_rowid (old.now.trees (tree_of (layout_in old.now.trees) d))) name ++ more) old.now new.now
+    → Wrote (rows_in old.now.trees) old new
+wrote_name d name old new tables on more a =
     let l = layout_in old.now.trees in
-    let b = beside_of old.now.schema in
-    let h : AreApart l = apart_of l tables.known in
-    let row = name_row d (next_rowid (old.now.trees (tree_of l d))) name in
-    wrote_row l b (tree_of l d) row (rows_in old.now.trees) old new (name_keyed d _ name) refl tables on a
+    let h : AreApart l = apart_of old.now.schema l tables.own tables.schema in
+    let row = name_row d (next_rowid (old.now.trees (tree_of l d))) name ++ more in
+    wrote_row l (tree_of l d) row (rows_in old.now.trees) old new (name_keyed d _ name more) refl tables on a
     (rows_are l old.now.trees new.now.trees
     (a.others.0 (apart l d (λ n. l.version ≡ n → ⊥) h.0.0 h.0.1.0 h.0.1.1.0 h.0.1.1.1.0))
-    (names_grow l b (tree_of l d) row old.now new.now a) (are_known l b old.now tables.schema tables.sound)
+    (names_grow old.now.schema l (tree_of l d) row old.now new.now a) (are_known l tables.own old.now tables.schema tables.sound)
     (a.others.1.1.1.1.1.0 (apart l d (λ n. l.job ≡ n → ⊥) (λ e. h.1.0.1.1.1.0 (sym e)) (λ e. h.1.1.0.1.1.0 (sym e)) (λ e. h.1.1.1.0.1.0 (sym e)) (λ e. h.1.1.1.1.0.0 (sym e))))
     (a.others.1.1.1.1.1.1.0 (apart l d (λ n. l.job_media ≡ n → ⊥) (λ e. h.1.0.1.1.1.1.0 (sym e)) (λ e. h.1.1.0.1.1.1.0 (sym e)) (λ e. h.1.1.1.0.1.1.0 (sym e)) (λ e. h.1.1.1.1.0.1.0 (sym e))))
     (a.others.1.1.1.1.1.1.1.0 (apart l d (λ n. l.file ≡ n → ⊥) (λ e. h.1.0.1.1.1.1.1.0 (sym e)) (λ e. h.1.1.0.1.1.1.1.0 (sym e)) (λ e. h.1.1.1.0.1.1.1.0 (sym e)) (λ e. h.1.1.1.1.0.1.1.0 (sym e)))))
@@ -173,15 +185,14 @@ find_name l trees d name id up is = ap (λ (o : Option Row). column (unwrap_or o
 
 pub wrote_job : (j : JobRow) (client fileset : ℕ) (old new : State) → HasTables old.now → GoesOn old new
     → IsName old.now.trees Client j.client client → IsName old.now.trees FileSet j.fileset fileset
-    → Added (layout_in old.now.trees) (beside_of old.now.schema) (layout_in old.now.trees).job (Int (pos j.id) ∷ Null ∷ Text (j.kind ∷ []) ∷ Text (j.level ∷ []) ∷ Int (pos client) ∷ Text (j.status ∷ []) ∷ Int (pos j.start) ∷ Int (pos fileset) ∷ Int (pos j.session.id) ∷ Int (pos j.session.time) ∷ []) old.now new.now
+    → (more : Row) → Added old.now.schema (layout_in old.now.trees) (layout_in old.now.trees).job (Int (pos j.id) ∷ Null ∷ Text (j.kind ∷ []) ∷ Text (j.level ∷ []) ∷ Int (pos client) ∷ Text (j.status ∷ []) ∷ Int (pos j.start) ∷ Int (pos fileset) ∷ Int (pos j.session.id) ∷ Int (pos j.session.time) ∷ more) old.now new.now
     → Wrote (with_job j (rows_in old.now.trees)) old new
-wrote_job j client fileset old new tables on is_client is_fileset a =
+wrote_job j client fileset old new tables on is_client is_fileset more a =
     let l = layout_in old.now.trees in
-    let b = beside_of old.now.schema in
-    let h : AreApart l = apart_of l tables.known in
+    let h : AreApart l = apart_of old.now.schema l tables.own tables.schema in
     let before = old.now.trees in
     let after = new.now.trees in
-    let row : Row = Int (pos j.id) ∷ Null ∷ Text (j.kind ∷ []) ∷ Text (j.level ∷ []) ∷ Int (pos client) ∷ Text (j.status ∷ []) ∷ Int (pos j.start) ∷ Int (pos fileset) ∷ Int (pos j.session.id) ∷ Int (pos j.session.time) ∷ [] in
+    let row : Row = Int (pos j.id) ∷ Null ∷ Text (j.kind ∷ []) ∷ Text (j.level ∷ []) ∷ Int (pos client) ∷ Text (j.status ∷ []) ∷ Int (pos j.start) ∷ Int (pos fileset) ∷ Int (pos j.session.id) ∷ Int (pos j.session.time) ∷ more in
     let clients : after l.client ≡ before l.client = a.others.1.0 h.1.0.1.1.1.0 in
     let filesets : after l.fileset ≡ before l.fileset = a.others.1.1.0 h.1.1.0.1.1.0 in
     let shown : job_shown (before l.client) (before l.fileset) row ≡ job_row j =
@@ -194,18 +205,17 @@ wrote_job j client fileset old new tables on is_client is_fileset a =
     let spans : (rows_at l after).spans ≡ (rows_in before).spans = ap₂ (λ m s. map (span_shown m) s) (a.others.1.1.1.0 h.1.1.1.0.1.0) (a.others.1.1.1.1.1.1.0 (λ e. h.1.1.1.1.1.0.0 (sym e))) in
     let files : (rows_at l after).files ≡ (rows_in before).files =
     ap (λ p. map (file_shown p) (after l.file)) (a.others.1.1.1.1.0 h.1.1.1.1.0.0) ∙ ap (map (file_shown (before l.path))) (a.others.1.1.1.1.1.1.1.0 (λ e. h.1.1.1.1.1.0.1.0 (sym e))) in
-    wrote_row l b l.job row (with_job j (rows_in before)) old new refl refl tables on a (four _ _ versions jobs spans files)
+    wrote_row l l.job row (with_job j (rows_in before)) old new refl refl tables on a (four _ _ versions jobs spans files)
 
 pub wrote_span : (job : ℕ) (s : Span) (media : ℕ) (old new : State) → HasTables old.now → GoesOn old new → IsName old.now.trees Media s.volume media
-    → Added (layout_in old.now.trees) (beside_of old.now.schema) (layout_in old.now.trees).job_media (Int (next_rowid (old.now.trees (layout_in old.now.trees).job_media)) ∷ Null ∷ Int (pos job) ∷ Int (pos media) ∷ Int (pos s.first) ∷ Int (pos s.last) ∷ Int (pos (high s.start)) ∷ Int (pos (high s.end)) ∷ Int (pos (low s.start)) ∷ Int (pos (low s.end)) ∷ Int (pos s.vol_index) ∷ []) old.now new.now
+    → (more : Row) → Added old.now.schema (layout_in old.now.trees) (layout_in old.now.trees).job_media (Int (next_rowid (old.now.trees (layout_in old.now.trees).job_media)) ∷ Null ∷ Int (pos job) ∷ Int (pos media) ∷ Int (pos s.first) ∷ Int (pos s.last) ∷ Int (pos (high s.start)) ∷ Int (pos (high s.end)) ∷ Int (pos (low s.start)) ∷ Int (pos (low s.end)) ∷ Int (pos s.vol_index) ∷ more) old.now new.now
     → Wrote (with_spans job (s ∷ []) (rows_in old.now.trees)) old new
-wrote_span job s media old new tables on is_media a =
+wrote_span job s media old new tables on is_media more a =
     let l = layout_in old.now.trees in
-    let b = beside_of old.now.schema in
-    let h : AreApart l = apart_of l tables.known in
+    let h : AreApart l = apart_of old.now.schema l tables.own tables.schema in
     let before = old.now.trees in
     let after = new.now.trees in
-    let rest : Row = Null ∷ Int (pos job) ∷ Int (pos media) ∷ Int (pos s.first) ∷ Int (pos s.last) ∷ Int (pos (high s.start)) ∷ Int (pos (high s.end)) ∷ Int (pos (low s.start)) ∷ Int (pos (low s.end)) ∷ Int (pos s.vol_index) ∷ [] in
+    let rest : Row = Null ∷ Int (pos job) ∷ Int (pos media) ∷ Int (pos s.first) ∷ Int (pos s.last) ∷ Int (pos (high s.start)) ∷ Int (pos (high s.end)) ∷ Int (pos (low s.start)) ∷ Int (pos (low s.end)) ∷ Int (pos s.vol_index) ∷ more in
     let row : Row = Int (next_rowid (before l.job_media)) ∷ rest in
     let last : after l.job_media ≡ before l.job_media ++ row ∷ [] = a.rows ∙ put_next rest (before l.job_media) tables.shaped.1.1.1.1.1.1.0 in
     let shown : span_shown (before l.media) row ≡ span_row job s =
@@ -218,22 +228,21 @@ wrote_span job s media old new tables on is_media a =
     ap₂ (λ c f. map (job_shown c f) (after l.job)) (a.others.1.0 h.1.0.1.1.1.1.0) (a.others.1.1.0 h.1.1.0.1.1.1.0) ∙ ap (map (job_shown (before l.client) (before l.fileset))) (a.others.1.1.1.1.1.0 h.1.1.1.1.1.0.0) in
     let files : (rows_at l after).files ≡ (rows_in before).files =
     ap (λ p. map (file_shown p) (after l.file)) (a.others.1.1.1.1.0 h.1.1.1.1.0.1.0) ∙ ap (map (file_shown (before l.path))) (a.others.1.1.1.1.1.1.1.0 (λ e. h.1.1.1.1.1.1.0.0 (sym e))) in
-    wrote_row l b l.job_media row (with_spans job (s ∷ []) (rows_in before)) old new refl refl tables on a (four _ _ versions jobs spans files)
+    wrote_row l l.job_media row (with_spans job (s ∷ []) (rows_in before)) old new refl refl tables on a (four _ _ versions jobs spans files)
 
 pub wrote_file : (index job path : ℕ) (front rest lstat digest : List ℕ) (old new : State) → HasTables old.now → GoesOn old new
     → IsName old.now.trees Path front path
-    → Added (layout_in old.now.trees) (beside_of old.now.schema) (layout_in old.now.trees).file (Int (next_rowid (old.now.trees (layout_in old.now.trees).file)) ∷ Null ∷ Int (pos index) ∷ Int (pos job) ∷ Int (pos path) ∷ Blob rest ∷ Text lstat ∷ Text digest ∷ []) old.now new.now
+    → (more : Row) → Added old.now.schema (layout_in old.now.trees) (layout_in old.now.trees).file (Int (next_rowid (old.now.trees (layout_in old.now.trees).file)) ∷ Null ∷ Int (pos index) ∷ Int (pos job) ∷ Int (pos path) ∷ Blob rest ∷ Text lstat ∷ Text digest ∷ more) old.now new.now
     → Wrote (with_file_row (Int (pos job) ∷ Int (pos index) ∷ Blob front ∷ Blob rest ∷ Text lstat ∷ Text digest ∷ []) (rows_in old.now.trees)) old new
-wrote_file index job path front rest lstat digest old new tables on is_path a =
+wrote_file index job path front rest lstat digest old new tables on is_path more a =
     let l = layout_in old.now.trees in
-    let b = beside_of old.now.schema in
-    let h : AreApart l = apart_of l tables.known in
+    let h : AreApart l = apart_of old.now.schema l tables.own tables.schema in
     let before = old.now.trees in
     let after = new.now.trees in
     let shows : Row = Int (pos job) ∷ Int (pos index) ∷ Blob front ∷ Blob rest ∷ Text lstat ∷ Text digest ∷ [] in
-    let more : Row = Null ∷ Int (pos index) ∷ Int (pos job) ∷ Int (pos path) ∷ Blob rest ∷ Text lstat ∷ Text digest ∷ [] in
-    let row : Row = Int (next_rowid (before l.file)) ∷ more in
-    let last : after l.file ≡ before l.file ++ row ∷ [] = a.rows ∙ put_next more (before l.file) tables.shaped.1.1.1.1.1.1.1.0 in
+    let cells : Row = Null ∷ Int (pos index) ∷ Int (pos job) ∷ Int (pos path) ∷ Blob rest ∷ Text lstat ∷ Text digest ∷ more in
+    let row : Row = Int (next_rowid (before l.file)) ∷ cells in
+    let last : after l.file ≡ before l.file ++ row ∷ [] = a.rows ∙ put_next cells (before l.file) tables.shaped.1.1.1.1.1.1.1.0 in
     let shown : file_shown (before l.path) row ≡ shows =
     ap (λ p. Int (pos job) ∷ Int (pos index) ∷ p ∷ Blob rest ∷ Text lstat ∷ Text digest ∷ []) (find_name l before Path front path tables.shaped.1.1.1.1.0.0 is_path) in
     let files : (rows_at l after).files ≡ (rows_in before).files ++ shows ∷ [] =
@@ -243,7 +252,7 @@ wrote_file index job path front rest lstat digest old new tables on is_path a =
     let jobs : (rows_at l after).jobs ≡ (rows_in before).jobs =
     ap₂ (λ c f. map (job_shown c f) (after l.job)) (a.others.1.0 h.1.0.1.1.1.1.1.0) (a.others.1.1.0 h.1.1.0.1.1.1.1.0) ∙ ap (map (job_shown (before l.client) (before l.fileset))) (a.others.1.1.1.1.1.0 h.1.1.1.1.1.0.1.0) in
     let spans : (rows_at l after).spans ≡ (rows_in before).spans = ap₂ (λ m s. map (span_shown m) s) (a.others.1.1.1.0 h.1.1.1.0.1.1.1.0) (a.others.1.1.1.1.1.1.0 h.1.1.1.1.1.1.0.0) in
-    wrote_row l b l.file row (with_file_row shows (rows_in before)) old new refl refl tables on a (four _ _ versions jobs spans files)
+    wrote_row l l.file row (with_file_row shows (rows_in before)) old new refl refl tables on a (four _ _ versions jobs spans files)
 
 -- ---- one after the other
 
@@ -307,10 +316,10 @@ rows_are_all j id row spans files rows e1 e2 e3 e4 = rw (e1, e2, e3, e4) refl
 pub wrote_job_as : (j : JobRow) (id client fileset start session time : ℕ) (kind level status : List ℕ) (old new : State)
     → id ≡ j.id → start ≡ j.start → session ≡ j.session.id → time ≡ j.session.time → kind ≡ j.kind ∷ [] → level ≡ j.level ∷ [] → status ≡ j.status ∷ []
     → HasTables old.now → GoesOn old new → IsName old.now.trees Client j.client client → IsName old.now.trees FileSet j.fileset fileset
-    → Added (layout_in old.now.trees) (beside_of old.now.schema) (layout_in old.now.trees).job (Int (pos id) ∷ Null ∷ Text kind ∷ Text level ∷ Int (pos client) ∷ Text status ∷ Int (pos start) ∷ Int (pos fileset) ∷ Int (pos session) ∷ Int (pos time) ∷ []) old.now new.now
+    → (more : Row) → Added old.now.schema (layout_in old.now.trees) (layout_in old.now.trees).job (Int (pos id) ∷ Null ∷ Text kind ∷ Text level ∷ Int (pos client) ∷ Text status ∷ Int (pos start) ∷ Int (pos fileset) ∷ Int (pos session) ∷ Int (pos time) ∷ more) old.now new.now
     → Wrote (with_job j (rows_in old.now.trees)) old new
-wrote_job_as j id client fileset start session time kind level status old new e1 e2 e3 e4 e5 e6 e7 tables on is_client is_fileset a =
-    wrote_job j client fileset old new tables on is_client is_fileset (rw (e1, e2, e3, e4, e5, e6, e7) at a)
+wrote_job_as j id client fileset start session time kind level status old new e1 e2 e3 e4 e5 e6 e7 tables on is_client is_fileset more a =
+    wrote_job j client fileset old new tables on is_client is_fileset more (rw (e1, e2, e3, e4, e5, e6, e7) at a)
 
 pub on_ok_both : {T E P Q R : Type 0} (r : Result T E) → (P → Q → R) → OnOk r P → OnOk r Q → OnOk r R
 on_ok_both (Ok x) f p q = f p q

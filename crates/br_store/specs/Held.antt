@@ -8,6 +8,7 @@ use Rattle.sqlite_schema.specs.Rules.{equal}
 use Rattle.sqlite.specs.Order.{Row, column}
 use Rattle.sqlite_rules.specs.Lists.{Has}
 use Rattle.sqlite.specs.Edit.{is_taken}
+use Rattle.sqlite.specs.Schema.{Schema}
 use Rattle.sqlite.specs.Table.{Table}
 use Rattle.sqlite.specs.Tree.{Trees, put_row}
 use Rattle.sqlite.specs.Effect.{Database, IsDatabase}
@@ -23,12 +24,13 @@ use Rattle.br_store.specs.Names.{tree_of, word}
 use Rattle.br_rows.specs.Rows.{Rows, with_job}
 use Rattle.sqlite_trees.specs.Objects.{catalog_tree, number_in}
 use Rattle.sqlite_catalog.specs.Listing.{is_table_row}
-use Rattle.br_schema.specs.Places.{IsLayout, Layout, row_number, version_id, name_column}
+use Rattle.br_schema.specs.Places.{Layout, row_number, version_id, name_column}
 use Rattle.br_schema.specs.Places.{job_type, job_level, job_client, job_status, job_start_time, job_fileset}
 use Rattle.br_schema.specs.Places.{job_session_id, job_session_time, span_job, span_media, span_first_index, span_last_index}
 use Rattle.br_schema.specs.Places.{span_start_file, span_end_file, span_start_block, span_end_block, span_vol_index}
 use Rattle.br_schema.specs.Places.{file_index, file_job, file_path, file_filename, file_lstat, file_md5}
-use Rattle.br_schema.specs.Tables.{Beside, beside_of, schema_at, tables_at}
+use Rattle.br_schema.specs.Tables.{tables_at}
+use Rattle.br_schema.specs.Stands.{HasAll, Owns}
 
 -- ---- where the tables are
 
@@ -115,20 +117,20 @@ rows_in trees = rows_at (layout_in trees) trees
 -- ---- databases
 
 -- one row was added to one table, and the other tables are as before
-pub record Added (l : Layout) (beside : Beside) (tree : ℕ) (row : Row) (old new : Database) : Type 0 where
-  pub schema : new.schema ≡ schema_at l beside
+pub record Added (s : Schema) (l : Layout) (tree : ℕ) (row : Row) (old new : Database) : Type 0 where
+  pub schema : new.schema ≡ s
   pub sound : IsDatabase new
   pub rows : new.trees tree ≡ put_row row (old.trees tree)
   pub fresh : is_taken (old.trees tree) row ≡ false
   pub others : AllByRecursion (λ (t : Table). (t.tree ≡ tree → ⊥) → new.trees t.tree ≡ old.trees t.tree) (tables_at l)
 
--- A sound database that begins with the catalogue's tables, each with its rows in ascending order.
--- It may have more tables after them, indexes and views.
+-- A sound database with the catalogue's tables, each with its rows in ascending order. Its tables may
+-- have columns of somebody's own, and it may have more tables, indexes and views.
 pub record HasTables (db : Database) : Type 0 where
-  pub schema : db.schema ≡ schema_at (layout_in db.trees) (beside_of db.schema)
+  pub own : Owns
+  pub schema : HasAll db.schema (layout_in db.trees) own
   pub sound : IsDatabase db
   pub shaped : AllByRecursion (λ (t : Table). IsShaped Shaped (db.trees t.tree)) (tables_at (layout_in db.trees))
-  pub known : IsLayout (layout_in db.trees)
 
 -- what a store keeps true of its connection: no transaction is open, and while the connection is
 -- open the database has the tables

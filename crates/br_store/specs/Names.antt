@@ -7,13 +7,6 @@ use Rattle.br_store.specs.declared.names.Dictionary.{Dictionary}
 use Rattle.br_store.specs.declared.names.Dictionary.TheVariants.{Client, FileSet, Media, Path}
 use Rattle.br_schema.specs.Places.{Layout}
 
--- the place of the table in the list of tables
-abbrev pub place_of : Dictionary → ℕ
-place_of Client = 1
-place_of FileSet = 2
-place_of Media = 3
-place_of Path = 4
-
 -- the tree that holds the table
 abbrev pub tree_of : Layout → Dictionary → ℕ
 tree_of l Client = l.client

@@ -13,7 +13,7 @@ use Rattle.sqlite.specs.Effect.{Database, IsDatabase}
 use Rattle.sqlite.specs.State.{State}
 use Rattle.br_model.specs.Job.{JobRows}
 use Rattle.br_schema.specs.Places.{moved_layout}
-use Rattle.br_schema.specs.Tables.{only_keys, schema_at}
+use Rattle.br_schema.specs.Tables.{only_tables}
 use Rattle.br_schema.specs.Places.{file_index, file_job, file_path, file_filename, file_lstat, file_md5}
 use Rattle.br_schema.specs.Old.{old_schema}
 use Rattle.br_rows.specs.Load.{read_history, read_loaded}
@@ -24,7 +24,7 @@ use Rattle.br_store.specs.declared.renew.MovedFile.{MovedFile}
 
 -- the schema that is made of that of version 1
 abbrev pub moved_schema : Schema
-moved_schema = schema_at moved_layout (only_keys moved_layout)
+moved_schema = only_tables moved_layout
 
 -- a row of File of version 1, with the two parts of its path in place of their numbers
 abbrev pub old_file_shown : List Row → List Row → Row → Row
@@ -88,12 +88,15 @@ first_seven row =
 abbrev pub IsReadOld : Database → List Row → Type 0
 IsReadOld db files = (is_first (rows_in db.trees).versions ≡ true) × (files ≡ moved_rows db.trees)
 
--- the row that is written of this one may come after those of File
+-- the tables are those that are made of version 1, and the row that is written of this one may come
+-- after those of File
 abbrev pub CanFollow : State → Row → Type 0
-CanFollow s row = IsShaped Shaped (s.now.trees (layout_in s.now.trees).file ++ written row ∷ [])
+CanFollow s row = (s.now.schema ≡ moved_schema) × IsShaped Shaped (s.now.trees (layout_in s.now.trees).file ++ written row ∷ [])
 
--- File has no row, and the rows that are written of these, of seven columns each, ascend
+-- The tables are those that are made of version 1. File has no row, and the rows that are written of
+-- these, of seven columns each, ascend.
 pub record AreMoved (s : State) (rows : List Row) : Type 0 where
+  pub schema : s.now.schema ≡ moved_schema
   pub empty : s.now.trees (layout_in s.now.trees).file ≡ []
   pub rising : IsShaped Shaped (map written rows)
   pub whole : AllByRecursion (λ row. row ≡ first_seven row) rows

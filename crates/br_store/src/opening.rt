@@ -104,7 +104,7 @@ fn current<S: Alter + Drop>(mut conn: Connection<S>) -> Result<Connection<S>, St
 }
 
 /// Opens a catalogue: makes the tables in a database with no table, and refuses a catalogue of
-/// version 1 and a database that does not begin with the tables.
+/// version 1 and a database that lacks one of the tables.
 pub(crate) fn opened_or_made<S: Alter + Drop>(
     conn: Connection<S>,
 ) -> Result<Connection<S>, StoreFault>

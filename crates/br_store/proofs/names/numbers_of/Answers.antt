@@ -1,7 +1,6 @@
-use Rattle.std.proofs.Common.{[], ◌∷◌}
+use Rattle.std.proofs.Common.{refl, [], ◌∷◌}
 use Rattle.std.proofs.lemmas.Result.{IfOk-weaker, IfErr-weaker}
 use Rattle.sqlite.specs.Held.{state}
-use Rattle.br_schema.specs.Tables.{beside_of, schema_at}
 use Rattle.br_store.specs.Names.{word, tree_of, select_text}
 use Rattle.br_store.specs.Held.{layout_in}
 use Rattle.br_store.proofs.NameTexts.{select_is, name_query, key_name}
@@ -15,10 +14,9 @@ returns-clause-found g c clean tables =
     let old = state g.S.Store c.args.tx.now.conn.now in
     let new = state g.S.Store c.query_all.new.self.conn.now in
     let l = layout_in old.now.trees in
-    let b = beside_of old.now.schema in
-    let is = select_is l b d tables.known in
+    let is = select_is old.now.schema l tables.own tables.schema d in
     IfOk-weaker c.query_all.result _ _ (λ rows shown. numbers_found old.now.trees d c.args.name.now rows.items
-    (answers (schema_at l b) (select_text d) (word d c.args.name.now ∷ []) old new tables.schema is.plain (name_query (tree_of l d)) (key_name d ∷ []) is.command is.unlisted rows.items shown))
+    (answers old.now.schema (select_text d) (word d c.args.name.now ∷ []) old new refl is.plain (name_query (tree_of l d)) (key_name d ∷ []) is.command is.unlisted rows.items shown))
     (rw (c.select_of.ensures, c.word_of.ensures, bound_word d c.args.name.now) at (c.query_all.ensures.ok clean))
 
 pub returns-clause-same : goal.returns-clause-same
@@ -27,8 +25,7 @@ returns-clause-same g c clean tables =
     let old = state g.S.Store c.args.tx.now.conn.now in
     let new = state g.S.Store c.query_all.new.self.conn.now in
     let l = layout_in old.now.trees in
-    let b = beside_of old.now.schema in
-    IfOk-weaker c.query_all.result _ _ (λ rows shown. shown_same (schema_at l b) (select_text d) (word d c.args.name.now ∷ []) old new tables.schema (select_is l b d tables.known).plain rows.items shown)
+    IfOk-weaker c.query_all.result _ _ (λ rows shown. shown_same old.now.schema (select_text d) (word d c.args.name.now ∷ []) old new refl (select_is old.now.schema l tables.own tables.schema d).plain rows.items shown)
     (rw (c.select_of.ensures, c.word_of.ensures, bound_word d c.args.name.now) at (c.query_all.ensures.ok clean))
 
 pub returns-clause-kept : goal.returns-clause-kept
@@ -37,6 +34,5 @@ returns-clause-kept g c clean tables =
     let old = state g.S.Store c.args.tx.now.conn.now in
     let new = state g.S.Store c.query_all.new.self.conn.now in
     let l = layout_in old.now.trees in
-    let b = beside_of old.now.schema in
-    IfErr-weaker c.query_all.result _ _ (λ e failed. failure_keeps (schema_at l b) (select_text d) (word d c.args.name.now ∷ []) old new tables.schema (select_is l b d tables.known).plain e failed)
+    IfErr-weaker c.query_all.result _ _ (λ e failed. failure_keeps old.now.schema (select_text d) (word d c.args.name.now ∷ []) old new refl (select_is old.now.schema l tables.own tables.schema d).plain e failed)
     (rw (c.select_of.ensures, c.word_of.ensures, bound_word d c.args.name.now) at (c.query_all.ensures.err clean))

@@ -1,5 +1,5 @@
 use Rattle.sqlite.specs.Held.{state}
-use Rattle.br_schema.specs.Tables.{beside_of}
+use Rattle.std.proofs.Common.{refl}
 use Rattle.br_store.specs.Held.{layout_in}
 use Rattle.br_store.proofs.Words.{bound_word}
 use Rattle.br_store.proofs.Inserts.{puts_name}
@@ -13,4 +13,5 @@ returns-clause-added g c clean inside tables =
     let old = state g.S.Store c.args.tx.now.conn.now in
     let new = state g.S.Store c.execute.new.self.conn.now in
     let ran = rw (c.insert_of.ensures, c.word_of.ensures, bound_word d name) at (c.in_ok-execute.ensures.runs clean inside) in
-    wrote_name d name old new tables ran.1 (puts_name (layout_in old.now.trees) (beside_of old.now.schema) d old new name c.in_ok-execute.field-0 tables.schema ran.0)
+    let put = puts_name old.now.schema (layout_in old.now.trees) tables.own tables.schema d old new name c.in_ok-execute.field-0 refl ran.0 in
+    wrote_name d name old new tables ran.1 put.0 put.1

@@ -3,7 +3,8 @@ use Rattle.std.proofs.lemmas.Result.{IfOk-weaker}
 use Rattle.sqlite.specs.Effect.{Database, IsDatabase}
 use Rattle.sqlite.specs.Held.{state}
 use Rattle.sqlite.specs.State.{HasCleanDisk}
-use Rattle.br_schema.specs.Tables.{IsStoreSchema, no_schema}
+use Rattle.br_schema.specs.Tables.{no_schema}
+use Rattle.br_schema.specs.Stands.{IsStoreSchema}
 use Rattle.br_rows.specs.Rows.{Rows}
 use Rattle.br_store.specs.Made.{is_first}
 use Rattle.br_store.proofs.Ready.{if_ok_both}

@@ -1,5 +1,4 @@
 use Rattle.std.proofs.Common.{◌≡◌, false, IsTrue, sym, ◌∙◌, arith}
-use Rattle.sqlite_trees.specs.View.{IsClean}
 use Rattle.sqlite.specs.Held.{state}
 use Rattle.br_store.proofs.Opens.{rising_in, is_up}
 use Rattle.br_store.proofs.opening.reopened.Goals as goal

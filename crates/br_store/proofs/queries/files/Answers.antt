@@ -1,12 +1,11 @@
-use Rattle.std.proofs.Common.{[], inl, arith, subst, sym}
+use Rattle.std.proofs.Common.{refl, [], inl, arith}
 use Rattle.sqlite.proofs.StateLemmas.{survives_weaker}
-use Rattle.sqlite.proofs.Callers.{IsPlain, never_commits}
-use Rattle.sqlite.specs.Listing.{understood}
+use Rattle.sqlite.proofs.Callers.{never_commits}
 use Rattle.std.proofs.lemmas.Result.{IfOk-weaker, IfErr-weaker}
 use Rattle.sqlite.specs.Held.{state}
-use Rattle.br_schema.specs.Tables.{beside_of, schema_at}
 use Rattle.br_store.specs.Held.{layout_in}
-use Rattle.br_store.proofs.RowTexts.{select_files, select_files_is, files_query, file_names}
+use Rattle.br_store.proofs.Asks.{select_files, files_query, file_names}
+use Rattle.br_store.proofs.FileTexts.{select_files_is}
 use Rattle.br_store.proofs.Selects.{shown_same, failure_keeps, answers}
 use Rattle.br_store.proofs.Loads.{files_shown}
 use Rattle.br_store.proofs.queries.files.Goals as goal
@@ -17,10 +16,9 @@ returns-clause-rows g c clean =
     let new = state g.S.Store c.query_all.new.self in
     let tables = c.requires (omega (arith, clean, c.query_all.ensures.survives.clean)) in
     let l = layout_in old.now.trees in
-    let b = beside_of old.now.schema in
-    let is = select_files_is l b tables.known in
+    let is = select_files_is old.now.schema l tables.own tables.schema in
     IfOk-weaker c.query_all.result _ _ (λ rows shown.
-    files_shown old.now rows.items tables (answers (schema_at l b) select_files [] old new tables.schema is.plain (files_query l) file_names is.command is.unlisted rows.items shown))
+    files_shown old.now rows.items tables (answers old.now.schema select_files [] old new refl is.plain (files_query l) file_names is.command is.unlisted rows.items shown))
     (c.query_all.ensures.ok clean)
 
 pub returns-clause-same : goal.returns-clause-same
@@ -29,8 +27,7 @@ returns-clause-same g c clean =
     let new = state g.S.Store c.query_all.new.self in
     let tables = c.requires (omega (arith, clean, c.query_all.ensures.survives.clean)) in
     let l = layout_in old.now.trees in
-    let b = beside_of old.now.schema in
-    IfOk-weaker c.query_all.result _ _ (λ rows shown. shown_same (schema_at l b) select_files [] old new tables.schema (select_files_is l b tables.known).plain rows.items shown) (c.query_all.ensures.ok clean)
+    IfOk-weaker c.query_all.result _ _ (λ rows shown. shown_same old.now.schema select_files [] old new refl (select_files_is old.now.schema l tables.own tables.schema).plain rows.items shown) (c.query_all.ensures.ok clean)
 
 pub returns-clause-kept : goal.returns-clause-kept
 returns-clause-kept g c clean =
@@ -38,8 +35,7 @@ returns-clause-kept g c clean =
     let new = state g.S.Store c.query_all.new.self in
     let tables = c.requires (omega (arith, clean, c.query_all.ensures.survives.clean)) in
     let l = layout_in old.now.trees in
-    let b = beside_of old.now.schema in
-    IfErr-weaker c.query_all.result _ _ (λ e failed. failure_keeps (schema_at l b) select_files [] old new tables.schema (select_files_is l b tables.known).plain e (inl failed)) (c.query_all.ensures.err clean)
+    IfErr-weaker c.query_all.result _ _ (λ e failed. failure_keeps old.now.schema select_files [] old new refl (select_files_is old.now.schema l tables.own tables.schema).plain e (inl failed)) (c.query_all.ensures.err clean)
 
 pub returns-clause-survives : goal.returns-clause-survives
 returns-clause-survives g c =
@@ -47,5 +43,5 @@ returns-clause-survives g c =
     let new = state g.S.Store c.query_all.new.self in
     survives_weaker old new _ (λ _. ⊥) (λ clean db committed.
     let tables = c.requires (omega (arith, clean, c.query_all.ensures.survives.clean)) in
-    let plain = (select_files_is (layout_in old.now.trees) (beside_of old.now.schema) tables.known).plain in
-    absurd (never_commits select_files [] old db (subst (λ s. IsPlain (understood s select_files)) (sym tables.schema) plain) committed)) c.query_all.ensures.survives
+    let plain = (select_files_is old.now.schema (layout_in old.now.trees) tables.own tables.schema).plain in
+    absurd (never_commits select_files [] old db plain committed)) c.query_all.ensures.survives

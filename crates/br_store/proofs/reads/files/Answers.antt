@@ -1,9 +1,9 @@
-use Rattle.std.proofs.Common.{[]}
+use Rattle.std.proofs.Common.{refl, []}
 use Rattle.std.proofs.lemmas.Result.{IfOk-weaker, IfErr-weaker}
 use Rattle.sqlite.specs.Held.{state}
-use Rattle.br_schema.specs.Tables.{beside_of, schema_at}
 use Rattle.br_store.specs.Held.{layout_in}
-use Rattle.br_store.proofs.RowTexts.{select_files, select_files_is, files_query, file_names}
+use Rattle.br_store.proofs.Asks.{select_files, files_query, file_names}
+use Rattle.br_store.proofs.FileTexts.{select_files_is}
 use Rattle.br_store.proofs.Selects.{shown_same, failure_keeps, answers}
 use Rattle.br_store.proofs.Loads.{files_shown}
 use Rattle.br_store.proofs.reads.files.Goals as goal
@@ -13,10 +13,9 @@ returns-clause-rows g c clean tables =
     let old = state g.S.Store c.args.tx.now.conn.now in
     let new = state g.S.Store c.query_all.new.self.conn.now in
     let l = layout_in old.now.trees in
-    let b = beside_of old.now.schema in
-    let is = select_files_is l b tables.known in
+    let is = select_files_is old.now.schema l tables.own tables.schema in
     IfOk-weaker c.query_all.result _ _ (λ rows shown.
-    files_shown old.now rows.items tables (answers (schema_at l b) select_files [] old new tables.schema is.plain (files_query l) file_names is.command is.unlisted rows.items shown))
+    files_shown old.now rows.items tables (answers old.now.schema select_files [] old new refl is.plain (files_query l) file_names is.command is.unlisted rows.items shown))
     (c.query_all.ensures.ok clean)
 
 pub returns-clause-same : goal.returns-clause-same
@@ -24,13 +23,11 @@ returns-clause-same g c clean tables =
     let old = state g.S.Store c.args.tx.now.conn.now in
     let new = state g.S.Store c.query_all.new.self.conn.now in
     let l = layout_in old.now.trees in
-    let b = beside_of old.now.schema in
-    IfOk-weaker c.query_all.result _ _ (λ rows shown. shown_same (schema_at l b) select_files [] old new tables.schema (select_files_is l b tables.known).plain rows.items shown) (c.query_all.ensures.ok clean)
+    IfOk-weaker c.query_all.result _ _ (λ rows shown. shown_same old.now.schema select_files [] old new refl (select_files_is old.now.schema l tables.own tables.schema).plain rows.items shown) (c.query_all.ensures.ok clean)
 
 pub returns-clause-kept : goal.returns-clause-kept
 returns-clause-kept g c clean tables =
     let old = state g.S.Store c.args.tx.now.conn.now in
     let new = state g.S.Store c.query_all.new.self.conn.now in
     let l = layout_in old.now.trees in
-    let b = beside_of old.now.schema in
-    IfErr-weaker c.query_all.result _ _ (λ e failed. failure_keeps (schema_at l b) select_files [] old new tables.schema (select_files_is l b tables.known).plain e failed) (c.query_all.ensures.err clean)
+    IfErr-weaker c.query_all.result _ _ (λ e failed. failure_keeps old.now.schema select_files [] old new refl (select_files_is old.now.schema l tables.own tables.schema).plain e failed) (c.query_all.ensures.err clean)

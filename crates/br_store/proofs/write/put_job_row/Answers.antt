@@ -1,7 +1,6 @@
-use Rattle.std.proofs.Common.{rules, ◌≡◌, ◌∙◌, ap, pos, to_z, of_z, w64}
+use Rattle.std.proofs.Common.{rules, refl, ◌≡◌, ◌∙◌, ap, pos, to_z, of_z, w64}
 use Rattle.std.proofs.Math.Facts.{to_z-of_z}
 use Rattle.sqlite.specs.Held.{state}
-use Rattle.br_schema.specs.Tables.{beside_of}
 use Rattle.br_store.specs.Held.{layout_in}
 use Rattle.br_model.specs.Name.{SessionKey}
 use Rattle.br_model.specs.Job.{JobRow}
@@ -20,8 +19,8 @@ returns-clause-added g c clean inside tables is_client is_fileset =
     let ids = c.get.ensures.same ∙ ap (λ (j : JobRow). j.id) c.job.view_is in
     let session = ap (λ (s : SessionKey). s.id) (c.session.view_is ∙ c.requires.session) in
     let time = ap (λ (s : SessionKey). s.time) (c.session.view_is ∙ c.requires.session) in
-    let added = puts_job (layout_in old.now.trees) (beside_of old.now.schema) old new (pos c.get.result) (pos c.args.client) (pos i.start) (pos c.args.fileset) (pos c.session.inside.id) (pos c.session.inside.time) c.args.letters.now.kind.now c.args.letters.now.level.now c.args.letters.now.status.now c.in_ok-execute.field-0 tables.schema ran.0 in (
+    let added = puts_job old.now.schema (layout_in old.now.trees) tables.own tables.schema old new (pos c.get.result) (pos c.args.client) (pos i.start) (pos c.args.fileset) (pos c.session.inside.id) (pos c.session.inside.time) c.args.letters.now.kind.now c.args.letters.now.level.now c.args.letters.now.status.now c.in_ok-execute.field-0 refl ran.0 in (
       wrote_job_as c.args.job.now c.get.result c.args.client c.args.fileset i.start c.session.inside.id c.session.inside.time c.args.letters.now.kind.now c.args.letters.now.level.now c.args.letters.now.status.now old new
-          ids (ap (λ (j : JobRow). j.start) c.job.view_is) session time c.requires.kind c.requires.level c.requires.status tables ran.1 is_client is_fileset added,
-      new_job c.args.job.now c.get.result c.args.client c.args.fileset i.start c.session.inside.id c.session.inside.time c.args.letters.now.kind.now c.args.letters.now.level.now c.args.letters.now.status.now old.now new.now ids session time tables added,
+          ids (ap (λ (j : JobRow). j.start) c.job.view_is) session time c.requires.kind c.requires.level c.requires.status tables ran.1 is_client is_fileset added.0 added.1,
+      new_job c.args.job.now c.get.result c.args.client c.args.fileset i.start c.session.inside.id c.session.inside.time c.args.letters.now.kind.now c.args.letters.now.level.now c.args.letters.now.status.now old.now new.now ids session time tables added.0 added.1,
     )
