@@ -16,6 +16,8 @@ mod looking_tests;
 #[cfg(test)]
 mod migration_tests;
 #[cfg(test)]
+mod own_tests;
+#[cfg(test)]
 mod stop_tests;
 #[cfg(test)]
 mod stopped_migration_tests;

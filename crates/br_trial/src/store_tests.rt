@@ -20,7 +20,7 @@ fn put<S: Alter>(store: &mut Store<S>, job: &JobRows) -> u32 {
     }
 }
 
-fn insert<S: Alter>(
+pub(crate) fn insert<S: Alter>(
     alloc: Global,
     store: &mut Store<S>,
     id: u32,
