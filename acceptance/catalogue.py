@@ -1,6 +1,6 @@
 #!/usr/bin/env python3
-"""Restores from a catalogue that the real sqlite3 made, with a delivery into a folder and without, lists its jobs, commits a job to
-catalogues that somebody added to, migrates one of version 1, and has sqlite3 check a catalogue that the program made.
+"""Restores from a catalogue that the real sqlite3 made, with a delivery into a folder and without, lists its jobs, migrates one of
+version 1, and has sqlite3 check a catalogue that the program made.
 
     acceptance/catalogue.py                    needs sqlite3, and the program in crates/brestore/out
     acceptance/catalogue.py --program FILE     another program
@@ -10,7 +10,6 @@ The status is 1 if something is not as expected.
 
 import argparse
 import os
-import re
 import shutil
 import subprocess
 import sys
@@ -223,9 +222,6 @@ REFUSED = [
     ("a missing column", "ALTER TABLE Media DROP COLUMN MediaType;", 45),
     ("a missing table", "DROP TABLE Media;", 45),
     ("no files", "DROP TABLE File;", 45),
-    ("a column with another name", "ALTER TABLE Media RENAME COLUMN MediaType TO Kind;", 45),
-    ("a table with another name", "ALTER TABLE Media RENAME TO Volumes;", 45),
-    ("a default for rows that were there", "ALTER TABLE Client ADD COLUMN Note TEXT DEFAULT 'x';", 45),
 ]
 
 # Changes after which the same is restored.
@@ -235,74 +231,6 @@ KEPT = [
     ("another table", "CREATE TABLE Extra(Id INTEGER PRIMARY KEY);"),
     ("an index", "CREATE INDEX FilesOfJobs ON File(JobId);"),
     ("a view", "CREATE VIEW Names AS SELECT Filename FROM File;"),
-    ("statistics", "ANALYZE;"),
-]
-
-
-def order_text():
-    with open(ORDER_SQL) as text:
-        return text.read()
-
-
-# The statements of the catalogue that make its tables, and those that make its rows.
-MAKES_TABLE = re.compile(r"^CREATE TABLE (\w+)\((.*?)\);\n", re.S | re.M)
-TABLE_TEXTS = {it[1]: it for it in MAKES_TABLE.finditer(order_text())}
-ROWS = MAKES_TABLE.sub("", order_text())
-
-
-def remade(table, column, value="NULL"):
-    """Returns statements that give a table a column more, with a value for the rows that are there."""
-    columns, keys = re.fullmatch(r"(.*?)(, UNIQUE\([^(]*\))?", TABLE_TEXTS[table][2], re.S).groups("")
-    fill = f"INSERT INTO New SELECT *, {value} FROM {table};"
-    return f"CREATE TABLE New({columns}, {column}{keys}); {fill} DROP TABLE {table}; ALTER TABLE New RENAME TO {table};"
-
-
-REVERSED = "".join(TABLE_TEXTS[name][0] for name in reversed(TABLE_TEXTS)) + ROWS
-WITH_OWN = "CREATE TABLE Own(Id INTEGER PRIMARY KEY, Name TEXT UNIQUE); INSERT INTO Own VALUES (1, 'x');\n" + order_text()
-IN_SMALL = order_text().replace("CREATE TABLE Client(", "CREATE TABLE client(")
-
-# Catalogues to which a job is committed: the statements that make them, what comes of the commit, and a query with what it shows
-# afterwards. The job has one file, a new folder and a new volume.
-TAKEN = "stored 4\n"
-ADDED = [
-    ("tables in another order", REVERSED, TAKEN, "SELECT count(*) FROM File;", "8\n"),
-    ("another table before them", WITH_OWN, TAKEN, "SELECT * FROM Own;", "1|x\n"),
-    (
-        "a column that may be empty",
-        order_text() + "ALTER TABLE File ADD COLUMN Note TEXT; UPDATE File SET Note = 'mine' WHERE FileId = 7;",
-        TAKEN,
-        "SELECT FileId, Note FROM File WHERE FileId > 6;",
-        "7|mine\n8|\n",
-    ),
-    (
-        "columns in all tables",
-        order_text() + "".join(f"ALTER TABLE {it} ADD COLUMN Note TEXT;" for it in TABLES),
-        TAKEN,
-        "SELECT count(*) FROM File WHERE Note IS NULL;",
-        "8\n",
-    ),
-    ("a default that is a number", order_text() + remade("Job", "Rank INTEGER NOT NULL DEFAULT 7", 5), TAKEN, "SELECT Rank FROM Job;", "5\n5\n5\n7\n"),
-    ("a default that is a text", order_text() + remade("Media", "Note TEXT DEFAULT 'x'"), TAKEN, "SELECT Note FROM Media;", "\nx\n"),
-    ("a default of another type", order_text() + remade("Path", "Depth INTEGER DEFAULT '12'", 3), TAKEN, "SELECT Depth, typeof(Depth) FROM Path;", "3|integer\n3|integer\n12|integer\n"),
-    (
-        "a reference and a key",
-        WITH_OWN + remade("JobMedia", "Own INTEGER REFERENCES Own(Id)", 1).replace("UNIQUE(JobId, VolIndex)", "UNIQUE(JobId, VolIndex), UNIQUE(Own, JobId)"),
-        TAKEN,
-        "SELECT JobId, Own FROM JobMedia ORDER BY JobId;",
-        "1|1\n2|1\n3|1\n4|\n",
-    ),
-    ("a column that has to have a value", order_text() + remade("File", "Note TEXT NOT NULL", "'x'"), "refused 45\n", "SELECT count(*) FROM Job;", "3\n"),
-    ("a check that the default breaks", order_text() + remade("Media", "Slot INTEGER DEFAULT 0 CHECK (Slot > 0)", 1), "refused 45\n", "SELECT count(*) FROM Job;", "3\n"),
-]
-
-# Catalogues that are refused when they are opened.
-UNKNOWN = [
-    ("a column before one of ours", order_text().replace("MediaType TEXT NOT NULL)", "Slot INTEGER, MediaType TEXT NOT NULL)").replace("'File')", "1, 'File')")),
-    ("columns in another order", order_text().replace("VolumeName TEXT NOT NULL UNIQUE, MediaType TEXT NOT NULL", "MediaType TEXT NOT NULL, VolumeName TEXT NOT NULL UNIQUE")),
-    ("a column of another type", order_text().replace("MediaType TEXT", "MediaType INTEGER")),
-    ("a table in small letters", IN_SMALL),
-    ("a column that hides the numbers of the versions", order_text() + "ALTER TABLE Version ADD COLUMN rowid TEXT;"),
-    ("a default that reads the time", order_text() + remade("Job", "Stored TEXT DEFAULT CURRENT_TIMESTAMP")),
 ]
 
 
@@ -337,35 +265,6 @@ def refuses(checks, folder):
     checks.check("a file of other bytes", checks.console(other), (1, "", "refused 45\n"))
     with open(other) as file:
         checks.check("and keeps them", file.read(), text)
-
-
-# A job of one file, in a new folder, on a new volume.
-NEXT_JOB = """job 4 B I T 1795302999 9 1795302999 64512 peer-fd Peer
-put 3 /tmp/peerlab/new/f4 616263 - A A IGk B A A A D A A A A A A
-place Vol-0002 0
-end
-"""
-
-
-def commits(checks, folder):
-    """Commits a job to catalogues that somebody added to, and restores what was there before."""
-    before, text = list(answers().items())[-1]
-    for name, sql, answer, query, shown in ADDED:
-        room = tempfile.mkdtemp(dir=folder)
-        db, volumes = os.path.join(room, "added.db"), os.path.join(room, "volumes")
-        sqlite3(db, sql)
-        shutil.copytree(VOLUMES, volumes)
-        checks.check(f"a catalogue with {name}", checks.console(db, before=before), (0, text, ""))
-        words = [checks.program, "serve", "--db", db, "--volumes", volumes]
-        ran = subprocess.run(words, input=NEXT_JOB, capture_output=True, text=True)
-        checks.check("a commit to it", (ran.returncode, ran.stdout, ran.stderr), (int(answer != TAKEN), answer, ""))
-        checks.check("what is there then", sqlite3(db, query), shown)
-        checks.check("its integrity", sqlite3(db, "PRAGMA integrity_check; PRAGMA foreign_key_check;"), "ok\n")
-        checks.check("and a restore", checks.console(db, before=before), (0, text, ""))
-    for name, sql in UNKNOWN:
-        db = os.path.join(tempfile.mkdtemp(dir=folder), "unknown.db")
-        sqlite3(db, sql)
-        checks.check(f"a catalogue with {name}", checks.console(db), (1, "", "refused 45\n"))
 
 
 # All that the rows of a catalogue of either version say, as sqlite3 shows it.
@@ -460,7 +359,6 @@ def main():
         delivers(checks, folder)
         lists(checks, folder)
         refuses(checks, folder)
-        commits(checks, folder)
         migrates(checks, folder)
         makes(checks, folder)
     return 1 if checks.failed else 0

@@ -5,12 +5,14 @@
 
 Each catalogue is that of catalogues/order.sql with something added to it, or made in another way. Those that are taken give the same
 restores. `serve` commits a job to each: sqlite3 then finds the catalogue sound, with what was added to it as it was, and the job is
-restored. Those that are not taken are refused with 45 by `console`, `serve` and `migrate`, and their files stay as they are. The status
-is 1 if something is not as expected.
+restored. A column that was added to a table of the catalogue has its default, or NULL, in the new row; if that may not be, the job is
+refused with 45 and nothing changes. Catalogues that are not taken are refused with 45 by `console`, `serve` and `migrate`, and their
+files stay as they are. The status is 1 if something is not as expected.
 """
 
 import argparse
 import os
+import re
 import shutil
 import sys
 import tempfile
@@ -47,7 +49,10 @@ TAKEN = {
     "an index and a VACUUM": "CREATE INDEX FilesOfJobs ON File(JobId); VACUUM;",
 }
 REFUSED = {
-    "a column": "ALTER TABLE Job ADD COLUMN Note TEXT;",
+    "a missing column": "ALTER TABLE Media DROP COLUMN MediaType;",
+    "a column with another name": "ALTER TABLE Media RENAME COLUMN MediaType TO Kind;",
+    "a table with another name": "ALTER TABLE Media RENAME TO Volumes;",
+    "a column that hides the numbers of rows": "ALTER TABLE Version ADD COLUMN rowid TEXT;",
     "a column with a default": "ALTER TABLE Media ADD COLUMN Slot INTEGER NOT NULL DEFAULT 7;",
     "auto_vacuum": "PRAGMA auto_vacuum = FULL; VACUUM;",
     "auto_vacuum in steps": "PRAGMA auto_vacuum = INCREMENTAL; VACUUM;",
@@ -99,26 +104,77 @@ def tables_and_rows():
     return tables.split(";")[:-1], ";INSERT" + rows
 
 
+def remade(table, column, value="NULL", key=""):
+    """Returns statements that make a table anew with a column more, which has a value in the rows that are there, and a key."""
+    made = next(it for it in tables_and_rows()[0] if f"TABLE {table}(" in it)
+    columns, keys = re.fullmatch(r".*?\((.*?)((?:, UNIQUE\(\w+, \w+\))?)\)", made, re.S).groups()
+    fill = f"INSERT INTO New SELECT *, {value} FROM {table};"
+    return f"CREATE TABLE New({columns}, {column}{keys}{key}); {fill} DROP TABLE {table}; ALTER TABLE New RENAME TO {table};"
+
+
+# Columns that somebody added to tables of the catalogue, and what a query shows once a job was committed. The job has one row in Job,
+# JobMedia, File and Media each.
+COLUMNS = {
+    "a column": (
+        "ALTER TABLE File ADD COLUMN Note TEXT; UPDATE File SET Note = 'mine' WHERE FileId = 7;",
+        "SELECT FileId, Note FROM File WHERE FileId > 6;",
+        "7|mine\n8|\n",
+    ),
+    "a column in each table": (
+        "".join(f"ALTER TABLE {it} ADD COLUMN Note TEXT;" for it in TABLES),
+        "SELECT count(*) FROM File WHERE Note IS NULL;",
+        "8\n",
+    ),
+    "a default that is a number": (remade("Job", "Rank INTEGER NOT NULL DEFAULT 7", 5), "SELECT Rank FROM Job;", "5\n5\n5\n7\n"),
+    "a default that is a text": (remade("Media", "Note TEXT DEFAULT 'x'"), "SELECT Note FROM Media;", "\nx\n"),
+    "a default of another type": (remade("Media", "Slot INTEGER DEFAULT '12'", 3), "SELECT Slot, typeof(Slot) FROM Media;", "3|integer\n12|integer\n"),
+    "a column with a reference and a key": (
+        "CREATE TABLE Notes(Id INTEGER PRIMARY KEY); INSERT INTO Notes VALUES (1);"
+        + remade("JobMedia", "Note INTEGER REFERENCES Notes(Id)", 1, ", UNIQUE(Note, JobId)"),
+        "SELECT JobId, Note FROM JobMedia ORDER BY JobId;",
+        "1|1\n2|1\n3|1\n4|\n",
+    ),
+}
+# Columns whose default may not be in the row of the job.
+UNFILLED = {
+    "a column that has to have a value": remade("File", "Note TEXT NOT NULL", "'x'"),
+    "a check that the default breaks": remade("Media", "Slot INTEGER DEFAULT 0 CHECK (Slot > 0)", 1),
+    "a key that has the default": remade("Client", "Slot INTEGER DEFAULT 1 UNIQUE", 1)
+    + "DELETE FROM File; DELETE FROM JobMedia; DELETE FROM Job; UPDATE Client SET Name = 'other';",
+}
+
+
 def taken():
     """Returns the texts of the catalogues that are taken."""
     text, (tables, rows) = Path(ORDER_SQL).read_text(), tables_and_rows()
     texts = {name: text + more for name, more in TAKEN.items()}
     between = [*tables[:4], "CREATE INDEX TypesOfMedia ON Media(MediaType)", *tables[4:]]
+    texts["an index between the tables"] = ";".join(between) + rows
     texts["an index between the tables, after a VACUUM"] = ";".join(between) + rows + "VACUUM;"
+    texts["its tables the other way round"] = ";".join(reversed(tables)) + rows
+    texts["its first table last"] = ";".join([*tables[1:], tables[0]]) + rows
+    texts["a table before its own"] = "CREATE TABLE Notes(Note TEXT UNIQUE); INSERT INTO Notes VALUES ('x');" + text
+    texts["a table between its own"] = ";".join([*tables[:4], "CREATE TABLE Notes(Note TEXT)", *tables[4:]]) + rows
+    texts["files that sqlite3 migrated"] = Path(VERSION_1_SQL).read_text() + BY_HAND
     texts["files that sqlite3 migrated, after a VACUUM"] = Path(VERSION_1_SQL).read_text() + BY_HAND + "VACUUM;"
     return texts
 
 
 def refused():
     """Returns the texts of the catalogues that are refused."""
-    text, (tables, rows) = Path(ORDER_SQL).read_text(), tables_and_rows()
+    text = Path(ORDER_SQL).read_text()
     texts = {name: text + more for name, more in REFUSED.items()}
-    texts["its tables the other way round"] = ";".join(reversed(tables)) + rows
-    texts["its first table last"] = ";".join([*tables[1:], tables[0]]) + rows
-    texts["a table before its own"] = "CREATE TABLE Notes(Note TEXT);" + text
-    texts["a table between its own"] = ";".join([*tables[:4], "CREATE TABLE Notes(Note TEXT)", *tables[4:]]) + rows
-    texts["an index between its tables"] = ";".join([*tables[:4], "CREATE INDEX TypesOfMedia ON Media(MediaType)", *tables[4:]]) + rows
-    texts["files that sqlite3 migrated"] = Path(VERSION_1_SQL).read_text() + BY_HAND
+    kind, name = "MediaType TEXT NOT NULL", "VolumeName TEXT NOT NULL UNIQUE"
+    texts["a column before one of its own"] = text.replace(kind, "Slot INTEGER, " + kind).replace("'File')", "1, 'File')")
+    texts["columns the other way round"] = text.replace(f"{name}, {kind}", f"{kind}, {name}")
+    texts["a column of another type"] = text.replace(kind, "MediaType INTEGER NOT NULL")
+    texts["a column that may be empty"] = text.replace(kind, "MediaType TEXT")
+    texts["a default that reads the time"] = text + remade("Job", "Stored TEXT DEFAULT CURRENT_TIMESTAMP")
+    texts["a default that is computed"] = text + remade("Job", "Rank INTEGER DEFAULT (3 + 4)")
+    texts["AUTOINCREMENT"] = text.replace("JobId INTEGER PRIMARY KEY", "JobId INTEGER PRIMARY KEY AUTOINCREMENT")
+    texts["STRICT"] = text.replace("MediaType TEXT NOT NULL)", "MediaType TEXT NOT NULL) STRICT")
+    texts["WITHOUT ROWID"] = text.replace("MediaType TEXT NOT NULL)", "MediaType TEXT NOT NULL) WITHOUT ROWID")
+    texts["a key before its own"] = text + remade("JobMedia", "Slot INTEGER UNIQUE")
     texts["a table's name in other letters"] = text.replace("TABLE Client(", "TABLE CLIENT(")
     texts["texts of two bytes a letter"] = 'PRAGMA encoding = "UTF-16le";' + text
     return texts
@@ -175,14 +231,31 @@ def takes_old(checks, folder, name, added, dropped):
     checks.check("is restored", checks.console(place.db, before=before), (0, printed, ""))
 
 
+def fills(checks, folder, name, text, query, shown):
+    """Commits a job to a catalogue with a column more, and compares what is in the column then."""
+    takes(checks, folder, name, Path(ORDER_SQL).read_text() + text)
+    checks.check("and its values", sqlite3(os.path.join(folder, "own.db"), query), shown)
+
+
+def refuses_job(checks, name, place):
+    """Commits a job to a catalogue that does not allow it."""
+    dump = sqlite3(place.db, ".dump")
+    checks.check(f"{name}: a job", served(checks.program, place.db, place.volumes, JOB), (1, b"refused 45\n", b""))
+    checks.check("and nothing changes", sqlite3(place.db, "PRAGMA integrity_check; .dump".replace("; ", ";\n")), "ok\n" + dump)
+
+
 def cannot_insert(checks, folder):
     """Commits a job to a catalogue whose added index allows no more."""
     place = Place(folder, Path(ORDER_SQL).read_text() + "DELETE FROM File; DELETE FROM JobMedia; DELETE FROM Job; CREATE UNIQUE INDEX OneJob ON Job(ClientId);")
     first = JOB.replace(b"job 4 B I T 1795302950 4", b"job 5 B F T 1795302950 5").replace(b"Own-1", b"Own-2")
     checks.check("an index that allows one job", served(checks.program, place.db, place.volumes, first), (0, b"stored 5\n", b""))
-    dump = sqlite3(place.db, ".dump")
-    checks.check("refuses a second one", served(checks.program, place.db, place.volumes, JOB), (1, b"refused 45\n", b""))
-    checks.check("and nothing changes", sqlite3(place.db, "PRAGMA integrity_check; .dump".replace("; ", ";\n")), "ok\n" + dump)
+    refuses_job(checks, "and then", place)
+
+
+def cannot_fill(checks, folder, name, text):
+    """Commits a job to a catalogue with a column whose default may not be in its row."""
+    place = Place(folder, Path(ORDER_SQL).read_text() + text)
+    refuses_job(checks, name, place)
 
 
 def main():
@@ -197,7 +270,11 @@ def main():
             refuses(checks, folder, name, text)
         for name, (added, dropped) in OLD_ADDITIONS.items():
             takes_old(checks, folder, name, added, dropped)
+        for name, (text, query, shown) in COLUMNS.items():
+            fills(checks, folder, name, text, query, shown)
         cannot_insert(checks, folder)
+        for name, text in UNFILLED.items():
+            cannot_fill(checks, folder, name, text)
     return 1 if checks.failed else 0
 
 
