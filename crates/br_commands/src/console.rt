@@ -573,12 +573,12 @@ fn set_up_tar_output<'r, C: Catalogue>(
 }
 
 /// Carries out a task whose sink writes a tar stream, by lines, with what watches the restore. Returns the exit status.
-fn restore_task<R: BufRead + Drop, T: Channel + Drop, W: Channel + Drop>(
+fn restore_task<'r, R: BufRead + Drop, T: Channel + Drop, W: Channel + Drop>(
     threads: &(impl Threads + Wait + Sync),
-    rt: &HostRuntime,
-    gauge: &Gauge<'_>,
+    rt: &'r HostRuntime,
+    gauge: &'r Gauge<'r>,
     given: &ConsoleOptions<'_>,
-    task: ConsoleTask<HostDrive<'_>, BufWriter<W>, TarSink<BufWriter<T>>>,
+    task: ConsoleTask<HostDrive<'r>, BufWriter<W>, TarSink<BufWriter<T>>>,
     reader: &mut R,
 ) -> io::Result<u8>
     requires few { AreFew (length task.drives.items) }
@@ -596,11 +596,11 @@ fn restore_task<R: BufRead + Drop, T: Channel + Drop, W: Channel + Drop>(
 
 /// Restores by lines into the tar stream that was set up, with the answers to this writer: standard output,
 /// or something else if the stream goes there.
-fn restore_onto<R: BufRead + Drop, T: Channel + Drop, W: Channel + Drop>(
+fn restore_onto<'r, R: BufRead + Drop, T: Channel + Drop, W: Channel + Drop>(
     threads: &(impl Threads + Wait + Sync),
-    watch: (&HostRuntime, &Gauge<'_>),
+    watch: (&'r HostRuntime, &'r Gauge<'r>),
     given: &ConsoleOptions<'_>,
-    setup: ConsoleSetup<'_, TarSink<BufWriter<T>>>,
+    setup: ConsoleSetup<'r, TarSink<BufWriter<T>>>,
     reader: &mut R,
     answers: W,
 ) -> io::Result<u8>
