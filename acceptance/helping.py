@@ -58,9 +58,9 @@ def session(checks, folder, db, lines):
 def helps(checks, folder, db):
     """`help` lists the commands."""
     status, shown, printed = session(checks, folder, db, ["help", "quit"])
-    lines = [line.removeprefix(PROMPT) for line in shown[len(CHOSEN) + len(GREETING) :]]
+    lines = [line.removeprefix(PROMPT) for line in shown[len(CHOSEN) + len(GREETING) : -1]]
     found = [line.split(" ")[0] for line in lines if line[:1].isalpha() and line[:1].islower()]
-    checks.check("help", (status, printed), (0, ""))
+    checks.check("help", (status, printed, shown[-1]), (0, "", PROMPT + QUIT))
     checks.check("each command has a line", found, COMMANDS)
 
 
