@@ -91,7 +91,7 @@ class Runs:
 
 
 def shortened(result):
-    return f"{result[0]} {result[1][-120:]} {result[2][-120:]}"
+    return " ".join(str(part)[-120:] for part in result)
 
 
 # ---- cases: each takes the runs and returns the seconds and MiB that one run may cost

@@ -71,6 +71,8 @@ def main():
     parser.add_argument("--program", default=PROGRAM, help="the program (default: %(default)s)")
     options = parser.parse_args()
     with tempfile.TemporaryDirectory(prefix="brestore-within-") as folder:
+        # hostile.py runs it as a user without rights, too.
+        os.chmod(folder, 0o755)
         program = write_wrapper(folder, options.program, options.size)
         results = [has_passed(script, program) for script in options.scripts or SCRIPTS]
     return 0 if all(results) else 1
