@@ -190,6 +190,20 @@ def restores(checks, folder):
     checks.check("a second restore into the folder", (status, shown, printed), (1, [*told(81), reason], ""))
 
 
+def asks_again(checks, folder):
+    """A session with lines that mark nothing, over a catalogue with a job that wrote to a volume and has no files."""
+    db = os.path.join(folder, "pruned.db")
+    with open(ORDER_SQL) as text:
+        subprocess.run(["sqlite3", db], stdin=text, check=True)
+    subprocess.run(["sqlite3", db, "DELETE FROM File WHERE JobId = 3"], check=True)
+    chosen = [*CHOSEN[:2], "chosen: * 3 I T 2026-11-21 23:15:45 peer-fd Peer 0 0 Vol-0001"]
+    chosen.append("  This job has no files in the catalogue, so none can be marked: use its bootstrap.")
+    lines = typed("", "mark /tmp", "quit")
+    status, shown, printed = play(checks.program, console_words(db, folder)[:-2], lines, folder)
+    wanted = [*chosen, *GREETING, PROMPT + words(55)[0], words(55)[1], PROMPT + words(57)[0], words(57)[1], PROMPT + QUIT]
+    checks.check("a blank line, and a path from the top", (status, shown, printed), (1, wanted, "refused 55\nrefused 57\n"))
+
+
 def extracts(checks, folder):
     """Restores by a bootstrap, with faults of the volumes."""
     empty, cut = os.path.join(folder, "empty"), os.path.join(folder, "cut")
@@ -341,7 +355,7 @@ def main():
     checks = Checks(os.path.abspath(options.program))
     folder = tempfile.mkdtemp(prefix="brestore-terminal-")
     try:
-        for plays in (restores, extracts, tells, tells_a_session, leaves_unsaid, looks, waits):
+        for plays in (restores, asks_again, extracts, tells, tells_a_session, leaves_unsaid, looks, waits):
             plays(checks, folder)
     finally:
         shutil.rmtree(folder)
