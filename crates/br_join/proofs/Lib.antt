@@ -1,6 +1,5 @@
 mod ChoiceLaws
 mod DataLaws
-pub mod HeldLaws
 mod JoinLaws
 mod PartLaws
 pub mod PlainLaws

@@ -30,6 +30,10 @@ taken_together xs ys = hits_are_lookups_lem (with_hits (hits_of xs) ys) (hits_of
     ∙ (λ i. option_or (get-from_entries hit_cmp_total (listed xs) q i) (get-from_entries hit_cmp_total (listed ys) q i))
     ∙ sym (get-from_entries hit_cmp_total (listed (xs ++ ys)) q ∙ find_joined xs ys q))
 
+-- a list that is longer by some hits has them after what it had
+pub took_more : (held : Hits) (before after hits : List Hit) → hits_of before ≡ held → after ≡ before ++ hits → hits_of after ≡ with_hits held hits
+took_more held before after hits had is = ap hits_of is ∙ sym (taken_together before hits) ∙ ap (λ (s : Hits). with_hits s hits) had
+
 -- ---- none, and one list after the other
 
 pub or_none : (o : Option Fragment) → option_or o None ≡ o

@@ -1,7 +1,6 @@
 pub mod Code
 pub mod Data
 pub mod Fault
-pub mod Held
 pub mod Joining
 pub mod Making
 pub mod Opening

@@ -1,5 +1,5 @@
 -- The plain data of a file: those of stream 2, one after another.
-use Rattle.std.specs.Prelude.{ℕ, ◌^◌, Bool, not, ◌==◌, nat_lt, if◌then◌else◌, List, [], length, flat_map, Result, Ok, Err, nat_abs}
+use Rattle.std.specs.Prelude.{ℕ, ◌^◌, not, ◌==◌, nat_lt, if◌then◌else◌, List, [], length, flat_map, Result, Ok, Err, nat_abs}
 use Rattle.br_model.specs.Block.{Fragment}
 use Rattle.br_model.specs.File.{has_bytes}
 use Rattle.br_model.specs.Record.{Record}

@@ -1,191 +1,48 @@
-ghost use Rattle.std.specs.Prelude.{◌≡◌, ◌≤◌, [], ◌∷◌, ◌++◌, length, true, vec_capacity, IfOk, IfErr, OnOk, OnErr};
-ghost use Rattle.std.specs.BTreeMap.{btree_map_len, values, IsEmpty};
+ghost use Rattle.std.specs.Prelude.{◌≡◌, ◌+◌, ◌≤◌, ◌++◌, vec_capacity, vec_len, IfOk, IfErr, OnOk, OnErr};
 ghost use Rattle.std.specs.FinMap.{empty};
 ghost use Rattle.br_model.specs.Meaning.{hits_of, with_hits};
-ghost use Rattle.br_join.specs.Held.{AreKeyed, HasOneLess, HasOneMore, all_held, taken_in};
 ghost use Rattle.br_join.specs.Runs.{AreListed};
 
 use crate::room::Room;
-use br_match::{Hit, Spot};
-use br_types::FileKey;
+use br_match::Hit;
+use br_records::settle;
 use std::alloc::{AllocError, Global};
-use std::collections::BTreeMap;
 use std::marker::Model;
 use std::mem;
 
+/// The number of hits that are taken before the list is sorted for the first time.
+const FIRST_LEN: usize = 4096;
+
 /// A set of hits. Of several at one place of one file it has the first that was taken.
 ///
-/// Hits that come in order of file and place are kept in a list. From the first one on that comes out
-/// of order they go into a tree, which takes two to three times as much memory for each of them.
+/// Hits are listed as they come, and sorted as they are moved out: a list takes a third of the memory of a tree. Hits
+/// that come again, as after a drive failed, make it longer. So it is also sorted each time that it is twice as long
+/// as after the sort before, and of hits at one place the first is kept.
 #[derive(Debug, Drop)]
 pub(crate) struct Held {
-    /// The hits that were taken before those in the tree, in order of file and place.
-    row: Vec<Hit>,
-    placed: BTreeMap<(FileKey, Spot), Hit>,
-    /// The hits for which there was no memory, the last one first.
-    waiting: Vec<Hit>,
+    hits: Vec<Hit>,
+    /// The number of hits from which on the list is sorted before more are taken.
+    full: usize,
 }
 
 impl Model for Held {
     ghost use Rattle.br_model.specs.Meaning as model;
+    ghost use Rattle.br_model.specs.Meaning.{hits_of};
     ghost use Rattle.br_join.specs.Code.{coded_hits};
-    ghost use Rattle.br_join.specs.Held.{AreKeyed, all_held};
-    ghost use Rattle.br_join.specs.Runs.{AreListed};
 
     ghost Value = { model.Hits };
 
     ghost coded = { coded_hits };
 
-    ghost view = { λ h. all_held h.row.items h.placed h.waiting.items };
-
-    ghost invariant = { λ h. AreListed h.row.items × AreKeyed h.placed.entries };
+    ghost view = { λ h. hits_of h.hits.items };
 }
 
-/// Puts a hit in its place in the tree, unless the place is taken. Returns the hit if there is no
-/// memory for it.
-fn place(placed: &mut BTreeMap<(FileKey, Spot), Hit>, hit: Hit) -> Result<(), Hit>
-    requires keyed { AreKeyed placed.old.entries }
-    ensures keyed { AreKeyed placed.new.entries }
-    ensures ok { OnOk result (HasOneMore (values placed.old) (values placed.new) hit) }
-    ensures err { OnErr result (placed.new.entries ≡ placed.old.entries) }
-    ensures back { IfErr result (λ value. value ≡ hit) }
+/// Appends hits to a list that has room for them.
+fn append(list: &mut Vec<Hit>, mut hits: Vec<Hit>)
+    requires { vec_len list.old + vec_len hits ≤ vec_capacity list.old }
+    ensures { list.new.items ≡ list.old.items ++ hits.items }
 {
-    let (key, spot) = (hit.key, hit.spot);
-    match placed.insert((key, spot), hit) {
-        Ok(None) => Ok(()),
-        // The first hit at a place stays. It is rare that there is another one.
-        Ok(Some(first)) => match placed.insert((key, spot), first) {
-            Ok(_) => Ok(()),
-            Err(refused) => Err(refused.value.1),
-        },
-        Err(refused) => Err(refused.value.1),
-    }
-}
-
-/// Returns whether a hit is after all of a row.
-fn is_after(row: &[Hit], hit: &Hit) -> bool
-    requires { AreListed row.now }
-    ensures { result ≡ true → AreListed (row.now ++ hit.now ∷ []) }
-{
-    match row.last() {
-        Some(last) => (last.key, last.spot).cmp(&(hit.key, hit.spot)).is_lt(),
-        None => true,
-    }
-}
-
-/// Returns whether a hit goes on with a row: if it is after all of it, and there is none in the tree.
-fn is_next(row: &[Hit], placed: &BTreeMap<(FileKey, Spot), Hit>, hit: &Hit) -> bool
-    requires { AreListed row.now }
-    ensures none { result ≡ true → IsEmpty placed.now }
-    ensures listed { result ≡ true → AreListed (row.now ++ hit.now ∷ []) }
-{
-    placed.is_empty() && is_after(row, hit)
-}
-
-/// Appends a hit to the row if it is after all that were taken, else puts it in its place in the tree,
-/// unless the place is taken. Returns the hit if there is no memory for it.
-fn keep(
-    row: &mut Vec<Hit>,
-    placed: &mut BTreeMap<(FileKey, Spot), Hit>,
-    hit: Hit,
-) -> Result<(), Hit>
-    requires listed { AreListed row.old.items }
-    requires keyed { AreKeyed placed.old.entries }
-    ensures listed { AreListed row.new.items }
-    ensures keyed { AreKeyed placed.new.entries }
-    ensures ok { OnOk result (HasOneMore (taken_in row.old.items placed.old) (taken_in row.new.items placed.new) hit) }
-    ensures err { OnErr result (taken_in row.new.items placed.new ≡ taken_in row.old.items placed.old) }
-    ensures back { IfErr result (λ value. value ≡ hit) }
-{
-    if !is_next(row, placed, &hit) {
-        return place(placed, hit);
-    }
-    match row.push(hit) {
-        Ok(()) => Ok(()),
-        Err(refused) => Err(refused.value),
-    }
-}
-
-/// Keeps hits, the last one first, as long as there is memory.
-fn keep_all(row: &mut Vec<Hit>, placed: &mut BTreeMap<(FileKey, Spot), Hit>, waiting: &mut Vec<Hit>)
-    requires listed { AreListed row.old.items }
-    requires keyed { AreKeyed placed.old.entries }
-    ensures listed { AreListed row.new.items }
-    ensures keyed { AreKeyed placed.new.entries }
-    ensures same { all_held row.new.items placed.new waiting.new.items ≡ all_held row.old.items placed.old waiting.old.items }
-{
-    while let Some(hit) = waiting.pop() {
-        if let Err(hit) = keep(row, placed, hit) {
-            waiting.push_reserved(hit);
-            return;
-        }
-    }
-}
-
-/// Puts a hit in its place in the tree, whether the place is taken or not. Returns the hit if there is
-/// no memory for it.
-fn place_over(placed: &mut BTreeMap<(FileKey, Spot), Hit>, hit: Hit) -> Result<(), Hit>
-    requires keyed { AreKeyed placed.old.entries }
-    ensures keyed { AreKeyed placed.new.entries }
-    ensures ok { OnOk result (HasOneLess (values placed.old) (values placed.new) hit) }
-    ensures err { OnErr result (placed.new.entries ≡ placed.old.entries) }
-    ensures back { IfErr result (λ value. value ≡ hit) }
-{
-    match placed.insert((hit.key, hit.spot), hit) {
-        Ok(_) => Ok(()),
-        Err(refused) => Err(refused.value.1),
-    }
-}
-
-/// Moves the hits of a row into the tree, the last one first. They were taken before those in the
-/// tree, so that they stay at their places. If memory runs out, some are left in the row.
-fn move_in(
-    row: &mut Vec<Hit>,
-    placed: &mut BTreeMap<(FileKey, Spot), Hit>,
-) -> Result<(), AllocError>
-    requires listed { AreListed row.old.items }
-    requires keyed { AreKeyed placed.old.entries }
-    ensures listed { AreListed row.new.items }
-    ensures keyed { AreKeyed placed.new.entries }
-    ensures same { hits_of (taken_in row.new.items placed.new) ≡ hits_of (taken_in row.old.items placed.old) }
-    ensures ok { OnOk result (row.new.items ≡ []) }
-{
-    while let Some(hit) = row.pop() {
-        if let Err(hit) = place_over(placed, hit) {
-            row.push_reserved(hit);
-            return Err(AllocError);
-        }
-    }
-    Ok(())
-}
-
-/// Moves the hits of a tree to a list, in order of file and place.
-fn move_out(placed: &mut BTreeMap<(FileKey, Spot), Hit>, hits: &mut Vec<Hit>)
-    requires none { hits.old.items ≡ [] }
-    requires room { btree_map_len placed.old ≤ vec_capacity hits.old }
-    ensures none { IsEmpty placed.new }
-    ensures hits { hits.new.items ≡ values placed.old }
-{
-    while let Some((_, hit)) = placed.pop_first() {
-        hits.push_reserved(hit);
-    }
-}
-
-/// Returns the hits of a tree in order of file and place, and leaves it empty. A refusal changes
-/// nothing.
-fn tree_out(
-    alloc: Global,
-    placed: &mut BTreeMap<(FileKey, Spot), Hit>,
-) -> Result<Vec<Hit>, AllocError>
-    requires keyed { AreKeyed placed.old.entries }
-    ensures none { OnOk result (IsEmpty placed.new) }
-    ensures err { OnErr result (placed.new.entries ≡ placed.old.entries) }
-    ensures listed { IfOk result (λ hits. AreListed hits.items) }
-    ensures hits { IfOk result (λ hits. hits.items ≡ values placed.old) }
-{
-    let mut hits = Vec::with_capacity(alloc, placed.len())?;
-    move_out(placed, &mut hits);
-    Ok(hits)
+    let _appended = list.append(&mut hits);
 }
 
 impl Held {
@@ -194,10 +51,21 @@ impl Held {
         ensures { result ≡ empty }
     {
         Held {
-            row: Vec::new(alloc),
-            placed: BTreeMap::new(alloc),
-            waiting: Vec::new(alloc),
+            hits: Vec::new(alloc),
+            full: FIRST_LEN,
         }
+    }
+
+    /// Sorts the list if it is twice as long as after the sort before. If there is no memory for that, it stays as it
+    /// is until it is twice as long again.
+    fn shorten(&mut self)
+        ensures { self.new ≡ self.old }
+    {
+        if self.hits.len() < self.full {
+            return;
+        }
+        let _sorted = settle(&mut self.hits);
+        self.full = self.hits.len().saturating_mul(2);
     }
 
     /// Takes hits, and lets the data go for which there is no room. Returns the hits as they were if
@@ -207,14 +75,11 @@ impl Held {
         ensures err { OnErr result (self.new ≡ self.old) }
         ensures back { IfErr result (λ value. value ≡ hits) }
     {
-        keep_all(&mut self.row, &mut self.placed, &mut self.waiting);
-        if !self.waiting.is_empty() {
+        self.shorten();
+        if self.hits.try_reserve(hits.len()).is_err() {
             return Err(hits);
         }
-        let mut next = room.fit(hits);
-        next.reverse();
-        self.waiting = next;
-        keep_all(&mut self.row, &mut self.placed, &mut self.waiting);
+        append(&mut self.hits, room.fit(hits));
         Ok(())
     }
 
@@ -225,26 +90,16 @@ impl Held {
         ensures listed { IfOk result (λ hits. AreListed hits.items) }
         ensures same { IfOk result (λ hits. hits_of hits.items ≡ self.old) }
     {
-        keep_all(&mut self.row, &mut self.placed, &mut self.waiting);
-        if !self.waiting.is_empty() {
-            return Err(AllocError);
-        }
-        let alloc = *self.waiting.allocator();
-        if self.placed.is_empty() {
-            return Ok(mem::replace(&mut self.row, Vec::new(alloc)));
-        }
-        move_in(&mut self.row, &mut self.placed)?;
-        tree_out(alloc, &mut self.placed)
+        settle(&mut self.hits)?;
+        let alloc = *self.hits.allocator();
+        self.full = FIRST_LEN;
+        Ok(mem::replace(&mut self.hits, Vec::new(alloc)))
     }
 
     /// Takes back the hits that were moved out.
     pub(crate) fn put_back(&mut self, hits: Vec<Hit>)
-        requires none { self.old ≡ empty }
-        requires listed { AreListed hits.items }
         ensures { self.new ≡ hits_of hits.items }
     {
-        self.row = hits;
-        self.placed.clear();
-        self.waiting.clear();
+        self.hits = hits;
     }
 }

@@ -25,8 +25,8 @@ use std::marker::Model;
 use std::thread::Threads;
 
 /// Gathers what was found of the pieces of a bootstrap, and makes files of it. Of several hits at
-/// one place of one file it keeps the first that was taken. It keeps hits in order of file and place,
-/// so that the time for taking one is log n in the number of hits.
+/// one place of one file it keeps the first that was taken. It lists hits as they come, and sorts them at
+/// the end.
 ///
 /// Data for which there is no room are let go as they are taken, except attributes and digests. The
 /// hits are the same for contracts, which see their bytes whether they are in memory or not.
@@ -225,7 +225,7 @@ impl Joiner {
     /// joiner keeps its names, and is then empty, its pieces open.
     ///
     /// The files are made in as many threads as there are processors, and the result is that of one
-    /// thread. Nothing is sorted: the time is that of the hits, and log n for each name.
+    /// thread. The hits are sorted first, beside a list as long as theirs. Hits that came in order are not.
     ///
     /// # Errors
     ///
