@@ -114,8 +114,8 @@ fn got_by(
 }
 
 /// Returns the number of files that the group asks for: those of the sessions that it admits, and of the indexes in
-/// its ranges of FileIndex, if it has any.
-pub(crate) fn got_of(alloc: Global, keys: &[FileKey], group: &Group) -> Result<u128, AllocError>
+/// its ranges of FileIndex, if it has any. The files are in order of key.
+pub fn got_of(alloc: Global, keys: &[FileKey], group: &Group) -> Result<u128, AllocError>
     requires { AreSorted keys.now }
     ensures { IfOk result (λ n. n ≡ got group.now keys.now) }
 {

@@ -8,5 +8,6 @@ mod lacking;
 mod lines;
 mod near;
 
+pub use counting::got_of;
 pub use lacking::{Gap, missing};
 pub use lines::report;

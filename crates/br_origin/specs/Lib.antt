@@ -1,3 +1,4 @@
 pub mod Narrowing
+pub mod Own
 pub mod Attributes
 pub mod Origins

@@ -1,5 +1,6 @@
 -- The groups of a bootstrap that ask for a file, of which each asks for its attributes alone.
-use Rattle.std.specs.Prelude.{ℕ, Bool, ◌&&◌, List, [], ◌∷◌, if◌then◌else◌}
+use Rattle.std.specs.Prelude.{ℕ, Bool, ◌&&◌, ◌==◌, not, List, [], ◌∷◌, if◌then◌else◌}
+use Rattle.br_missing.specs.Counted.{got}
 use Rattle.br_model.specs.Name.{FileKey}
 use Rattle.br_model.specs.Bootstrap.{Range, Group, admits}
 
@@ -7,23 +8,18 @@ use Rattle.br_model.specs.Bootstrap.{Range, Group, admits}
 abbrev pub asks_for : FileKey → Group → Bool
 asks_for key g = admits g.session_ids key.session.id && admits g.session_times key.session.time && admits g.indexes key.index
 
+-- whether the group asks for one of the files
+abbrev pub asks_for_any : List FileKey → Group → Bool
+asks_for_any keys g = not (got g keys == 0)
+
 -- the range of one number
 abbrev pub one : ℕ → List Range
 one n = record { low = n; high = n } ∷ []
 
--- the group that asks for the attributes of the file, in the blocks where this one does
-abbrev pub narrow : FileKey → Group → Group
-narrow key g = record {
-  volume = g.volume;
-  session_ids = one key.session.id;
-  session_times = one key.session.time;
-  files = g.files;
-  blocks = g.blocks;
-  addresses = g.addresses;
-  indexes = one key.index;
-  streams = one 1;
-}
+-- the group that asks for the attributes alone of what this one asks for
+abbrev pub narrow : Group → Group
+narrow g = record g { streams = one 1 }
 
--- this group, if the other one asks for the file
-abbrev pub narrow_to : FileKey → Group → List Group
-narrow_to key g = if asks_for key g then narrow key g ∷ [] else []
+-- the group that asks for the attributes alone, if this one asks for one of the files
+abbrev pub narrow_to : List FileKey → Group → List Group
+narrow_to keys g = if asks_for_any keys g then narrow g ∷ [] else []

@@ -1,6 +1,6 @@
 //! The paths in the attributes of files.
-ghost use Rattle.std.specs.Prelude.{◌≡◌, ◌++◌, option_map, IfOk, OnOk};
-ghost use Rattle.br_origin.specs.Attributes.{bytes_at, bytes_for, path_in};
+ghost use Rattle.std.specs.Prelude.{◌≡◌, ◌++◌, IfOk, OnOk};
+ghost use Rattle.br_origin.specs.Attributes.{bytes_in, path_in};
 
 use br_attr::{Attr, AttrFault};
 use br_match::Hit;
@@ -21,24 +21,14 @@ fn push_bytes(bytes: &mut Vec<u8>, hit: &Hit) -> Result<(), AllocError>
     }
 }
 
-/// Appends the bytes of a hit, if it is one of the file.
-fn push_if_of(bytes: &mut Vec<u8>, key: FileKey, hit: &Hit) -> Result<(), AllocError>
-    ensures { OnOk result (bytes.new.items ≡ bytes.old.items ++ bytes_at key hit.now) }
-{
-    if hit.key == key {
-        return push_bytes(bytes, hit);
-    }
-    Ok(())
-}
-
-/// Returns the bytes of the hits that are of the file, one after the other.
-#[tactic(auto, unfolding(crate::specs::Attributes::bytes_for))]
-fn bytes_of(alloc: Global, key: FileKey, hits: &[Hit]) -> Result<Vec<u8>, AllocError>
-    ensures { IfOk result (λ bytes. bytes.items ≡ bytes_for key hits.now) }
+/// Returns the bytes of some hits, one after the other.
+#[tactic(auto, unfolding(crate::specs::Attributes::bytes_in))]
+fn bytes_of(alloc: Global, hits: &[Hit]) -> Result<Vec<u8>, AllocError>
+    ensures { IfOk result (λ bytes. bytes.items ≡ bytes_in hits.now) }
 {
     let mut bytes = Vec::new(alloc);
     for hit in hits {
-        push_if_of(&mut bytes, key, hit)?;
+        push_bytes(&mut bytes, hit)?;
     }
     Ok(bytes)
 }
@@ -57,11 +47,11 @@ fn path_read(alloc: Global, key: FileKey, bytes: &[u8]) -> Result<Option<Path>, 
     }
 }
 
-/// Returns the path in the attributes of a file, which the hits of the file have one after the other, nothing if
-/// they can't be read.
-pub(crate) fn path_of(alloc: Global, key: FileKey, hits: &[Hit]) -> Result<Option<Path>, AllocError>
-    ensures { IfOk result (λ path. path ≡ path_in key (bytes_for key hits.now)) }
+/// Returns the path in the attributes of a file, which its hits have one after the other, nothing if they can't be
+/// read.
+pub(crate) fn path_of(alloc: Global, key: FileKey, own: &[Hit]) -> Result<Option<Path>, AllocError>
+    ensures { IfOk result (λ path. path ≡ path_in key (bytes_in own.now)) }
 {
-    let bytes = bytes_of(alloc, key, hits)?;
+    let bytes = bytes_of(alloc, own)?;
     path_read(alloc, key, &bytes)
 }

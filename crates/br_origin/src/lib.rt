@@ -7,5 +7,7 @@
 mod attributes;
 mod narrowing;
 mod origin;
+mod own;
+mod searching;
 
 pub use origin::{Origin, origins};

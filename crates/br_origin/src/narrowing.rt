@@ -1,12 +1,15 @@
-//! The groups of a bootstrap that ask for a file, of which each asks for its attributes alone.
-ghost use Rattle.std.specs.Prelude.{◌≡◌, ◌++◌, ◌∷◌, [], flat_map, find, IfOk, OnOk};
+//! The groups of a bootstrap that ask for some files, each narrowed to attributes.
+ghost use Rattle.std.specs.Prelude.{◌≡◌, ◌++◌, ◌==◌, not, find, flat_map, IfOk, OnOk};
 ghost use Rattle.std.specs.Int.{is_in_range};
 ghost use Rattle.std.specs.List.{list_any};
 ghost use Rattle.std.specs.Option.{option_copied};
+ghost use Rattle.std.specs.List.Sorted.{IsSorted};
+ghost use Rattle.br_model.specs.Name.{key_cmp};
 ghost use Rattle.br_model.specs.Bootstrap.{admits as admits_number};
-ghost use Rattle.br_origin.specs.Narrowing.{asks_for as is_asked, narrow, narrow_to, one};
+ghost use Rattle.br_origin.specs.Narrowing.{asks_for as is_asked, asks_for_any as is_any_asked, narrow, narrow_to, one};
 
 use br_bsr::{Group, Range};
+use br_missing::got_of;
 use br_types::FileKey;
 use std::alloc::{AllocError, Global};
 
@@ -42,6 +45,14 @@ pub(crate) fn first_for(groups: &[Group], key: FileKey) -> Option<&Group>
     groups.iter().find(|group| asks_for(group, key))
 }
 
+/// Returns if the group asks for one of the files, in time log n beside that of these if the group names one session.
+fn asks_for_any(alloc: Global, group: &Group, keys: &[FileKey]) -> Result<bool, AllocError>
+    requires { IsSorted key_cmp keys.now }
+    ensures { IfOk result (λ b. b ≡ is_any_asked keys.now group.now) }
+{
+    Ok(got_of(alloc, keys, group)? != 0)
+}
+
 /// Returns the range of one number.
 fn range_of(alloc: Global, number: u64) -> Result<Vec<Range>, AllocError>
     ensures { IfOk result (λ ranges. ranges.items ≡ one number) }
@@ -54,64 +65,51 @@ fn range_of(alloc: Global, number: u64) -> Result<Vec<Range>, AllocError>
     Ok(ranges)
 }
 
-/// Returns the group that asks for the attributes of the file, in the blocks where this one does.
-fn narrowed(alloc: Global, group: &Group, key: FileKey) -> Result<Group, AllocError>
-    ensures { IfOk result (λ g. g ≡ narrow key group.now) }
+/// Returns the group that asks for the attributes alone of what this one asks for.
+fn narrowed(alloc: Global, group: &Group) -> Result<Group, AllocError>
+    ensures { IfOk result (λ g. g ≡ narrow group.now) }
 {
     Ok(Group {
         vol: group.vol.copy(alloc)?,
-        session_ids: range_of(alloc, u64::from(key.session.id))?,
-        session_times: range_of(alloc, u64::from(key.session.time))?,
+        session_ids: Vec::from_slice(alloc, &group.session_ids)?,
+        session_times: Vec::from_slice(alloc, &group.session_times)?,
         files: Vec::from_slice(alloc, &group.files)?,
         blocks: Vec::from_slice(alloc, &group.blocks)?,
         addrs: Vec::from_slice(alloc, &group.addrs)?,
-        indexes: range_of(alloc, u64::from(key.index.get()))?,
+        indexes: Vec::from_slice(alloc, &group.indexes)?,
         streams: range_of(alloc, ATTRIBUTES)?,
     })
 }
 
-/// Appends the group that asks for the attributes of the file, if this one asks for the file.
+/// Appends the group that asks for the attributes alone, if this one asks for one of the files.
 fn push_narrowed(
     alloc: Global,
     narrow: &mut Vec<Group>,
     group: &Group,
-    key: FileKey,
+    keys: &[FileKey],
 ) -> Result<(), AllocError>
-    ensures { OnOk result (narrow.new.items ≡ narrow.old.items ++ narrow_to key group.now) }
+    requires { IsSorted key_cmp keys.now }
+    ensures { OnOk result (narrow.new.items ≡ narrow.old.items ++ narrow_to keys.now group.now) }
 {
-    if !asks_for(group, key) {
+    if !asks_for_any(alloc, group, keys)? {
         return Ok(());
     }
-    narrow.push(narrowed(alloc, group, key)?)?;
+    narrow.push(narrowed(alloc, group)?)?;
     Ok(())
 }
 
-/// Appends for each of the groups that asks for the file one that asks for its attributes.
-fn push_all(
-    alloc: Global,
-    narrow: &mut Vec<Group>,
-    groups: &[Group],
-    key: FileKey,
-) -> Result<(), AllocError>
-    ensures { OnOk result (narrow.new.items ≡ narrow.old.items ++ flat_map (narrow_to key) groups.now) }
-{
-    for group in groups {
-        push_narrowed(alloc, narrow, group, key)?;
-    }
-    Ok(())
-}
-
-/// Returns for each of the files the groups that ask for its attributes, where the given ones ask for it.
+/// Returns of the groups that ask for one of the files, which are in order, those that ask for the attributes alone.
 pub(crate) fn narrowed_to(
     alloc: Global,
     groups: &[Group],
     keys: &[FileKey],
 ) -> Result<Vec<Group>, AllocError>
-    ensures { IfOk result (λ narrow. narrow.items ≡ flat_map (λ key. flat_map (narrow_to key) groups.now) keys.now) }
+    requires { IsSorted key_cmp keys.now }
+    ensures { IfOk result (λ narrow. narrow.items ≡ flat_map (narrow_to keys.now) groups.now) }
 {
     let mut narrow = Vec::new(alloc);
-    for key in keys {
-        push_all(alloc, &mut narrow, groups, *key)?;
+    for group in groups {
+        push_narrowed(alloc, &mut narrow, group, keys)?;
     }
     Ok(narrow)
 }

@@ -1,0 +1,17 @@
+//! The hits of one file among those of many.
+ghost use Rattle.std.specs.Prelude.{◌≡◌};
+ghost use Rattle.br_origin.specs.Own.{hits_of};
+ghost use Rattle.br_records.specs.Runs.{AreListed};
+
+use br_match::Hit;
+use br_types::FileKey;
+
+/// Returns the hits of the file, in time log n.
+pub(crate) fn own_hits(hits: &[Hit], key: FileKey) -> &[Hit]
+    requires { AreListed hits.now }
+    ensures { result.now ≡ hits_of key hits.now }
+{
+    let (_, rest) = hits.split_at(hits.partition_point(|hit| hit.key < key));
+    let (own, _) = rest.split_at(rest.partition_point(|hit| hit.key <= key));
+    own
+}
