@@ -1,2 +1,3 @@
 pub mod OwnLaws
 pub mod OriginLaws
+pub mod AskingLaws

@@ -4,6 +4,7 @@
 //! Any call that returns a `Result` may also fail because memory ran out.
 #![tactic(auto)]
 
+mod asking;
 mod attributes;
 mod narrowing;
 mod origin;

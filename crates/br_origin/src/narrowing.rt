@@ -23,26 +23,10 @@ fn contains_any(ranges: &[Range], number: u64) -> bool
 }
 
 /// Returns if the ranges admit the number: one of them contains it, or there is none.
-fn admits(ranges: &[Range], number: u64) -> bool
+pub(crate) fn admits(ranges: &[Range], number: u64) -> bool
     ensures { result ≡ admits_number ranges.now number }
 {
     ranges.is_empty() || contains_any(ranges, number)
-}
-
-/// Returns if the group asks for the file.
-fn asks_for(group: &Group, key: FileKey) -> bool
-    ensures { result ≡ is_asked key group.now }
-{
-    admits(&group.session_ids, u64::from(key.session.id))
-        && admits(&group.session_times, u64::from(key.session.time))
-        && admits(&group.indexes, u64::from(key.index.get()))
-}
-
-/// Returns the first of the groups that asks for the file.
-pub(crate) fn first_for(groups: &[Group], key: FileKey) -> Option<&Group>
-    ensures { option_copied result ≡ find (is_asked key) groups.now }
-{
-    groups.iter().find(|group| asks_for(group, key))
 }
 
 /// Returns if the group asks for one of the files, in time log n beside that of these if the group names one session.

@@ -4,16 +4,20 @@ ghost use Rattle.std.specs.Option.{option_copied};
 ghost use Rattle.br_origin.specs.Origins.{AreOrigins, ComeFrom, group_hit as hit_by, origin_by, origin_of as origin, volume_asked, volume_for};
 ghost use Rattle.br_records.specs.Runs.{AreListed};
 
+use crate::asking::Asking;
 use crate::attributes::path_of;
-use crate::narrowing::{first_for, narrowed_to};
+use crate::narrowing::narrowed_to;
 use crate::own::own_hits;
 use crate::searching::{hits_in, sorted};
 use br_bsr::{Bootstrap, Group};
 use br_match::Hit;
 use br_piece::split;
-use br_types::{FileKey, Path, VolName};
+use br_types::{FileKey, Path, SessionKey, VolName};
 use br_volume::Drive;
 use std::alloc::{AllocError, Global};
+
+/// The session that is asked of first, whatever the files are.
+const FIRST: SessionKey = SessionKey { id: 0, time: 0 };
 
 /// Where a file comes from.
 #[derive(Debug, Drop)]
@@ -35,11 +39,16 @@ fn group_hit<'g>(searched: &'g [Group], own: &[Hit]) -> Option<&'g Group>
     }
 }
 
-/// Returns the volume of the first group that asks for the file.
-fn vol_asked(alloc: Global, groups: &[Group], key: FileKey) -> Result<Option<VolName>, AllocError>
-    ensures { IfOk result (λ vol. vol ≡ volume_asked groups.now key) }
+/// Returns the volume of the first group that asks for the file, which is one of the session.
+fn vol_asked(
+    alloc: Global,
+    asking: &Asking<'_>,
+    key: FileKey,
+) -> Result<Option<VolName>, AllocError>
+    requires { key.session ≡ asking.now.session }
+    ensures { IfOk result (λ vol. vol ≡ volume_asked asking.now.groups.now key) }
 {
-    match first_for(groups, key) {
+    match asking.first_for(key) {
         Some(group) => Ok(Some(group.vol.copy(alloc)?)),
         None => Ok(None),
     }
@@ -48,32 +57,34 @@ fn vol_asked(alloc: Global, groups: &[Group], key: FileKey) -> Result<Option<Vol
 /// Returns the volume on which the first of a file's hits is, or else that of the first group that asks for the file.
 fn vol_of(
     alloc: Global,
-    groups: &[Group],
+    asking: &Asking<'_>,
     searched: &[Group],
     own: &[Hit],
     key: FileKey,
 ) -> Result<Option<VolName>, AllocError>
-    ensures { IfOk result (λ vol. vol ≡ volume_for groups.now searched.now own.now key) }
+    requires { key.session ≡ asking.now.session }
+    ensures { IfOk result (λ vol. vol ≡ volume_for asking.now.groups.now searched.now own.now key) }
 {
     match group_hit(searched, own) {
         Some(group) => Ok(Some(group.vol.copy(alloc)?)),
-        None => vol_asked(alloc, groups, key),
+        None => vol_asked(alloc, asking, key),
     }
 }
 
-/// Returns where the file comes from, by its hits.
+/// Returns where the file, which is one of the session, comes from, by its hits.
 fn origin_by_own(
     alloc: Global,
-    groups: &[Group],
+    asking: &Asking<'_>,
     searched: &[Group],
     own: &[Hit],
     key: FileKey,
 ) -> Result<Origin, AllocError>
-    ensures { IfOk result (λ origin. origin ≡ origin_by groups.now searched.now key own.now) }
+    requires { key.session ≡ asking.now.session }
+    ensures { IfOk result (λ origin. origin ≡ origin_by asking.now.groups.now searched.now key own.now) }
 {
     Ok(Origin {
         key,
-        vol: vol_of(alloc, groups, searched, own, key)?,
+        vol: vol_of(alloc, asking, searched, own, key)?,
         path: path_of(alloc, key, own)?,
     })
 }
@@ -91,9 +102,11 @@ fn origins_by(
     ensures { IfOk result (λ origins. AreOrigins groups.now searched.now keys.now hits.now origins.items) }
 {
     let mut origins = Vec::with_capacity(alloc, keys.len())?;
+    let mut asking = Asking::of(alloc, groups, FIRST)?;
     for key in keys {
         let own = own_hits(hits, *key);
-        origins.push(origin_by_own(alloc, groups, searched, own, *key)?)?;
+        asking = asking.turned_to(alloc, key.session)?;
+        origins.push(origin_by_own(alloc, &asking, searched, own, *key)?)?;
     }
     Ok(origins)
 }
