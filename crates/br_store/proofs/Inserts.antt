@@ -97,11 +97,6 @@ pub is_fresh : (b : Bool) → (not b && true) ≡ true → b ≡ false
 is_fresh true h = absurd cc
 is_fresh false h = refl
 
--- what holds of all, holds of the first
-pub all_front : {X : Type 0} (P : X → Type 0) (xs ys : List X) → AllByRecursion P (xs ++ ys) → AllByRecursion P xs
-all_front P [] ys all = tt
-all_front P (x ∷ xs) ys all = (all.0, all_front P xs ys all.1)
-
 -- a table of the schema is among its tables
 pub has_table : (schema : Schema) (t : Table) → Stands schema t → Has schema.tables t
 has_table schema t s = has_got schema.tables s.place t s.is

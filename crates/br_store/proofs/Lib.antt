@@ -29,11 +29,4 @@ pub mod Writes
 pub mod Creates
 pub mod Opens
 pub mod Loads
-pub mod Drops
-pub mod OldTexts
-pub mod Olds
-pub mod Replaced
-pub mod Moves
-pub mod PutVersion
-pub mod Migrated
 pub mod Opened

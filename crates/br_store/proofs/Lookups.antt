@@ -6,10 +6,9 @@ use Rattle.std.proofs.lemmas.Iterator.Adapters.{position_from-zero}
 use Rattle.sqlite.specs.Schema.{Schema}
 use Rattle.sqlite.specs.Table.{Table}
 use Rattle.sqlite_schema.specs.Names.{same_name}
-use Rattle.br_schema.specs.Places.{moved_layout, new_layout}
+use Rattle.br_schema.specs.Places.{new_layout}
 use Rattle.br_schema.specs.Tables.{new_schema}
 use Rattle.br_schema.specs.Stands.{HasAll, Stands, no_owns}
-use Rattle.br_store.specs.Old.{moved_schema}
 
 place_is : (b : Bool) (n at : ℕ) → cond b (Some n) None ≡ Some at → n ≡ at
 place_is true n at h = cc
@@ -29,20 +28,6 @@ by_tree schema t s = find_placed (λ (u : Table). u.tree == t.tree) schema.table
 pub new_stands : HasAll new_schema new_layout no_owns
 unfolding same_name
 new_stands = record {
-  version = record { place = 0; named = refl; placed = refl; is = refl; stored = refl; numbered = λ e. refl };
-  client = record { place = 1; named = refl; placed = refl; is = refl; stored = refl; numbered = λ e. absurd cc };
-  fileset = record { place = 2; named = refl; placed = refl; is = refl; stored = refl; numbered = λ e. absurd cc };
-  media = record { place = 3; named = refl; placed = refl; is = refl; stored = refl; numbered = λ e. absurd cc };
-  path = record { place = 4; named = refl; placed = refl; is = refl; stored = refl; numbered = λ e. absurd cc };
-  job = record { place = 5; named = refl; placed = refl; is = refl; stored = refl; numbered = λ e. absurd cc };
-  job_media = record { place = 6; named = refl; placed = refl; is = refl; stored = refl; numbered = λ e. absurd cc };
-  file = record { place = 7; named = refl; placed = refl; is = refl; stored = refl; numbered = λ e. absurd cc };
-}
-
--- the schema that is made of that of version 1 has the tables
-unfoldable pub moved_stands : HasAll moved_schema moved_layout no_owns
-unfolding same_name
-moved_stands = record {
   version = record { place = 0; named = refl; placed = refl; is = refl; stored = refl; numbered = λ e. refl };
   client = record { place = 1; named = refl; placed = refl; is = refl; stored = refl; numbered = λ e. absurd cc };
   fileset = record { place = 2; named = refl; placed = refl; is = refl; stored = refl; numbered = λ e. absurd cc };

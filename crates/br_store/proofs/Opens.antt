@@ -15,7 +15,7 @@ use Rattle.br_schema.specs.Tables.{no_schema, tables_at}
 use Rattle.br_schema.specs.Stands.{IsStoreSchema}
 use Rattle.br_store.specs.Held.{HasTables}
 use Rattle.br_store.specs.Made.{Finds, IsMade}
-use Rattle.br_store.specs.Old.{AreRising}
+use Rattle.br_store.specs.Calls.{AreRising}
 use Rattle.br_store.proofs.Inserts.{all_ours}
 use Rattle.br_store.proofs.Layouts.{has_here, layout_is}
 

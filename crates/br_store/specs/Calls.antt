@@ -1,23 +1,30 @@
 -- What the contracts of calls say of a database, before a call and after it.
 use Rattle.std.specs.Prelude.{◌≡◌, false, IsTrue}
 use Rattle.std.specs.Borrow.{MutBor}
+use Rattle.std.specs.List.{AllByRecursion}
 use Rattle.sqlite.specs.Schema.{Schema}
+use Rattle.sqlite.specs.Table.{Table}
 use Rattle.sqlite.specs.Tree.{Trees}
+use Rattle.sqlite.specs.View.{IsShaped}
 use Rattle.sqlite.specs.Effect.{Database}
 use Rattle.sqlite.specs.Held.{Held, state}
 use Rattle.sqlite.specs.State.{State, HasCleanDisk, Opens, Survives}
+use Rattle.sqlite_trees.specs.declared.store.Shape.TheVariants.{Table as Shaped}
 use Rattle.sqlite_trees.specs.declared.store.Store.{Ghosts}
 use Rattle.br_model.specs.Job.{JobRows}
 use Rattle.br_rows.specs.Inserted.{Adds}
 use Rattle.br_store.specs.Held.{HasTables, rows_in}
 use Rattle.br_store.specs.Made.{HasEmptied}
-use Rattle.br_store.specs.Old.{AreRising, HasOld, IsMigrated}
 
 -- ---- premises
 
 -- the claim holds of a database if its disk has returned what was written to it
 abbrev pub WhileClean : {S : Type 0} → Ghosts S → Held S → (State → Type 0) → Type 0
 WhileClean g held claim = HasCleanDisk (state g held) → claim (state g held)
+
+-- each table of a database has its rows in ascending order
+abbrev pub AreRising : Database → Type 0
+AreRising db = AllByRecursion (λ (t : Table). IsShaped Shaped (db.trees t.tree)) db.schema.tables
 
 -- The connection was just opened. No transaction is open and, if the disk has returned what was
 -- written to it, the database is open, all that is seen is committed, and the rows of each table
@@ -50,14 +57,6 @@ InCatalogue g old new claim = InTransaction g old new (λ before after. HasTable
 abbrev pub InEmptied : {S : Type 0} → Schema → Ghosts S → Held S → Held S → (State → State → Type 0) → Type 0
 InEmptied schema g old new claim = InTransaction g old new (λ before after. HasEmptied schema before.now → claim before after)
 
--- the claim holds on a clean disk if the database was of version 1
-abbrev pub OnOld : {S : Type 0} → Ghosts S → Held S → Held S → (State → State → Type 0) → Type 0
-OnOld g old new claim = OnCleanDisk g old new (λ before after. HasOld before.now → claim before after)
-
--- the claim holds on a clean disk if a transaction was open on a database of version 1
-abbrev pub InOld : {S : Type 0} → Ghosts S → Held S → Held S → (State → State → Type 0) → Type 0
-InOld g old new claim = InTransaction g old new (λ before after. HasOld before.now → claim before after)
-
 -- ---- what holds after a call
 
 -- the transaction still borrows the same connection
@@ -72,11 +71,6 @@ CommitsNothing g old new = Survives (state g old) (state g new) (λ _. ⊥)
 -- the job was added
 abbrev pub MayCommit : {S : Type 0} → Ghosts S → Held S → Held S → JobRows → Type 0
 MayCommit g old new job = Survives (state g old) (state g new) (λ trees. Adds job (rows_in (state g old).now.trees) (rows_in trees))
-
--- no fault is forgotten, and a crash leaves what it could leave before the call, or the catalogue of
--- version 2 that is made
-abbrev pub MayMigrate : {S : Type 0} → Ghosts S → Held S → Held S → Type 0
-MayMigrate g old new = Survives (state g old) (state g new) (λ trees. (db : Database) × IsMigrated (state g old).now db × (trees ≡ db.trees))
 
 -- the database has the catalogue's tables, if its disk is clean
 abbrev pub IsReadable : {S : Type 0} → Ghosts S → Held S → Type 0

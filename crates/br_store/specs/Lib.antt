@@ -1,5 +1,4 @@
 pub mod Names
 pub mod Held
 pub mod Made
-pub mod Old
 pub mod Calls

@@ -7,13 +7,10 @@
 #![tactic(auto)]
 
 mod facts;
-mod migration;
 mod names;
-mod old;
 mod opening;
 mod queries;
 mod reads;
-mod renew;
 mod store;
 mod tables;
 mod version;

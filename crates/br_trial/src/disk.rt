@@ -1,5 +1,7 @@
 //! Databases on a disk of which one file stops.
-ghost use Rattle.std.specs.Prelude.{◌≡◌, false, IfSome};
+ghost use Rattle.std.specs.Prelude.{◌≡◌, false, IsTrue, IfOk, IfSome};
+ghost use Rattle.sqlite.specs.Steps.{IsFresh};
+ghost use Rattle.sqlite_trees.specs.View.{IsClean};
 
 use br_history::History;
 use br_store::{Store, StoreFault};
@@ -37,8 +39,20 @@ pub(crate) fn open_stopping(alloc: Global, file: Stopping, calls: u64) -> Option
     }
 }
 
+/// Gives the store of a database back, without what is not committed.
+pub(crate) fn store_of<S: Alter + Drop>(conn: Connection<S>) -> Result<S, Fail>
+    ensures fresh { IfOk result (λ s. IsClean (S.Store.view s) → IsFresh (S.Store.view s)) }
+{
+    let _schema = conn.schema();
+    let store = conn.into_store();
+    if store.is_broken() {
+        return Err(Fail::from("the database is shut"));
+    }
+    Ok(store)
+}
+
 /// Opens a store again as a database.
-fn opened<S: Alter + Drop>(
+pub(crate) fn opened<S: Alter + Drop>(
     found: Result<Connection<S>, (Error, S)>,
 ) -> Result<Connection<S>, Fail> {
     match found {
@@ -47,16 +61,25 @@ fn opened<S: Alter + Drop>(
     }
 }
 
-/// Opens what a stop leaves of a database, without what was not flushed. No file stops any more.
-pub(crate) fn reopened<S: Alter + Reopen + Drop>(
+/// Opens what a stop leaves of a store, without what was not flushed. No file stops any more.
+pub(crate) fn restarted<S: Alter + Reopen + Drop>(
     alloc: Global,
-    conn: Connection<S>,
-) -> Result<Connection<S>, Fail> {
-    let mut files = conn.into_store();
+    mut files: S,
+) -> Result<Connection<S>, Fail>
+    requires { IsClean (S.Store.view files) → IsTrue (S.Store.view files).is_numbered }
+{
     match files.crash_and_reopen() {
         Ok(()) => opened(Connection::over(alloc, files)),
         Err(_) => Err(Fail::from("the files were not opened again")),
     }
+}
+
+/// Opens what a stop leaves of a database, as `restarted` does.
+pub(crate) fn reopened<S: Alter + Reopen + Drop>(
+    alloc: Global,
+    conn: Connection<S>,
+) -> Result<Connection<S>, Fail> {
+    restarted(alloc, conn.into_store())
 }
 
 /// Opens the catalogue in a database that rows may have been written to.

@@ -1,7 +1,7 @@
 //! Catalogues of version 1 that are made catalogues of version 2.
-use crate::disk::catalogue;
+use crate::disk::{catalogue, opened, store_of};
 use crate::jobs::{both_shown, job, loaded};
-use br_store::{Store, reopened};
+use br_moving::migrate;
 use sqlite::{Alter, Connection, MemStore};
 use std::alloc::Global;
 use std::test::Fail;
@@ -55,11 +55,12 @@ fn migrated<S: Alter + Drop>(
     alloc: Global,
     conn: Connection<S>,
 ) -> Result<(End, Connection<S>), Fail> {
-    let mut conn = reopened(alloc, conn)?;
-    match Store::migrate(alloc, &mut conn) {
-        Ok(jobs) => Ok((Ok(jobs), conn)),
-        Err(fault) => Ok((Err(fault.number()), conn)),
+    let mut store = store_of(conn)?;
+    let end = migrate(alloc, &mut store).map_err(|fault| fault.number());
+    if store.is_broken() {
+        return Err(Fail::from("the migration shut the database"));
     }
+    Ok((end, opened(Connection::over(alloc, store))?))
 }
 
 /// Returns the number with which a database is not opened as a catalogue, or 0 if it is.
@@ -119,7 +120,7 @@ fn an_empty_database_is_not_migrated(rt: HostRuntime) -> Result<(), Fail> {
 }
 
 /// Changes of the tables of version 1, and the number with which a migration is refused after each; 0 if it is not.
-const CHANGES: [(&str, u32); 17] = [
+const CHANGES: [(&str, u32); 22] = [
     ("UPDATE File SET FileId = 77 WHERE FileId = 5", 0),
     ("INSERT INTO Filename VALUES (7, x'ff')", 0),
     ("UPDATE Version SET VersionId = 2", 47),
@@ -133,6 +134,26 @@ const CHANGES: [(&str, u32); 17] = [
     (
         "UPDATE Filename SET Name = x'612f2f62' WHERE FilenameId = 1",
         47,
+    ),
+    (
+        "UPDATE File SET LStat = '1 2 33188 1 0 0 0 5 4096 1 3 4' WHERE FileIndex = 1",
+        47,
+    ),
+    (
+        "UPDATE File SET MD5 = 'abababababababababababababababa' WHERE FileIndex = 1",
+        47,
+    ),
+    (
+        "UPDATE File SET FileIndex = 2147483648 WHERE FileIndex = 1",
+        47,
+    ),
+    (
+        "INSERT INTO File SELECT 6, FileIndex, JobId, 2, 3, LStat, MD5 FROM File WHERE FileId = 5",
+        47,
+    ),
+    (
+        "INSERT INTO File SELECT 6, 2, JobId, 2, 3, LStat, MD5 FROM File WHERE FileId = 5",
+        0,
     ),
     ("UPDATE JobMedia SET VolIndex = 2 WHERE JobId = 2", 47),
     ("DROP TABLE File", 45),
@@ -188,7 +209,7 @@ fn refused_migration(alloc: Global) -> Result<((End, u32), (String, String)), Fa
     Ok(((end, refusal(alloc, conn)), (before, after)))
 }
 
-/// Rows that form no history are found last, when all rows were written.
+/// Rows that form no history are found before a row is written.
 #[test]
 fn a_refused_migration_leaves_all_rows(rt: HostRuntime) -> Result<(), Fail> {
     let (numbers, (before, after)) = refused_migration(rt.alloc())?;

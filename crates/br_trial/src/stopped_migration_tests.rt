@@ -1,9 +1,10 @@
 //! A catalogue of version 1 is migrated on a disk that stops at each call in turn.
-use crate::disk::{Disk, Stopping, catalogue, open_stopping, reopened as reopened_after};
+use crate::disk::{Disk, Stopping, catalogue, open_stopping, opened, restarted, store_of};
 use crate::migration_tests::OLD;
 use br_history::{History, JobRows};
+use br_moving::migrate;
 use br_schema::is_old;
-use br_store::{Store, reopened};
+use br_store::Store;
 use sqlite::{Alter, Connection};
 use sqlite_trees::store::Reopen;
 use std::alloc::Global;
@@ -68,9 +69,12 @@ fn found_after<S: Alter + Reopen + Drop>(
     conn: Connection<S>,
 ) -> Result<(u8, Store<S>), Fail> {
     if is_old(conn.schema()) {
-        let mut conn = reopened(alloc, conn)?;
-        let _ = Store::migrate(alloc, &mut conn)?;
-        Ok((1, catalogue(alloc, conn)?))
+        let mut store = store_of(conn)?;
+        let _ = migrate(alloc, &mut store)?;
+        Ok((
+            1,
+            catalogue(alloc, opened(Connection::over(alloc, store))?)?,
+        ))
     } else {
         Ok((2, catalogue(alloc, conn)?))
     }
@@ -81,9 +85,9 @@ fn stopped<S: Alter + Reopen + Drop>(
     alloc: Global,
     conn: Connection<S>,
 ) -> Result<(bool, Connection<S>), Fail> {
-    let mut conn = reopened(alloc, conn)?;
-    let is_told = Store::migrate(alloc, &mut conn).is_ok();
-    Ok((is_told, reopened_after(alloc, conn)?))
+    let mut store = store_of(conn)?;
+    let is_told = migrate(alloc, &mut store).is_ok();
+    Ok((is_told, restarted(alloc, store)?))
 }
 
 /// Returns the jobs of a catalogue as text.

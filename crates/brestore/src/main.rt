@@ -97,24 +97,26 @@ fn open_file(rt: &HostRuntime, db: &str) -> Result<Connection<FileStore<File>>, 
 
 /// Puts all that was committed into the file after a migration that returned this. Returns the same, or why the file refused.
 fn end_migration(
-    conn: Connection<FileStore<File>>,
+    store: FileStore<File>,
     migrated: Result<u64, StoreFault>,
 ) -> Result<u64, CatalogueFault> {
-    let closed = close(conn);
+    let closed = br_raw::fold(store);
     let jobs = migrated.map_err(catalogue_fault)?;
-    closed?;
-    Ok(jobs)
+    match closed {
+        Ok(_files) => Ok(jobs),
+        Err(_error) => Err(CatalogueFault::Unreadable),
+    }
 }
 
 /// Makes the catalogue of version 1 in a file one of version 2. Returns the number of its jobs. Afterwards the file alone is the
 /// catalogue, also if it was refused.
 fn migrate(rt: &HostRuntime, db: &str) -> Result<u64, CatalogueFault> {
-    match open_file(rt, db) {
-        Ok(mut conn) => {
-            let migrated = Store::migrate(rt.alloc(), &mut conn);
-            end_migration(conn, migrated)
+    match br_raw::open(rt, db) {
+        Ok(mut store) => {
+            let migrated = br_moving::migrate(rt.alloc(), &mut store);
+            end_migration(store, migrated)
         }
-        Err(fault) => Err(catalogue_fault(fault)),
+        Err(error) => Err(catalogue_fault(StoreFault::Store(error))),
     }
 }
 

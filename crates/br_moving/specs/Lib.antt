@@ -1,0 +1,13 @@
+pub mod Claims
+pub mod Digest
+pub mod Files
+pub mod Moved
+pub mod Names
+pub mod Old
+pub mod Places
+pub mod Read
+pub mod Renewed
+pub mod Seen
+pub mod Sound
+pub mod Steps
+pub mod Whole
