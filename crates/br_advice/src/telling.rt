@@ -7,7 +7,7 @@ use br_current::older_copies;
 use br_folder::FolderDrive;
 use br_join::Outcome;
 use br_options::{Copies, Gaps, Wanted};
-use br_origin::origins;
+use br_origin::{Origin, origins};
 use br_piece::split;
 use br_progress::{Faults, Gauge, WatchedWriter};
 use br_reason::reason_of_read;
@@ -17,6 +17,9 @@ use std::io;
 
 /// The number of volumes of which the reasons are told.
 const VOLUMES: usize = 8;
+
+/// The number of outcomes whose lines are told at once.
+const LINES: usize = 256;
 
 /// What was told of a restore while it ran.
 #[derive(Drop)]
@@ -45,23 +48,43 @@ impl<'t> Told<'t> {
     }
 }
 
-/// Returns where the first of the outcomes come from that are no files. Their attributes are read once more, by a
-/// drive of its own.
-fn origin_lines(rt: &HostRuntime, volumes: &str, told: &Told<'_>) -> Result<Vec<u8>, AllocError> {
-    let mut text = Vec::new(rt.alloc());
-    let keys = told.faults.told_keys(rt.alloc())?;
+/// Returns where the outcomes come from that are no files. Their attributes are read once more, by a drive of its
+/// own.
+fn origins_of(rt: &HostRuntime, volumes: &str, told: &Told<'_>) -> Result<Vec<Origin>, AllocError> {
+    let keys = told.faults.keys(rt.alloc())?;
     let Ok(bootstrap) = read_bootstrap(rt.alloc(), told.bootstrap) else {
-        return Ok(text);
+        return Ok(Vec::new(rt.alloc()));
     };
     let mut drive = FolderDrive::new(rt.alloc(), rt, volumes)?;
-    for origin in &origins(rt.alloc(), &bootstrap, &keys, &mut drive)? {
+    origins(rt.alloc(), &bootstrap, &keys, &mut drive)
+}
+
+/// Returns the lines of where outcomes come from.
+fn origin_lines(rt: &HostRuntime, origins: &[Origin]) -> Result<Vec<u8>, AllocError> {
+    let mut text = Vec::new(rt.alloc());
+    for origin in origins {
         push_origin(&mut text, origin)?;
     }
     Ok(text)
 }
 
-/// Tells a terminal and the log the outcomes that are no files in words, and where the first of them come from, by
-/// the volumes in a folder. Where they come from is not told if memory runs out for it.
+/// Tells a terminal and the log where outcomes come from, some lines at once. Lines for which memory runs out are not
+/// told.
+///
+/// # Errors
+///
+/// If standard error failed.
+fn tell_origins(rt: &HostRuntime, gauge: &Gauge<'_>, origins: &[Origin]) -> io::Result<()> {
+    for part in origins.chunks(LINES) {
+        if let Ok(lines) = origin_lines(rt, part) {
+            gauge.tell_lines(lines)?;
+        }
+    }
+    Ok(())
+}
+
+/// Tells a terminal and the log the outcomes that are no files in words, and where each of them comes from, by the
+/// volumes in a folder. Where they come from is not told if memory runs out for it.
 ///
 /// # Errors
 ///
@@ -72,13 +95,14 @@ pub fn tell_outcomes(
     volumes: &str,
     told: &Told<'_>,
 ) -> io::Result<()> {
-    if gauge.is_watching() && !told.faults.are_none() {
-        gauge.tell_faults(told.faults)?;
-        if let Ok(lines) = origin_lines(rt, volumes, told) {
-            gauge.tell_lines(lines)?;
-        }
+    if !gauge.is_watching() || told.faults.are_none() {
+        return Ok(());
     }
-    Ok(())
+    gauge.tell_faults(told.faults)?;
+    match origins_of(rt, volumes, told) {
+        Ok(origins) => tell_origins(rt, gauge, &origins),
+        Err(_) => Ok(()),
+    }
 }
 
 /// Returns the line that says how many indexes gave no outcome, if some did.

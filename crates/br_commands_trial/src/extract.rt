@@ -346,6 +346,101 @@ fn a_log_says_what_is_left_unsaid(rt: HostRuntime) -> Result<(), Fail> {
     Ok(())
 }
 
+/// A volume with files that can't be restored: its name, the session and the number of the files.
+type Strangers = (&'static str, (u32, u32), u32);
+
+const STRANGERS: [Strangers; 2] = [("Q", (4, 400), 12), ("P", (5, 500), 300)];
+
+/// The bootstrap of both, in another order.
+const OF_STRANGERS: &[u8] = b"Volume=P\nVolSessionId=5\nVolSessionTime=500\nFileIndex=1-300\n\
+    Volume=V\nVolume=Q\nVolSessionId=4\nVolSessionTime=400\nFileIndex=1-12\n";
+
+/// Appends numbers, each in four bytes.
+fn push_numbers(bytes: &mut Vec<u8>, numbers: &[u32]) -> Result<(), Fail> {
+    for number in numbers {
+        bytes.extend_from_slice(&number.to_be_bytes())?;
+    }
+    Ok(())
+}
+
+/// Appends a block with the attributes of the file `/vN`, where N is its index, and a record of stream 20.
+fn push_strange(
+    volume: &mut Vec<u8>,
+    alloc: Global,
+    (id, time): (u32, u32),
+    index: u32,
+) -> Result<(), Fail> {
+    let text = format!(in alloc; "{index} 3 /v{index}\0A A IGk B A A A F A A A A A A\0\0")?;
+    let len = u32::try_from(text.len()).unwrap_or(0);
+    push_numbers(
+        volume,
+        &[0, len.saturating_add(49), 0, 0x4242_3032, id, time],
+    )?;
+    push_numbers(volume, &[index, 1, len])?;
+    volume.extend_from_slice(text.as_bytes())?;
+    push_numbers(volume, &[index, 20, 1])?;
+    volume.push(b'x')?;
+    Ok(())
+}
+
+/// Writes a volume with files that can't be restored.
+fn write_strangers(
+    rt: &HostRuntime,
+    place: &str,
+    (name, session, count): Strangers,
+) -> Result<(), Fail> {
+    let mut volume = Vec::new(rt.alloc());
+    for index in 1..=count {
+        push_strange(&mut volume, rt.alloc(), session, index)?;
+    }
+    let volumes = path_in(rt, place, "volumes")?;
+    fs::write(rt, path_in(rt, volumes.as_str(), name)?.as_str(), &volume)?;
+    Ok(())
+}
+
+/// Appends the lines of where the files of a volume come from.
+fn push_origins(
+    lines: &mut Vec<u8>,
+    alloc: Global,
+    (name, (id, time), count): Strangers,
+) -> Result<(), Fail> {
+    for index in 1..=count {
+        let line = format!(in alloc; "  {id} {time} {index} on {name} is /v{index}\n")?;
+        lines.extend_from_slice(line.as_bytes())?;
+    }
+    Ok(())
+}
+
+/// Returns the status of a restore of all of them, and its log.
+fn strangers_logged(
+    rt: &HostRuntime,
+    threads: &(impl Threads + Wait + Sync),
+    place: &str,
+) -> Result<(u8, Vec<u8>), Fail> {
+    fs::write(rt, path_in(rt, place, "x.bsr")?.as_str(), OF_STRANGERS)?;
+    let log = path_in(rt, place, "x.log")?;
+    let how = (Target::Nowhere, Start::Empty, Some(log.as_str()));
+    let status = logged_status_by(rt, threads, place, "x.bsr", how, PLAIN)?;
+    Ok((status, fs::read(rt, log.as_str())?))
+}
+
+/// A log has the volume and the path of each file that can't be restored, in order of key, however many there are and
+/// whatever the order of the groups.
+#[test]
+fn a_log_says_where_each_outcome_comes_from(rt: HostRuntime) -> Result<(), Fail> {
+    let place = new_place(&rt, "origins", VOLUMES)?;
+    let mut wanted = Vec::from_slice(rt.alloc(), b"\n")?;
+    for strangers in STRANGERS {
+        write_strangers(&rt, place.as_str(), strangers)?;
+        push_origins(&mut wanted, rt.alloc(), strangers)?;
+    }
+    let (status, told) = strangers_logged(&rt, &rt, place.as_str())?;
+    fs::remove_dir_all(&rt, place.as_str())?;
+    assert_eq!(rt; status, 1);
+    assert_eq!(rt; end_of(&told, wanted.len()), wanted.as_slice());
+    Ok(())
+}
+
 /// Returns a bootstrap of `count` groups, of which the last selects the second file of a volume, and
 /// each other the first.
 fn bootstrap_of(alloc: Global, count: usize) -> Result<Vec<u8>, Fail> {

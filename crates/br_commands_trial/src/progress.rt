@@ -1,6 +1,7 @@
 //! What is told of a restore while it runs, and what passes a writer that is watched.
 use crate::places::{new_place, path_in};
-use br_progress::{Gauge, Log, Standing, WatchedWriter, seconds_left};
+use br_progress::{Gauge, Log, Standing, WatchedWriter, push_key, seconds_left};
+use br_types::FileKey;
 use std::fs;
 use std::io::Write;
 use std::test::Fail;
@@ -94,25 +95,47 @@ fn the_time_that_is_left_is_reckoned(rt: HostRuntime) -> Result<(), Fail> {
 const TEXT: &[u8] =
     b"refused 55\n*F\nVolume=\"V\"\nX 1 100 4 63\nX 1 100 5 65 20\nX 1 100 6 63\nX 1 100 7 59\n\
     X 1 100 7 70\nX 1 100 7\nF 1 100 8 3 /X\nX 2 100 1 60\nX 2 100 2 60\nX 2 100 3 60\nX 2 100 4 60\nX 2 100 5 60\n\
-    X 2 100 6 60\nX 2 100 7 60\nX 2 100 8 60\nX 2 100 9 60\nF 3 100 1 3 /Y\ntotal 2 12 0\n";
+    X 2 100 6 60\nX 2 100 7 60\nX 2 100 8 60\nX 2 100 9 60\nF 3 100 1 3 /Y\nX 3 100 2 60\nX 3 100 3 60\n\
+    X 3 100 4 60\nX 3 100 5 60\nX 3 100 6 60\nX 3 100 7 60\nX 3 100 8 60\nX 3 100 9 60\nX 4 100 1 63\n\
+    X 4 100 2 60\nX 4 100 3 60\nX 4 100 4 60\ntotal 2 24 0\n";
 
 /// The lines of the log that are as in the text.
 const LOGGED: &[u8] =
     b"X 1 100 4 63\nX 1 100 5 65 20\nX 1 100 6 63\nX 2 100 1 60\nX 2 100 2 60\nX 2 100 3 60\n\
-    X 2 100 4 60\nX 2 100 5 60\nX 2 100 6 60\nX 2 100 7 60\nX 2 100 8 60\nX 2 100 9 60\n";
+    X 2 100 4 60\nX 2 100 5 60\nX 2 100 6 60\nX 2 100 7 60\nX 2 100 8 60\nX 2 100 9 60\nX 3 100 2 60\n\
+    X 3 100 3 60\nX 3 100 4 60\nX 3 100 5 60\nX 3 100 6 60\nX 3 100 7 60\nX 3 100 8 60\nX 3 100 9 60\n\
+    X 4 100 1 63\nX 4 100 2 60\nX 4 100 3 60\nX 4 100 4 60\n";
 
-/// What is told of each number at the end, and the number of keys that are told.
+/// What is told of each number at the end.
 const TOLD: [&[u8]; 3] = [
-    b"outcome 63 of 2 files: 1 100 4, 1 100 6",
+    b"outcome 63 of 3 files: 1 100 4, 1 100 6, 4 100 1",
     b"outcome 65 of 1 file: 1 100 5 (stream 20)",
-    b"outcome 60 of 9 files: 2 100 1, 2 100 2, 2 100 3, 2 100 4, 2 100 5, 2 100 6, 2 100 7, 2 100 8, ..",
+    b"outcome 60 of 20 files: 2 100 1, 2 100 2, 2 100 3, 2 100 4, 2 100 5, 2 100 6, 2 100 7, 2 100 8, ..",
 ];
 
-const TOLD_KEYS: usize = 11;
+/// The keys of all outcomes that are no files, number by number.
+const KEYS: &[u8] =
+    b"1 100 4\n1 100 6\n4 100 1\n1 100 5\n2 100 1\n2 100 2\n2 100 3\n2 100 4\n2 100 5\n2 100 6\n\
+    2 100 7\n2 100 8\n2 100 9\n3 100 2\n3 100 3\n3 100 4\n3 100 5\n3 100 6\n3 100 7\n3 100 8\n3 100 9\n4 100 2\n\
+    4 100 3\n4 100 4\n";
 
-/// Writes the text in parts of this length, and tells the outcomes. Returns the log without words, and how many keys
-/// there are and are told.
-fn log_of_parts(rt: &HostRuntime, log: &str, len: usize) -> Result<(Vec<u8>, usize, usize), Fail> {
+/// Returns keys, each in a line.
+fn key_lines(rt: &HostRuntime, keys: &[FileKey]) -> Result<Vec<u8>, Fail> {
+    let mut lines = Vec::new(rt.alloc());
+    for key in keys {
+        push_key(&mut lines, *key)?;
+        lines.push(b'\n')?;
+    }
+    Ok(lines)
+}
+
+/// Writes the text in parts of this length, and tells the outcomes. Returns the log without words, the number of keys,
+/// and the keys of the outcomes that are no files.
+fn log_of_parts(
+    rt: &HostRuntime,
+    log: &str,
+    len: usize,
+) -> Result<(Vec<u8>, usize, Vec<u8>), Fail> {
     let gauge = Gauge::new(rt, "", false).with_log(Some(Log::open(rt, log)?));
     let mut writer = WatchedWriter::new(Vec::new(rt.alloc()), &gauge);
     if len > 0 {
@@ -124,7 +147,7 @@ fn log_of_parts(rt: &HostRuntime, log: &str, len: usize) -> Result<(Vec<u8>, usi
     gauge.tell_faults(writer.faults())?;
     gauge.tell_end()?;
     let keys = writer.keys().map_or(0, |keys| keys.len());
-    let told = writer.faults().told_keys(rt.alloc())?.len();
+    let faulty = key_lines(rt, &writer.faults().keys(rt.alloc())?)?;
     let mut lines = Vec::new(rt.alloc());
     for line in fs::read(rt, log)?.split(|byte| *byte == b'\n') {
         if !line.starts_with(b"  ") {
@@ -133,7 +156,7 @@ fn log_of_parts(rt: &HostRuntime, log: &str, len: usize) -> Result<(Vec<u8>, usi
         }
     }
     fs::remove_file(rt, log)?;
-    Ok((lines, keys, told))
+    Ok((lines, keys, faulty))
 }
 
 /// Returns the log that is wanted, without words.
@@ -143,20 +166,21 @@ fn wanted_log(rt: &HostRuntime) -> Result<Vec<u8>, Fail> {
         lines.extend_from_slice(told)?;
         lines.push(b'\n')?;
     }
-    lines.extend_from_slice(b"1 of 2 files were put, not restored: 12\n\n")?;
+    lines.extend_from_slice(b"1 of 2 files were put, not restored: 24\n\n")?;
     Ok(lines)
 }
 
-/// Each outcome is noted, in whatever parts its line passes, and told in words at the end.
+/// Each outcome is noted, in whatever parts its line passes, and told in words at the end. Of a number the line names
+/// eight, and the keys of all are kept.
 #[test]
 fn outcomes_that_are_no_files_are_told(rt: HostRuntime) -> Result<(), Fail> {
     let place = new_place(&rt, "outcomes", &[])?;
     let log = path_in(&rt, place.as_str(), "x.log")?;
     let wanted = wanted_log(&rt)?;
     for len in [1, 7, 64, TEXT.len()] {
-        let (lines, keys, told) = log_of_parts(&rt, log.as_str(), len)?;
+        let (lines, keys, faulty) = log_of_parts(&rt, log.as_str(), len)?;
         assert_eq!(rt; lines.as_slice(), wanted.as_slice());
-        assert_eq!(rt; (keys, told), (14, TOLD_KEYS));
+        assert_eq!(rt; (keys, faulty.as_slice()), (26, KEYS));
     }
     fs::remove_dir_all(&rt, place.as_str())?;
     Ok(())

@@ -8,7 +8,7 @@ use br_types::{FileKey, push_number};
 use br_words::push_words;
 use std::alloc::{AllocError, Global};
 
-/// The most outcomes of one number that are told one by one.
+/// The most outcomes of one number that its line names.
 const TOLD_LEN: usize = 8;
 
 /// An outcome that is no file, and the stream that is not supported.
@@ -49,15 +49,18 @@ struct Kind {
     count: u64,
     /// The first of them.
     told: Vec<Told>,
+    /// The keys of all of them, but for those for which memory ran out.
+    keys: Vec<FileKey>,
 }
 
 impl Kind {
-    /// Notes an outcome.
+    /// Notes an outcome. It counts also if memory runs out for its key.
     fn note(&mut self, told: Told) -> Result<(), AllocError> {
+        self.count = self.count.saturating_add(1);
+        self.keys.push(told.key)?;
         if self.told.len() < TOLD_LEN {
             self.told.push(told)?;
         }
-        self.count = self.count.saturating_add(1);
         Ok(())
     }
 
@@ -92,7 +95,7 @@ impl Kind {
     }
 }
 
-/// The outcomes that are no files: of each number how many there are, and the first eight of them.
+/// The outcomes that are no files: of each number how many there are, the first eight of them, and the keys of all.
 #[derive(Debug, Drop)]
 pub struct Faults {
     kinds: Vec<Kind>,
@@ -106,7 +109,7 @@ impl Faults {
         }
     }
 
-    /// Notes an outcome that is no file.
+    /// Notes an outcome that is no file. It counts also if memory runs out for its key.
     pub(crate) fn note(&mut self, alloc: Global, key: FileKey, why: Why) -> Result<(), AllocError> {
         let told = Told {
             key,
@@ -117,14 +120,16 @@ impl Faults {
                 return kind.note(told);
             }
         }
-        let mut kind = Kind {
+        self.kinds.push(Kind {
             number: why.number,
             count: 0,
             told: Vec::new(alloc),
-        };
-        kind.note(told)?;
-        self.kinds.push(kind)?;
-        Ok(())
+            keys: Vec::new(alloc),
+        })?;
+        match self.kinds.last_mut() {
+            Some(kind) => kind.note(told),
+            None => Ok(()),
+        }
     }
 
     /// Returns true if each outcome is a file.
@@ -132,11 +137,12 @@ impl Faults {
         self.kinds.is_empty()
     }
 
-    /// Returns the keys of the outcomes that are told one by one: of each number the first eight.
-    pub fn told_keys(&self, alloc: Global) -> Result<Vec<FileKey>, AllocError> {
+    /// Returns the keys of the outcomes: those of one number after those of another, the numbers in the order in which
+    /// each was first noted, and the keys of one number in the order in which they were noted.
+    pub fn keys(&self, alloc: Global) -> Result<Vec<FileKey>, AllocError> {
         let mut keys = Vec::new(alloc);
         for kind in &self.kinds {
-            push_keys(&mut keys, &kind.told)?;
+            keys.extend_from_slice(&kind.keys)?;
         }
         Ok(keys)
     }
@@ -148,12 +154,4 @@ impl Faults {
         }
         Ok(())
     }
-}
-
-/// Appends the keys of outcomes.
-fn push_keys(keys: &mut Vec<FileKey>, told: &[Told]) -> Result<(), AllocError> {
-    for one in told {
-        keys.push(one.key)?;
-    }
-    Ok(())
 }
