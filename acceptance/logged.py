@@ -20,9 +20,11 @@ from pathlib import Path
 # Nothing is left beside the script.
 sys.dont_write_bytecode = True
 sys.path.insert(0, os.path.join(os.path.dirname(os.path.dirname(os.path.abspath(__file__))), "tools"))
+from bacula import block_of, volume_label
 from common import CASES, ORDER_SQL, PROGRAM, SETS, escaped
 from explain import rows
-from leaving import LONG, Deliveries, held, into_disk, write_volume
+from leaving import LONG, Deliveries, file_of, held, into_disk, write_volume
+from odd import record, records
 from preloaded import compiled
 
 # The number of files that may be put and have no line yet.
@@ -193,6 +195,49 @@ def checks_faults(checks):
         checks.check_run("a bootstrap that is missing", folder, [], plain, told)
 
 
+def strange(session, index, path, known=True):
+    """The block of a file that can't be restored: its attributes, unless they are not known, and a record of a stream that is not supported."""
+    kept = records(index, file_of(path, b"")) if known else record(index, 2, b"x")
+    return block_of(kept + record(index, 20, b"y"), index, *session)
+
+
+def write_strange(folder, volumes):
+    """Writes volumes: of each the name, the session and the paths of its files. Where there is no path, the attributes are missing. Returns
+    the lines of the manifest and of what is told of each file, in order of key."""
+    (folder / "volumes").mkdir()
+    lost, told, bootstrap = [], [], ""
+    for name, session, paths in volumes:
+        label = block_of(record(-2, 0, volume_label(name)), 0, 0, 0)
+        blocks = [strange(session, index, path or b"", path is not None) for index, path in enumerate(paths, 1)]
+        (folder / "volumes" / name).write_bytes(label + b"".join(blocks))
+        bootstrap += f"Volume={name}\nVolSessionId={session[0]}\nVolSessionTime={session[1]}\nFileIndex=1-{len(paths)}\n"
+        for index, path in enumerate(paths, 1):
+            key = f"{session[0]} {session[1]} {index}"
+            lost.append((f"X {key} 63" if path is None else f"X {key} 65 20", key))
+            told.append((path is None, f"  {key} on {name} " + ("has no path that can be read" if path is None else f"is {escaped(path)}")))
+    (folder / "x.bsr").write_text(bootstrap)
+    return lost, told
+
+
+def checks_lost(checks):
+    """Files that can't be restored, more than the line of their number names: of each the log has the volume and the path."""
+    first = [b"/in/%d" % index for index in range(300)]
+    second = [None if index % 3 == 1 else b"/in/of b/%d" % index for index in range(40)]
+    third = [b"/in/c"]
+    with tempfile.TemporaryDirectory() as made:
+        folder = Path(made)
+        lost, told = write_strange(folder, [("B", (1, 100), first), ("A", (2, 90), second), ("C", (3, 80), third)])
+        manifest = "".join(f"{line}\n" for line, _ in lost) + f"total 0 {len(lost)} 0\n"
+        bare = [(line.split()[4], key) for line, key in lost]
+        lines = [line for line, _ in lost]
+        for number, what in (("65", " (stream 20)"), ("63", "")):
+            keys = [key for found, key in bare if found == number]
+            lines.append(f"outcome {number} of {len(keys)} files: {', '.join(key + what for key in keys[:8])}, ..")
+            lines += words_of(int(number))
+        lines += [line for bad, line in told if not bad] + [line for bad, line in told if bad]
+        checks.check_run("files that can't be restored", folder, [], (1, manifest.encode(), b""), lines)
+
+
 def check_stop(checks, folder, call):
     """Stops a restore before a call. Returns whether there was a stop."""
     into, log, noted = folder / "into", folder / "restore.log", folder / "noted"
@@ -253,6 +298,7 @@ def main():
     checks_disks(checks)
     checks_denied(checks)
     checks_faults(checks)
+    checks_lost(checks)
     checks_console(checks)
     with tempfile.TemporaryDirectory() as folder:
         checks.library = compiled(folder, "stopping_calls")
