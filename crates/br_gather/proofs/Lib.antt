@@ -1,3 +1,4 @@
+mod DigestingLaws
 mod GivenLaws
 mod PartLaws
 mod PlainFileLaws

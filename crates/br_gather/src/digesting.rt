@@ -1,6 +1,6 @@
 //! Files whose data are read and digested one window after another, and not kept. While the data of one
 //! window are digested in another thread, those of the next one are read.
-ghost use Rattle.std.specs.Prelude.{◌≡◌, ◌++◌, [], map, nat_abs, All, Err, IfOk, OnOk};
+ghost use Rattle.std.specs.Prelude.{◌≡◌, ◌≤◌, ◌-◌, ◌++◌, [], length, map, nat_abs, Err, IfOk, OnOk};
 ghost use Rattle.std.specs.List.{AllByRecursion};
 ghost use Rattle.br_again.specs.declared.fault.AgainFault.TheVariants.{Failed};
 ghost use Rattle.br_model.specs.Meaning as meaning;
@@ -10,7 +10,7 @@ ghost use Rattle.br_join.specs.Outcome.{shown};
 ghost use Rattle.br_join.specs.Plain.{plain_bytes, plain_of};
 ghost use Rattle.br_join.specs.Runs.{fragments};
 ghost use Rattle.br_reread.specs.Many.{GoOn, HaveFailed};
-ghost use Rattle.br_gather.specs.Digesting.{IsRead};
+ghost use Rattle.br_gather.specs.Digesting.{AreRead, IsDigested, IsRead, IsWhole, ReadsOn};
 ghost use Rattle.br_gather.specs.Windows.{data_bytes};
 
 use crate::light::DATA;
@@ -75,9 +75,9 @@ fn read_next<D: Drive>(
 
 /// Hits that were read, and their plain data in memory. The hits have let them go.
 #[derive(Drop)]
-struct Ahead {
-    hits: Vec<Hit>,
-    window: Vec<Data>,
+pub(crate) struct Ahead {
+    pub(crate) hits: Vec<Hit>,
+    pub(crate) window: Vec<Data>,
 }
 
 /// Reads the data of the hits of a window, one after another.
@@ -86,16 +86,12 @@ struct Ahead {
 ///
 /// Those of `many`, and `Memory` if memory runs out.
 #[tactic(auto, using(br_reread::proofs::GoOnLaws::go_itself, br_reread::proofs::GoOnLaws::go_more, br_reread::proofs::GoOnLaws::failed_on))]
-fn read_ahead<D: Drive>(
+pub(crate) fn read_ahead<D: Drive>(
     alloc: Global,
     many: &mut OverMany<'_, D>,
-    key: FileKey,
     hits: &[Hit],
 ) -> Result<Ahead, AgainFault>
-    requires { AllByRecursion (λ (h : meaning.Hit). h.key ≡ key) hits.now }
-    ensures keys { IfOk result (λ ahead. AllByRecursion (λ (h : meaning.Hit). h.key ≡ key) ahead.hits.items) }
-    ensures same { IfOk result (λ ahead. GivesHits many.old hits.now → ahead.hits.items ≡ hits.now) }
-    ensures window { IfOk result (λ ahead. data_bytes ahead.window.items ≡ plain_bytes (fragments ahead.hits.items)) }
+    ensures read { IfOk result (AreRead many.old hits.now) }
     ensures on { GoOn many.old many.new }
     ensures failed { result ≡ Err Failed → HaveFailed many.old many.new }
 {
@@ -112,10 +108,10 @@ fn read_ahead<D: Drive>(
 /// The plain data of a file that are digested, the hits that were read, and the plain data of the last of
 /// them, which are digested next.
 #[derive(Drop)]
-struct Digesting {
-    reading: Reading,
-    hits: Vec<Hit>,
-    window: Vec<Data>,
+pub(crate) struct Digesting {
+    pub(crate) reading: Reading,
+    pub(crate) hits: Vec<Hit>,
+    pub(crate) window: Vec<Data>,
 }
 
 /// Returns hits that were read, of which nothing is digested yet.
@@ -137,7 +133,7 @@ fn begin(ahead: Ahead) -> Digesting
 /// # Errors
 ///
 /// `AllocError` if memory runs out.
-fn take_ahead(begun: &mut Digesting, ahead: Ahead) -> Result<(), AllocError>
+pub(crate) fn take_ahead(begun: &mut Digesting, ahead: Ahead) -> Result<(), AllocError>
     requires digested { begun.old.reading ≡ plain_bytes (fragments begun.old.hits.items) }
     requires window { data_bytes ahead.window.items ≡ plain_bytes (fragments ahead.hits.items) }
     ensures read { OnOk result (IsRead begun.new) }
@@ -147,6 +143,36 @@ fn take_ahead(begun: &mut Digesting, ahead: Ahead) -> Result<(), AllocError>
     begun.hits.append(&mut hits)?;
     begun.window = window;
     Ok(())
+}
+
+/// A file of which the first window is read, and the hits after it.
+#[derive(Drop)]
+pub(crate) struct Opened<'h> {
+    pub(crate) begun: Digesting,
+    pub(crate) rest: &'h [Hit],
+}
+
+/// Reads the first window of a file.
+///
+/// # Errors
+///
+/// Those of `many`, and `Memory` if memory runs out.
+pub(crate) fn open<'h, D: Drive>(
+    alloc: Global,
+    many: &mut OverMany<'_, D>,
+    hits: &'h [Hit],
+) -> Result<Opened<'h>, AgainFault>
+    ensures read { IfOk result (λ file. ReadsOn many.old [] hits.now file.begun file.rest.now) }
+    ensures on { GoOn many.old many.new }
+    ensures failed { result ≡ Err Failed → HaveFailed many.old many.new }
+{
+    let first = cut_window(hits);
+    let ahead = read_ahead(alloc, many, first.window)?;
+    let begun = begin(ahead);
+    Ok(Opened {
+        begun,
+        rest: first.rest,
+    })
 }
 
 /// Reads the hits of the next window, while another thread digests the data of this one.
@@ -159,15 +185,11 @@ fn digest_beside<D: Drive>(
     alloc: Global,
     many: &mut OverMany<'_, D>,
     begun: &mut Digesting,
-    key: FileKey,
     next: &[Hit],
 ) -> Result<Ahead, AgainFault>
-    requires { AllByRecursion (λ (h : meaning.Hit). h.key ≡ key) next.now }
     ensures digested { OnOk result (begun.new.reading ≡ begun.old.reading ++ data_bytes begun.old.window.items) }
     ensures hits { begun.new.hits.items ≡ begun.old.hits.items }
-    ensures keys { IfOk result (λ ahead. AllByRecursion (λ (h : meaning.Hit). h.key ≡ key) ahead.hits.items) }
-    ensures same { IfOk result (λ ahead. GivesHits many.old next.now → ahead.hits.items ≡ next.now) }
-    ensures window { IfOk result (λ ahead. data_bytes ahead.window.items ≡ plain_bytes (fragments ahead.hits.items)) }
+    ensures read { IfOk result (AreRead many.old next.now) }
     ensures on { GoOn many.old many.new }
     ensures failed { result ≡ Err Failed → HaveFailed many.old many.new }
 {
@@ -176,47 +198,76 @@ fn digest_beside<D: Drive>(
     let (digested, ahead) = join_mut(
         rt,
         &mut || digest_window(reading, window),
-        &mut || read_ahead(alloc, many, key, next),
+        &mut || read_ahead(alloc, many, next),
     );
     digested?;
     ahead
 }
 
-/// Reads the data of the hits of a file, a window of them at a time. Plain data are digested and let go,
-/// and others are in memory. Those of the last window, and so of a file that has no other, are digested in
-/// this thread, and the others in another one.
+/// Reads the next window of a file, while another thread digests the data of this one.
+///
+/// # Errors
+///
+/// Those of `many`, and `Memory` if memory runs out.
+fn read_on<'h, D: Drive>(
+    rt: &impl Threads,
+    alloc: Global,
+    many: &mut OverMany<'_, D>,
+    begun: &mut Digesting,
+    rest: &'h [Hit],
+) -> Result<&'h [Hit], AgainFault>
+    requires { IsRead begun.old }
+    ensures read { IfOk result (λ left. ReadsOn many.old begun.old.hits.items rest.now begun.new left.now) }
+    ensures fewer { IfOk result (λ left. length left.now ≤ length rest.now - 1) }
+    ensures on { GoOn many.old many.new }
+    ensures failed { result ≡ Err Failed → HaveFailed many.old many.new }
+{
+    let next = cut_window(rest);
+    let ahead = digest_beside(rt, alloc, many, begun, next.window)?;
+    take_ahead(begun, ahead)?;
+    Ok(next.rest)
+}
+
+/// Reads and digests what is left of a file, a window of hits at a time. Plain data are digested and let
+/// go, and others are in memory. Those of the last window, and so of a file that has no other, are
+/// digested in this thread, and the others in another one.
 ///
 /// # Errors
 ///
 /// Those of `many`, and `Memory` if memory runs out.
 #[tactic(auto, using(br_reread::proofs::GoOnLaws::go_itself, br_reread::proofs::GoOnLaws::go_more, br_reread::proofs::GoOnLaws::failed_on))]
-fn digest_hits<D: Drive>(
+pub(crate) fn digest_rest<D: Drive>(
     rt: &impl Threads,
     alloc: Global,
     many: &mut OverMany<'_, D>,
-    key: FileKey,
-    hits: &[Hit],
-) -> Result<Digesting, AgainFault>
-    requires { AllByRecursion (λ (h : meaning.Hit). h.key ≡ key) hits.now }
-    ensures keys { IfOk result (λ read. All (λ (h : meaning.Hit). h.key ≡ key) read.hits.items) }
-    ensures same { IfOk result (λ read. GivesHits many.old hits.now → read.hits.items ≡ hits.now) }
-    ensures digested { IfOk result (λ read. read.reading ≡ plain_bytes (fragments read.hits.items)) }
+    begun: &mut Digesting,
+    rest: &[Hit],
+) -> Result<(), AgainFault>
+    requires { IsRead begun.old }
+    ensures digested { OnOk result (IsDigested many.old begun.old.hits.items rest.now begun.new) }
     ensures on { GoOn many.old many.new }
     ensures failed { result ≡ Err Failed → HaveFailed many.old many.new }
 {
     standing_stays();
-    let first = cut_window(hits);
-    let read = read_ahead(alloc, many, key, first.window)?;
-    let mut begun = begin(read);
-    let mut rest = first.rest;
-    while !rest.is_empty() {
-        let next = cut_window(rest);
-        let ahead = digest_beside(rt, alloc, many, &mut begun, key, next.window)?;
-        take_ahead(&mut begun, ahead)?;
-        rest = next.rest;
+    let mut left = rest;
+    while !left.is_empty() {
+        left = read_on(rt, alloc, many, begun, left)?;
     }
     digest_window(&mut begun.reading, &begun.window)?;
-    Ok(begun)
+    Ok(())
+}
+
+/// Returns the outcome of a file that is digested.
+///
+/// # Errors
+///
+/// `AllocError` if memory runs out.
+pub(crate) fn finish(alloc: Global, key: FileKey, read: Digesting) -> Result<Outcome, AllocError>
+    requires { IsWhole key read }
+    ensures { IfOk result (λ outcome. shown outcome ≡ model.outcome_of key (fragments read.hits.items)) }
+{
+    let bytes = read.reading.finish(alloc);
+    outcome_with(alloc, key, &read.hits, bytes)
 }
 
 /// Returns the outcome of a file without sparse data. The data of two windows at most are in memory, and
@@ -225,6 +276,7 @@ fn digest_hits<D: Drive>(
 /// # Errors
 ///
 /// Those of `many`, and `Memory` if memory runs out.
+#[tactic(auto, using(br_reread::proofs::GoOnLaws::go_itself, br_reread::proofs::GoOnLaws::go_more, br_reread::proofs::GoOnLaws::failed_on))]
 fn plain_outcome_by<D: Drive>(
     rt: &impl Threads,
     alloc: Global,
@@ -237,9 +289,11 @@ fn plain_outcome_by<D: Drive>(
     ensures on { GoOn many.old many.new }
     ensures failed { result ≡ Err Failed → HaveFailed many.old many.new }
 {
-    let read = digest_hits(rt, alloc, many, key, hits)?;
-    let bytes = read.reading.finish(alloc);
-    let outcome = outcome_with(alloc, key, &read.hits, bytes)?;
+    standing_stays();
+    let mut file = open(alloc, many, hits)?;
+    let rest = file.rest;
+    digest_rest(rt, alloc, many, &mut file.begun, rest)?;
+    let outcome = finish(alloc, key, file.begun)?;
     Ok(outcome)
 }
 

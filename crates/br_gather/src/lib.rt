@@ -7,6 +7,7 @@
 #![tactic(auto)]
 
 mod again;
+mod both;
 mod digesting;
 mod file_parts;
 mod gathered;
@@ -14,6 +15,7 @@ mod light;
 mod likeness;
 mod made_again;
 mod making;
+mod pairs;
 mod putting;
 mod rereading;
 mod runs;

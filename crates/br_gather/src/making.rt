@@ -8,9 +8,9 @@ ghost use Rattle.br_reread.specs.Many.{GoOn, HaveFailed};
 ghost use Rattle.br_gather.specs.Given.{GivesHits};
 ghost use Rattle.br_gather.specs.Runs.{GivesRuns, file_of};
 
+use crate::pairs::make_by_two;
 use crate::runs::{Run, runs_of};
 use crate::sharing::made_side_by_side;
-use crate::work::make_left;
 use br_again::AgainFault;
 use br_join::Outcome;
 use br_match::Hit;
@@ -20,7 +20,8 @@ use br_volume::Drive;
 use std::alloc::Global;
 use std::thread::Threads;
 
-/// Makes the files: side by side, if there are several drives and several files.
+/// Makes the files: side by side, if there are several drives and several files. One drive makes two long
+/// files side by side, if one comes after the other.
 ///
 /// # Errors
 ///
@@ -39,12 +40,12 @@ fn made_of<D: Drive + Send>(
         return made_side_by_side(rt, alloc, many, runs);
     }
     let mut made = Vec::new(alloc);
-    make_left(rt, alloc, many, runs, &mut made)?;
+    make_by_two(rt, alloc, many, runs, &mut made)?;
     Ok(made)
 }
 
 /// Makes the files of sorted hits: the planned ones if there is a plan, else those that were found.
-/// Each drive has the data of one file at a time in memory.
+/// Each of several drives has the data of one file at a time in memory, and one drive those of two.
 ///
 /// # Errors
 ///

@@ -1,5 +1,5 @@
 //! Files that are made one after another, begun by one drive and gone on with by others.
-ghost use Rattle.std.specs.Prelude.{◌≡◌, ◌++◌, ◌≤◌, [], length, map, reverse, Err, IfOk, OnOk};
+ghost use Rattle.std.specs.Prelude.{◌≡◌, ◌++◌, ◌<◌, ◌≤◌, [], length, map, reverse, Err, IfOk, OnOk};
 ghost use Rattle.std.specs.List.{AllByRecursion};
 ghost use Rattle.br_again.specs.declared.fault.AgainFault.TheVariants.{Failed};
 ghost use Rattle.br_join.specs.Outcome.{restored};
@@ -16,6 +16,30 @@ use br_types::FileKey;
 use br_volume::Drive;
 use std::alloc::Global;
 use std::thread::Threads;
+
+/// Makes the next file: the one after as many as are made.
+///
+/// # Errors
+///
+/// Those of `many`, and `Memory` if memory runs out. Then no file is made.
+pub(crate) fn make_one<D: Drive>(
+    rt: &impl Threads,
+    alloc: Global,
+    many: &mut OverMany<'_, D>,
+    runs: &[Run<'_>],
+    made: &mut Vec<(FileKey, Outcome)>,
+) -> Result<(), AgainFault>
+    requires { length made.old.items < length runs.now }
+    ensures first { GivesRuns many.old runs.now → AreFirst runs.now (map restored made.old.items) → AreFirst runs.now (map restored made.new.items) }
+    ensures more { OnOk result (length made.old.items < length made.new.items) }
+    ensures on { GoOn many.old many.new }
+    ensures failed { result ≡ Err Failed → HaveFailed many.old many.new }
+{
+    let next = &runs[made.len()];
+    let outcome = file_by(rt, alloc, many, next.key, next.path, next.hits)?;
+    push_file(made, next.key, outcome)?;
+    Ok(())
+}
 
 /// Makes the files that are left: those after as many as are made.
 ///
@@ -36,9 +60,8 @@ pub(crate) fn make_left<D: Drive>(
     ensures failed { result ≡ Err Failed → HaveFailed many.old many.new }
 {
     standing_stays();
-    while let Some(next) = runs.get(made.len()) {
-        let outcome = file_by(rt, alloc, many, next.key, next.path, next.hits)?;
-        push_file(made, next.key, outcome)?;
+    while made.len() < runs.len() {
+        make_one(rt, alloc, many, runs, made)?;
     }
     Ok(())
 }

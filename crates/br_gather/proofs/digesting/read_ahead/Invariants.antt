@@ -1,9 +1,8 @@
 use Rattle.std.proofs.Common.{◌≡◌, take}
-use Rattle.std.specs.List.{AllByRecursion}
-use Rattle.br_model.specs.Meaning.{Hit}
 use Rattle.br_join.specs.Plain.{plain_bytes}
 use Rattle.br_join.specs.Runs.{fragments}
 use Rattle.br_reread.specs.Many.{GoOn}
+use Rattle.br_gather.specs.Digesting.{keys_of}
 use Rattle.br_gather.specs.Given.{GivesHits}
 use Rattle.br_gather.specs.Windows.{data_bytes}
 use Rattle.br_gather.proofs.digesting.read_ahead.Given as goal
@@ -12,7 +11,7 @@ use Rattle.br_gather.proofs.digesting.read_ahead.Given as goal
 abbrev pub invariant-loop-hit : goal.invariant-loop-hit
 invariant-loop-hit g l = record {
   on : GoOn l.fn.many l.many;
-  keys : AllByRecursion (λ (h : Hit). h.key ≡ l.fn.key) l.read.items;
+  keys : keys_of l.read.items ≡ keys_of (take l.hit-index l.hits);
   window : data_bytes l.window.items ≡ plain_bytes (fragments l.read.items);
   same : GivesHits l.fn.many l.hits → l.read.items ≡ take l.hit-index l.hits;
 }

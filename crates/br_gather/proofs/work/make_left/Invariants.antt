@@ -5,11 +5,11 @@ use Rattle.br_gather.specs.Runs.{AreFirst, GivesRuns}
 use Rattle.br_gather.proofs.work.make_left.Given as goal
 
 -- those that are made are the first ones, if they were before and all hits are given
-abbrev pub invariant-loop-next : goal.invariant-loop-next
-invariant-loop-next g l = record {
+abbrev pub invariant-loop-alloc : goal.invariant-loop-alloc
+invariant-loop-alloc g l = record {
   on : GoOn l.fn.many l.many;
   first : GivesRuns l.fn.many l.runs → AreFirst l.runs (map restored l.fn.made.items) → AreFirst l.runs (map restored l.made.items);
 }
 
-abbrev pub decreases-loop-next : goal.decreases-loop-next
-decreases-loop-next g l = length l.runs - length l.made.items
+abbrev pub decreases-loop-alloc : goal.decreases-loop-alloc
+decreases-loop-alloc g l = length l.runs - length l.made.items

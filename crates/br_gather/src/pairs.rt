@@ -1,0 +1,108 @@
+//! Files that one drive makes: two long ones side by side, and each other one alone.
+ghost use Rattle.std.specs.Prelude.{◌≡◌, ◌<◌, ◌≤◌, ◌+◌, true, length, map, Err, OnOk};
+ghost use Rattle.br_again.specs.declared.fault.AgainFault.TheVariants.{Failed};
+ghost use Rattle.br_join.specs.Outcome.{restored};
+ghost use Rattle.br_reread.specs.Many.{GoOn, HaveFailed};
+ghost use Rattle.br_gather.specs.Runs.{AreFirst, GivesRuns};
+
+use crate::both::files_by_two;
+use crate::made_again::push_file;
+use crate::putting::has_sparse_data;
+use crate::runs::Run;
+use crate::windows::cut_window;
+use crate::work::make_one;
+use br_again::{AgainFault, standing_stays};
+use br_join::Outcome;
+use br_reread::OverMany;
+use br_types::FileKey;
+use br_volume::Drive;
+use std::alloc::Global;
+use std::thread::Threads;
+
+/// Returns whether a file has more data than one window, and none that are sparse.
+fn is_long(run: &Run<'_>) -> bool {
+    !cut_window(run.hits).rest.is_empty() && !has_sparse_data(run.hits)
+}
+
+/// Returns whether a file and the one after it are both long.
+fn are_long(runs: &[Run<'_>], place: usize) -> bool
+    requires { place < length runs.now }
+    ensures { result ≡ true → place + 1 < length runs.now }
+{
+    place + 1 < runs.len() && is_long(&runs[place]) && is_long(&runs[place + 1])
+}
+
+/// Makes the next two files side by side: the ones after as many as are made.
+///
+/// # Errors
+///
+/// Those of `many`, and `Memory` if memory runs out. Then the files before the fault are made.
+fn make_two<D: Drive>(
+    rt: &impl Threads,
+    alloc: Global,
+    many: &mut OverMany<'_, D>,
+    runs: &[Run<'_>],
+    made: &mut Vec<(FileKey, Outcome)>,
+) -> Result<(), AgainFault>
+    requires { length made.old.items + 1 < length runs.now }
+    ensures first { GivesRuns many.old runs.now → AreFirst runs.now (map restored made.old.items) → AreFirst runs.now (map restored made.new.items) }
+    ensures more { OnOk result (length made.old.items < length made.new.items) }
+    ensures on { GoOn many.old many.new }
+    ensures failed { result ≡ Err Failed → HaveFailed many.old many.new }
+{
+    let one = &runs[made.len()];
+    let other = &runs[made.len() + 1];
+    let both = files_by_two(rt, alloc, many, one, other)?;
+    push_file(made, one.key, both.one)?;
+    push_file(made, other.key, both.other)?;
+    Ok(())
+}
+
+/// Makes the next two files side by side, if both are long, and else the next one.
+///
+/// # Errors
+///
+/// Those of `many`, and `Memory` if memory runs out. Then the files before the fault are made.
+fn make_next<D: Drive>(
+    rt: &impl Threads,
+    alloc: Global,
+    many: &mut OverMany<'_, D>,
+    runs: &[Run<'_>],
+    made: &mut Vec<(FileKey, Outcome)>,
+) -> Result<(), AgainFault>
+    requires { length made.old.items < length runs.now }
+    ensures first { GivesRuns many.old runs.now → AreFirst runs.now (map restored made.old.items) → AreFirst runs.now (map restored made.new.items) }
+    ensures more { OnOk result (length made.old.items < length made.new.items) }
+    ensures on { GoOn many.old many.new }
+    ensures failed { result ≡ Err Failed → HaveFailed many.old many.new }
+{
+    if are_long(runs, made.len()) {
+        return make_two(rt, alloc, many, runs, made);
+    }
+    make_one(rt, alloc, many, runs, made)
+}
+
+/// Makes the files that are left: those after as many as are made.
+///
+/// # Errors
+///
+/// Those of `many`, and `Memory` if memory runs out. Then the files before the fault are made.
+#[tactic(auto, using(br_reread::proofs::GoOnLaws::go_itself, br_reread::proofs::GoOnLaws::go_more, br_reread::proofs::GoOnLaws::failed_on))]
+pub(crate) fn make_by_two<D: Drive>(
+    rt: &impl Threads,
+    alloc: Global,
+    many: &mut OverMany<'_, D>,
+    runs: &[Run<'_>],
+    made: &mut Vec<(FileKey, Outcome)>,
+) -> Result<(), AgainFault>
+    ensures first { GivesRuns many.old runs.now → AreFirst runs.now (map restored made.old.items) → AreFirst runs.now (map restored made.new.items) }
+    ensures all { OnOk result (length runs.now ≤ length made.new.items) }
+    ensures on { GoOn many.old many.new }
+    ensures failed { result ≡ Err Failed → HaveFailed many.old many.new }
+{
+    standing_stays();
+    while made.len() < runs.len() {
+        make_next(rt, alloc, many, runs, made)?;
+    }
+    Ok(())
+}
