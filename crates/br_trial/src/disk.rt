@@ -52,13 +52,23 @@ pub(crate) fn store_of<S: Alter + Drop>(conn: Connection<S>) -> Result<S, Fail>
 }
 
 /// Opens a store again as a database.
-pub(crate) fn opened<S: Alter + Drop>(
+fn opened<S: Alter + Drop>(
     found: Result<Connection<S>, (Error, S)>,
 ) -> Result<Connection<S>, Fail> {
     match found {
         Ok(conn) => Ok(conn),
         Err(_) => Err(Fail::from("the database was not opened again")),
     }
+}
+
+/// Opens a store again that is as it was opened, unless it is shut.
+pub(crate) fn again<S: Alter + Drop>(alloc: Global, store: S) -> Result<Connection<S>, Fail>
+    requires { IsClean (S.Store.view store) → IsTrue (S.Store.view store).is_open → IsFresh (S.Store.view store) }
+{
+    if store.is_broken() {
+        return Err(Fail::from("the store is shut"));
+    }
+    opened(Connection::over(alloc, store))
 }
 
 /// Opens what a stop leaves of a store, without what was not flushed. No file stops any more.

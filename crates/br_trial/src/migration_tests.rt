@@ -1,5 +1,5 @@
 //! Catalogues of version 1 that are made catalogues of version 2.
-use crate::disk::{catalogue, opened, store_of};
+use crate::disk::{again, catalogue, store_of};
 use crate::jobs::{both_shown, job, loaded};
 use br_moving::migrate;
 use sqlite::{Alter, Connection, MemStore};
@@ -57,10 +57,7 @@ fn migrated<S: Alter + Drop>(
 ) -> Result<(End, Connection<S>), Fail> {
     let mut store = store_of(conn)?;
     let end = migrate(alloc, &mut store).map_err(|fault| fault.number());
-    if store.is_broken() {
-        return Err(Fail::from("the migration shut the database"));
-    }
-    Ok((end, opened(Connection::over(alloc, store))?))
+    Ok((end, again(alloc, store)?))
 }
 
 /// Returns the number with which a database is not opened as a catalogue, or 0 if it is.

@@ -1,5 +1,5 @@
 //! A catalogue of version 1 is migrated on a disk that stops at each call in turn.
-use crate::disk::{Disk, Stopping, catalogue, open_stopping, opened, restarted, store_of};
+use crate::disk::{Disk, Stopping, again, catalogue, open_stopping, restarted, store_of};
 use crate::migration_tests::OLD;
 use br_history::{History, JobRows};
 use br_moving::migrate;
@@ -71,10 +71,7 @@ fn found_after<S: Alter + Reopen + Drop>(
     if is_old(conn.schema()) {
         let mut store = store_of(conn)?;
         let _ = migrate(alloc, &mut store)?;
-        Ok((
-            1,
-            catalogue(alloc, opened(Connection::over(alloc, store))?)?,
-        ))
+        Ok((1, catalogue(alloc, again(alloc, store)?)?))
     } else {
         Ok((2, catalogue(alloc, conn)?))
     }
