@@ -95,15 +95,21 @@ fn open_file(rt: &HostRuntime, db: &str) -> Result<Connection<FileStore<File>>, 
     Ok(Connection::open(rt, db)?)
 }
 
-/// Puts all that was committed into the file after a migration that returned this. Returns the same, or why the file refused.
-fn end_migration(
-    store: FileStore<File>,
-    migrated: Result<u64, StoreFault>,
-) -> Result<u64, CatalogueFault> {
-    let closed = br_raw::fold(store);
-    let jobs = migrated.map_err(catalogue_fault)?;
-    match closed {
-        Ok(_files) => Ok(jobs),
+/// Returns why a file that `migrate` takes for no catalogue of version 1 is refused: its rows may not obey its tables.
+fn refusal_of(rt: &HostRuntime, db: &str) -> CatalogueFault {
+    match open_file(rt, db) {
+        Ok(conn) => {
+            let _closed = close(conn);
+            CatalogueFault::BadCatalogue
+        }
+        Err(fault) => catalogue_fault(fault),
+    }
+}
+
+/// Puts all that was committed into the file, and shuts it.
+fn end(store: FileStore<File>) -> Result<(), CatalogueFault> {
+    match br_raw::fold(store) {
+        Ok(_files) => Ok(()),
         Err(_error) => Err(CatalogueFault::Unreadable),
     }
 }
@@ -111,12 +117,13 @@ fn end_migration(
 /// Makes the catalogue of version 1 in a file one of version 2. Returns the number of its jobs. Afterwards the file alone is the
 /// catalogue, also if it was refused.
 fn migrate(rt: &HostRuntime, db: &str) -> Result<u64, CatalogueFault> {
-    match br_raw::open(rt, db) {
-        Ok(mut store) => {
-            let migrated = br_moving::migrate(rt.alloc(), &mut store);
-            end_migration(store, migrated)
-        }
-        Err(error) => Err(catalogue_fault(StoreFault::Store(error))),
+    let mut store = br_raw::open(rt, db).map_err(|_| CatalogueFault::Unreadable)?;
+    let migrated = br_moving::migrate(rt.alloc(), &mut store);
+    let ended = end(store);
+    match migrated {
+        Ok(jobs) => ended.map(|()| jobs),
+        Err(StoreFault::BadCatalogue) => Err(refusal_of(rt, db)),
+        Err(fault) => Err(catalogue_fault(fault)),
     }
 }
 
