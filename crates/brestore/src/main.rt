@@ -11,6 +11,9 @@
 
 ghost use Rattle.std.specs.Prelude.{◌≡◌, IfOk};
 ghost use Rattle.sqlite.specs.Files.{over_files};
+ghost use Rattle.sqlite.specs.Steps.{IsFresh};
+ghost use Rattle.sqlite_store.specs.FileStore.{view};
+ghost use Rattle.sqlite_trees.specs.View.{IsClean};
 ghost use Rattle.br_rows.specs.Fault.{fault_number};
 ghost use Rattle.br_store.specs.Calls.{IsJustOpened};
 ghost use Rattle.br_look.specs.Look.{look_number};
@@ -106,6 +109,16 @@ fn refusal_of(rt: &HostRuntime, db: &str) -> CatalogueFault {
     }
 }
 
+/// Opens the store in a file, without a test of its rows.
+fn open_store(rt: &HostRuntime, db: &str) -> Result<FileStore<File>, CatalogueFault>
+    ensures { IfOk result (λ store. IsClean (view store) → IsFresh (view store)) }
+{
+    match br_raw::open(rt, db) {
+        Ok(store) => Ok(store),
+        Err(_error) => Err(CatalogueFault::Unreadable),
+    }
+}
+
 /// Puts all that was committed into the file, and shuts it.
 fn end(store: FileStore<File>) -> Result<(), CatalogueFault> {
     match br_raw::fold(store) {
@@ -117,7 +130,7 @@ fn end(store: FileStore<File>) -> Result<(), CatalogueFault> {
 /// Makes the catalogue of version 1 in a file one of version 2. Returns the number of its jobs. Afterwards the file alone is the
 /// catalogue, also if it was refused.
 fn migrate(rt: &HostRuntime, db: &str) -> Result<u64, CatalogueFault> {
-    let mut store = br_raw::open(rt, db).map_err(|_| CatalogueFault::Unreadable)?;
+    let mut store = open_store(rt, db)?;
     let migrated = br_moving::migrate(rt.alloc(), &mut store);
     let ended = end(store);
     match migrated {
