@@ -1,5 +1,6 @@
 -- A migration that was committed, or not.
-use Rattle.std.proofs.Common.{◌≡◌, ◌⊎◌, ◌≤◌, inl, inr, false, ℕ, ℤ, IsTrue, refl, sym, ap, subst, arith, ◌∙◌}
+use Rattle.std.specs.Prelude.{IfErr}
+use Rattle.std.proofs.Common.{◌≡◌, ◌⊎◌, ◌≤◌, inl, inr, false, ℕ, ℤ, IsTrue, refl, sym, ap, subst, arith, ◌∙◌, Result, Ok, Err}
 use Rattle.sqlite.specs.Effect.{IsDatabase}
 use Rattle.sqlite.specs.Steps.{IsFresh}
 use Rattle.sqlite.specs.Tree.{Trees}
@@ -137,3 +138,8 @@ commits_move n p moved shield falls counts closes crash = record {
     | inr before ↦ inl (p.quiet.outcomes db before)
   ];
 }
+
+-- what holds of every fault holds of a refusal
+pub if_refused : {T E : Type 0} (r : Result T E) (P : E → Type 0) → ((e : E) → P e) → IfErr r P
+if_refused (Ok x) P all = tt
+if_refused (Err e) P all = all e

@@ -1,5 +1,5 @@
 -- A store whose catalogue of version 1 was made one of version 2.
-use Rattle.std.specs.Prelude.{◌≡◌, ◌⊎◌, ◌≤◌, ℕ, ℤ, pos, List, [], ◌∷◌, length, map, false, Ok, IsTrue}
+use Rattle.std.specs.Prelude.{◌≡◌, ◌≢◌, ◌⊎◌, ◌≤◌, ℕ, ℤ, pos, List, [], ◌∷◌, length, map, false, Ok, IsTrue}
 use Rattle.sqlite.specs.declared.types.Value.TheVariants.{Int}
 use Rattle.sqlite.specs.Order.{Row}
 use Rattle.sqlite.specs.Tree.{Trees}
@@ -12,7 +12,9 @@ use Rattle.sqlite_trees.specs.Objects.{catalog_tree}
 use Rattle.sqlite_trees.specs.View.{View, IsClean, doubt}
 use Rattle.sqlite_catalog.specs.Listing.{Lists}
 use Rattle.br_model.specs.Job.{JobRows}
+use Rattle.br_rows.specs.Fault.{fault_number}
 use Rattle.br_rows.specs.Load.{read_history, read_loaded}
+use Rattle.br_rows.specs.declared.fault.StoreFault.{StoreFault}
 use Rattle.br_schema.specs.Old.{old_schema}
 use Rattle.br_store.specs.Held.{rows_in}
 use Rattle.br_moving.specs.Files.{moved_row}
@@ -107,6 +109,10 @@ pub record Survives {S : Type 0} (g : Ghosts S) (old new : S) : Type 0 where
   pub counts : g.faults old ≤ g.faults new
   pub closes : IsClean (g.view new) → IsTrue (g.view old).is_open → IsTrue (g.view new).is_open ⊎ MoreFaults (g.faults old) (g.faults new)
   pub crash : IsClean (g.view new) → (db : Trees) → g.recovers new db → g.recovers old db ⊎ Migrates (g.view old).trees db
+
+-- unless it is the store that failed, a crash leaves only what it could leave before
+abbrev pub KeepsUnlessFailed : {S : Type 0} → Ghosts S → S → S → StoreFault → Type 0
+KeepsUnlessFailed g old new fault = fault_number fault ≢ 45 → (db : Trees) → g.recovers new db → g.recovers old db
 
 -- a crash leaves just these trees
 abbrev pub LeavesOnly : {S : Type 0} → Ghosts S → S → Trees → Type 0

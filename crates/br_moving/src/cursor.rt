@@ -2,6 +2,7 @@
 
 ghost use Rattle.std.specs.Prelude.{◌≡◌, [], IsSome, IfOk, OnOk};
 ghost use Rattle.sqlite_trees.specs.View.{IsClean};
+ghost use Rattle.br_rows.specs.Fault.{fault_number};
 ghost use Rattle.br_moving.specs.Steps.{CommitsNothing, GoesOn, OnCleanStore, Starts};
 
 use br_rows::StoreFault;
@@ -11,7 +12,9 @@ use sqlite_trees::store::{Direction, Store};
 use sqlite_value::row::Row;
 
 /// Returns why a call on the store failed.
-pub(crate) fn fault_of(error: StoreError) -> StoreFault {
+pub(crate) fn fault_of(error: StoreError) -> StoreFault
+    ensures { fault_number result ≡ 45 }
+{
     StoreFault::Store(Error::SqliteFailure(match error {
         StoreError::OutOfMemory => ErrorCode::OutOfMemory,
         StoreError::Io => ErrorCode::SystemIoFailure,

@@ -1,10 +1,10 @@
 //! A catalogue of version 1 made one of version 2, in one transaction.
 
-ghost use Rattle.std.specs.Prelude.{◌≡◌, false, IsTrue, IfOk, OnOk, OnErr};
+ghost use Rattle.std.specs.Prelude.{◌≡◌, false, IsTrue, IfErr, IfOk, OnOk, OnErr};
 ghost use Rattle.sqlite.specs.Steps.{IsFresh};
 ghost use Rattle.sqlite_trees.specs.View.{IsClean};
 ghost use Rattle.br_moving.specs.Claims.{CountsJobs, WritesNew};
-ghost use Rattle.br_moving.specs.Moved.{HasMigrated, IsKept, IsMoved, IsSame, LeavesOnly, MayMove, Survives};
+ghost use Rattle.br_moving.specs.Moved.{HasMigrated, IsKept, IsMoved, IsSame, KeepsUnlessFailed, LeavesOnly, MayMove, Survives};
 ghost use Rattle.br_moving.specs.Read.{IsReadOld};
 ghost use Rattle.br_moving.specs.Steps.{CommitsNothing, KeepsLast, OnCleanStore, Reads};
 
@@ -83,6 +83,7 @@ fn move_all<S: Alter>(alloc: Global, store: &mut S) -> Result<u64, StoreFault>
     ensures moved { OnCleanStore S.Store store.old store.new (λ old new. IfOk result (IsKept old new)) }
     ensures failed { OnCleanStore S.Store store.old store.new (λ old new. OnErr result (KeepsLast old new)) }
     ensures crash { MayMove S.Store store.old store.new }
+    ensures unchanged { IfErr result (KeepsUnlessFailed S.Store store.old store.new) }
 {
     let jobs = rewrite(alloc, store)?;
     match store.commit() {
@@ -94,7 +95,7 @@ fn move_all<S: Alter>(alloc: Global, store: &mut S) -> Result<u64, StoreFault>
 /// Makes a catalogue of version 1 one of version 2, in one transaction: a row of File has the name of its file, and the
 /// table of names goes. Returns the number of jobs. Afterwards the rows form the history that the rows of version 1
 /// formed (`jobs`). A crash meanwhile leaves what it could leave before, or version 2 whole (`crash`); a crash after `Ok`
-/// leaves version 2 (`durable`).
+/// leaves version 2 (`durable`), and one after a refusal other than `Store` what it could leave before (`unchanged`).
 ///
 /// # Errors
 ///
@@ -112,6 +113,7 @@ pub fn migrate<S: Alter>(alloc: Global, store: &mut S) -> Result<u64, StoreFault
     ensures fresh { OnCleanStore S.Store store.old store.new (λ old new. IsTrue new.is_open → IsFresh new) }
     ensures numbered { OnCleanStore S.Store store.old store.new (λ old new. IsTrue new.is_numbered) }
     ensures crash { Survives S.Store store.old store.new }
+    ensures unchanged { IfErr result (KeepsUnlessFailed S.Store store.old store.new) }
     ensures durable { OnCleanStore S.Store store.old store.new (λ old new. OnOk result (LeavesOnly S.Store store.new new.trees)) }
 {
     match move_all(alloc, store) {

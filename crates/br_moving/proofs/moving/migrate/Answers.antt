@@ -54,3 +54,6 @@ pub returns-in-Ok-clause-durable : goal.returns-in-Ok-clause-durable
 returns-in-Ok-clause-durable g c = λ clean db may.
     let kept = c.in-Ok.ensures.moved clean in
     g.met.S.Store.settled c.move_all.new.store db kept.is_open may ∙ sym kept.fresh.clean
+
+pub returns-in-Err-clause-unchanged : goal.returns-in-Err-clause-unchanged
+returns-in-Err-clause-unchanged g c = λ failed db may. c.in-Err.ensures.unchanged failed db (c.rollback.ensures.quiet.outcomes db may)

@@ -1,7 +1,8 @@
 use Rattle.std.proofs.Common.{arith}
 use Rattle.sqlite_trees.specs.View.{IsClean}
 use Rattle.br_store.proofs.Opens.{is_up}
-use Rattle.br_moving.proofs.KeptLaws.{commits_move, kept_of, nothing_moved, rolled_last}
+use Rattle.br_moving.specs.Moved.{KeepsUnlessFailed}
+use Rattle.br_moving.proofs.KeptLaws.{commits_move, if_refused, kept_of, nothing_moved, rolled_last}
 use Rattle.br_moving.proofs.StepLaws.{clean_before, last_then}
 use Rattle.br_moving.proofs.moving.move_all.Goals as goal
 
@@ -33,3 +34,9 @@ returns-in-Err-clause-crash g c =
 
 pub returns-in_err-jobs-clause-crash : goal.returns-in_err-jobs-clause-crash
 returns-in_err-jobs-clause-crash g c = nothing_moved c.rewrite.ensures.kept
+
+pub returns-in-Err-clause-unchanged : goal.returns-in-Err-clause-unchanged
+returns-in-Err-clause-unchanged g c = λ failed. absurd (failed c.fault_of.ensures)
+
+pub returns-in_err-jobs-clause-unchanged : goal.returns-in_err-jobs-clause-unchanged
+returns-in_err-jobs-clause-unchanged g c = if_refused c.from_residual.result (KeepsUnlessFailed g.S.Store c.args.store.now c.rewrite.new.store) (λ fault failed. c.rewrite.ensures.kept.quiet.outcomes)
