@@ -2,3 +2,4 @@ pub mod Fault
 pub mod Digits
 pub mod Path
 pub mod Numbers
+pub mod Parts

@@ -4,6 +4,7 @@ ghost use Rattle.br_model.specs.Answer.{Answers, AnswersAlways};
 ghost use Rattle.br_model.specs.Attribute as model;
 ghost use Rattle.br_attr.specs.Digits.{spelled10};
 ghost use Rattle.br_attr.specs.Fault.{cause, fault_number};
+ghost use Rattle.br_attr.specs.Parts.{of_parts};
 ghost use Rattle.br_attr.specs.Path.{path_or_fault};
 
 use crate::fault::AttrFault;
@@ -113,8 +114,7 @@ pub fn write_attributes(
     stat: &Stat,
     link: &[u8],
 ) -> Result<Vec<u8>, AllocError>
-    ensures { IfOk result (λ text. text.items
-        ≡ model.write_attributes (record { index = index; kind = kind; path = path.now; stat = stat.now; link = link.now })) }
+    ensures { IfOk result (λ text. text.items ≡ model.write_attributes (of_parts index kind path.now stat.now link.now)) }
 {
     let mut text = Vec::new(alloc);
     push_number(&mut text, index.get(), b' ')?;
