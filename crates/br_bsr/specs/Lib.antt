@@ -2,3 +2,4 @@ pub mod Fault
 pub mod Statement
 pub mod Keyword
 pub mod Line
+pub mod Scan

@@ -3,6 +3,7 @@
 //!
 //! A `Bootstrap` is read from its text and written as its canonical text, and its groups say which
 //! records they select.
+//! `first_line`, `without_comment`, `cut` and `trimmed_of` take a text apart as the reader does.
 //!
 //! Any call that returns a `Result` may also fail because memory ran out.
 #![tactic(auto)]
@@ -25,4 +26,5 @@ pub use fault::BsrFault;
 pub use group::Group;
 pub use range::Range;
 pub use read::read_bootstrap;
+pub use scan::{cut, first_line, trimmed_of, without_comment};
 pub use write::write_bootstrap;

@@ -1,5 +1,4 @@
-ghost use Rattle.std.specs.Prelude.{◌≡◌, ◌<◌, ◌^◌, ◌∷◌, length, IfOk, OnOk};
-ghost use Rattle.std.specs.Str.Lines.{lines, strip_carriage_return};
+ghost use Rattle.std.specs.Prelude.{◌≡◌, ◌<◌, ◌^◌, length, IfOk, OnOk};
 ghost use Rattle.br_model.specs.Answer.{Answers};
 ghost use Rattle.br_model.specs.BootstrapText as model;
 ghost use Rattle.br_bsr.specs.Fault.{cause};
@@ -8,33 +7,10 @@ ghost use Rattle.br_bsr.specs.Line.{statement_view};
 use crate::bootstrap::{Bootstrap, MAX_GROUPS};
 use crate::fault::BsrFault;
 use crate::group::Group;
-use crate::scan::cut;
+use crate::scan::first_line;
 use crate::statement::{Statement, statement_of};
 use br_model::reading_is_the_grammar;
 use std::alloc::{AllocError, Global};
-
-/// Returns the line without the CR at its end, if it has one.
-fn without_return(line: &[u8]) -> &[u8]
-    ensures { result.now ≡ strip_carriage_return line.now }
-{
-    if !line.is_empty() && line[line.len() - 1] == b'\r' {
-        &line[..line.len() - 1]
-    } else {
-        line
-    }
-}
-
-/// Returns the first line of a text without its end, and the text after it.
-fn first_line(text: &[u8]) -> (&[u8], &[u8])
-    requires { 0 < length text.now }
-    ensures first { lines text.now ≡ result.0.now ∷ lines result.1.now }
-    ensures shorter { length result.1.now < length text.now }
-{
-    match cut(text, b'\n') {
-        Some((line, rest)) => (without_return(line), rest),
-        None => (text, &text[text.len()..]),
-    }
-}
 
 /// Adds the statement of a line to the groups of the lines before it.
 fn add(alloc: Global, groups: &mut Vec<Group>, statement: Statement) -> Result<(), AllocError>

@@ -1,7 +1,8 @@
-ghost use Rattle.std.specs.Prelude.{◌≡◌, ◌==◌, ◌<◌, true, false, length, count_by, position, MatchOption};
-ghost use Rattle.std.specs.List.{before_first, after_first, list_any};
+ghost use Rattle.std.specs.Prelude.{◌≡◌, ◌==◌, ◌<◌, ◌∷◌, false, length, count_by, position, MatchOption};
+ghost use Rattle.std.specs.Str.Lines.{lines, strip_carriage_return};
 ghost use Rattle.br_model.specs.Text.{is_blank, trim_front};
 ghost use Rattle.br_model.specs.BootstrapText.{trimmed, before_comment, has_closed_quotes};
+ghost use Rattle.br_bsr.specs.Scan.{AreAround, LacksByte};
 
 use br_types::is_blank_byte;
 use bstr::ByteSlice;
@@ -44,10 +45,7 @@ fn place_of(text: &[u8], end: u8) -> Option<usize>
 /// Returns the text before the first byte `end` and the text after it; `None` if there is no such
 /// byte.
 pub fn cut(text: &[u8], end: u8) -> Option<(&[u8], &[u8])>
-    ensures { MatchOption result
-        ((list_any (λ c. c == end) text.now ≡ false) × (before_first (λ c. c == end) text.now ≡ text.now))
-        (λ x. (list_any (λ c. c == end) text.now ≡ true) × (x.0.now ≡ before_first (λ c. c == end) text.now)
-        × (x.1.now ≡ after_first (λ c. c == end) text.now) × (length x.1.now < length text.now)) }
+    ensures { MatchOption result (LacksByte end text.now) (λ x. AreAround end text.now x.0.now x.1.now) }
 {
     match place_of(text, end) {
         Some(i) => Some((&text[..i], &text[i + 1..])),
@@ -83,4 +81,27 @@ pub fn are_quotes_closed(text: &[u8]) -> bool
     ensures { result ≡ has_closed_quotes text.now }
 {
     count_quotes(text) % 2 == 0
+}
+
+/// Returns the line without the CR at its end, if it has one.
+fn without_return(line: &[u8]) -> &[u8]
+    ensures { result.now ≡ strip_carriage_return line.now }
+{
+    if !line.is_empty() && line[line.len() - 1] == b'\r' {
+        &line[..line.len() - 1]
+    } else {
+        line
+    }
+}
+
+/// Returns the first line of a text without its end, and the text after it.
+pub fn first_line(text: &[u8]) -> (&[u8], &[u8])
+    requires { 0 < length text.now }
+    ensures first { lines text.now ≡ result.0.now ∷ lines result.1.now }
+    ensures shorter { length result.1.now < length text.now }
+{
+    match cut(text, b'\n') {
+        Some((line, rest)) => (without_return(line), rest),
+        None => (text, &text[text.len()..]),
+    }
 }

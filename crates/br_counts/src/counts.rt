@@ -3,7 +3,7 @@ ghost use Rattle.std.specs.Str.{str_to_ascii_lowercase};
 ghost use Rattle.br_counts.specs.Counts as model;
 ghost use Rattle.br_counts.specs.Counts.{counts, stated};
 
-use crate::scan::{cut, first_line, trimmed_of, without_comment};
+use br_bsr::{cut, first_line, trimmed_of, without_comment};
 use br_fields::read_number;
 use std::alloc::{AllocError, Global};
 

@@ -6,7 +6,6 @@
 
 mod counts;
 mod laws;
-mod scan;
 
 pub use counts::counts_of;
 pub use laws::each_group_has_one;

@@ -2,7 +2,7 @@ use Rattle.std.proofs.Common.{◌≡◌, ◌-◌, ℕ, List, [], length, take, d
 use Rattle.std.specs.Str.Lines.{strip_carriage_return}
 use Rattle.std.proofs.lemmas.Grind.{common_steps}
 use Rattle.br_bsr.proofs.LineLaws.{first_ended, first_open}
-use Rattle.br_counts.proofs.scan.first_line.Goals as goal
+use Rattle.br_bsr.proofs.scan.first_line.Goals as goal
 
 nothing_behind : (text : List ℕ) → take (length text - length text) (drop (length text) text) ≡ []
 nothing_behind text = grind (arith, common_steps)
