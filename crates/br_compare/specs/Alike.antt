@@ -1,5 +1,5 @@
 -- Files that are known by the number of their bytes and their digest.
-use Rattle.std.specs.Prelude.{◌≡◌, ℕ, List, length, take, Option, Some, None, ⊤}
+use Rattle.std.specs.Prelude.{◌≡◌, ◌+◌, ℕ, List, length, take, Option, Some, None, Result, OnOk, ⊤}
 use Rattle.md5.specs.Md5.{md5}
 use Rattle.br_files.specs.Tree.{Tree, file_bytes}
 use Rattle.br_files.specs.Calls.{HasFile}
@@ -22,6 +22,11 @@ LacksAlike (Some tree) path count digest = (bytes : List ℕ) → file_bytes tre
 -- If the tree is told, a file is at the path, and its first bytes are such.
 abbrev pub HasFront : Option Tree → List ℕ → ℕ → (List ℕ → Type 0) → Type 0
 HasFront told path count P = HasFile told path (λ bytes. P (take count bytes))
+
+-- If one front of the file is known before the call, the front with `wanted` bytes more is known
+-- after it, if it did not fail.
+abbrev pub ReadsOn : {A E : Type 0} → Result A E → Option Tree → Option Tree → List ℕ → ℕ → ℕ → (List ℕ → Type 0) → (List ℕ → Type 0) → Type 0
+ReadsOn result before after path at wanted P Q = HasFront before path at P → OnOk result (HasFront after path (at + wanted) Q)
 
 -- If the nodes are told, a file of such bytes is at the path.
 abbrev pub IsAlikeAt : Option Nodes → List ℕ → ℕ → List ℕ → Type 0

@@ -1,8 +1,8 @@
 //! What a file on a disk has, read in parts.
-ghost use Rattle.std.specs.Prelude.{◌≡◌, ◌+◌, ◌^◌, ◌<◌, ℕ, List, length, take, true, false, IfOk, OnOk, Ok};
+ghost use Rattle.std.specs.Prelude.{◌≡◌, ◌^◌, ◌<◌, ℕ, List, length, take, true, false, IfOk, Ok};
 ghost use Rattle.md5.specs.Md5.{Holds, md5};
 ghost use Rattle.br_files.specs.Calls.{HasFile, IsFile};
-ghost use Rattle.br_compare.specs.Alike.{HasAlike, HasFront, LacksAlike};
+ghost use Rattle.br_compare.specs.Alike.{HasAlike, HasFront, LacksAlike, ReadsOn};
 
 use br_files::{Disk, DiskFault, Kind, read_from};
 use md5::{Digest, Md5};
@@ -27,8 +27,8 @@ fn digest_next<D: Disk>(
     requires some { 0 < wanted }
     requires few { wanted < 2 ^ 32 }
     requires in_file { at < 2 ^ 63 }
-    ensures front { HasFront (D.told disk.old) (D.path_of file.now) at (Holds hasher.old)
-        → OnOk result (HasFront (D.told disk.new) (D.path_of file.now) (at + wanted) (Holds hasher.new)) }
+    ensures front { ReadsOn result (D.told disk.old) (D.told disk.new) (D.path_of file.now) at wanted
+        (Holds hasher.old) (Holds hasher.new) }
     ensures same { D.told disk.new ≡ D.told disk.old }
 {
     read_from(disk, file, at, wanted as usize, buffer)?;
