@@ -1,5 +1,6 @@
 ghost use Rattle.std.specs.Prelude.{◌≡◌, ◌≢◌, ◌+◌, ◌<◌, ◌≤◌, [], length, map, IfOk, IfSome, OnErr, ◌↔◌};
 ghost use Rattle.br_claim.specs.Claims.{fresh_seat, AllOf, AreDealt, HasDrawn, IsAscending, some_ended, with_seat};
+ghost use Rattle.br_claim.specs.Own.{IsAtTable};
 
 use crate::fault::ClaimFault;
 use crate::kept::Kept;
@@ -121,8 +122,7 @@ impl Claims {
 
 /// Joins a seat to the claims' own seat, and returns the numbers that it drew.
 fn joined(table: &ClaimTable, own: &mut Seat<(), Hand>, seat: ClaimSeat) -> Vec<u32>
-    requires table { (table.now.shared.table_id.words ≡ 1) × (own.old.table_id ≡ table.now.shared.table_id)
-        × (own.old.me ≡ (own.old.me.0, [])) × (own.old.me.0.limit ≡ table.now.shared.key) }
+    requires table { IsAtTable table.now.shared.table_id table.now.shared.key own.old.table_id own.old.me }
     requires seat { seat.claims ≡ table.now.shared.table_id }
     ensures drawn { (result.items ≡ seat.drawn) × IsAscending seat.drawn }
     ensures own { (own.new.table_id ≡ own.old.table_id) × (own.new.me ≡ (with_seat own.old.me.0 seat, [])) }
