@@ -3,7 +3,7 @@ ghost use Rattle.std.specs.FinMap.{empty};
 ghost use Rattle.br_model.specs.Meaning.{hits_of, with_hits};
 ghost use Rattle.br_join.specs.Runs.{AreListed};
 
-use crate::room::Room;
+use crate::room::{Room, let_all_go};
 use br_match::Hit;
 use br_records::settle;
 use std::alloc::{AllocError, Global};
@@ -68,9 +68,26 @@ impl Held {
         self.full = self.hits.len().saturating_mul(2);
     }
 
-    /// Takes hits, and lets the data go for which there is no room. Returns the hits as they were if
-    /// there is no memory.
-    pub(crate) fn take(&mut self, room: &mut Room, hits: Vec<Hit>) -> Result<(), Vec<Hit>>
+    /// Takes room for the data of hits. If there is too little, all data are let go, those of the hits that were
+    /// taken before, too: a restore that has not all data in memory reads them again.
+    fn make_room(&mut self, room: &mut Room, hits: &mut Vec<Hit>)
+        ensures same { self.new ≡ self.old }
+        ensures hits { hits.new.items ≡ hits.old.items }
+    {
+        let held = room.holds_all();
+        room.take(hits);
+        if room.holds_all() {
+            return;
+        }
+        let_all_go(hits);
+        if held {
+            let_all_go(&mut self.hits);
+        }
+    }
+
+    /// Takes hits, and lets data go for which there is no room. Returns the hits as they were if there is
+    /// no memory.
+    pub(crate) fn take(&mut self, room: &mut Room, mut hits: Vec<Hit>) -> Result<(), Vec<Hit>>
         ensures ok { OnOk result (self.new ≡ with_hits self.old hits.items) }
         ensures err { OnErr result (self.new ≡ self.old) }
         ensures back { IfErr result (λ value. value ≡ hits) }
@@ -79,7 +96,8 @@ impl Held {
         if self.hits.try_reserve(hits.len()).is_err() {
             return Err(hits);
         }
-        append(&mut self.hits, room.fit(hits));
+        self.make_room(room, &mut hits);
+        append(&mut self.hits, hits);
         Ok(())
     }
 

@@ -14,7 +14,7 @@ ghost use Rattle.br_join.specs.declared.fault.JoinFault.TheVariants.{StrangerPie
 use crate::fault::{JoinFault, Refused};
 use crate::held::Held;
 use crate::item::Outcome;
-use crate::room::Room;
+use crate::room::{Room, let_all_go};
 use crate::runs::files_of;
 use br_match::{Batch, Found, Hit};
 use br_piece::Piece;
@@ -28,7 +28,8 @@ use std::thread::Threads;
 /// one place of one file it keeps the first that was taken. It lists hits as they come, and sorts them at
 /// the end.
 ///
-/// Data for which there is no room are let go as they are taken, except attributes and digests. The
+/// As soon as data come for which there is no room, all data are let go, except attributes and digests:
+/// the files are then made of data that are read again, and memory is free for what else is to come. The
 /// hits are the same for contracts, which see their bytes whether they are in memory or not.
 #[derive(Debug, Drop)]
 pub struct Joiner {
@@ -278,8 +279,8 @@ impl Joiner {
             mut hits,
             room: _room,
         } = self;
-        let mut no_room = Room::new(0);
-        let listed = no_room.fit(hits.take_out()?);
+        let mut listed = hits.take_out()?;
+        let_all_go(&mut listed);
         Ok((listed, names))
     }
 }

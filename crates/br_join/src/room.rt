@@ -9,7 +9,7 @@ use br_match::Hit;
 pub(crate) struct Room {
     all: u64,
     left: u64,
-    /// Whether no data were let go.
+    /// Whether there was room for all data so far.
     holds_all: bool,
 }
 
@@ -19,19 +19,33 @@ fn is_always_held(hit: &Hit) -> bool {
     stream == ATTRIBUTES || stream == DIGEST
 }
 
-/// Lets the data of a hit go if there is no room for them. Returns the room that is left.
-fn hold_within(hit: &mut Hit, room: u64) -> u64
+/// Returns how many bytes of data the hits have; at most 2^64 - 1 are counted. Attributes and digests are
+/// not counted.
+fn bytes_in(hits: &[Hit]) -> u64 {
+    let mut bytes = 0u64;
+    for hit in hits {
+        if !is_always_held(hit) {
+            bytes = bytes.saturating_add(hit.data.len() as u64);
+        }
+    }
+    bytes
+}
+
+/// Lets the data of a hit go, unless it is of attributes or a digest.
+fn let_go(hit: &mut Hit)
     ensures { hit.new ≡ hit.old }
 {
-    if is_always_held(hit) {
-        return room;
+    if !is_always_held(hit) {
+        hit.data.let_go();
     }
-    match room.checked_sub(hit.data.len() as u64) {
-        Some(left) => left,
-        None => {
-            hit.data.let_go();
-            room
-        }
+}
+
+/// Lets the data of hits go, but for attributes and digests. As contracts see them the hits are the same.
+pub(crate) fn let_all_go(hits: &mut Vec<Hit>)
+    ensures { hits.new.items ≡ hits.old.items }
+{
+    for i in 0..hits.len() {
+        let_go(&mut hits[i]);
     }
 }
 
@@ -45,20 +59,15 @@ impl Room {
         }
     }
 
-    /// Lets the data of the hits go for which there is no room, in order, and counts the others. As
-    /// contracts see them the hits are the same.
-    pub(crate) fn fit(&mut self, hits: Vec<Hit>) -> Vec<Hit>
-        ensures { result.items ≡ hits.items }
-    {
-        let mut fitted = hits;
-        for i in 0..fitted.len() {
-            self.left = hold_within(&mut fitted[i], self.left);
-            self.holds_all &= fitted[i].data.is_held();
+    /// Takes room for the data of hits. If there is too little there is none from then on.
+    pub(crate) fn take(&mut self, hits: &[Hit]) {
+        match self.left.checked_sub(bytes_in(hits)) {
+            Some(left) => self.left = left,
+            None => self.holds_all = false,
         }
-        fitted
     }
 
-    /// Returns whether no data were let go.
+    /// Returns whether there was room for all data so far.
     pub(crate) fn holds_all(&self) -> bool {
         self.holds_all
     }

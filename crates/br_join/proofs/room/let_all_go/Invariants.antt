@@ -1,6 +1,6 @@
 use Rattle.std.proofs.Common.{◌≡◌}
-use Rattle.br_join.proofs.room.Room.fit.Given as goal
+use Rattle.br_join.proofs.room.let_all_go.Given as goal
 
 -- for contracts the hits are the same
 abbrev pub invariant-loop-i : goal.invariant-loop-i
-invariant-loop-i l = l.fitted.items ≡ l.initial.fitted.items
+invariant-loop-i l = l.hits.now.items ≡ l.initial.hits.now.items
