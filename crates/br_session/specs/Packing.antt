@@ -5,7 +5,7 @@ use Rattle.std.specs.List.{AllByRecursion, enumerate_from}
 use Rattle.br_model.specs.Name.{SessionKey}
 use Rattle.br_model.specs.Block.{Fragment}
 use Rattle.br_model.specs.Record.{Record, GoOn, IsCut}
-use Rattle.br_model.specs.Session.{block_size, IsPart, AreClosed, written_block}
+use Rattle.br_model.specs.Session.{block_size, IsPart, AreClosed, ArePacked, written_block}
 use Rattle.br_session.specs.declared.packing.Packer.{Packer}
 
 -- the fragments of blocks, joined
@@ -52,6 +52,20 @@ pub record Packs (p : Packer) (records : List Record) : Type 0 where
 abbrev pub first_part : SessionKey → ℕ → ℤ → List ℕ → ℕ → Fragment
 first_part session index stream left taken =
     record { session = session; index = pos index; stream = stream; size = length left; bytes = take taken left }
+
+-- the packer after it has added such a fragment has put it after those before
+abbrev pub HasPutPart : Packer → Packer → ℕ → ℤ → List ℕ → ℕ → Type 0
+HasPutPart before after index stream left taken =
+    (fragments : List Fragment) → HasPut before fragments
+    → HasPut after (fragments ++ first_part before.session index stream left taken ∷ [])
+
+-- the packer has packed these records after those before
+abbrev pub PacksMore : Packer → Packer → List Record → Type 0
+PacksMore before after more = (records : List Record) → Packs before records → Packs after (records ++ more)
+
+-- these are the blocks of the records that the packer has packed
+abbrev pub AreBlocksOf : Packer → List (List ℕ) → Type 0
+AreBlocksOf p blocks = (records : List Record) → Packs p records → ArePacked p.limit p.session records blocks
 
 -- the packer has packed these records, and a record of which this data is left
 pub record IsUnderWay (p : Packer) (records : List Record) (r : Record) (left : List ℕ) : Type 0 where

@@ -1,16 +1,16 @@
 -- Records that a packer packs one after another.
 use Rattle.std.specs.Prelude.{◌≡◌, ℕ, List, [], ◌∷◌, ◌++◌, if◌then◌else◌, Ok}
 use Rattle.md5.specs.Md5.{md5}
-use Rattle.br_model.specs.Attribute.{write_attributes}
+use Rattle.br_model.specs.Attribute.{Stat, write_attributes}
 use Rattle.br_model.specs.Job.{SavedFile}
 use Rattle.br_model.specs.Record.{Record}
 use Rattle.br_model.specs.Session.{ToSave, attributes_of_saved, checked_file, has_digest}
 use Rattle.br_session.specs.declared.packing.Packer.{Packer}
-use Rattle.br_session.specs.Packing.{Packs}
+use Rattle.br_session.specs.Packing.{PacksMore}
 
 -- the packer has packed these records, too
 pub record Adds (before after : Packer) (more : List Record) : Type 0 where
-  pub packs : (records : List Record) → Packs before records → Packs after (records ++ more)
+  pub packs : PacksMore before after more
   pub session : after.session ≡ before.session
   pub limit : after.limit ≡ before.limit
 
@@ -19,6 +19,10 @@ pub record AddsUpTo (before after : Packer) (all left : List Record) : Type 0 wh
   pub more : List Record
   pub adds : Adds before after more
   pub joined : more ++ left ≡ all
+
+-- the file with this path, type, numbers, link text and bytes
+abbrev pub of_parts : List ℕ → ℕ → Stat → List ℕ → List ℕ → SavedFile
+of_parts path kind stat link bytes = record { path = path; kind = kind; stat = stat; link = link; bytes = bytes }
 
 -- the file can be saved
 abbrev pub IsSaved : SavedFile → Type 0

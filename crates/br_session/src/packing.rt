@@ -60,13 +60,12 @@ pub(crate) struct Packer {
 }
 
 impl Packer {
-    ghost use Rattle.std.specs.Prelude.{◌≡◌, ◌+◌, ◌++◌, ◌∷◌, [], ◌≤◌, ◌<◌, ◌^◌, true, min, map, take, length, IfOk, OnOk, List, pos};
+    ghost use Rattle.std.specs.Prelude.{◌≡◌, ◌+◌, ◌∷◌, [], ◌≤◌, ◌<◌, ◌^◌, true, min, length, IfOk, OnOk, List};
     ghost use Rattle.std.specs.Int.{is_negative};
     ghost use Rattle.br_model.specs.Block as model;
-    ghost use Rattle.br_model.specs.Record as records;
-    ghost use Rattle.br_model.specs.Session.{block_size, ArePacked};
+    ghost use Rattle.br_model.specs.Session.{block_size};
     ghost use Rattle.br_block.specs.Building.{IsBlockLimit};
-    ghost use Rattle.br_session.specs.Packing.{HasPut, HasRoom, Packs, first_part};
+    ghost use Rattle.br_session.specs.Packing.{AreBlocksOf, HasPut, HasPutPart, HasRoom, Packs, PacksMore};
     ghost use Rattle.br_session.specs.Spans.{bytes_of};
 
     /// Makes a packer without records.
@@ -115,8 +114,7 @@ impl Packer {
         ensures within { IfOk result (λ taken. taken ≤ length left.now) }
         ensures some { IfOk result (λ taken. 0 < length left.now → 0 < taken) }
         ensures full { IfOk result (λ taken. taken < length left.now → block_size self.new.current.fragments ≡ self.new.limit) }
-        ensures follows { IfOk result (λ taken. (fragments : List model.Fragment) → HasPut self.old fragments
-            → HasPut self.new (fragments ++ first_part self.old.session index stream left.now taken ∷ [])) }
+        ensures follows { IfOk result (λ taken. HasPutPart self.old self.new index stream left.now taken) }
         ensures session { self.new.session ≡ self.old.session }
         ensures limit { self.new.limit ≡ self.old.limit }
     {
@@ -143,8 +141,8 @@ impl Packer {
         requires stream_from { 1 ≤ stream }
         requires stream_to { stream < 2 ^ 31 }
         requires size { length bytes.now < 2 ^ 32 }
-        ensures packs { OnOk result ((records : List records.Record) → Packs self.old records
-            → Packs self.new (records ++ record { index = index; stream = stream; bytes = bytes.now } ∷ [])) }
+        ensures packs { OnOk result
+            (PacksMore self.old self.new (record { index = index; stream = stream; bytes = bytes.now } ∷ [])) }
         ensures session { self.new.session ≡ self.old.session }
         ensures limit { self.new.limit ≡ self.old.limit }
     {
@@ -161,8 +159,7 @@ impl Packer {
 
     /// Returns the blocks of the records. Without records there are none.
     pub(crate) fn finish(self) -> Result<Vec<Vec<u8>>, AllocError>
-        ensures { IfOk result (λ blocks. (records : List records.Record) → Packs self records
-            → ArePacked self.limit self.session records (bytes_of blocks.items)) }
+        ensures { IfOk result (λ blocks. AreBlocksOf self (bytes_of blocks.items)) }
     {
         let Packer {
             limit,

@@ -5,6 +5,7 @@ ghost use Rattle.br_model.specs.File.{has_bytes};
 ghost use Rattle.br_model.specs.Session.{has_link, can_be_saved, checked_file, has_digest};
 ghost use Rattle.br_model.specs.SessionHolds.{IsToSave};
 ghost use Rattle.br_session.specs.Fault.{fault_number};
+ghost use Rattle.br_session.specs.Records.{of_parts};
 
 use crate::fault::SessionFault;
 use br_attr::Stat;
@@ -27,8 +28,7 @@ fn has_link_of(kind: u32) -> bool
 /// Returns whether a file with these parts can be saved.
 #[tactic(auto, unfolding(br_model::specs::Session::can_be_saved))]
 fn can_be_saved_of(kind: u32, path: &Path, link: &[u8], bytes: &[u8]) -> bool
-    ensures { (stat : model.Stat) → result
-        ≡ can_be_saved (record { path = path.now; kind = kind; stat = stat; link = link.now; bytes = bytes.now }) }
+    ensures { (stat : model.Stat) → result ≡ can_be_saved (of_parts path.now kind stat link.now bytes.now) }
 {
     1 <= kind
         && kind <= 5
@@ -55,7 +55,7 @@ pub struct SavedFile {
 
 impl Model for SavedFile {
     ghost use Rattle.br_model.specs.Session as model;
-    ghost use Rattle.br_session.specs.Records.{IsSaved};
+    ghost use Rattle.br_session.specs.Records.{IsSaved, of_parts};
 
     ghost Value = { model.ToSave };
 
@@ -64,8 +64,7 @@ impl Model for SavedFile {
       digest = f.digest;
     } };
 
-    ghost invariant = { λ f.
-        IsSaved (record { path = f.path; kind = f.kind; stat = f.stat; link = f.link.items; bytes = f.bytes.items }) };
+    ghost invariant = { λ f. IsSaved (of_parts f.path f.kind f.stat f.link.items f.bytes.items) };
 }
 
 impl SavedFile {
@@ -87,7 +86,7 @@ impl SavedFile {
         digest: bool,
     ) -> Result<SavedFile, SessionFault>
         ensures file { AnswersAlways (λ f. f.file) fault_number result
-            (checked_file (record { path = path; kind = kind; stat = stat; link = link.items; bytes = bytes.items })) }
+            (checked_file (of_parts path kind stat link.items bytes.items)) }
         ensures digest { IfOk result (λ f. f.digest ≡ digest) }
     {
         if bytes.len() > MAX_BYTES {
