@@ -17,6 +17,11 @@ pub record ToCommit : Type 0 where
   pub limit : ℕ
   pub places : List Place
 
+-- the job of this row, which saves these files and notes these deletions
+abbrev pub of_parts : JobRow → List ToSave → List (List ℕ) → ℕ → List Place → ToCommit
+of_parts row files deleted limit places =
+    record { row = row; files = files; deleted = deleted; limit = limit; places = places }
+
 -- the job; or 16 if its files are out of order, or else 42 if it begins after the year 9999
 unfoldable pub checked_job : ToCommit → Result ToCommit ℕ
 checked_job c = do

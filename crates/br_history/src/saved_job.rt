@@ -11,7 +11,7 @@ ghost use Rattle.br_model.specs.Session.{checked_order, rows_of};
 ghost use Rattle.br_model.specs.SessionHolds.{IsToSave};
 ghost use Rattle.br_session.specs.Outcome.{ArePlaces};
 ghost use Rattle.br_history.specs.Fault.{cause};
-ghost use Rattle.br_history.specs.Saving.{IsToCommit, IsJobWith, checked_job, saved_job_number};
+ghost use Rattle.br_history.specs.Saving.{IsToCommit, IsJobWith, checked_job, of_parts, saved_job_number};
 ghost use Rattle.br_history.specs.declared.fault.HistoryFault.TheVariants.{Memory};
 
 use crate::fault::{HistoryFault, SavedJobFault};
@@ -136,7 +136,7 @@ pub struct SavedJob {
 }
 
 impl Model for SavedJob {
-    ghost use Rattle.br_history.specs.Saving.{ToCommit, IsToCommit};
+    ghost use Rattle.br_history.specs.Saving.{ToCommit, IsToCommit, of_parts};
 
     ghost Value = { ToCommit };
 
@@ -148,8 +148,7 @@ impl Model for SavedJob {
       places = j.places.items;
     } };
 
-    ghost invariant = { λ j.
-        IsToCommit (record { row = j.row; files = j.files.items; deleted = j.deleted.items; limit = j.limit; places = j.places.items }) };
+    ghost invariant = { λ j. IsToCommit (of_parts j.row j.files.items j.deleted.items j.limit j.places.items) };
 }
 
 impl SavedJob {
@@ -173,7 +172,7 @@ impl SavedJob {
         requires places_are { ArePlaces places.items }
         requires some_place { places.items ≡ [] → files.items ≡ [] }
         ensures { AnswersAlways (λ j. j) saved_job_number result
-            (checked_job (record { row = row; files = files.items; deleted = deleted.items; limit = limit; places = places.items })) }
+            (checked_job (of_parts row files.items deleted.items limit places.items)) }
     {
         check_files(&files)?;
         if row.start > MAX_START {
