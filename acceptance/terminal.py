@@ -49,6 +49,7 @@ CHOSEN = [
     "chosen: * 3 I T 2026-11-21 23:15:45 peer-fd Peer 1 24 Vol-0001",
 ]
 NOWHERE = "no file was written. Next: `--into` and `--tar` say where to."
+NO_JOB = "No job of this catalogue is asked for. Without --client, --fileset and --before all are listed."
 QUIT = "nothing was restored. `done` restores what is marked."
 AWAITED = "brestore: reads a script from standard input. `brestore --help` lists the commands; Ctrl-D ends the input."
 
@@ -172,6 +173,8 @@ def restores(checks, folder):
     checks.check("a catalogue that is not there", (status, shown, printed), (1, told(45), ""))
     status, shown, printed = play(checks.program, console_words(db, into, client="mars-fd"), [], folder)
     checks.check("another client", (status, shown, printed), (1, told(53), ""))
+    status, shown, printed = play(checks.program, ["jobs", "--db", db, "--client", "mars-fd"], [], folder)
+    checks.check("its jobs", (status, shown, printed), (0, [NO_JOB], ""))
     status, shown, printed = play(checks.program, console_words(db, into), typed("done"), folder)
     checks.check("nothing is marked", (status, shown, printed), (1, [*CHOSEN, *GREETING, *told(51, f"{PROMPT}refused 51")], ""))
     with open(os.path.join(CASES, "order-inc", "expected")) as text:

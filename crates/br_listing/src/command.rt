@@ -6,7 +6,7 @@ use br_history::History;
 use br_jobs::{Filter, Zones, marked_lines_in, unmarked_lines_in};
 use br_options::{Clock, JobsOptions};
 use br_plan::{BadMoment, read_moment};
-use br_setup::{CLEAN, Catalogue, CatalogueFault, refuse_start};
+use br_setup::{CLEAN, Catalogue, CatalogueFault, is_shown, refuse_start};
 use std::fs;
 use std::io::{self, Write};
 
@@ -45,6 +45,17 @@ fn print_lines(rt: &HostRuntime, text: &[u8]) -> io::Result<()> {
     writer.flush()
 }
 
+/// Prints to standard error that no job is listed, and how all are, if there is no line and standard error is
+/// a terminal.
+fn tell_if_none(rt: &HostRuntime, lines: &[u8]) -> io::Result<()> {
+    if lines.is_empty() && is_shown(rt) {
+        eprintln!(rt;
+            "No job of this catalogue is asked for. Without --client, --fileset and --before all are listed."
+        )?;
+    }
+    Ok(())
+}
+
 /// Prints the lines of the jobs that the filter lists, and why none is marked, if the choice was refused.
 /// Returns the exit status.
 fn print_jobs(
@@ -58,6 +69,7 @@ fn print_jobs(
     match marked_lines_in(rt.alloc(), history, filter, zones) {
         Ok(text) => {
             print_lines(rt, &text)?;
+            tell_if_none(rt, &text)?;
             Ok(CLEAN)
         }
         Err(fault) => {
