@@ -1,7 +1,11 @@
 -- What the writer has, and what waits.
-use Rattle.std.specs.Prelude.{◌≡◌, List, [], ◌∷◌, ◌++◌, Option, Some, None}
+use Rattle.std.specs.Prelude.{◌≡◌, Bool, List, [], ◌∷◌, ◌++◌, drop, MatchBool, Option, Some, None}
+use Rattle.left_right.specs.Sides.{view}
+use Rattle.left_right.specs.declared.Absorb.{Ghosts}
+use Rattle.left_right.specs.declared.writer.Writer.{Writer}
 use Rattle.br_model.specs.Job.{JobRows}
 use Rattle.br_publish.specs.declared.shown.Added.{Added}
+use Rattle.br_publish.specs.declared.shown.Shown.{Shown}
 use Rattle.br_publish.specs.declared.shown.View.{View}
 use Rattle.br_publish.specs.Fronts.{Beginning, beginning}
 use Rattle.br_publish.specs.Keeps.{knowing}
@@ -22,3 +26,24 @@ pub record IsWriter (v : View) (jobs : List JobRows) (now : Beginning) (waiting 
   pub now_is : now ≡ shown
   pub jobs_are : jobs ≡ opening ++ shown.log
   pub leads : Leads shown waiting front
+
+module _ {P A S : Type 0} {g : Ghosts Shown Added S} where
+  -- the jobs that the writer has taken and does not show yet
+  abbrev pub waiting_in : Writer Shown Added View P A S g → List Added
+  waiting_in w = drop w.behind w.log.items
+
+  -- the writer shows the opening jobs and then `shown`, and what waits leads to `front`
+  abbrev pub Shows : Writer Shown Added View P A S g → List Added → List JobRows → Beginning → Beginning → Type 0
+  Shows w waiting opening shown front =
+      IsWriter (view w.desk.place) w.desk.shown.value.history w.desk.shown.value.front waiting opening shown front
+
+  -- the same, if all is published; else it shows what it showed
+  abbrev pub ShowsIfDone : Bool → Writer Shown Added View P A S g → List Added → List JobRows → Beginning → Beginning → Type 0
+  ShowsIfDone done w waiting opening shown front =
+      MatchBool done (Shows w waiting opening front front) (Shows w waiting opening shown front)
+
+  -- the writer shows what it showed, the same waits, and it sees the same of its rule
+  abbrev pub ShowsAsBefore : Writer Shown Added View P A S g → Writer Shown Added View P A S g → Type 0
+  ShowsAsBefore old new =
+      (new.desk.shown ≡ old.desk.shown) × (new.log ≡ old.log)
+      × (new.behind ≡ old.behind) × (view new.desk.place ≡ view old.desk.place)

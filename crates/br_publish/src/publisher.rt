@@ -1,10 +1,10 @@
 //! The publisher, which has all jobs.
-ghost use Rattle.std.specs.Prelude.{◌≡◌, ◌++◌, ◌∷◌, [], ◌<◌, ◌^◌, ◌⊎◌, length, drop, IfOk, MatchResult, MatchOption, MatchBool, Some, None};
+ghost use Rattle.std.specs.Prelude.{◌≡◌, ◌++◌, [], ◌<◌, ◌⊎◌, length, IfOk, MatchResult, MatchOption, Some, None};
 ghost use mathlib.Core.List.{IsPrefix};
 ghost use Rattle.left_right.specs.Sides.{view};
-ghost use Rattle.br_publish.specs.Fronts.{beginning, head_of};
+ghost use Rattle.br_publish.specs.Fronts.{beginning};
 ghost use Rattle.br_publish.specs.Keeps.{knowing};
-ghost use Rattle.br_publish.specs.Writers.{IsWriter, listed};
+ghost use Rattle.br_publish.specs.Writers.{Shows, ShowsAsBefore, ShowsIfDone, listed, waiting_in};
 ghost use Rattle.br_publish.specs.Sessions.{AllKnow};
 ghost use Rattle.br_publish.specs.Publishing.{all_published, publishing, with_added};
 
@@ -48,7 +48,7 @@ impl Model for Publisher {
 /// Hands a job that waits to the writer. It comes back if memory runs out.
 fn send(mut writer: HistoryWriter, unsent: Option<Added>) -> (HistoryWriter, Option<Added>)
     ensures desk { result.0.desk ≡ writer.desk }
-    ensures waits { drop result.0.behind result.0.log.items ++ listed result.1 ≡ drop writer.behind writer.log.items ++ listed unsent }
+    ensures waits { waiting_in result.0 ++ listed result.1 ≡ waiting_in writer ++ listed unsent }
 {
     let Some(added) = unsent else {
         return (writer, None);
@@ -68,11 +68,9 @@ fn publish_all<R: Wait>(
     shown: &Front,
     front: &Front,
 ) -> (HistoryWriter, Option<Added>, bool)
-    requires { IsWriter (view writer.desk.place) writer.desk.shown.value.history writer.desk.shown.value.front
-        (drop writer.behind writer.log.items ++ listed unsent) opening.now.value shown.now front.now }
-    ensures { let w = result.0 in let is = IsWriter (view w.desk.place) w.desk.shown.value.history
-        w.desk.shown.value.front (drop w.behind w.log.items ++ listed result.1) opening.now.value in
-        MatchBool result.2 (is front.now front.now) (is shown.now front.now) }
+    requires { Shows writer (waiting_in writer ++ listed unsent) opening.now.value shown.now front.now }
+    ensures { ShowsIfDone result.2 result.0 (waiting_in result.0 ++ listed result.1)
+        opening.now.value shown.now front.now }
 {
     let (writer, unsent) = send(writer, unsent);
     if unsent.is_some() {
@@ -93,8 +91,7 @@ fn open_sessions(
     sessions: u32,
 ) -> Result<Vec<Session>, AllocError>
     requires { view writer.old.desk.place ≡ knowing front.now.book (view writer.old.desk.place).opening }
-    ensures kept { (writer.new.desk.shown ≡ writer.old.desk.shown) × (writer.new.log ≡ writer.old.log)
-        × (writer.new.behind ≡ writer.old.behind) × (view writer.new.desk.place ≡ view writer.old.desk.place) }
+    ensures kept { ShowsAsBefore writer.old writer.new }
     ensures ok { IfOk result (λ v. AllKnow front.now.book (view writer.old.desk.place).opening front.now.log v.items
         × (length v.items ≡ sessions)) }
 {
@@ -106,7 +103,8 @@ fn open_sessions(
     Ok(list)
 }
 
-/// Makes a writer of two equal histories, and publishes the first, so that the writer knows the list.
+/// Makes a writer of two equal histories, and publishes the first, so that the writer knows the
+/// list.
 fn begin<R: Wait>(
     rt: &R,
     alloc: Global,
@@ -116,8 +114,7 @@ fn begin<R: Wait>(
 ) -> Result<HistoryWriter, AllocError>
     requires none { front.now.log ≡ [] }
     requires sessions { (0 < sessions) × (sessions < 17) }
-    ensures { IfOk result (λ w. IsWriter (view w.desk.place) w.desk.shown.value.history w.desk.shown.value.front
-        (drop w.behind w.log.items) opening front.now front.now) }
+    ensures { IfOk result (λ w. Shows w (waiting_in w) opening front.now front.now) }
 {
     let history = opening.copy(alloc)?;
     let second = Shown {

@@ -5,6 +5,7 @@ ghost use Rattle.left_right.specs.Sides.{view};
 ghost use Rattle.br_publish.specs.Keeps.{knowing};
 ghost use Rattle.br_publish.specs.Fronts.{last_id};
 ghost use Rattle.br_publish.specs.Sessions.{Extends, known};
+ghost use Rattle.br_publish.specs.Writers.{ShowsAsBefore};
 
 use crate::front::Front;
 use crate::shown::{HistoryReader, HistoryReading, HistoryWriter, Notes, Sees};
@@ -96,8 +97,7 @@ impl Session {
     /// Opens a session of the writer. It knows that this beginning of the list is published.
     pub(crate) fn open(writer: &mut HistoryWriter, front: &Front) -> Result<Session, AllocError>
         requires { view writer.old.desk.place ≡ knowing front.now.book (view writer.old.desk.place).opening }
-        ensures kept { (writer.new.desk.shown ≡ writer.old.desk.shown) × (writer.new.log ≡ writer.old.log)
-            × (writer.new.behind ≡ writer.old.behind) × (view writer.new.desk.place ≡ view writer.old.desk.place) }
+        ensures kept { ShowsAsBefore writer.old writer.new }
         ensures ok { IfOk result (λ s. s ≡ known front.now.book (view writer.old.desk.place).opening front.now.log) }
     {
         let mut reader = writer.factory().reader()?;

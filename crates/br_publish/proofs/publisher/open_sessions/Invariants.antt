@@ -1,11 +1,12 @@
 use Rattle.std.proofs.Common.{◌≡◌, length, vec_len, vec_capacity}
 use Rattle.left_right.specs.Sides.{view}
 use Rattle.br_publish.specs.Sessions.{AllKnow}
+use Rattle.br_publish.specs.Writers.{ShowsAsBefore}
 use Rattle.br_publish.proofs.publisher.open_sessions.Given as goal
 
 abbrev pub invariant-loop-count : goal.invariant-loop-count
 invariant-loop-count l = record {
-  same : (l.writer.desk.shown ≡ l.initial.writer.desk.shown) × (l.writer.log ≡ l.initial.writer.log) × (l.writer.behind ≡ l.initial.writer.behind) × (view l.writer.desk.place ≡ view l.initial.writer.desk.place);
+  same : ShowsAsBefore l.initial.writer l.writer;
   know : AllKnow l.front.book (view l.initial.writer.desk.place).opening l.front.log l.list.items;
   many : length l.list.items ≡ l.count;
   room : (vec_len l.list ≡ l.count) × (vec_capacity l.list ≡ vec_capacity l.initial.list);
