@@ -1,5 +1,5 @@
 -- A job of which some lines were read.
-use Rattle.std.specs.Prelude.{◌≡◌, ℕ, ◌≤◌, ◌||◌, ◌==◌, if◌then◌else◌, Bool, true, false, List, [], ◌∷◌, ◌++◌, bytes_eq, codes, Option, Some, None, Result, Ok, Err}
+use Rattle.std.specs.Prelude.{◌≡◌, ℕ, ◌≤◌, ◌||◌, ◌==◌, if◌then◌else◌, Bool, true, false, List, [], ◌∷◌, ◌++◌, bytes_eq, codes, Option, Some, None, Result, Ok, Err, MatchResult}
 use Rattle.std.specs.List.{AllByRecursion}
 use Rattle.br_block.specs.Building.{IsBlockLimit}
 use Rattle.br_model.specs.Answer.{◌>>=◌, IsRefusal}
@@ -50,6 +50,11 @@ drafted (Save file) d = Ok (record d { files = d.files ++ file ∷ [] })
 drafted (Delete path) d = Ok (record d { deleted = d.deleted ++ path ∷ [] })
 drafted (Give place) d = if d.closed then Err 90 else Ok (with_place d place)
 drafted End d = Ok d
+
+-- the job has what is asked for, or it is as before and this is refused
+abbrev pub Drafts : Asked → Drafting → Drafting → Result (Unit {0}) JobLineFault → Type 0
+Drafts asked old new result =
+    MatchResult result (λ _. drafted asked old ≡ Ok new) (λ why. (new ≡ old) × IsRefusal (cause why) (drafted asked old))
 
 -- the job after a line
 abbrev pub drafted_by : List ℕ → Drafting → Result Drafting ℕ

@@ -1,11 +1,11 @@
 //! A job of which some lines were read.
-ghost use Rattle.std.specs.Prelude.{◌≡◌, ◌==◌, ◌++◌, ◌∷◌, [], true, false, MatchResult, IfOk, OnErr, OnOk};
+ghost use Rattle.std.specs.Prelude.{◌≡◌, ◌==◌, ◌++◌, ◌∷◌, [], true, false, IfOk, OnErr, OnOk};
 ghost use Rattle.std.specs.List.{AllByRecursion};
 ghost use Rattle.br_session.specs.Outcome.{ArePlaces};
-ghost use Rattle.br_model.specs.Answer.{AnswersAlways, IsRefusal};
+ghost use Rattle.br_model.specs.Answer.{AnswersAlways};
 ghost use Rattle.br_history.specs.Saving.{checked_job};
-ghost use Rattle.br_draft.specs.Drafting.{ReadsLine, TakesBlock, TakesLine, begins, drafted, ended, given_up, gives_up, has_places, is_of_job, to_commit};
-ghost use Rattle.br_draft.specs.Fault.{cause, end_number};
+ghost use Rattle.br_draft.specs.Drafting.{Drafts, ReadsLine, TakesBlock, TakesLine, begins, ended, given_up, gives_up, has_places, is_of_job, to_commit};
+ghost use Rattle.br_draft.specs.Fault.{end_number};
 ghost use Rattle.br_draft.specs.Line.{asked};
 ghost use Rattle.br_draft.specs.Line.Asked.{Give};
 
@@ -30,8 +30,8 @@ pub enum EndFault {
 }
 
 impl EndFault {
-    /// Returns the number of the refusal: 90 without a last place, 16 files out of order, 42 a start
-    /// after the year 9999.
+    /// Returns the number of the refusal: 90 without a last place, 16 files out of order, 42 a
+    /// start after the year 9999.
     pub fn number(self) -> u32
         ensures { result ≡ end_number self }
     {
@@ -86,7 +86,8 @@ fn is_job_line(line: &[u8]) -> bool
         || word == b"place".as_slice()
 }
 
-/// Appends a place to places that each take a block. Returns whether it takes all blocks that are left.
+/// Appends a place to places that each take a block. Returns whether it takes all blocks that are
+/// left.
 #[tactic(auto, using(crate::proofs::PlaceLaws::places_push, crate::proofs::PlaceLaws::takes_push, crate::proofs::PlaceLaws::some_push))]
 fn push_place(places: &mut Vec<Place>, place: Place) -> Result<bool, AllocError>
     requires { AllByRecursion TakesBlock places.old.items }
@@ -121,8 +122,7 @@ impl Draft {
 
     /// Adds a place.
     fn add_place(&mut self, place: Place) -> Result<(), JobLineFault>
-        ensures { MatchResult result (λ _. drafted (Give place) self.old ≡ Ok self.new)
-            (λ why. (self.new ≡ self.old) × IsRefusal (cause why) (drafted (Give place) self.old)) }
+        ensures { Drafts (Give place) self.old self.new result }
     {
         if self.is_closed {
             return Err(JobLineFault::BadScript);
@@ -133,8 +133,7 @@ impl Draft {
 
     /// Adds what a line asks for.
     fn add(&mut self, line: JobLine) -> Result<(), JobLineFault>
-        ensures { MatchResult result (λ _. drafted (asked line) self.old ≡ Ok self.new)
-            (λ why. (self.new ≡ self.old) × IsRefusal (cause why) (drafted (asked line) self.old)) }
+        ensures { Drafts (asked line) self.old self.new result }
     {
         match line {
             JobLine::Save(file) => Ok(self.files.push(file).map_err(AllocError::from)?),
@@ -174,8 +173,8 @@ impl Draft {
     ///
     /// # Errors
     ///
-    /// Those of `read_job_line`, and `BadScript` for a place after the last one. If it is one of a job's
-    /// own lines, `put`, `putd`, `del` or `place`, the job is given up.
+    /// Those of `read_job_line`, and `BadScript` for a place after the last one. If it is one of a
+    /// job's own lines, `put`, `putd`, `del` or `place`, the job is given up.
     pub fn take(&mut self, alloc: Global, line: &[u8]) -> Result<bool, JobLineFault>
         ensures { TakesLine line.now self.old self.new result }
     {
@@ -220,7 +219,8 @@ impl Draft {
     ///
     /// # Errors
     ///
-    /// - `NoLastPlace` if the job saves files, and its last place does not take all blocks that are left.
+    /// - `NoLastPlace` if the job saves files, and its last place does not take all blocks that are
+    ///   left.
     /// - `Job` if its files are out of order, or it starts after the year 9999.
     #[tactic(auto, unfolding(crate::specs::Drafting::ended))]
     pub fn end(self) -> Result<Option<SavedJob>, EndFault>
