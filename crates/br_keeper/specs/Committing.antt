@@ -70,6 +70,11 @@ StoresJob inserts refuses history c before after old new (Err Store) = (rows : J
 StoresJob inserts refuses history c before after old new (Err StoredNotPublished) = ⊥
 StoresJob inserts refuses history c before after old new (Err BadCatalogue) = ⊥
 
+-- what becomes of a job that is to be stored among those that a keeper has published
+abbrev pub Stores : {C W : Type 0} → (JobRows → C → C → Type 0) → (JobRows → C → C → Type 0) → (Keeping C W → Shelf) → ToCommit → Keeping C W → Keeping C W → Result JobRows KeeperFault → Type 0
+Stores inserts refuses shelf c old new result =
+    StoresJob inserts refuses (old.list.opening ++ old.list.published) c old.catalogue new.catalogue (shelf old) (shelf new) result
+
 -- What becomes of a job that is committed. One that waited is published first, unless memory runs
 -- out. Then the job is stored, and then published with a receipt; if memory runs out for that, it
 -- waits.

@@ -1,12 +1,13 @@
 -- What callers see of a keeper.
-use Rattle.std.specs.Prelude.{ℕ, List, ◌++◌, Option, refl}
+use Rattle.std.specs.Prelude.{◌≡◌, ℕ, List, ◌++◌, Option, MatchOption, refl}
 use Rattle.std.specs.Coded.{Coded, code_by, coded×, coded_list}
 use Rattle.br_model.specs.Volume.{Volume}
 use Rattle.br_model.specs.Job.{JobRows}
-use Rattle.br_publish.specs.Publishing.{Publishing}
+use Rattle.br_publish.specs.Fronts.{Beginning, beginning}
+use Rattle.br_publish.specs.Publishing.{Publishing, all_published}
 use Rattle.br_keeper.specs.declared.vouch.Vouch.{Vouch}
 use Rattle.br_keeper.specs.contracts.vouch.Vouch as vouch
-use Rattle.br_keeper.specs.Writing.{Shelf, shelf}
+use Rattle.br_keeper.specs.Writing.{Shelf, shelf_in}
 
 -- its catalogue and its volumes; the lengths that it vouches for; and the list: the jobs that the
 -- catalogue had at first, those that were stored since (`added`), and of these the published ones
@@ -31,4 +32,10 @@ module _ {C W : Type 0} where
 
   -- the volumes and the vouched lengths
   abbrev pub shelf_of : (W → Option (List Volume)) → (W → ℕ) → Keeping C W → Shelf
-  shelf_of holds failures k = shelf (holds k.volumes) (failures k.volumes) k.vouches
+  shelf_of holds failures k = shelf_in holds failures k.volumes k.vouches
+
+  -- the job that waited is published, and this is its receipt; or none waited
+  abbrev pub RepublishesKept : Keeping C W → Keeping C W → Option Beginning → Type 0
+  RepublishesKept old new receipt =
+      MatchOption receipt ((new ≡ old) × (old.list.published ≡ old.list.added))
+      (λ r. (new ≡ record old { list = all_published old.list }) × (r ≡ beginning old.list.book old.list.added))

@@ -1,7 +1,8 @@
 -- A list of stored jobs, the last of which may wait for its publishing.
-use Rattle.std.specs.Prelude.{◌≡◌, List, [], ◌∷◌, ◌++◌}
+use Rattle.std.specs.Prelude.{◌≡◌, List, [], ◌∷◌, ◌++◌, Option, MatchOption}
 use Rattle.br_model.specs.Job.{JobRows}
-use Rattle.br_publish.specs.Publishing.{Publishing, all_published, publishing}
+use Rattle.br_publish.specs.Fronts.{Beginning, beginning}
+use Rattle.br_publish.specs.Publishing.{Publishing, all_published, publishing, with_added}
 use Rattle.br_keeper.specs.declared.listing.Waiting.{Waiting}
 use Rattle.br_keeper.specs.declared.listing.Waiting.TheVariants.{Nothing, Stored, Taken}
 
@@ -32,3 +33,13 @@ abbrev pub PublishesAll : Publishing → Waiting → Publishing → Waiting → 
 PublishesAll old waiting new Nothing = new ≡ all_published (with_waiting old waiting)
 PublishesAll old waiting new (Stored rows) = (with_waiting new (Stored rows) ≡ with_waiting old waiting) × IsListing new (Stored rows)
 PublishesAll old waiting new Taken = (with_waiting new Taken ≡ with_waiting old waiting) × IsListing new Taken
+
+-- one more job is published with the others, and this is its receipt
+abbrev pub Announces : Publishing → JobRows → Publishing → Beginning → Type 0
+Announces old rows new r = (new ≡ all_published (with_added old rows)) × (r ≡ beginning old.book (old.added ++ rows ∷ []))
+
+-- the job that waited is published, and this is its receipt; or none waited
+abbrev pub Republishes : Publishing → Publishing → Option Beginning → Type 0
+Republishes old new receipt =
+    MatchOption receipt ((new ≡ old) × (old.published ≡ old.added))
+    (λ r. (new ≡ all_published old) × (r ≡ beginning old.book old.added))

@@ -19,6 +19,10 @@ pub record Shelf : Type 0 where
 abbrev pub shelf : Option (List Volume) → ℕ → List Vouch → Shelf
 shelf volumes failures vouches = record { volumes = volumes; failures = failures; vouches = vouches }
 
+-- what a store of volumes tells, and the lengths that are vouched for
+abbrev pub shelf_in : {W : Type 0} → (W → Option (List Volume)) → (W → ℕ) → W → List Vouch → Shelf
+shelf_in holds failures volumes vouches = shelf (holds volumes) (failures volumes) vouches
+
 -- no volume and no vouched length was changed
 pub record IsKept (old new : Shelf) : Type 0 where
   pub volumes_are : new.volumes ≡ old.volumes
@@ -98,9 +102,15 @@ pub record IsCutOff (blocks : List (List ℕ × List ℕ)) (old new : Shelf) : T
   pub vouches_are : new.vouches ≡ changed retired block.0 (after_blocks done old.vouches)
   pub failed : old.failures < new.failures
 
+-- all blocks are appended, or the append of one failed
 abbrev pub AppendsAll : List (List ℕ × List ℕ) → Shelf → Shelf → Result (Unit {0}) KeeperFault → Type 0
 AppendsAll blocks old new (Ok u) = AreWritten blocks old new
 AppendsAll blocks old new (Err why) = (why ≡ VolumeFails) × IsCutOff blocks old new
+
+-- the same, of a store of volumes before and after
+abbrev pub AppendsAllTo : {W : Type 0} → (W → Option (List Volume)) → (W → ℕ) → List (List ℕ × List ℕ) → W → W → List Vouch → List Vouch → Result (Unit {0}) KeeperFault → Type 0
+AppendsAllTo holds failures blocks old new before after result =
+    AppendsAll blocks (shelf_in holds failures old before) (shelf_in holds failures new after) result
 
 -- ---- both
 
@@ -131,3 +141,8 @@ WritesBlocks starts blocks old new (Err BadRow) = ⊥
 WritesBlocks starts blocks old new (Err Store) = ⊥
 WritesBlocks starts blocks old new (Err StoredNotPublished) = ⊥
 WritesBlocks starts blocks old new (Err BadCatalogue) = ⊥
+
+-- the same, of a store of volumes before and after
+abbrev pub WritesBlocksTo : {W : Type 0} → (W → Option (List Volume)) → (W → ℕ) → List (List ℕ × ℕ) → List (List ℕ × List ℕ) → W → W → List Vouch → List Vouch → Result (Unit {0}) KeeperFault → Type 0
+WritesBlocksTo holds failures starts blocks old new before after result =
+    WritesBlocks starts blocks (shelf_in holds failures old before) (shelf_in holds failures new after) result

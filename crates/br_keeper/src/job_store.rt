@@ -48,8 +48,8 @@ pub trait JobStore {
     ///
     /// # Errors
     ///
-    /// `Store` if the catalogue fails, `BadCatalogue` if its rows form no history, `Memory` if memory
-    /// runs out.
+    /// `Store` if the catalogue fails, `BadCatalogue` if its rows form no history, `Memory` if
+    /// memory runs out.
     fn load_history(&mut self) -> Result<History, JobStoreFault>
         ensures { loads self.old self.new result };
 }

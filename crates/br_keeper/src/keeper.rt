@@ -1,13 +1,11 @@
 //! The keeper.
-ghost use Rattle.std.specs.Prelude.{◌≡◌, ◌<◌, [], length, IfErr, IfOk, Ok, OnErr, OnOk, MatchResult, MatchOption};
+ghost use Rattle.std.specs.Prelude.{◌≡◌, ◌<◌, [], length, IfErr, IfOk, Ok, OnErr, OnOk, MatchResult};
 ghost use Rattle.br_volume.specs.Store.{AppendsInPartTo, AppendsTo};
-ghost use Rattle.br_publish.specs.Fronts.{beginning};
-ghost use Rattle.br_publish.specs.Publishing.{all_published, publishing};
+ghost use Rattle.br_publish.specs.Publishing.{publishing};
 ghost use Rattle.br_publish.specs.Sessions.{AllKnow};
 ghost use Rattle.br_keeper.specs.Vouching.{vouched};
-ghost use Rattle.br_keeper.specs.Writing.{shelf};
-ghost use Rattle.br_keeper.specs.Keeping.{jobs_of, shelf_of};
-ghost use Rattle.br_keeper.specs.Committing.{Commits, StoresJob, IsNotMade};
+ghost use Rattle.br_keeper.specs.Keeping.{RepublishesKept, jobs_of, shelf_of};
+ghost use Rattle.br_keeper.specs.Committing.{Commits, IsNotMade, Stores};
 ghost use Rattle.br_keeper.specs.Holding.{HoldsJob};
 
 use crate::fault::KeeperFault;
@@ -16,7 +14,7 @@ use crate::listing::Listing;
 use crate::preparing::{Prepared, prepare};
 use crate::vouch::{Vouch, vouched};
 use crate::writing::write_blocks;
-use br_history::{History, JobRows, SavedJob};
+use br_history::{JobRows, SavedJob};
 use br_publish::{Receipt, Session};
 use br_types::VolName;
 use br_volume::{VolumeFault, VolumeStore};
@@ -43,32 +41,6 @@ impl<C: JobStore, W: VolumeStore> Model for Keeper<C, W> {
     ghost coded = { keeping_code C.code W.code (Prim.hlevel codes) };
 
     ghost view = { λ k. record { catalogue = k.catalogue; volumes = k.volumes; vouches = k.vouches.items; list = k.listing } };
-}
-
-/// Writes the session of a job to the volumes, and inserts its rows into the catalogue. Returns the
-/// rows.
-fn store_job<C: JobStore, W: VolumeStore>(
-    alloc: Global,
-    catalogue: &mut C,
-    volumes: &mut W,
-    vouches: &mut Vec<Vouch>,
-    history: &History,
-    job: &SavedJob,
-) -> Result<JobRows, KeeperFault>
-    ensures { StoresJob C.inserts C.refuses history.now job.now catalogue.old catalogue.new
-        (shelf (W.holds volumes.old) (W.failures volumes.old) vouches.old.items)
-        (shelf (W.holds volumes.new) (W.failures volumes.new) vouches.new.items) result }
-{
-    let Prepared {
-        rows,
-        blocks,
-        starts,
-    } = prepare(alloc, vouches, history, job)?;
-    write_blocks(alloc, volumes, vouches, &starts, &blocks)?;
-    match catalogue.insert_job(&rows) {
-        Ok(()) => Ok(rows),
-        Err(_) => Err(KeeperFault::Store),
-    }
 }
 
 impl<C: JobStore + Drop, W: VolumeStore + Drop> Keeper<C, W> {
@@ -133,14 +105,15 @@ impl<C: JobStore, W: VolumeStore> Keeper<C, W> {
     /// In this order. Up to `RetiredVolume` nothing is changed, but a job that waited is published.
     ///
     /// - `DuplicateJob` if the job's number is there, `DuplicateSession` if its session is.
-    /// - `BadRow` if a span would end after the address 2^63 - 2, or there would be 2^32 spans or more.
-    /// - `RetiredVolume` if an append of this keeper to a volume of the places failed, or the volume
-    ///   has another length than the vouched one.
-    /// - `Volume` if the store of volumes fails. If it was an append, the blocks before it are on the
-    ///   volumes, and the first of its bytes may be. Its volume is retired.
+    /// - `BadRow` if a span would end after the address 2^63 - 2, or there would be 2^32 spans or
+    ///   more.
+    /// - `RetiredVolume` if an append of this keeper to a volume of the places failed, or the
+    ///   volume has another length than the vouched one.
+    /// - `Volume` if the store of volumes fails. If it was an append, the blocks before it are on
+    ///   the volumes, and the first of its bytes may be. Its volume is retired.
     /// - `Store` if the catalogue fails. All blocks are appended.
-    /// - `StoredNotPublished` if memory runs out for the publishing. All blocks are appended, and the
-    ///   catalogue has the job.
+    /// - `StoredNotPublished` if memory runs out for the publishing. All blocks are appended, and
+    ///   the catalogue has the job.
     pub fn commit<R: Wait>(&mut self, rt: &R, job: SavedJob) -> Result<Receipt, KeeperFault>
         ensures commits { Commits C.inserts C.refuses (shelf_of W.holds W.failures) job self.old self.new result }
         ensures holds { HoldsJob C.refuses (shelf_of W.holds W.failures) job self.old self.new result }
@@ -148,19 +121,36 @@ impl<C: JobStore, W: VolumeStore> Keeper<C, W> {
         self.commit_saved(rt, &job)
     }
 
+    /// Writes the session of a job to the volumes, and inserts its rows into the catalogue. Returns
+    /// the rows.
+    fn store(&mut self, job: &SavedJob) -> Result<JobRows, KeeperFault>
+        ensures job { Stores C.inserts C.refuses (shelf_of W.holds W.failures) job.now self.old self.new result }
+        ensures list { self.new.list ≡ self.old.list }
+    {
+        let Prepared {
+            rows,
+            blocks,
+            starts,
+        } = prepare(self.alloc, &self.vouches, self.listing.history(), job)?;
+        write_blocks(
+            self.alloc,
+            &mut self.volumes,
+            &mut self.vouches,
+            &starts,
+            &blocks,
+        )?;
+        match self.catalogue.insert_job(&rows) {
+            Ok(()) => Ok(rows),
+            Err(_) => Err(KeeperFault::Store),
+        }
+    }
+
     /// Commits a job.
     fn commit_saved<R: Wait>(&mut self, rt: &R, job: &SavedJob) -> Result<Receipt, KeeperFault>
         ensures { Commits C.inserts C.refuses (shelf_of W.holds W.failures) job.now self.old self.new result }
     {
         self.listing.publish(rt)?;
-        let rows = store_job(
-            self.alloc,
-            &mut self.catalogue,
-            &mut self.volumes,
-            &mut self.vouches,
-            self.listing.history(),
-            job,
-        )?;
+        let rows = self.store(job)?;
         match self.listing.announce(rt, rows) {
             Ok(receipt) => Ok(receipt),
             Err(_) => Err(KeeperFault::StoredNotPublished),
@@ -174,10 +164,7 @@ impl<C: JobStore, W: VolumeStore> Keeper<C, W> {
     ///
     /// Memory ran out. Then nothing is changed.
     pub fn republish<R: Wait>(&mut self, rt: &R) -> Result<Option<Receipt>, KeeperFault>
-        ensures list { MatchResult result
-            (λ o. MatchOption o ((self.new ≡ self.old) × (self.old.list.published ≡ self.old.list.added))
-            (λ r. (self.new ≡ record self.old { list = all_published self.old.list })
-            × (r ≡ beginning self.old.list.book self.old.list.added)))
+        ensures list { MatchResult result (RepublishesKept self.old self.new)
             (λ why. (why ≡ KeeperFault.Memory) × (self.new ≡ self.old)) }
     {
         match self.listing.republish(rt) {

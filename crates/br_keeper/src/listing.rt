@@ -1,9 +1,9 @@
 //! The jobs that are stored: those that are published, and the one that waits.
-ghost use Rattle.std.specs.Prelude.{◌≡◌, ◌<◌, ◌++◌, ◌∷◌, [], length, IfOk, MatchBool, MatchResult, MatchOption};
+ghost use Rattle.std.specs.Prelude.{◌≡◌, ◌<◌, ◌++◌, [], length, IfOk, MatchBool, MatchResult, MatchOption};
 ghost use Rattle.br_publish.specs.Fronts.{beginning};
 ghost use Rattle.br_publish.specs.Publishing.{all_published, publishing, with_added};
 ghost use Rattle.br_publish.specs.Sessions.{AllKnow};
-ghost use Rattle.br_keeper.specs.Listing.{IsListing, PublishesAdded, PublishesAll};
+ghost use Rattle.br_keeper.specs.Listing.{Announces, IsListing, PublishesAdded, PublishesAll, Republishes};
 
 use br_history::{History, JobRows};
 use br_publish::{Publisher, Receipt, Session};
@@ -139,9 +139,7 @@ impl Listing {
     /// Publishes one more job, and returns its receipt. If memory runs out, the job waits.
     pub(crate) fn announce<R: Wait>(&mut self, rt: &R, rows: JobRows) -> Result<Receipt, AllocError>
         requires { self.old.published ≡ self.old.added }
-        ensures { MatchResult result
-            (λ r. (self.new ≡ all_published (with_added self.old rows)) × (r ≡ beginning self.old.book (self.old.added ++ rows ∷ [])))
-            (λ _. self.new ≡ with_added self.old rows) }
+        ensures { MatchResult result (Announces self.old rows self.new) (λ _. self.new ≡ with_added self.old rows) }
     {
         self.put(rows);
         self.publish(rt)?;
@@ -154,10 +152,7 @@ impl Listing {
     /// Publishes the job that waits, and returns its receipt, or `None` if none waits. Nothing is
     /// changed if memory runs out.
     pub(crate) fn republish<R: Wait>(&mut self, rt: &R) -> Result<Option<Receipt>, AllocError>
-        ensures { MatchResult result
-            (λ o. MatchOption o ((self.new ≡ self.old) × (self.old.published ≡ self.old.added))
-            (λ r. (self.new ≡ all_published self.old) × (r ≡ beginning self.old.book self.old.added)))
-            (λ _. self.new ≡ self.old) }
+        ensures { MatchResult result (Republishes self.old self.new) (λ _. self.new ≡ self.old) }
     {
         if self.is_published() {
             return Ok(None);

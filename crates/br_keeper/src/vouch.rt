@@ -137,7 +137,8 @@ fn new_entries(
     Ok(entries)
 }
 
-/// Adds entries of the volumes that have none, with these lengths. If memory runs out, it adds none.
+/// Adds entries of the volumes that have none, with these lengths. If memory runs out, it adds
+/// none.
 pub(crate) fn enter(
     alloc: Global,
     vouches: &mut Vec<Vouch>,

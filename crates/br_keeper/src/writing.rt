@@ -1,7 +1,7 @@
 //! The blocks of a session as they are appended to volumes.
-ghost use Rattle.std.specs.Prelude.{◌≡◌, ◌≤◌, OnOk, IfErr};
+ghost use Rattle.std.specs.Prelude.{◌≡◌, ◌≤◌};
 ghost use Rattle.br_keeper.specs.Preparing.{seen};
-ghost use Rattle.br_keeper.specs.Writing.{ChecksVolume, ChecksVolumes, AppendsAll, WritesBlocks, shelf};
+ghost use Rattle.br_keeper.specs.Writing.{AppendsAllTo, ChecksVolume, ChecksVolumes, WritesBlocksTo};
 
 use crate::fault::KeeperFault;
 use crate::vouch::{Vouch, enter, grow, is_retired, retire};
@@ -48,15 +48,14 @@ fn check_volumes<W: VolumeStore>(
     Ok(())
 }
 
-/// Appends blocks, each to its volume by one append, until one fails. The length that is vouched for
-/// grows with each. A volume whose append fails is retired.
+/// Appends blocks, each to its volume by one append, until one fails. The length that is vouched
+/// for grows with each. A volume whose append fails is retired.
 fn append_all<W: VolumeStore>(
     volumes: &mut W,
     vouches: &mut [Vouch],
     blocks: &[(VolName, Vec<u8>)],
 ) -> Result<(), KeeperFault>
-    ensures { AppendsAll (seen blocks.now) (shelf (W.holds volumes.old) (W.failures volumes.old) vouches.old)
-        (shelf (W.holds volumes.new) (W.failures volumes.new) vouches.new) result }
+    ensures { AppendsAllTo W.holds W.failures (seen blocks.now) volumes.old volumes.new vouches.old vouches.new result }
 {
     for block in blocks {
         match volumes.append(&block.0, &block.1) {
@@ -78,9 +77,8 @@ pub(crate) fn write_blocks<W: VolumeStore>(
     starts: &[(VolName, u64)],
     blocks: &[(VolName, Vec<u8>)],
 ) -> Result<(), KeeperFault>
-    ensures { WritesBlocks starts.now (seen blocks.now)
-        (shelf (W.holds volumes.old) (W.failures volumes.old) vouches.old.items)
-        (shelf (W.holds volumes.new) (W.failures volumes.new) vouches.new.items) result }
+    ensures { WritesBlocksTo W.holds W.failures starts.now (seen blocks.now) volumes.old volumes.new
+        vouches.old.items vouches.new.items result }
 {
     check_volumes(volumes, vouches, starts)?;
     enter(alloc, vouches, starts)?;
