@@ -20,8 +20,9 @@ use Rattle.br_again.specs.Stands.{HitsStand, StandingStays}
 use Rattle.br_join.specs.Joining.{Joining}
 use Rattle.br_join.specs.Outcome.{restored}
 use Rattle.br_join.specs.declared.item.Outcome.{Outcome}
-use Rattle.br_join.specs.Runs.{AreListed, files_of}
-use Rattle.br_join.proofs.SortLaws.{listed_is}
+use Rattle.br_records.specs.Runs.{AreListed}
+use Rattle.br_join.specs.Runs.{files_of}
+use Rattle.br_records.proofs.SortLaws.{listed_is}
 use Rattle.br_pool.specs.Pool.{OnlyIfAllFail, StandsTold}
 use Rattle.br_pool.proofs.ListLaws.{zip_trans}
 use Rattle.br_reread.specs.Many.{Driven, GoOn, GoesOn, HaveFailed, RereadingMany, driven_by}

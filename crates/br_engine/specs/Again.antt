@@ -11,7 +11,7 @@ use Rattle.br_model.specs.Restored.{Names, Restored, files, planned_in}
 use Rattle.br_model.specs.Volume.{Volume}
 use Rattle.br_join.specs.Joining.{Joining}
 use Rattle.br_join.specs.Outcome.{restored}
-use Rattle.br_join.specs.Runs.{AreListed}
+use Rattle.br_records.specs.Runs.{AreListed}
 use Rattle.br_gather.specs.Again.{IsLike, IsMadeOf}
 use Rattle.br_gather.specs.Gathered.{Gathered}
 use Rattle.br_gather.specs.Given.{GivesHits}

@@ -8,7 +8,8 @@ use Rattle.br_model.specs.Meaning.{Hit}
 use Rattle.br_model.specs.Name.{FileKey}
 use Rattle.br_model.specs.Restored.{Names, Planned, files_found, files_listed, files_planned, fragments_for, outcome_of, under_name}
 use Rattle.br_join.specs.Outcome.{restored, shown}
-use Rattle.br_join.specs.Runs.{files_of, listed}
+use Rattle.br_join.specs.Runs.{files_of}
+use Rattle.br_records.specs.Runs.{listed}
 use Rattle.br_join.specs.declared.item.Outcome.{Outcome as Made}
 use Rattle.br_join.specs.declared.item.Outcome.TheVariants.{File}
 use Rattle.br_sink.specs.Delivery.{items_in}

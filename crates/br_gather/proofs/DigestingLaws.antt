@@ -6,7 +6,7 @@ use Rattle.br_model.specs.Meaning.{Hit}
 use Rattle.br_model.specs.Name.{FileKey}
 use Rattle.br_again.specs.Stands.{StandingStays}
 use Rattle.br_join.specs.Plain.{plain_bytes}
-use Rattle.br_join.specs.Runs.{fragments}
+use Rattle.br_records.specs.Records.{fragments}
 use Rattle.br_reread.specs.Many.{GoOn, RereadingMany}
 use Rattle.br_gather.specs.Digesting.{AreRead, IsDigested, IsRead, ReadsOn, keys_of}
 use Rattle.br_gather.specs.Windows.{data_bytes}

@@ -19,8 +19,8 @@ use Rattle.br_model.proofs.VolumeLaws.{walk_is_exact_lem}
 use Rattle.br_again.specs.Stands.{HitsStand, StandingStays, Stands, place_on}
 use Rattle.br_reread.specs.Over.{GivesOver, IsFragmentOf}
 use Rattle.br_reread.specs.Many.{Driven, RereadingMany}
-use Rattle.br_join.specs.Runs.{AreListed, hit_order, listed}
-use Rattle.br_join.proofs.SortLaws.{place}
+use Rattle.br_records.specs.Runs.{AreListed, hit_order, listed}
+use Rattle.br_records.proofs.SortLaws.{place}
 use Rattle.br_gather.specs.Given.{GivesHit, GivesHits}
 
 -- ---- the hits of a set in order are found in it

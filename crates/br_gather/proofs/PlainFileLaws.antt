@@ -4,7 +4,7 @@ use Rattle.std.specs.Prelude.{OnOk, nat_abs}
 use Rattle.std.specs.List.{list_any}
 use Rattle.br_model.specs.File.{Item}
 use Rattle.br_model.specs.Meaning.{Hit}
-use Rattle.br_join.specs.Runs.{fragments}
+use Rattle.br_records.specs.Records.{fragments}
 use Rattle.br_join.proofs.PlainLaws.{have_sparse}
 use Rattle.br_gather.specs.FileParts.{PutsAlike}
 

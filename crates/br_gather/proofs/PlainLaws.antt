@@ -4,7 +4,7 @@ use Rattle.std.specs.Prelude.{nat_abs}
 use Rattle.std.proofs.lemmas.List.{append-nil}
 use Rattle.br_model.specs.Meaning.{Hit}
 use Rattle.br_join.specs.Plain.{plain_bytes, plain_of}
-use Rattle.br_join.specs.Runs.{fragments}
+use Rattle.br_records.specs.Records.{fragments}
 
 -- with the plain data of one hit more
 pub plain_one_more : (hits : List Hit) (h : Hit) → plain_bytes (fragments (hits ++ h ∷ [])) ≡ plain_bytes (fragments hits) ++ plain_of (nat_abs h.fragment.stream) h.fragment.bytes

@@ -5,7 +5,7 @@ use Rattle.std.proofs.lemmas.List.{append-nil, take_more}
 use Rattle.br_model.specs.Meaning.{Hit}
 use Rattle.br_again.specs.Kept.{Kept}
 use Rattle.br_join.specs.Plain.{plain_bytes, plain_of}
-use Rattle.br_join.specs.Runs.{fragments}
+use Rattle.br_records.specs.Records.{fragments}
 use Rattle.br_reread.specs.Many.{RereadingMany}
 use Rattle.br_gather.specs.Given.{GivesHit, GivesHits}
 use Rattle.br_gather.specs.Windows.{data_bytes}

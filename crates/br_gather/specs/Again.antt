@@ -3,7 +3,7 @@ use Rattle.std.specs.Prelude.{◌≡◌, List, Ok, IfOk}
 use Rattle.br_model.specs.File.{Item}
 use Rattle.br_model.specs.Meaning.{Hit}
 use Rattle.br_model.specs.Restored.{Restored, fragments_for, outcome_of}
-use Rattle.br_join.specs.Runs.{listed}
+use Rattle.br_records.specs.Runs.{listed}
 use Rattle.br_sink.specs.FileParts.{AreAlike}
 
 -- Two files differ at most in their bytes, which are as many and have the same digest.

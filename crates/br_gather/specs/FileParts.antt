@@ -6,7 +6,8 @@ use Rattle.br_model.specs.Meaning.{Hit}
 use Rattle.br_model.specs.Name.{FileKey}
 use Rattle.br_model.specs.Restored.{fragments_for, outcome_of}
 use Rattle.br_join.specs.Plain.{plain_bytes}
-use Rattle.br_join.specs.Runs.{fragments, listed}
+use Rattle.br_records.specs.Records.{fragments}
+use Rattle.br_records.specs.Runs.{listed}
 use Rattle.br_reread.specs.Many.{RereadingMany}
 use Rattle.br_sink.specs.FileParts.{AreAlike, with_bytes}
 use Rattle.br_sink.specs.Sink.{HasMore}

@@ -8,7 +8,7 @@ ghost use Rattle.br_model.specs.Restored as model;
 ghost use Rattle.br_gather.specs.Given.{GivesHit, GivesHits};
 ghost use Rattle.br_join.specs.Outcome.{shown};
 ghost use Rattle.br_join.specs.Plain.{plain_bytes, plain_of};
-ghost use Rattle.br_join.specs.Runs.{fragments};
+ghost use Rattle.br_records.specs.Records.{fragments};
 ghost use Rattle.br_reread.specs.Many.{GoOn, HaveFailed};
 ghost use Rattle.br_gather.specs.Digesting.{AreRead, IsDigested, IsRead, IsWhole, ReadsOn};
 ghost use Rattle.br_gather.specs.Windows.{data_bytes};

@@ -3,7 +3,7 @@
 ghost use Rattle.std.specs.Prelude.{◌≡◌, ◌+◌, ◌≤◌, ◌++◌, [], length, nat_abs, IfOk, OnErr, OnOk};
 ghost use Rattle.std.specs.Io.KnownBytes.{Appends};
 ghost use Rattle.br_join.specs.Plain.{plain_bytes, plain_of};
-ghost use Rattle.br_join.specs.Runs.{fragments};
+ghost use Rattle.br_records.specs.Records.{fragments};
 ghost use Rattle.br_reread.specs.Many.{GoOn};
 ghost use Rattle.br_sink.specs.FileParts.{AreAlike, WritesSome};
 ghost use Rattle.br_gather.specs.FileParts.{GivesFile, PutsWindow, WritesFew};

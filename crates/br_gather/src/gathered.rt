@@ -17,8 +17,9 @@ use crate::light::lightened;
 use crate::making::files_by;
 use crate::putting::{has_sparse_data, is_plain, put_plain, put_whole};
 use br_again::AgainFault;
-use br_join::{Item, Joiner, Outcome, around};
+use br_join::{Item, Joiner, Outcome};
 use br_match::Hit;
+use br_records::around;
 use br_reread::OverMany;
 use br_sink::{PartsFault, Sink};
 use br_types::{FileKey, Names};
@@ -35,7 +36,7 @@ pub struct Gathered {
 }
 
 impl Model for Gathered {
-    ghost use Rattle.br_join.specs.Runs.{AreListed};
+    ghost use Rattle.br_records.specs.Runs.{AreListed};
     ghost use Rattle.br_gather.specs.Code.{coded_gathered};
     ghost use Rattle.br_gather.specs.Gathered as model;
 

@@ -3,7 +3,7 @@ ghost use Rattle.std.specs.Prelude.{◌≡◌, ◌<◌, ◌≤◌, ◌==◌, tru
 ghost use Rattle.std.specs.List.{list_any};
 ghost use Rattle.br_model.specs.File as file;
 ghost use Rattle.br_model.specs.Meaning as meaning;
-ghost use Rattle.br_join.specs.Runs.{AreListed};
+ghost use Rattle.br_records.specs.Runs.{AreListed};
 ghost use Rattle.br_reread.specs.Many.{GoOn};
 ghost use Rattle.br_sink.specs.declared.file_parts.PartsFault.TheVariants.{Fault};
 ghost use Rattle.br_gather.specs.FileParts.{GivesFile, GivesItem, PutsAlike};

@@ -4,11 +4,12 @@ ghost use Rattle.std.specs.List.{AllByRecursion};
 ghost use Rattle.std.specs.Option.{option_copied};
 ghost use Rattle.br_model.specs.Meaning as meaning;
 ghost use Rattle.br_model.specs.Restored.{files_found, files_planned, planned_in};
-ghost use Rattle.br_join.specs.Runs.{AreListed, files_of, listed};
+ghost use Rattle.br_records.specs.Runs.{AreListed, listed};
+ghost use Rattle.br_join.specs.Runs.{files_of};
 ghost use Rattle.br_gather.specs.Runs.{IsPart, file_of};
 
-use br_join::around;
 use br_match::Hit;
+use br_records::around;
 use br_types::{FileKey, Names, Path};
 use std::alloc::{AllocError, Global};
 use std::marker::Model;

@@ -13,15 +13,17 @@ use Rattle.br_model.specs.File.{Fault, Item, Outcome, fault, Extent, attributes_
 use Rattle.br_model.specs.Name.{FileKey}
 use Rattle.br_model.specs.Restored.{outcome_of}
 use Rattle.br_model.proofs.AnswerLaws.{bind_ok, refuse_ok, refused_as_ok, chosen, ok_is, err_is_not_ok}
-use Rattle.br_join.specs.Data.{laid, laid_from}
-use Rattle.br_join.specs.Making.{cause}
+use Rattle.br_records.specs.Data.{laid}
+use Rattle.br_join.specs.Data.{laid_from}
+use Rattle.br_records.specs.Making.{cause}
 use Rattle.br_join.specs.Plain.{plain_of, plain_data, plain_bytes, fitting_all, bytes_of}
 use Rattle.br_join.specs.Source.{bytes_by, content_by}
 use Rattle.br_join.specs.declared.data.Source.{Source}
 use Rattle.br_join.specs.declared.data.Source.TheVariants.{Read}
-use Rattle.br_join.specs.declared.making_fault.MakingFault.{MakingFault}
-use Rattle.br_join.specs.declared.making_fault.MakingFault.TheVariants.{Memory, File}
-use Rattle.br_join.proofs.DataLaws.{laid_more, laid_refused, laid_done, plain_extent}
+use Rattle.br_records.specs.declared.making_fault.MakingFault.{MakingFault}
+use Rattle.br_records.specs.declared.making_fault.MakingFault.TheVariants.{Memory, File}
+use Rattle.br_records.proofs.ExtentLaws.{plain_extent}
+use Rattle.br_join.proofs.DataLaws.{laid_more, laid_refused, laid_done}
 
 -- ---- fragments are joined to records
 

@@ -11,8 +11,8 @@ use Rattle.br_model.specs.Meaning.{Spot, Hit, Hits, HasHit, AreAmong, hit_cmp, h
 use Rattle.br_model.proofs.HitLaws.{hit_cmp_total, hits_are_lookups_lem, taking_keeps_what_is_held_lem}
 use Rattle.br_model.proofs.RisingLaws.{found_is_held, hit_was_found}
 use Rattle.br_join.specs.Joining.{Joining, with_batch}
-use Rattle.br_join.specs.Runs.{listed}
-use Rattle.br_join.proofs.SortLaws.{place}
+use Rattle.br_records.specs.Runs.{listed}
+use Rattle.br_records.proofs.SortLaws.{place}
 
 pub find_joined : (xs ys : List Hit) (q : FileKey × Spot) → find hit_cmp q (listed (xs ++ ys)) ≡ option_or (find hit_cmp q (listed xs)) (find hit_cmp q (listed ys))
 find_joined [] ys q = refl

@@ -2,11 +2,8 @@ pub mod Code
 pub mod Data
 pub mod Fault
 pub mod Joining
-pub mod Making
-pub mod Opening
 pub mod Outcome
 pub mod Pieces
 pub mod Plain
-pub mod Records
 pub mod Runs
 pub mod Source

@@ -1,28 +1,11 @@
--- Hits in the order in which the set of them lists them.
-use Rattle.std.specs.Prelude.{ℕ, List, map, Option, Some, None, option_map}
-use Rattle.std.specs.List.Sorted.{IsStrictlySortedBy}
-use Rattle.std.specs.declared.cmp.Ordering.{Ordering}
-use Rattle.br_model.specs.Block.{Fragment}
-use Rattle.br_model.specs.Meaning.{Hit, hit_cmp, hit_entry}
+-- The files that hits make, in the order in which the set of them lists them.
+use Rattle.std.specs.Prelude.{ℕ, List, Option, Some, None, option_map}
+use Rattle.br_model.specs.Meaning.{Hit}
 use Rattle.br_model.specs.Name.{FileKey}
 use Rattle.br_model.specs.File.{Outcome}
-use Rattle.br_model.specs.Restored.{HitList, Names, Restored, files_listed, outcome_of, planned_in, under_name}
-
--- the hits as entries of a set
-abbrev pub listed : List Hit → HitList
-listed hits = map hit_entry hits
-
--- hits are ordered by file and place
-abbrev pub hit_order : Hit → Hit → Ordering
-hit_order g h = hit_cmp (g.key, g.spot) (h.key, h.spot)
-
--- the hits rise by file and place, so that no two are at one place of one file
-abbrev pub AreListed : List Hit → Type 0
-AreListed hits = IsStrictlySortedBy hit_order hits
-
--- the fragments of the hits
-abbrev pub fragments : List Hit → List Fragment
-fragments hits = map (λ (h : Hit). h.fragment) hits
+use Rattle.br_model.specs.Restored.{Names, Restored, files_listed, outcome_of, planned_in, under_name}
+use Rattle.br_records.specs.Records.{fragments}
+use Rattle.br_records.specs.Runs.{listed}
 
 -- an outcome under the planned path, if there is one
 abbrev pub named : Option (List ℕ) → Outcome → Outcome

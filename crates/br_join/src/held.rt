@@ -1,7 +1,7 @@
 ghost use Rattle.std.specs.Prelude.{◌≡◌, ◌+◌, ◌≤◌, ◌++◌, vec_capacity, vec_len, IfOk, IfErr, OnOk, OnErr};
 ghost use Rattle.std.specs.FinMap.{empty};
 ghost use Rattle.br_model.specs.Meaning.{hits_of, with_hits};
-ghost use Rattle.br_join.specs.Runs.{AreListed};
+ghost use Rattle.br_records.specs.Runs.{AreListed};
 
 use crate::room::{Room, let_all_go};
 use br_match::Hit;

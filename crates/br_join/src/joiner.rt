@@ -8,7 +8,7 @@ ghost use Rattle.br_model.specs.Restored.{files, planned_in};
 ghost use Rattle.br_join.specs.Outcome.{restored};
 ghost use Rattle.br_join.specs.Joining.{begun, taken, with_batch, with_closed, is_ready, emptied};
 ghost use Rattle.br_join.specs.Pieces.{as_map, opens};
-ghost use Rattle.br_join.specs.Runs.{AreListed};
+ghost use Rattle.br_records.specs.Runs.{AreListed};
 ghost use Rattle.br_join.specs.declared.fault.JoinFault.TheVariants.{StrangerPiece};
 
 use crate::fault::{JoinFault, Refused};

@@ -11,16 +11,12 @@ mod held;
 mod item;
 mod joiner;
 mod making;
-mod making_fault;
-mod parts;
-mod records;
 mod room;
 mod runs;
-mod streams;
 
 pub use br_body::FileBytes;
 pub use fault::{JoinFault, Refused};
 pub use item::{Item, Outcome};
 pub use joiner::Joiner;
 pub use making::{outcome_of, outcome_with};
-pub use runs::{around, named};
+pub use runs::named;

@@ -1,17 +1,16 @@
-ghost use Rattle.std.specs.Prelude.{◌≡◌, ◌++◌, All, map, option_map, IfOk, OnOk};
-ghost use Rattle.std.specs.List.{AllByRecursion};
+ghost use Rattle.std.specs.Prelude.{◌≡◌, All, map, IfOk};
 ghost use Rattle.std.specs.Option.{option_copied};
-ghost use Rattle.std.specs.declared.cmp.Ordering.TheVariants.{Less};
-ghost use Rattle.br_model.specs.Name.{key_cmp};
 ghost use Rattle.br_model.specs.Meaning as model;
 ghost use Rattle.br_model.specs.Restored.{files_found, files_planned, files_listed, planned_in};
+ghost use Rattle.br_records.specs.Runs.{AreListed, listed};
 ghost use Rattle.br_join.specs.Outcome.{restored, shown};
-ghost use Rattle.br_join.specs.Runs.{AreListed, file_of_run, files_of, listed};
+ghost use Rattle.br_join.specs.Runs.{file_of_run, files_of};
 ghost use Rattle.br_join.specs.Runs as run;
 
 use crate::item::Outcome;
 use crate::making::{outcome_of, under_name};
 use br_match::Hit;
+use br_records::around;
 use br_types::{FileKey, Names, Path};
 use rayon::prelude::*;
 use std::alloc::{AllocError, Global};
@@ -67,19 +66,6 @@ impl<'h> Run<'h> {
         let outcome = outcome_of(alloc, self.key, self.hits)?;
         Ok((self.key, named(self.path, outcome)))
     }
-}
-
-/// Returns the hits of the files before this one, of this one, and of the files after it.
-pub fn around(hits: &[Hit], key: FileKey) -> (&[Hit], &[Hit], &[Hit])
-    requires { AreListed hits.now }
-    ensures joined { result.0.now ++ (result.1.now ++ result.2.now) ≡ hits.now }
-    ensures before { AllByRecursion (λ (h : model.Hit). key_cmp h.key key ≡ Less) result.0.now }
-    ensures of_key { AllByRecursion (λ (h : model.Hit). h.key ≡ key) result.1.now }
-    ensures after { AllByRecursion (λ (h : model.Hit). key_cmp key h.key ≡ Less) result.2.now }
-{
-    let (before, rest) = hits.split_at(hits.partition_point(|hit| hit.key < key));
-    let (run, after) = rest.split_at(rest.partition_point(|hit| hit.key <= key));
-    (before, run, after)
 }
 
 /// Returns the runs of the files that were hit, in order of key.

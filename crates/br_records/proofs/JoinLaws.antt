@@ -10,7 +10,7 @@ use Rattle.br_model.specs.File.{Fault, fault}
 use Rattle.br_model.specs.Meaning.{Hit}
 use Rattle.br_model.specs.Record.{Begun, Record, with_fragment, still_open, given_out, join_from, join}
 use Rattle.br_records.specs.Opening.{begun, begun_from, bytes_between, joined_from}
-use Rattle.br_records.specs.Records.{bytes_in, fragments_in, prefixed}
+use Rattle.br_records.specs.Records.{bytes_in, fragments, prefixed}
 use Rattle.br_records.specs.declared.records.Open.{Open}
 
 -- ---- one fragment
@@ -54,8 +54,8 @@ prefixed_two front more (Err n) = refl
 
 -- ---- at a place of a list of hits
 
-pub fragments_more : (hits : List Hit) (i : ℕ) (x : Hit) → i < length hits → x ≡ get_or hits i x → fragments_in (drop i hits) ≡ x.fragment ∷ fragments_in (drop (i + 1) hits)
-fragments_more hits i x within is = at_drop_more fragments_in hits i x within ∙ ap (λ (h : Hit). h.fragment ∷ fragments_in (drop (i + 1) hits)) (sym is)
+pub fragments_more : (hits : List Hit) (i : ℕ) (x : Hit) → i < length hits → x ≡ get_or hits i x → fragments (drop i hits) ≡ x.fragment ∷ fragments (drop (i + 1) hits)
+fragments_more hits i x within is = at_drop_more fragments hits i x within ∙ ap (λ (h : Hit). h.fragment ∷ fragments (drop (i + 1) hits)) (sym is)
 
 pub between_more : (hits : List Hit) (first i : ℕ) (x : Hit) → i < length hits → x ≡ get_or hits i x → first ≤ i → bytes_between first (i + 1) hits ≡ bytes_between first i hits ++ x.fragment.bytes
 between_more hits first i x within is le =
@@ -84,7 +84,7 @@ module _ (hits : List Hit) (index : ℕ) (records : List Record) (opened : Optio
       let bytes = bytes_between first i hits in
       let refused : refused_as fault (with_fragment (begun_from index bytes opened) x.fragment) ≡ Err e = rw key at step bytes nothing_yet in
       ap (λ fs. refused_as fault (prefixed records (join_from (begun_from index bytes opened) fs))) (fragments_more hits i x within is)
-      ∙ join_refused records (begun_from index bytes opened) x.fragment (fragments_in (drop (i + 1) hits)) e refused
+      ∙ join_refused records (begun_from index bytes opened) x.fragment (fragments (drop (i + 1) hits)) e refused
 
   module _ (next : Open) (step : (bytes : List ℕ) → IfNone opened (bytes ≡ []) → refused_as fault (with_fragment (begun_from x.key.index bytes opened) x.fragment) ≡ Ok (begun x.key.index (bytes ++ x.fragment.bytes) next)) where
     after : Begun
@@ -96,11 +96,11 @@ module _ (hits : List Hit) (index : ℕ) (records : List Record) (opened : Optio
         let at_index : refused_as fault (with_fragment (begun_from index (bytes_between first i hits) opened) x.fragment) ≡ Ok (begun index (bytes_between first i hits ++ x.fragment.bytes) next) = rw key at step (bytes_between first i hits) nothing_yet in
         at_index ∙ ap (λ (bytes : List ℕ). Ok (begun index bytes next)) (sym (between_more hits first i x within is le))
 
-    joined_one : joined_from hits index records opened first i ≡ prefixed (records ++ given_out after) (join_from (still_open after) (fragments_in (drop (i + 1) hits)))
+    joined_one : joined_from hits index records opened first i ≡ prefixed (records ++ given_out after) (join_from (still_open after) (fragments (drop (i + 1) hits)))
     joined_one =
         ap (λ fs. prefixed records (join_from (begun_from index (bytes_between first i hits) opened) fs)) (fragments_more hits i x within is)
-        ∙ ap (prefixed records) (join_more (begun_from index (bytes_between first i hits) opened) x.fragment (fragments_in (drop (i + 1) hits)) after taken)
-        ∙ prefixed_two records (given_out after) (join_from (still_open after) (fragments_in (drop (i + 1) hits)))
+        ∙ ap (prefixed records) (join_more (begun_from index (bytes_between first i hits) opened) x.fragment (fragments (drop (i + 1) hits)) after taken)
+        ∙ prefixed_two records (given_out after) (join_from (still_open after) (fragments (drop (i + 1) hits)))
 
     -- the record stays open
     pub joins_open : 0 < next.left → joined_from hits index records opened first i ≡ joined_from hits index records (Some next) first (i + 1)
@@ -119,17 +119,17 @@ module _ (hits : List Hit) (index : ℕ) (records : List Record) (opened : Optio
 
 -- ---- before the first hit, and after the last
 
-pub joins_begin : (hits : List Hit) (index : ℕ) (records : List Record) → records ≡ [] → join (fragments_in hits) ≡ joined_from hits index records None 0 0
+pub joins_begin : (hits : List Hit) (index : ℕ) (records : List Record) → records ≡ [] → join (fragments hits) ≡ joined_from hits index records None 0 0
 unfolding join
-joins_begin hits index records none = rw none (go (join_from None (fragments_in hits)))
+joins_begin hits index records none = rw none (go (join_from None (fragments hits)))
   where
     go : (r : Result (List Record) ℕ) → r ≡ prefixed [] r
     go (Ok rs) = refl
     go (Err n) = refl
 
 module _ (hits : List Hit) (index : ℕ) (records : List Record) (first i : ℕ) (past : length hits ≤ i) where
-  fragments_done : fragments_in (drop i hits) ≡ []
-  fragments_done = at_drop_all fragments_in hits i past
+  fragments_done : fragments (drop i hits) ≡ []
+  fragments_done = at_drop_all fragments hits i past
 
   -- no record is open
   pub joins_done : joined_from hits index records None first i ≡ Ok records

@@ -1,8 +1,9 @@
-mod ChoiceLaws
+pub mod ChoiceLaws
 mod EndLaws
+pub mod ExtentLaws
 mod JoinLaws
 mod PartLaws
-mod FilesLaws
+pub mod FilesLaws
 pub mod OutlineLaws
 pub mod RunLaws
 pub mod SortLaws

@@ -1,60 +1,21 @@
--- What an outline says of its file.
-use Rattle.std.proofs.Common.{◌≡◌, ℕ, ◌+◌, ◌-◌, ◌^◌, ◌≤◌, Bool, true, false, ◌||◌, ◌&&◌, not, cond, ltb, List, [], ◌∷◌, ◌++◌, length, take, drop, replicate, Result, Ok, Err, refl, sym, ap, ◌∙◌, inl, inr, arith}
-use Rattle.std.specs.Prelude.{filter, count_by}
-use Rattle.std.specs.Int.{w64, from_be_bytes}
-use Rattle.std.proofs.lemmas.Bool.{ltb-false, or_parts}
+-- What an outline says of its file, and the outlines of hits in order.
+use Rattle.std.proofs.Common.{◌≡◌, ℕ, ◌+◌, ◌-◌, ◌<◌, ◌≤◌, Bool, true, false, ◌&&◌, not, cond, List, [], ◌∷◌, ◌++◌, length, replicate, Some, Result, Ok, Err, refl, sym, ap, arith}
+use Rattle.std.specs.Prelude.{filter, count_by, slice_get}
+use Rattle.std.specs.List.{AllByRecursion}
+use Rattle.std.specs.declared.cmp.Ordering.TheVariants.{Less}
 use Rattle.std.proofs.lemmas.List.{length-append, length-replicate}
 use Rattle.br_model.specs.Answer.{◌>>=◌, refused_as, refuse_if}
 use Rattle.br_model.specs.Attribute.{Attributes}
+use Rattle.br_model.specs.Block.{Fragment}
+use Rattle.br_model.specs.Meaning.{Hit}
+use Rattle.br_model.specs.Name.{FileKey, key_cmp}
 use Rattle.br_model.specs.Record.{Record}
 use Rattle.br_model.specs.File.{Extent, Fault, Outcome, attributes_of, bytes_from, checks_digest, content, digest_fits, extent_end, extent_of, extents_from, fault, file_bytes, has_bytes, is_data, is_skipped, is_stream, unsupported}
-use Rattle.br_model.proofs.AnswerLaws.{bind_ok, chosen, ok_is, err_is_not_ok}
-use Rattle.br_records.specs.Outline.{Foreseen, Foresees, OutlinesForesee, end_after, end_from, outline, size_of}
-
--- ---- an extent begins at the end so far, or past it
-
-address : Record → ℕ
-address r = from_be_bytes w64 (take 8 r.bytes)
-
-placed : ℕ → Record → Result Extent ℕ
-placed end r =
-    cond (is_stream 2 r) (Ok (record { start = end; bytes = r.bytes }))
-    (cond (ltb (length r.bytes) 8 || ltb (address r) end) (Err 67) (Ok (record { start = address r; bytes = drop 8 r.bytes })))
-
-fitted : Extent → Result Extent ℕ
-fitted e = cond (ltb (2 ^ 30) (extent_end e)) (Err 68) (Ok e)
-
-is_placed : (end : ℕ) (r : Record) → extent_of end r ≡ (placed end r >>= fitted)
-unfolding extent_of placed fitted address
-is_placed end r = refl
-
-placed_rises : (end : ℕ) (r : Record) (e : Extent) → placed end r ≡ Ok e → end ≤ e.start
-unfolding placed
-placed_rises end r e is =
-    elim (chosen (is_stream 2 r) (Ok (record { start = end; bytes = r.bytes })) (cond (ltb (length r.bytes) 8 || ltb (address r) end) (Err 67) (Ok (record { start = address r; bytes = drop 8 r.bytes }))) (Ok e) is) [
-      | inl p ↦
-          let same : end ≡ e.start = ap (λ (x : Extent). x.start) (ok_is (record { start = end; bytes = r.bytes }) e p.1) in
-          omega (arith, same)
-      | inr p ↦
-          elim (chosen (ltb (length r.bytes) 8 || ltb (address r) end) (Err 67) (Ok (record { start = address r; bytes = drop 8 r.bytes })) (Ok e) p.1) [
-            | inl q ↦ absurd (err_is_not_ok 67 e q.1)
-            | inr q ↦
-                let same : address r ≡ e.start = ap (λ (x : Extent). x.start) (ok_is (record { start = address r; bytes = drop 8 r.bytes }) e q.1) in
-                let tests = or_parts (ltb (length r.bytes) 8) (ltb (address r) end) q.0 in
-                omega (arith, same, ltb-false (address r) end tests.1)
-          ]
-    ]
-
-extent_rises : (end : ℕ) (r : Record) (e : Extent) → extent_of end r ≡ Ok e → end ≤ e.start
-unfolding fitted
-extent_rises end r e is =
-    let steps = bind_ok (placed end r) fitted e (sym (is_placed end r) ∙ is) in
-    elim (chosen (ltb (2 ^ 30) (extent_end steps.0)) (Err 68) (Ok steps.0) (Ok e) steps.2) [
-      | inl p ↦ absurd (err_is_not_ok 68 e p.1)
-      | inr p ↦
-          let same : steps.0.start ≡ e.start = ap (λ (x : Extent). x.start) (ok_is steps.0 e p.1) in
-          omega (arith, same, placed_rises end r steps.0 steps.1)
-    ]
+use Rattle.br_records.specs.Outline.{Foreseen, Foresees, Outlined, OutlinesForesee, end_after, end_from, outline, outline_of, outlines_found, size_of}
+use Rattle.br_records.specs.Records.{fragments}
+use Rattle.br_records.specs.Runs.{listed}
+use Rattle.br_records.proofs.ExtentLaws.{extent_rises}
+use Rattle.br_records.proofs.FilesLaws.{found_turn, none_found}
 
 -- ---- the end of the bytes
 
@@ -156,3 +117,22 @@ by_attributes records (Err f) = refl
 pub outlines_foresee_lem : OutlinesForesee
 unfolding outline content
 outlines_foresee_lem index records = by_attributes records (refused_as fault (attributes_of index (filter (is_stream 1) records)))
+
+-- ---- the outlines of the files of hits in order
+
+-- the outline that the fragments of a file make
+abbrev pub outlined_as : FileKey → List Fragment → Outlined
+outlined_as key fs = record { key = key; outline = outline_of key fs }
+
+-- What is known of hits in order, by the run of the file of the first of them: the outline of this
+-- file, then those of fewer hits.
+pub outlines_turn : (all before run behind : List Hit) (first : Hit) (key : FileKey) → slice_get all 0 ≡ Some first → first.key ≡ key → before ++ (run ++ behind) ≡ all
+    → AllByRecursion (λ (h : Hit). key_cmp h.key key ≡ Less) before → AllByRecursion (λ (h : Hit). h.key ≡ key) run → AllByRecursion (λ (h : Hit). key_cmp key h.key ≡ Less) behind
+    → (outlines_found (listed all) ≡ outlined_as key (fragments run) ∷ outlines_found (listed behind)) × (length behind < length all)
+unfolding outlines_found
+outlines_turn = found_turn outlined_as
+
+-- no hits, no outlines
+pub no_outlines : outlines_found (listed []) ≡ []
+unfolding outlines_found
+no_outlines = none_found outlined_as

@@ -4,8 +4,8 @@ use Rattle.br_model.specs.Block.{Fragment}
 use Rattle.br_model.specs.Meaning.{Hit}
 
 -- the fragments that were hit
-abbrev pub fragments_in : List Hit → List Fragment
-fragments_in hits = map (λ (h : Hit). h.fragment) hits
+abbrev pub fragments : List Hit → List Fragment
+fragments hits = map (λ (h : Hit). h.fragment) hits
 
 -- the bytes of the fragments, one after another
 abbrev pub bytes_in : List Hit → List ℕ

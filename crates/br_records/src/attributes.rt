@@ -56,7 +56,7 @@ fn attributes_of_record(
 ///
 /// `NoAttributes` if no record has them, `BadAttributes` if two records do or they cannot be read.
 #[tactic(auto, unfolding(br_model::specs::File::attributes_of))]
-pub(crate) fn attributes_of(
+pub fn attributes_of(
     alloc: Global,
     index: FileIndex,
     records: &[FileRecord<'_>],

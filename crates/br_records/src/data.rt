@@ -2,17 +2,19 @@ ghost use Rattle.std.specs.Prelude.{◌≡◌, ◌+◌, ◌-◌, ◌≤◌, leng
 ghost use Rattle.std.specs.Int.{w64, from_be_bytes};
 ghost use Rattle.br_model.specs.Answer.{Answers, refused_as};
 ghost use Rattle.br_model.specs.File as model;
-ghost use Rattle.br_records.specs.Data.{fitting, shown_extent};
+ghost use Rattle.br_body.specs.Parts.{joined};
+ghost use Rattle.br_records.specs.Data.{fitting, laid, shown_extent};
 ghost use Rattle.br_records.specs.Making.{cause};
 ghost use Rattle.br_records.specs.Outline as outline;
 
 use crate::making_fault::{FileFault, MakingFault};
 use crate::records::FileRecord;
 use crate::streams::{DATA, has_bytes};
+use br_body::{Part, push_gap};
 use std::alloc::AllocError;
 
 /// The greatest length of a file in bytes.
-const GREATEST_LEN: u64 = 1_073_741_824;
+pub const GREATEST_LEN: u64 = 1_073_741_824;
 
 /// The length in bytes of the address before sparse data.
 const ADDRESS_LEN: usize = 8;
@@ -86,6 +88,23 @@ impl FileRecord<'_> {
             return Err(MakingFault::File(FileFault::SparseBack));
         }
         self.extent_at(address, ADDRESS_LEN)
+    }
+
+    /// Appends the data to the parts of a file of length `end`, after zeros up to its address.
+    /// Returns the new end. No byte is copied.
+    ///
+    /// # Errors
+    ///
+    /// As `extent_after`.
+    pub fn push_data(&self, file: &mut Vec<Part>, end: usize) -> Result<usize, MakingFault>
+        requires { end ≡ length (joined file.old.items) }
+        ensures same { Answers (λ _. joined file.new.items) cause result (refused_as model.fault (laid (joined file.old.items) self.now)) }
+        ensures ends { IfOk result (λ end. end ≡ length (joined file.new.items)) }
+    {
+        let extent = self.extent_after(end)?;
+        push_gap(file, extent.start - end)?;
+        self.share_to(file, extent.skip)?;
+        Ok(extent.end)
     }
 
     /// Returns the end of a file of length `end` with the record. A record that is no data changes nothing.

@@ -1,6 +1,10 @@
 //! The records of a file, as the fragments that make them, and the outline of a file: what it is without
 //! its bytes.
 //!
+//! `settle` puts fragments in order, and `around` finds those of one file. `records_of` joins them to
+//! records. A file has the attributes that `attributes_of` returns, and the bytes that `push_data`
+//! appends record by record; it copies none.
+//!
 //! `sketches_of` needs the headers of records and the attributes alone. It finds each fault that a restore
 //! finds, but for a digest that differs.
 #![tactic(auto)]
@@ -16,9 +20,16 @@ mod streams;
 
 ghost use Rattle.br_records.specs.Outline.{OutlinesForesee};
 
-pub use making_fault::FileFault;
+pub use attributes::attributes_of;
+pub use data::GREATEST_LEN;
+pub use making_fault::{FileFault, MakingFault};
 pub use outline::{Outline, Sketch, sketches_of};
-pub use runs::settle;
+pub use records::{FileRecord, records_of};
+pub use runs::{around, settle};
+pub use streams::{
+    DIGEST, checks_digest, count_in, first_in, has_bytes, has_sparse_data, refuse_unsupported,
+    skipped_in,
+};
 
 /// States that a file has its outline, and that there is none, for the same reason, where there is no file;
 /// but a file whose digest differs has an outline.

@@ -61,8 +61,10 @@ impl FileFault {
 
 /// The reason why no file was made.
 #[derive(Clone, Copy, Debug)]
-pub(crate) enum MakingFault {
+pub enum MakingFault {
+    /// Memory ran out, or data that are needed were let go.
     Memory,
+    /// The fragments make no file.
     File(FileFault),
 }
 

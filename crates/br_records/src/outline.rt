@@ -1,10 +1,9 @@
 ghost use Rattle.std.specs.Prelude.{◌≡◌, ◌++◌, ◌∷◌, [], All, Err, IfOk, IsErr, map, MatchOption, OnOk};
-ghost use Rattle.std.specs.List.{AllByRecursion};
 ghost use Rattle.br_model.specs.Answer.{Answers};
 ghost use Rattle.br_model.specs.Meaning as meaning;
-ghost use Rattle.br_records.specs.Making.{cause, file_fault};
+ghost use Rattle.br_records.specs.Making.{cause};
 ghost use Rattle.br_records.specs.Outline as model;
-ghost use Rattle.br_records.specs.Records.{fragments_in};
+ghost use Rattle.br_records.specs.Records.{fragments};
 ghost use Rattle.br_records.specs.Runs.{AreListed, listed};
 ghost use Rattle.br_records.specs.Shown.{outlined, shown};
 
@@ -70,7 +69,7 @@ fn outline_in(
 #[tactic(auto, unfolding(crate::specs::Outline::outline_of))]
 fn outline_of(alloc: Global, key: FileKey, hits: &[Hit]) -> Result<Outline, MakingFault>
     requires { All (λ (h : meaning.Hit). h.key ≡ key) hits.now }
-    ensures { Answers (λ outline. outline) cause result (model.outline_of key (fragments_in hits.now)) }
+    ensures { Answers (λ outline. outline) cause result (model.outline_of key (fragments hits.now)) }
 {
     let records = records_of(alloc, key.index, hits)?;
     outline_in(alloc, key.index, &records)
@@ -89,7 +88,7 @@ fn no_file(why: MakingFault) -> Result<Sketch, AllocError>
 /// Returns the sketch of a file by its fragments, given in order of place.
 fn sketch_of(alloc: Global, key: FileKey, hits: &[Hit]) -> Result<Sketch, AllocError>
     requires { All (λ (h : meaning.Hit). h.key ≡ key) hits.now }
-    ensures { IfOk result (λ sketch. shown sketch ≡ model.outline_of key (fragments_in hits.now)) }
+    ensures { IfOk result (λ sketch. shown sketch ≡ model.outline_of key (fragments hits.now)) }
 {
     match outline_of(alloc, key, hits) {
         Ok(outline) => Ok(Sketch::File(outline)),

@@ -1,6 +1,8 @@
-ghost use Rattle.std.specs.Prelude.{◌≡◌, ◌++◌, ◌-◌, ◌^◌, drop, length, min, slice_index, IfOk, OnOk};
+ghost use Rattle.std.specs.Prelude.{◌≡◌, ◌++◌, ◌-◌, ◌^◌, drop, length, min, bytes_eq, slice_index, IfOk, OnOk};
+ghost use Rattle.br_body.specs.Parts.{joined};
 ghost use Rattle.br_records.specs.Records.{bytes_in};
 
+use br_body::{Part, push_found};
 use br_match::Hit;
 use std::alloc::AllocError;
 
@@ -68,4 +70,53 @@ pub(crate) fn push_bytes(bytes: &mut Vec<u8>, skip: usize, parts: &[Hit]) -> Res
         left -= skipped;
     }
     Ok(())
+}
+
+/// Appends the data of a fragment, without the first `skip` bytes, to the parts of a file. It is
+/// shared.
+fn share_one(file: &mut Vec<Part>, skip: usize, part: &Hit) -> Result<(), AllocError>
+    ensures { OnOk result (joined file.new.items ≡ joined file.old.items ++ drop skip part.now.fragment.bytes) }
+{
+    push_found(file, skip, &part.data)
+}
+
+/// Appends the bytes of the fragments, without the first `skip`, to the parts of a file. They are
+/// shared.
+pub(crate) fn share_bytes(
+    file: &mut Vec<Part>,
+    skip: usize,
+    parts: &[Hit],
+) -> Result<(), AllocError>
+    ensures { OnOk result (joined file.new.items ≡ joined file.old.items ++ drop skip (bytes_in parts.now)) }
+{
+    let mut left = skip;
+    for part in parts {
+        let skipped = left.min(len_of(part));
+        share_one(file, skipped, part)?;
+        left -= skipped;
+    }
+    Ok(())
+}
+
+/// Returns whether the parts together have these bytes.
+///
+/// # Errors
+///
+/// `AllocError` if they are not in memory.
+pub(crate) fn are_bytes(parts: &[Hit], bytes: &[u8]) -> Result<bool, AllocError>
+    ensures { IfOk result (λ same. same ≡ bytes_eq (bytes_in parts.now) bytes.now) }
+{
+    let mut rest = bytes;
+    for part in parts {
+        let held = bytes_of(part)?;
+        if rest.len() < held.len() {
+            return Ok(false);
+        }
+        let (front, more) = rest.split_at(held.len());
+        if held != front {
+            return Ok(false);
+        }
+        rest = more;
+    }
+    Ok(rest.is_empty())
 }

@@ -1,16 +1,17 @@
-ghost use Rattle.std.specs.Prelude.{◌≡◌, ℕ, List, [], ◌++◌, length, min, ◌-◌, ◌^◌, slice_index, drop, IfOk, IfSome, OnOk, All};
-ghost use Rattle.std.specs.Option.{IfNone};
-ghost use Rattle.br_model.specs.Answer.{Answers, AnswersAlways, refused_as};
+ghost use Rattle.std.specs.Prelude.{◌≡◌, ◌++◌, bytes_eq, length, min, ◌-◌, ◌^◌, slice_index, drop, IfOk, IfSome, OnOk, All};
+ghost use Rattle.br_model.specs.Answer.{Answers, refused_as};
 ghost use Rattle.br_model.specs.File.{fault};
 ghost use Rattle.br_model.specs.File as model;
 ghost use Rattle.br_model.specs.Meaning as meaning;
-ghost use Rattle.br_model.specs.Record.{with_fragment, join};
-ghost use Rattle.br_records.specs.Making.{cause, file_fault};
-ghost use Rattle.br_records.specs.Opening.{begun, begun_from};
-ghost use Rattle.br_records.specs.Records.{fragments_in};
+ghost use Rattle.br_model.specs.Record.{join};
+ghost use Rattle.br_body.specs.Parts.{joined};
+ghost use Rattle.br_records.specs.Making.{cause};
+ghost use Rattle.br_records.specs.Opening.{IsOpenAfter};
+ghost use Rattle.br_records.specs.Records.{fragments};
 
 use crate::making_fault::{FileFault, MakingFault};
-use crate::parts::{byte_at, length_of, push_bytes};
+use crate::parts::{are_bytes, byte_at, length_of, push_bytes, share_bytes};
+use br_body::Part;
 use br_match::Hit;
 use br_types::FileIndex;
 use std::alloc::{AllocError, Global};
@@ -18,7 +19,7 @@ use std::marker::Model;
 
 /// A record of a file, as the fragments that make it.
 #[derive(Debug, Drop)]
-pub(crate) struct FileRecord<'h> {
+pub struct FileRecord<'h> {
     index: FileIndex,
     stream: u32,
     parts: &'h [Hit],
@@ -62,6 +63,13 @@ impl<'h> FileRecord<'h> {
         byte_at(self.parts, place)
     }
 
+    /// Returns whether the record has these bytes, or `AllocError` if its bytes are not in memory.
+    pub fn has_bytes(&self, bytes: &[u8]) -> Result<bool, AllocError>
+        ensures { IfOk result (λ same. same ≡ bytes_eq self.now.bytes bytes.now) }
+    {
+        are_bytes(self.parts, bytes)
+    }
+
     /// Returns the bytes, if they are in one fragment, and in memory.
     pub(crate) fn in_one_piece(&self) -> Option<&[u8]>
         ensures { IfSome result (λ bytes. bytes.now ≡ self.now.bytes) }
@@ -77,6 +85,13 @@ impl<'h> FileRecord<'h> {
         ensures { OnOk result (bytes.new.items ≡ bytes.old.items ++ drop skip self.now.bytes) }
     {
         push_bytes(bytes, skip, self.parts)
+    }
+
+    /// Appends the bytes, without the first `skip`, to the parts of a file. They are shared.
+    pub(crate) fn share_to(&self, file: &mut Vec<Part>, skip: usize) -> Result<(), AllocError>
+        ensures { OnOk result (joined file.new.items ≡ joined file.old.items ++ drop skip self.now.bytes) }
+    {
+        share_bytes(file, skip, self.parts)
     }
 }
 
@@ -95,9 +110,7 @@ struct Open {
 /// `SizeDiffers` if it states another number of bytes than are still to come.
 #[tactic(auto, unfolding(br_model::specs::Record::with_fragment))]
 fn with_hit(opened: Option<Open>, hit: &Hit) -> Result<Open, FileFault>
-    ensures { (bytes : List ℕ) → IfNone opened (bytes ≡ [])
-        → AnswersAlways (λ o. begun hit.now.key.index (bytes ++ hit.now.fragment.bytes) o) file_fault result
-        (refused_as fault (with_fragment (begun_from hit.now.key.index bytes opened) hit.now.fragment)) }
+    ensures { IsOpenAfter opened hit.now result }
 {
     let left = u64::from(hit.size).saturating_sub(hit.data.len() as u64);
     let stream = hit.stream.unsigned_abs();
@@ -116,13 +129,13 @@ fn with_hit(opened: Option<Open>, hit: &Hit) -> Result<Open, FileFault>
 ///
 /// `Orphan`, `Torn` or `SizeDiffers` at the first fragment that does not fit, `Torn` if the last
 /// record is not whole.
-pub(crate) fn records_of<'h>(
+pub fn records_of<'h>(
     alloc: Global,
     index: FileIndex,
     hits: &'h [Hit],
 ) -> Result<Vec<FileRecord<'h>>, MakingFault>
     requires { All (λ (h : meaning.Hit). h.key.index ≡ index) hits.now }
-    ensures { Answers (λ records. records.items) cause result (refused_as fault (join (fragments_in hits.now))) }
+    ensures { Answers (λ records. records.items) cause result (refused_as fault (join (fragments hits.now))) }
 {
     let mut records = Vec::new(alloc);
     let mut opened = None;

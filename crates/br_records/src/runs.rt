@@ -20,7 +20,7 @@ pub fn settle(hits: &mut Vec<Hit>) -> Result<(), AllocError>
 }
 
 /// Returns the hits of the files before this one, of this one, and of the files after it.
-pub(crate) fn around(hits: &[Hit], key: FileKey) -> (&[Hit], &[Hit], &[Hit])
+pub fn around(hits: &[Hit], key: FileKey) -> (&[Hit], &[Hit], &[Hit])
     requires { AreListed hits.now }
     ensures joined { result.0.now ++ (result.1.now ++ result.2.now) ≡ hits.now }
     ensures before { AllByRecursion (λ (h : model.Hit). key_cmp h.key key ≡ Less) result.0.now }

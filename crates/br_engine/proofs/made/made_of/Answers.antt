@@ -2,7 +2,7 @@ use Rattle.std.proofs.Common.{◌≡◌, Vec, Err, Some, map, sym, ap, subst, �
 use Rattle.std.specs.Global.{Global}
 use Rattle.std.proofs.lemmas.Result.{err_from_is_err_and}
 use Rattle.br_join.specs.Outcome.{restored}
-use Rattle.br_join.specs.Runs.{AreListed}
+use Rattle.br_records.specs.Runs.{AreListed}
 use Rattle.br_pool.proofs.WorkedLaws.{all_kept}
 use Rattle.br_reread.specs.Many.{driven_by}
 use Rattle.br_gather.specs.Gathered.{Gathered}

@@ -2,8 +2,8 @@ use Rattle.std.proofs.Common.{◌≡◌, List, ap, sym, ◌∙◌}
 use Rattle.br_model.specs.Block.{Fragment}
 use Rattle.br_model.specs.Restored.{fragments_for, outcome_of}
 use Rattle.br_join.specs.Outcome.{shown}
-use Rattle.br_join.specs.Runs.{listed}
-use Rattle.br_join.proofs.FilesLaws.{fragments_in_run}
+use Rattle.br_records.specs.Runs.{listed}
+use Rattle.br_records.proofs.FilesLaws.{fragments_in_run}
 use Rattle.br_gather.proofs.AgainLaws.{same_file}
 use Rattle.br_gather.proofs.GivenLaws.{given_run}
 use Rattle.br_gather.proofs.again.item_once_more.Goals as goal

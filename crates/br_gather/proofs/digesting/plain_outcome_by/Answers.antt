@@ -1,7 +1,7 @@
 use Rattle.std.proofs.Common.{List, [], ap, ◌∙◌}
 use Rattle.br_model.specs.Meaning.{Hit}
 use Rattle.br_model.specs.Restored.{outcome_of}
-use Rattle.br_join.specs.Runs.{fragments}
+use Rattle.br_records.specs.Records.{fragments}
 use Rattle.br_gather.proofs.DigestingLaws.{all_of_file, whole_read}
 use Rattle.br_gather.proofs.digesting.plain_outcome_by.Goals as goal
 

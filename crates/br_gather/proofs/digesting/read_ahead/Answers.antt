@@ -3,7 +3,7 @@ use Rattle.std.specs.Prelude.{nat_abs}
 use Rattle.std.proofs.lemmas.List.{take_all, take_more}
 use Rattle.br_model.specs.Meaning.{Hit}
 use Rattle.br_join.specs.Plain.{plain_bytes, plain_of}
-use Rattle.br_join.specs.Runs.{fragments}
+use Rattle.br_records.specs.Records.{fragments}
 use Rattle.br_reread.proofs.GoOnLaws.{given_on, go_itself, go_more}
 use Rattle.br_gather.specs.Digesting.{keys_of}
 use Rattle.br_gather.specs.Given.{GivesHit}

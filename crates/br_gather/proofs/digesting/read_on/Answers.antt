@@ -1,7 +1,7 @@
 use Rattle.std.proofs.Common.{List, ◌++◌, ap, sym, ◌∙◌}
 use Rattle.br_model.specs.Meaning.{Hit}
 use Rattle.br_join.specs.Plain.{plain_bytes}
-use Rattle.br_join.specs.Runs.{fragments}
+use Rattle.br_records.specs.Records.{fragments}
 use Rattle.br_gather.proofs.DigestingLaws.{window_read}
 use Rattle.br_gather.proofs.digesting.read_on.Goals as goal
 

@@ -1,6 +1,6 @@
 use Rattle.std.proofs.Common.{◌≡◌, take}
 use Rattle.br_join.specs.Plain.{plain_bytes}
-use Rattle.br_join.specs.Runs.{fragments}
+use Rattle.br_records.specs.Records.{fragments}
 use Rattle.br_reread.specs.Many.{GoOn}
 use Rattle.br_gather.specs.Given.{GivesHits}
 use Rattle.br_gather.specs.Windows.{data_bytes}

@@ -2,7 +2,7 @@ use Rattle.std.proofs.Common.{ℕ, List, ◌++◌, length, sym, ap, subst, ◌�
 use Rattle.std.specs.Io.KnownBytes.{Appends}
 use Rattle.std.proofs.KnownBytes.{Appends-nil, Appends-trans}
 use Rattle.br_join.specs.Plain.{plain_bytes}
-use Rattle.br_join.specs.Runs.{fragments}
+use Rattle.br_records.specs.Records.{fragments}
 use Rattle.br_reread.proofs.GoOnLaws.{go_more}
 use Rattle.br_gather.specs.Windows.{data_bytes}
 use Rattle.br_gather.proofs.GivenLaws.{hits_kept}

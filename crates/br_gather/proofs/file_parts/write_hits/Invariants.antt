@@ -1,7 +1,7 @@
 use Rattle.std.proofs.Common.{◌≡◌, ◌+◌, ◌++◌, length}
 use Rattle.std.specs.Io.KnownBytes.{Appends}
 use Rattle.br_join.specs.Plain.{plain_bytes}
-use Rattle.br_join.specs.Runs.{fragments}
+use Rattle.br_records.specs.Records.{fragments}
 use Rattle.br_reread.specs.Many.{GoOn}
 use Rattle.br_gather.specs.Given.{GivesHits}
 use Rattle.br_gather.specs.Windows.{data_bytes}

@@ -3,8 +3,9 @@ use Rattle.std.specs.List.{AllByRecursion}
 use Rattle.std.specs.Option.{option_copied}
 use Rattle.br_model.specs.Meaning.{Hit}
 use Rattle.br_model.specs.Restored.{Restored, files_found}
-use Rattle.br_join.specs.Runs.{listed}
-use Rattle.br_join.proofs.FilesLaws.{found_turn, none_found, none_left, listed_behind, more_files}
+use Rattle.br_records.specs.Runs.{listed}
+use Rattle.br_join.proofs.FilesLaws.{found_turn, none_found}
+use Rattle.br_records.proofs.FilesLaws.{none_left, listed_behind, more_files}
 use Rattle.br_gather.specs.Runs.{IsPart, Run, file_of}
 use Rattle.br_gather.proofs.GivenLaws.{behind_more, part_behind}
 use Rattle.br_gather.proofs.TurnLaws.{all_more, map_more}

@@ -1,7 +1,7 @@
 use Rattle.std.proofs.Common.{◌≡◌, ◌++◌, length, map}
 use Rattle.std.specs.List.{AllByRecursion}
 use Rattle.br_model.specs.Restored.{files_found}
-use Rattle.br_join.specs.Runs.{AreListed, listed}
+use Rattle.br_records.specs.Runs.{AreListed, listed}
 use Rattle.br_gather.specs.Runs.{IsPart, file_of}
 use Rattle.br_gather.proofs.GivenLaws.{AreBehind}
 use Rattle.br_gather.proofs.runs.found_runs.Given as goal

@@ -1,7 +1,7 @@
 use Rattle.std.proofs.Common.{◌≡◌, ◌++◌, map}
 use Rattle.std.specs.FinMap.{entries}
 use Rattle.std.specs.List.{AllByRecursion}
-use Rattle.br_join.specs.Runs.{listed}
+use Rattle.br_records.specs.Runs.{listed}
 use Rattle.br_join.proofs.FilesLaws.{planned_of}
 use Rattle.br_gather.specs.Runs.{IsPart, file_of}
 use Rattle.br_gather.proofs.runs.planned_runs.Given as goal

@@ -1,6 +1,6 @@
 use Rattle.std.proofs.Common.{sym, ◌∙◌, refl}
 use Rattle.br_model.specs.File.{digest_fits, is_stream}
-use Rattle.br_join.proofs.ChoiceLaws.{none_in, one_in, more_in}
+use Rattle.br_records.proofs.ChoiceLaws.{none_in, one_in, more_in}
 use Rattle.br_join.proofs.making.digest_fits.Goals as goal
 
 pub returns-in-None : goal.returns-in-None

@@ -3,9 +3,9 @@ use Rattle.std.proofs.lemmas.Result.{err_from_is_err_and}
 use Rattle.br_model.specs.Answer.{Answers}
 use Rattle.br_model.specs.File as model
 use Rattle.br_model.specs.Name.{FileKey}
-use Rattle.br_join.specs.Making.{cause}
+use Rattle.br_records.specs.Making.{cause}
 use Rattle.br_join.specs.Plain.{plain_data}
-use Rattle.br_join.specs.Runs.{fragments}
+use Rattle.br_records.specs.Records.{fragments}
 use Rattle.br_join.proofs.PlainLaws.{made_by_records, plain_read, refused_by_records}
 use Rattle.br_join.proofs.making.file_with.Goals as goal
 

@@ -1,7 +1,7 @@
 use Rattle.std.proofs.Common.{sym, subst, ◌∙◌}
 use Rattle.br_model.specs.Answer.{Answers}
 use Rattle.br_model.specs.File as model
-use Rattle.br_join.specs.Making.{cause}
+use Rattle.br_records.specs.Making.{cause}
 use Rattle.br_join.proofs.PlainLaws.{made_of_read}
 use Rattle.br_join.proofs.making.plain_content.Goals as goal
 

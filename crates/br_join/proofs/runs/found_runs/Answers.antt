@@ -2,8 +2,9 @@ use Rattle.std.proofs.Common.{◌≡◌, ◌++◌, ◌∷◌, [], List, sym, ap,
 use Rattle.std.specs.Option.{option_copied}
 use Rattle.br_model.specs.Meaning.{Hit}
 use Rattle.br_model.specs.Restored.{Restored, files_found}
-use Rattle.br_join.specs.Runs.{listed}
-use Rattle.br_join.proofs.FilesLaws.{found_turn, none_found, none_left, listed_behind, more_files}
+use Rattle.br_records.specs.Runs.{listed}
+use Rattle.br_join.proofs.FilesLaws.{found_turn, none_found}
+use Rattle.br_records.proofs.FilesLaws.{none_left, listed_behind, more_files}
 use Rattle.br_join.proofs.runs.found_runs.Goals as goal
 
 pub loop-first-init : goal.loop-first-init

@@ -1,6 +1,6 @@
 use Rattle.std.proofs.Common.{◌≡◌, ◌++◌, length}
 use Rattle.br_model.specs.Restored.{files_found}
-use Rattle.br_join.specs.Runs.{AreListed, listed}
+use Rattle.br_records.specs.Runs.{AreListed, listed}
 use Rattle.br_join.proofs.runs.found_runs.Given as goal
 
 -- the runs so far, and the files of the hits that are left

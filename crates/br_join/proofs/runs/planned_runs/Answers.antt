@@ -5,8 +5,9 @@ use Rattle.std.proofs.lemmas.Map.Iter.{rest_more}
 use Rattle.br_model.specs.Name.{FileKey}
 use Rattle.br_model.specs.Block.{Fragment}
 use Rattle.br_model.specs.Restored.{Restored, fragments_for, outcome_of, under_name}
-use Rattle.br_join.specs.Runs.{listed}
-use Rattle.br_join.proofs.FilesLaws.{fragments_in_run, planned_of, planned_files_are, more_files}
+use Rattle.br_records.specs.Runs.{listed}
+use Rattle.br_records.proofs.FilesLaws.{fragments_in_run, more_files}
+use Rattle.br_join.proofs.FilesLaws.{planned_of, planned_files_are}
 use Rattle.br_join.proofs.runs.planned_runs.Goals as goal
 
 pub loop-key-init : goal.loop-key-init

@@ -1,6 +1,6 @@
 use Rattle.std.proofs.Common.{◌≡◌, ◌++◌, map}
 use Rattle.std.specs.FinMap.{entries}
-use Rattle.br_join.specs.Runs.{listed}
+use Rattle.br_records.specs.Runs.{listed}
 use Rattle.br_join.proofs.FilesLaws.{planned_of}
 use Rattle.br_join.proofs.runs.planned_runs.Given as goal
 

@@ -4,8 +4,9 @@ use Rattle.br_model.specs.Block.{Fragment}
 use Rattle.br_model.specs.File.{Item, has_bytes}
 use Rattle.br_model.specs.Meaning.{Hit}
 use Rattle.br_model.specs.Restored.{fragments_for, outcome_of}
-use Rattle.br_join.specs.Runs.{fragments, listed}
-use Rattle.br_join.proofs.FilesLaws.{fragments_in_run}
+use Rattle.br_records.specs.Records.{fragments}
+use Rattle.br_records.specs.Runs.{listed}
+use Rattle.br_records.proofs.FilesLaws.{fragments_in_run}
 use Rattle.br_join.proofs.PlainLaws.{plain_file}
 use Rattle.br_gather.specs.FileParts.{GivesFile, GivesItem, PutsAlike}
 use Rattle.br_gather.specs.Gathered.{Gathered}

@@ -2,8 +2,8 @@ use Rattle.std.proofs.Common.{option_map, sym, ap, ◌∙◌}
 use Rattle.std.specs.FinMap.{entries}
 use Rattle.br_model.specs.Restored.{HitList, files, files_listed, planned_in}
 use Rattle.br_join.specs.Joining.{Joining}
-use Rattle.br_join.specs.Runs.{listed}
-use Rattle.br_join.proofs.SortLaws.{listed_is}
+use Rattle.br_records.specs.Runs.{listed}
+use Rattle.br_records.proofs.SortLaws.{listed_is}
 use Rattle.br_join.proofs.joiner.Joiner.finish.Goals as goal
 
 pub returns-in-Ok-clause-files : goal.returns-in-Ok-clause-files

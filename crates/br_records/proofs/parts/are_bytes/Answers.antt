@@ -1,7 +1,7 @@
 use Rattle.std.proofs.Common.{◌+◌, List, ℕ, length, take, bytes_eq, not, sym, ap, ◌∙◌, drop}
-use Rattle.br_join.specs.Records.{bytes_in}
-use Rattle.br_join.proofs.PartLaws.{bytes_more, eq_more, eq_other, eq_short}
-use Rattle.br_join.proofs.parts.are_bytes.Goals as goal
+use Rattle.br_records.specs.Records.{bytes_in}
+use Rattle.br_records.proofs.PartLaws.{bytes_more, eq_more, eq_other, eq_short}
+use Rattle.br_records.proofs.parts.are_bytes.Goals as goal
 
 pub returns-then-rest-held : goal.returns-then-rest-held
 returns-then-rest-held c =

@@ -1,8 +1,8 @@
 use Rattle.std.proofs.Common.{◌+◌, List, ℕ, drop, min, refl, sym, ap, ◌∙◌, ◌++◌}
 use Rattle.br_body.specs.Parts.{joined}
-use Rattle.br_join.specs.Records.{bytes_in}
-use Rattle.br_join.proofs.PartLaws.{bytes_more, pushed_more}
-use Rattle.br_join.proofs.parts.share_bytes.Goals as goal
+use Rattle.br_records.specs.Records.{bytes_in}
+use Rattle.br_records.proofs.PartLaws.{bytes_more, pushed_more}
+use Rattle.br_records.proofs.parts.share_bytes.Goals as goal
 
 pub loop-part-preserved : goal.loop-part-preserved
 loop-part-preserved c =

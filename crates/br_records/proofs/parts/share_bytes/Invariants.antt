@@ -1,7 +1,7 @@
 use Rattle.std.proofs.Common.{◌≡◌, ◌++◌, drop}
 use Rattle.br_body.specs.Parts.{joined}
-use Rattle.br_join.specs.Records.{bytes_in}
-use Rattle.br_join.proofs.parts.share_bytes.Given as goal
+use Rattle.br_records.specs.Records.{bytes_in}
+use Rattle.br_records.proofs.parts.share_bytes.Given as goal
 
 abbrev pub invariant-loop-part : goal.invariant-loop-part
 invariant-loop-part l = joined l.file.items ++ drop l.left (bytes_in (drop l.part-index l.parts)) ≡ joined l.fn.file.items ++ drop l.fn.skip (bytes_in l.parts)
