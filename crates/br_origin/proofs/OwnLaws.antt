@@ -1,40 +1,42 @@
 -- The hits of one file among hits in order, files among files in order, and where files come from.
-use Rattle.std.proofs.Common.{◌≡◌, ℕ, ◌<◌, ◌≤◌, Bool, true, false, not, ◌&&◌, ltb, List, length, take, drop, get_or, filter, refl, sym, ap, ◌∙◌, arith}
+use Rattle.std.proofs.Common.{◌≡◌, ℕ, ◌<◌, Bool, true, false, cond, ltb, List, [], ◌∷◌, ◌++◌, length, get_or, refl, sym, ap, ◌∙◌, arith}
 use Rattle.std.proofs.lemmas.Bool.{ltb-true, ltb-false}
+use Rattle.std.proofs.lemmas.List.{append-nil}
+use Rattle.std.proofs.lemmas.List.Elements.{filter-append}
 use Rattle.std.proofs.lemmas.List.Folds.{list_any_none}
+use Rattle.std.specs.List.{AllByRecursion}
 use Rattle.std.specs.List.Sorted.{IsPartitionPoint}
-use Rattle.std.specs.Ordering.{is_eq, is_lt, is_le}
-use Rattle.std.specs.declared.cmp.Ordering.{Ordering}
-use Rattle.std.specs.declared.cmp.Ordering.TheVariants.{Less, Equal, Greater}
-use Rattle.br_missing.proofs.NearLaws.{parts_at}
+use Rattle.std.specs.Ordering.{is_eq}
+use Rattle.std.specs.declared.cmp.Ordering.TheVariants.{Less, Greater}
 use Rattle.br_model.specs.Meaning.{Hit}
 use Rattle.br_model.specs.Name.{FileKey, key_cmp, same_key}
-use Rattle.br_model.proofs.ListLaws.{filter_twice}
-use Rattle.br_origin.specs.Own.{hits_of, is_among}
-use Rattle.br_records.proofs.RunLaws.{is_before_file, is_up_to_file}
+use Rattle.br_model.proofs.ListLaws.{all_weaker}
+use Rattle.br_origin.specs.Own.{hits_of, is_among, is_of}
+use Rattle.br_records.proofs.FilesLaws.{IsApart, before_is_apart, behind_is_apart, itself}
 use Rattle.br_records.proofs.SortLaws.{same_key_is_tie}
 
 -- ---- the hits of a file
 
-neither : (r : Ordering) → (not (is_lt r) && is_le r) ≡ is_eq r
-neither Less = refl
-neither Equal = refl
-neither Greater = refl
+no_others : (key : FileKey) (hs : List Hit) → AllByRecursion (IsApart key) hs → hits_of key hs ≡ []
+no_others key [] a = refl
+no_others key (h ∷ hs) a = ap (λ (b : Bool). cond b (h ∷ hits_of key hs) (hits_of key hs)) a.0 ∙ no_others key hs a.1
 
--- a hit of a file is one that is not before the file and not after it
-own_test : (key : FileKey) (h : Hit) → (not (is_before_file key h) && is_up_to_file key h) ≡ same_key h.key key
-own_test key h = neither (key_cmp h.key key) ∙ sym (same_key_is_tie h.key key)
+all_own : (key : FileKey) (hs : List Hit) → AllByRecursion (λ (h : Hit). h.key ≡ key) hs → hits_of key hs ≡ hs
+all_own key [] a = refl
+all_own key (h ∷ hs) a =
+    ap (λ (b : Bool). cond b (h ∷ hits_of key hs) (hits_of key hs)) (itself h.key key a.0) ∙ ap (λ (gs : List Hit). h ∷ gs) (all_own key hs a.1)
 
--- what is left of hits in order if those before the file and those after it are taken away
-pub own_are : (key : FileKey) (hits rest own : List Hit) (i j : ℕ) → rest ≡ drop i hits → own ≡ take j rest
-    → IsPartitionPoint (λ h. is_before_file key h ≡ true) (λ h. is_before_file key h ≡ false) hits i → i ≤ length hits
-    → IsPartitionPoint (λ h. is_up_to_file key h ≡ true) (λ h. is_up_to_file key h ≡ false) rest j → j ≤ length rest → own ≡ hits_of key hits
-own_are key hits rest own i j back front low few high fewer =
-    let after = (parts_at (is_before_file key) hits i (λ k d lt. low.0 k d (omega arith) lt) (λ k d ge lt. low.1 k d ge lt) few).1 in
-    let up_to = (parts_at (is_up_to_file key) rest j (λ k d lt. high.0 k d (omega arith) lt) (λ k d ge lt. high.1 k d ge lt) fewer).0 in
-    front ∙ up_to ∙ ap (filter (is_up_to_file key)) (back ∙ after)
-    ∙ filter_twice (λ h. not (is_before_file key h)) (is_up_to_file key) hits
-    ∙ (λ t. filter (λ h. own_test key h t) hits)
+-- the hits of a file are those between the hits of the files before it and those of the files after it
+pub own_are : (key : FileKey) (all before own behind : List Hit) → before ++ (own ++ behind) ≡ all
+    → AllByRecursion (λ (h : Hit). key_cmp h.key key ≡ Less) before → AllByRecursion (λ (h : Hit). h.key ≡ key) own → AllByRecursion (λ (h : Hit). key_cmp key h.key ≡ Less) behind
+    → own ≡ hits_of key all
+own_are key all before own behind joined low same high =
+    sym
+    (ap (hits_of key) (sym joined) ∙ filter-append (is_of key) before (own ++ behind)
+    ∙ ap (λ (hs : List Hit). hs ++ hits_of key (own ++ behind)) (no_others key before (all_weaker (λ (h : Hit). key_cmp h.key key ≡ Less) (IsApart key) (before_is_apart key) before low))
+    ∙ filter-append (is_of key) own behind
+    ∙ (λ i. all_own key own same i ++ no_others key behind (all_weaker (λ (h : Hit). key_cmp key h.key ≡ Less) (IsApart key) (behind_is_apart key) behind high) i)
+    ∙ append-nil own)
 
 -- ---- a file among files
 

@@ -4,6 +4,7 @@ ghost use Rattle.br_origin.specs.Own.{hits_of};
 ghost use Rattle.br_records.specs.Runs.{AreListed};
 
 use br_match::Hit;
+use br_records::around;
 use br_types::FileKey;
 
 /// Returns the hits of the file, in time log n.
@@ -11,7 +12,6 @@ pub(crate) fn own_hits(hits: &[Hit], key: FileKey) -> &[Hit]
     requires { AreListed hits.now }
     ensures { result.now ≡ hits_of key hits.now }
 {
-    let (_, rest) = hits.split_at(hits.partition_point(|hit| hit.key < key));
-    let (own, _) = rest.split_at(rest.partition_point(|hit| hit.key <= key));
+    let (_, own, _) = around(hits, key);
     own
 }
