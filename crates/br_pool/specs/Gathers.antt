@@ -12,6 +12,7 @@ use Rattle.br_pool.specs.Pool.{StandsTold}
 use Rattle.br_pool.specs.Sending.{AreIn, IsSent}
 use Rattle.br_pool.specs.Workers.{Answer, HasWorkedBy}
 use Rattle.br_pool.specs.declared.line.Crew.{Crew}
+use Rattle.br_pool.specs.declared.sender.SendRound.{SendRound}
 use Rattle.br_pool.specs.declared.sender.Sender.{Sender}
 use Rattle.br_pool.specs.declared.worker.Worker.{Worker}
 
@@ -55,3 +56,8 @@ abbrev pub HaveSent : {D : Type 0} → (D → Option (List Volume)) → (D → �
 HaveSent shows failures claims pieces left before after old new fine =
     (sent : List Hit) × AllZip (HasRunFor shows failures claims pieces left sent) before after
     × Gathers (λ volumes. AllZip (StandsTold pieces volumes) (shown_to shows before) (shown_to shows after)) pieces old new (λ taken. fine ≡ true → AreIn sent taken)
+
+-- the same of a round
+abbrev pub HaveSentIn : {D G : Type 0} → (D → Option (List Volume)) → (D → ℕ) → SendRound G → List (Worker D) → List (Worker D) → Joining → Joining → Bool → Type 0
+HaveSentIn shows failures sending before after old new fine =
+    HaveSent shows failures sending.round.now.claims.now.claims sending.round.now.pieces.now sending.round.now.left.now before after old new fine

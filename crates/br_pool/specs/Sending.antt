@@ -1,5 +1,6 @@
 -- What workers send of pieces.
-use Rattle.std.specs.Prelude.{◌≡◌, ℕ, Bool, false, List, [], ◌∷◌, Contains, Option, Ok, Err}
+use Rattle.std.specs.Prelude.{◌≡◌, ℕ, ◌<◌, Bool, false, List, [], ◌∷◌, length, Contains, Option, Ok, Err}
+use Rattle.std.specs.List.{AllByRecursion}
 use Rattle.atomic_table.specs.Seated.{TableId}
 use Rattle.crossbeam_queue.specs.Passes.{Pass, view}
 use Rattle.br_model.specs.Answer.{IsRefusal}
@@ -11,11 +12,13 @@ use Rattle.br_match.specs.Come.{AllComeTo}
 use Rattle.br_pool.specs.Crew.{hired}
 use Rattle.br_pool.specs.Gathering.{Pushes, hits_of_batches}
 use Rattle.br_pool.specs.Pool.{StandsTold}
-use Rattle.br_pool.specs.Workers.{Answer, HasWorkedBy, IsSetUp, is_failure}
+use Rattle.br_pool.specs.Workers.{Answer, EachAt, HasWorkedBy, IsSetUp, is_failure}
 use Rattle.br_claim.specs.Claims.{Seated}
 use Rattle.br_match.specs.declared.hit.Batch.{Batch}
 use Rattle.br_pool.specs.declared.line.Crew.{Crew}
+use Rattle.br_pool.specs.declared.sender.SendRound.{SendRound}
 use Rattle.br_pool.specs.declared.sender.Sender.{Sender}
+use Rattle.br_pool.specs.declared.worker.Reader.{Reader}
 
 -- each hit of the one list is in the other
 abbrev pub AreIn : List Hit → List Hit → Type 0
@@ -60,3 +63,29 @@ HasRunSending shows failures table claims pieces left before after =
     IsPassAt table after.pass
     × HasSent claims pieces left (shows before.worker.reader.drive) (shows after.worker.reader.drive) (failures before.worker.reader.drive) (failures after.worker.reader.drive)
     before.worker.reader.out after.worker.reader.out after.worker.seat after.worker.answers.items (view after.pass)
+
+-- ---- a round
+
+-- what a reader sent in this round, by this seat and this pass
+abbrev pub HasSentIn : {D G : Type 0} → (D → Option (List Volume)) → (D → ℕ) → SendRound G → Reader D → Reader D → Seated → List (ℕ × Answer) → Crew → Type 0
+HasSentIn shows failures sending before after =
+    HasSent sending.round.now.claims.now.claims sending.round.now.pieces.now sending.round.now.left.now (shows before.drive) (shows after.drive)
+    (failures before.drive) (failures after.drive) before.out after.out
+
+-- a sender before its run in this round
+abbrev pub IsSetUpIn : {D G : Type 0} → SendRound G → Sender D → Type 0
+IsSetUpIn sending sender =
+    IsSetUpToSend sending.line.now.table.shared.table_id sending.round.now.claims.now.claims sending.round.now.claims.now.limit sender
+
+-- a sender before its run in this round and after it
+abbrev pub HasRunIn : {D G : Type 0} → (D → Option (List Volume)) → (D → ℕ) → SendRound G → Sender D → Sender D → Type 0
+HasRunIn shows failures sending before after =
+    HasRunSending shows failures sending.line.now.table.shared.table_id sending.round.now.claims.now.claims sending.round.now.pieces.now sending.round.now.left.now before after
+
+-- senders before their run in this round, in which each number that is left can be drawn, and is that
+-- of a piece
+abbrev pub AreSetUpIn : {D G : Type 0} → SendRound G → List (Sender D) → Type 0
+AreSetUpIn sending senders =
+    (sending.round.now.claims.now.limit ≡ length sending.round.now.left.now)
+    × AllByRecursion (λ x. x < length sending.round.now.pieces.now) sending.round.now.left.now
+    × EachAt (IsSetUpIn sending) senders

@@ -17,6 +17,7 @@ use Rattle.br_pool.specs.Slots.{AddsBy, FillsBy, with_each}
 use Rattle.br_pool.specs.Workers.{Answer, HaveWorkedBy, outs}
 use Rattle.br_pool.specs.declared.fault.PoolFault.{PoolFault}
 use Rattle.br_pool.specs.declared.worker.Reader.{Reader}
+use Rattle.br_pool.specs.declared.worker.Round.{Round}
 
 -- Readers sent pieces that are left: the joiner took hits, and if nothing was lost the slots are filled
 -- with what the workers of these seats answered, of pieces whose hits were taken.
@@ -25,6 +26,12 @@ abbrev pub ReadsTo : {D E : Type 0} → (D → Option (List Volume)) → Claimed
 ReadsTo shows claims pieces left before after slots filled old new result =
     Gathers (OverAll shows pieces before after) pieces old new (λ taken. IfOk result (λ seats. (answers : List (ℕ × Answer)) × (filled ≡ with_each slots answers)
     × HaveWorkedBy (IsSent (OverAll shows pieces before after) taken) claims.claims pieces left (outs before) (outs after) seats.items answers))
+
+-- the same of a round
+abbrev pub ReadsRoundTo : {D G E : Type 0} → (D → Option (List Volume)) → Round G → List (Reader D) → List (Reader D) → List (Option Answer) → List (Option Answer)
+    → Joining → Joining → Result (Vec Seated Global) E → Type 0
+ReadsRoundTo shows round before after slots filled old new result =
+    ReadsTo shows round.claims.now round.pieces.now round.left.now before after slots filled old new result
 
 -- the joiner took hits, and answers of pieces whose hits were taken were put into their slots
 abbrev pub AddsTo : {D E : Type 0} → (D → Option (List Volume)) → List Piece → List (Reader D) → List (Reader D) → List (Option Answer) → List (Option Answer)

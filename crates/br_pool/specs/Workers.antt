@@ -14,6 +14,7 @@ use Rattle.br_match.specs.declared.hit.Found.{Found}
 use Rattle.br_match.specs.declared.fault.PieceFault.{PieceFault}
 use Rattle.br_pool.specs.Pool.{StandsTold}
 use Rattle.br_pool.specs.declared.worker.Reader.{Reader}
+use Rattle.br_pool.specs.declared.worker.Round.{Round}
 use Rattle.br_pool.specs.declared.worker.Worker.{Worker}
 
 -- ---- answers
@@ -115,6 +116,12 @@ pub record HasWorkedBy (is : Piece → Answer → Type 0) (claims : TableId) (pi
 -- A worker served, and each of its answers is over what its drive showed meanwhile.
 abbrev pub HasWorked : TableId → List Piece → List ℕ → Option (List Volume) → Option (List Volume) → ℕ → ℕ → Bool → Bool → Seated → List (ℕ × Answer) → Type 0
 HasWorked claims pieces left before after = HasWorkedBy (IsAnswer (λ volumes. StandsTold pieces volumes before after)) claims pieces left before after
+
+-- A reader served as a worker of this round, by this seat, and gave these answers.
+abbrev pub HasWorkedIn : {D G : Type 0} → (D → Option (List Volume)) → (D → ℕ) → Round G → Reader D → Reader D → Seated → List (ℕ × Answer) → Type 0
+HasWorkedIn shows failures round before after =
+    HasWorked round.claims.now.claims round.pieces.now round.left.now (shows before.drive) (shows after.drive)
+    (failures before.drive) (failures after.drive) before.out after.out
 
 -- a worker before its run
 abbrev pub IsSetUp : {D : Type 0} → TableId → ℕ → Worker D → Type 0

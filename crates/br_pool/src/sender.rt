@@ -6,7 +6,7 @@ ghost use Rattle.br_match.specs.Fault.{FailsWithDrive};
 ghost use Rattle.br_volume.specs.Drive.{OnlyGrows};
 ghost use Rattle.br_pool.specs.Gathering.{Pushes};
 ghost use Rattle.br_pool.specs.Crew.{hired};
-ghost use Rattle.br_pool.specs.Sending.{HasRunSending, HasSent, IsSetUpToSend, SendsOver};
+ghost use Rattle.br_pool.specs.Sending.{HasRunIn, HasSentIn, IsSetUpIn, SendsOver};
 ghost use Rattle.br_pool.specs.Workers.{EachAt, EachPairAt, IsReady, is_failure, number_at};
 
 use crate::course::Course;
@@ -162,9 +162,7 @@ fn send_drawn<D: Drive, G: Gate, R: Wait>(
     requires pass { IsPassOf sending.now.line.now pass.old }
     requires hired { view pass.old ≡ hired }
     ensures pass { IsPassOf sending.now.line.now pass.new }
-    ensures sent { HasSent sending.now.round.now.claims.now.claims sending.now.round.now.pieces.now sending.now.round.now.left.now
-        (D.shows reader.old.drive) (D.shows reader.new.drive) (D.failures reader.old.drive) (D.failures reader.new.drive)
-        reader.old.out reader.new.out seat.new answers.new.items (view pass.new) }
+    ensures sent { HasSentIn D.shows D.failures sending.now reader.old reader.new seat.new answers.new.items (view pass.new) }
 {
     let round = sending.round;
     while let Some(place) = round.claims.draw(seat) {
@@ -182,10 +180,8 @@ fn send_drawn<D: Drive, G: Gate, R: Wait>(
 fn work<D: Drive, G: Gate, R: Wait>(rt: &R, sending: &SendRound<'_, G>, sender: &mut Sender<D>)
     requires few { sending.now.round.now.claims.now.limit ≡ length sending.now.round.now.left.now }
     requires below { AllByRecursion (λ x. x < length sending.now.round.now.pieces.now) sending.now.round.now.left.now }
-    requires ready { IsSetUpToSend sending.now.line.now.table.shared.table_id
-        sending.now.round.now.claims.now.claims sending.now.round.now.claims.now.limit sender.old }
-    ensures { HasRunSending D.shows D.failures sending.now.line.now.table.shared.table_id
-        sending.now.round.now.claims.now.claims sending.now.round.now.pieces.now sending.now.round.now.left.now sender.old sender.new }
+    requires ready { IsSetUpIn sending.now sender.old }
+    ensures { HasRunIn D.shows D.failures sending.now sender.old sender.new }
 {
     let Sender { worker, pass } = sender;
     let Worker {
@@ -207,10 +203,8 @@ pub(crate) fn run_senders<D: Drive + Send, G: Gate + Sync, R: Threads + Wait + S
 )
     requires few { sending.now.round.now.claims.now.limit ≡ length sending.now.round.now.left.now }
     requires below { AllByRecursion (λ x. x < length sending.now.round.now.pieces.now) sending.now.round.now.left.now }
-    requires ready { EachAt (IsSetUpToSend sending.now.line.now.table.shared.table_id
-        sending.now.round.now.claims.now.claims sending.now.round.now.claims.now.limit) senders.old }
-    ensures { EachPairAt (HasRunSending D.shows D.failures sending.now.line.now.table.shared.table_id
-        sending.now.round.now.claims.now.claims sending.now.round.now.pieces.now sending.now.round.now.left.now) senders.old senders.new }
+    requires ready { EachAt (IsSetUpIn sending.now) senders.old }
+    ensures { EachPairAt (HasRunIn D.shows D.failures sending.now) senders.old senders.new }
 {
     let count = senders.len();
     if count == 0 {

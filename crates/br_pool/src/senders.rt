@@ -6,8 +6,8 @@ ghost use Rattle.std.specs.Thread.{IsSend, IsSync};
 ghost use Rattle.crossbeam_queue.specs.Passes.{view, IsPassOf};
 ghost use Rattle.br_pool.specs.Crew.{HasAll, crew, hired};
 ghost use Rattle.br_pool.specs.Gathering.{IsStill, Takes};
-ghost use Rattle.br_pool.specs.Gathers.{HasHired, HasTakenIn, HaveSent, sent_of};
-ghost use Rattle.br_pool.specs.Sending.{HasRunSending, IsPassAt, IsSetUpToSend};
+ghost use Rattle.br_pool.specs.Gathers.{HasHired, HasTakenIn, HaveSentIn, sent_of};
+ghost use Rattle.br_pool.specs.Sending.{AreSetUpIn, HasRunIn, IsPassAt, IsSetUpIn};
 ghost use Rattle.br_pool.specs.Workers.{EachAt, EachPairAt, IsSetUp};
 
 use crate::gate::Gate;
@@ -101,12 +101,10 @@ fn run_both<D: Drive + Send, G: Gate + Sync, R: Threads + Wait + Sync>(
 ) -> bool
     requires few { sending.now.round.now.claims.now.limit ≡ length sending.now.round.now.left.now }
     requires below { AllByRecursion (λ x. x < length sending.now.round.now.pieces.now) sending.now.round.now.left.now }
-    requires ready { EachAt (IsSetUpToSend sending.now.line.now.table.shared.table_id
-        sending.now.round.now.claims.now.claims sending.now.round.now.claims.now.limit) senders.old }
+    requires ready { EachAt (IsSetUpIn sending.now) senders.old }
     requires pass { IsPassOf sending.now.line.now pass.old }
     requires gathers { (view pass.old).gathers ≡ true }
-    ensures ran { EachPairAt (HasRunSending D.shows D.failures sending.now.line.now.table.shared.table_id
-        sending.now.round.now.claims.now.claims sending.now.round.now.pieces.now sending.now.round.now.left.now) senders.old senders.new }
+    ensures ran { EachPairAt (HasRunIn D.shows D.failures sending.now) senders.old senders.new }
     ensures pass { IsPassOf sending.now.line.now pass.new }
     ensures still { IsStill (view pass.old) (view pass.new) }
     ensures took { Takes (IsTrue result) (view pass.old) (view pass.new) joiner.old joiner.new }
@@ -117,14 +115,8 @@ fn run_both<D: Drive + Send, G: Gate + Sync, R: Threads + Wait + Sync>(
         rt,
         &mut || gather_sent(rt, line, pass, joiner, course),
         &mut ||
-            requires { IsSync R.row × IsSend D.row × IsSync G.row
-                × (sending.now.round.now.claims.now.limit ≡ length sending.now.round.now.left.now)
-                × AllByRecursion (λ x. x < length sending.now.round.now.pieces.now) sending.now.round.now.left.now
-                × EachAt (IsSetUpToSend sending.now.line.now.table.shared.table_id
-                sending.now.round.now.claims.now.claims sending.now.round.now.claims.now.limit) senders.now }
-            ensures { EachPairAt (HasRunSending D.shows D.failures sending.entry.now.line.now.table.shared.table_id
-                sending.entry.now.round.now.claims.now.claims sending.entry.now.round.now.pieces.now sending.entry.now.round.now.left.now)
-                senders.entry.now senders.exit.now }
+            requires { IsSync R.row × IsSend D.row × IsSync G.row × AreSetUpIn sending.now senders.now }
+            ensures { EachPairAt (HasRunIn D.shows D.failures sending.entry.now) senders.entry.now senders.exit.now }
         {
             course.await_gatherer(rt);
             run_senders(rt, sending, senders);
@@ -144,13 +136,10 @@ fn run_all<D: Drive + Send, G: Gate + Sync, R: Threads + Wait + Sync>(
 ) -> (Vec<Sender<D>>, bool)
     requires few { sending.now.round.now.claims.now.limit ≡ length sending.now.round.now.left.now }
     requires below { AllByRecursion (λ x. x < length sending.now.round.now.pieces.now) sending.now.round.now.left.now }
-    requires ready { AllByRecursion (IsSetUpToSend sending.now.line.now.table.shared.table_id
-        sending.now.round.now.claims.now.claims sending.now.round.now.claims.now.limit) senders.items }
+    requires ready { AllByRecursion (IsSetUpIn sending.now) senders.items }
     requires pass { IsPassOf sending.now.line.now pass.old }
     requires gathers { (view pass.old).gathers ≡ true }
-    ensures ran { AllZip (HasRunSending D.shows D.failures sending.now.line.now.table.shared.table_id
-        sending.now.round.now.claims.now.claims sending.now.round.now.pieces.now sending.now.round.now.left.now)
-        senders.items result.0.items }
+    ensures ran { AllZip (HasRunIn D.shows D.failures sending.now) senders.items result.0.items }
     ensures pass { IsPassOf sending.now.line.now pass.new }
     ensures still { IsStill (view pass.old) (view pass.new) }
     ensures took { Takes (IsTrue result.1) (view pass.old) (view pass.new) joiner.old joiner.new }
@@ -177,8 +166,7 @@ pub(crate) fn send_all<D: Drive + Send, G: Gate + Sync, R: Threads + Wait + Sync
     requires many { length workers.items ≤ 16 }
     requires none { senders.items ≡ [] }
     requires room { length workers.items ≤ vec_capacity senders }
-    ensures { HaveSent D.shows D.failures sending.now.round.now.claims.now.claims sending.now.round.now.pieces.now
-        sending.now.round.now.left.now workers.items result.0.items joiner.old joiner.new result.1 }
+    ensures { HaveSentIn D.shows D.failures sending.now workers.items result.0.items joiner.old joiner.new result.1 }
 {
     let line = sending.line;
     hire(line, &mut pass, &mut workers, &mut senders);

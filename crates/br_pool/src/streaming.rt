@@ -7,7 +7,7 @@ ghost use Rattle.br_pool.specs.Fault.{IsDecided, IsNoDriveLeft};
 ghost use Rattle.br_pool.specs.Pool.{AreDrives, OnlyIfAllFail, StayInPlace};
 ghost use Rattle.br_pool.specs.Rounds.{AreLeftAtEnd};
 ghost use Rattle.br_pool.specs.Slots.{is_empty, rounds_left};
-ghost use Rattle.br_pool.specs.Streaming.{AddsTo, FilledTo, ReadsTo, StreamsOver};
+ghost use Rattle.br_pool.specs.Streaming.{AddsTo, FilledTo, ReadsRoundTo, StreamsOver};
 ghost use Rattle.br_pool.specs.Workers.{HaveServed, IsReady, count_in, outs};
 
 use crate::course::Course;
@@ -73,8 +73,8 @@ fn read_to<D: Drive + Send, G: Gate + Sync, R: Threads + Wait + Sync>(
         shares.items }
     ensures many { IfOk result (λ seats. length seats.items ≡ length readers.old.items) }
     ensures served { HaveServed D.shows D.failures readers.old.items readers.new.items }
-    ensures read { ReadsTo D.shows task.now.round.now.claims.now task.now.round.now.pieces.now task.now.round.now.left.now
-        readers.old.items readers.new.items into.old into.new joiner.old joiner.new result }
+    ensures read { ReadsRoundTo D.shows task.now.round.now readers.old.items readers.new.items into.old into.new
+        joiner.old joiner.new result }
 {
     let alloc = task.alloc;
     let mut seats = Vec::with_capacity(alloc, shares.len())?;

@@ -2,7 +2,7 @@ ghost use Rattle.std.specs.Prelude.{◌≡◌, ◌<◌, ◌≤◌, true, false, 
 ghost use Rattle.std.specs.List.{AllByRecursion};
 ghost use Rattle.br_match.specs.Matching.{FoundOver};
 ghost use Rattle.br_volume.specs.Drive.{OnlyGrows};
-ghost use Rattle.br_pool.specs.Workers.{EachAt, EachPairAt, HasRun, HasWorked, IsReady, IsSetUp, is_failure, number_at};
+ghost use Rattle.br_pool.specs.Workers.{EachAt, EachPairAt, HasRun, HasWorkedIn, IsReady, IsSetUp, is_failure, number_at};
 
 use crate::gate::Gate;
 use br_claim::{ClaimSeat, Claims};
@@ -95,9 +95,7 @@ fn read_drawn<D: Drive, G: Gate>(
     requires few { round.now.claims.now.limit ≡ length round.now.left.now }
     requires below { AllByRecursion (λ x. x < length round.now.pieces.now) round.now.left.now }
     requires ready { IsReady round.now.claims.now.claims round.now.claims.now.limit seat.old answers.old }
-    ensures { HasWorked round.now.claims.now.claims round.now.pieces.now round.now.left.now
-        (D.shows reader.old.drive) (D.shows reader.new.drive)
-        (D.failures reader.old.drive) (D.failures reader.new.drive) reader.old.out reader.new.out seat.new answers.new.items }
+    ensures { HasWorkedIn D.shows D.failures round.now reader.old reader.new seat.new answers.new.items }
 {
     while let Some(place) = round.claims.draw(seat) {
         let number = number_at(round.left, place);
