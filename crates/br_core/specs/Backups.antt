@@ -5,6 +5,7 @@ use Rattle.br_model.specs.Volume.{Volume}
 use Rattle.br_model.specs.Job.{JobRows, Job}
 use Rattle.br_model.specs.Session.{ToSave}
 use Rattle.br_history.specs.Saving.{ToCommit}
+use Rattle.br_volume.specs.MemStore.{Stored}
 use Rattle.br_history.specs.Committing.{AreWhole}
 use Rattle.br_core.specs.Machine.{World}
 
@@ -41,3 +42,8 @@ pub record IsAdded (history : List JobRows) (commits : List Committed) (rows : J
   pub history_is : history' ≡ history ++ rows ∷ []
   pub commits_are : commits' ≡ commits ++ c ∷ []
   pub volumes_are : volumes' ≡ later
+
+-- rows and a job are added, the job beside the volumes before it, and these are the volumes after it
+abbrev pub AddsJob : JobRows → ToCommit → Stored → List JobRows → List Committed → Stored → List JobRows → List Committed → Stored → Type 0
+AddsJob rows job later history commits volumes history' commits' volumes' =
+    IsAdded history commits rows (record { job = job; before = volumes.volumes }) later.volumes history' commits' volumes'.volumes

@@ -7,8 +7,9 @@ use Rattle.br_model.specs.Plan as model
 use Rattle.br_model.specs.Meaning.{Hit}
 use Rattle.br_match.specs.declared.hit.Batch.{Batch}
 use Rattle.br_core.specs.Machine as machine
-use Rattle.br_core.specs.Machine.{IsAtEnd, IsWhole, goes, planned, stages_of, stands}
+use Rattle.br_core.specs.Machine.{IsAtEnd, IsRead, IsWhole, goes, planned, stages_of, stands}
 use Rattle.br_core.specs.Machine.Status.{Waiting, Claimed, Finished}
+use Rattle.br_core.specs.Reading.{CanBeRead}
 use Rattle.br_core.specs.Statuses.{status_of}
 use Rattle.br_core.specs.declared.fault.StepFault.{StepFault}
 use Rattle.br_core.specs.declared.fault.StepFault.TheVariants.{Memory, NotEnabled}
@@ -57,6 +58,10 @@ MovesIf Premise Move before after (Ok _) =
 MovesIf Premise Move before after (Err fault) =
     IsSeenAs before after × ((fault ≡ Memory) ⊎ ((fault ≡ NotEnabled) × CannotMove Premise Move before))
 
+-- a walk reads a block of a piece that can be read over these volumes
+abbrev pub ReadsIf : ℕ → List Volume → Restore → Restore → Result (Unit {0}) StepFault → Type 0
+ReadsIf piece shown = MovesIf (λ r. CanBeRead r piece shown) (λ r after. IsRead r piece shown after)
+
 -- a walk takes a waiting piece
 abbrev pub Claims : ℕ → machine.Restore → machine.Restore → Type 0
 Claims piece r after = stands r piece Waiting × (after ≡ goes r piece (Claimed 0))
@@ -68,6 +73,10 @@ Fails piece r after = ((address : ℕ) × stands r piece (Claimed address)) × (
 -- the walk of a piece is at its end, over these volumes
 abbrev pub Finishes : ℕ → List Volume → machine.Restore → machine.Restore → Type 0
 Finishes piece shown r after = IsAtEnd r piece shown × (after ≡ goes r piece Finished)
+
+-- the walk of a piece that can be read over these volumes is at its end
+abbrev pub FinishesIf : ℕ → List Volume → Restore → Restore → Result (Unit {0}) StepFault → Type 0
+FinishesIf piece shown = MovesIf (λ r. CanBeRead r piece shown) (λ r after. Finishes piece shown r after)
 
 -- whether all pieces are read, and nothing is on its way
 abbrev pub TellsWhole : Restore → Bool → Type 0

@@ -8,7 +8,7 @@ ghost use Rattle.br_history.specs.Fault.{cause};
 ghost use Rattle.br_history.specs.Committing.{AreWhole};
 ghost use Rattle.br_core.specs.Machine.{stages_of};
 ghost use Rattle.br_core.specs.Reached.{nothing};
-ghost use Rattle.br_core.specs.Backups.{IsAdded};
+ghost use Rattle.br_core.specs.Backups.{AddsJob};
 ghost use Rattle.br_core.specs.Committing.{CommitsTo};
 
 use crate::committing::{appended, lengths, prepared};
@@ -80,8 +80,8 @@ fn add(
     later: MemStore,
 ) -> Result<(), HistoryFault>
     ensures answers { Answers (λ _. history.new) cause result (pushed history.old rows) }
-    ensures ok { OnOk result (IsAdded history.old commits.old.items rows (record { job = job; before = volumes.old.volumes }) later.volumes
-        history.new commits.new.items volumes.new.volumes) }
+    ensures ok { OnOk result (AddsJob rows job later history.old commits.old.items volumes.old
+        history.new commits.new.items volumes.new) }
     ensures err { OnErr result ((history.new ≡ history.old) × (commits.new.items ≡ commits.old.items)
         × (volumes.new.volumes ≡ volumes.old.volumes)) }
 {

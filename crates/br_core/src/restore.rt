@@ -53,9 +53,8 @@ fn parts_of(alloc: Global, plan: &Plan) -> Result<(Vec<Piece>, Vec<Status>, Join
 
 impl Restore {
     ghost use Rattle.br_volume.specs.Memory.{volumes_of};
-    ghost use Rattle.br_core.specs.Machine.{IsRead, IsTaken};
-    ghost use Rattle.br_core.specs.Reading.{CanBeRead};
-    ghost use Rattle.br_core.specs.View.{Claims, Fails, Finishes, IsPlanned, IsSeenAs, MovesIf, TellsWhole};
+    ghost use Rattle.br_core.specs.Machine.{IsTaken};
+    ghost use Rattle.br_core.specs.View.{Claims, Fails, FinishesIf, IsPlanned, IsSeenAs, MovesIf, ReadsIf, TellsWhole};
     ghost use Rattle.br_core.specs.Moving.{asked, moved};
     ghost use Rattle.std.specs.Prelude.{true, map, Some, IfErr};
     ghost use Rattle.br_model.specs.Restored.{files};
@@ -117,8 +116,7 @@ impl Restore {
         piece: u32,
         volumes: &[(VolName, Vec<u8>)],
     ) -> Result<(), StepFault>
-        ensures { MovesIf (λ r. CanBeRead r piece (volumes_of volumes.now)) (λ r after. IsRead r piece (volumes_of volumes.now) after)
-            self.old self.new result }
+        ensures { ReadsIf piece (volumes_of volumes.now) self.old self.new result }
     {
         match next_of(alloc, &self.pieces, &self.statuses, piece, volumes) {
             Ok(Some((batch, next))) => {
@@ -140,8 +138,7 @@ impl Restore {
         piece: u32,
         volumes: &[(VolName, Vec<u8>)],
     ) -> Result<(), StepFault>
-        ensures { MovesIf (λ r. CanBeRead r piece (volumes_of volumes.now)) (λ r after. Finishes piece (volumes_of volumes.now) r after)
-            self.old self.new result }
+        ensures { FinishesIf piece (volumes_of volumes.now) self.old self.new result }
     {
         match next_of(alloc, &self.pieces, &self.statuses, piece, volumes) {
             Ok(None) => {
