@@ -1,9 +1,9 @@
 //! The manifest, written in parts, so that no more than one part of it is in memory.
-ghost use Rattle.std.specs.Prelude.{◌≡◌, ◌++◌, [], map, flat_map, IfOk, OnOk};
+ghost use Rattle.std.specs.Prelude.{◌≡◌, [], map, flat_map, IfOk, OnOk};
 ghost use Rattle.std.specs.Io.KnownBytes.{Appends};
 ghost use Rattle.br_model.specs.Manifest as model;
 ghost use Rattle.br_join.specs.Outcome.{restored};
-ghost use Rattle.br_sink.specs.Parts.{WritesPart};
+ghost use Rattle.br_sink.specs.Parts.{Writes, WritesPart};
 
 use crate::line::push_line;
 use crate::report::totals;
@@ -61,8 +61,8 @@ fn write_line<W: Write>(
     key: FileKey,
     outcome: &Outcome,
 ) -> io::Result<()>
-    ensures { OnOk result (WritesPart (W.contents writer.old) (W.contents writer.new) text.new.items
-        (text.old.items ++ model.file_line (restored (key, outcome.now)))) }
+    ensures { OnOk result (Writes W.contents writer.old writer.new text.old.items text.new.items
+        (model.file_line (restored (key, outcome.now)))) }
 {
     push_line(text, key, outcome)?;
     write_if_long(writer, text)
@@ -75,8 +75,8 @@ fn write_lines<W: Write>(
     text: &mut Vec<u8>,
     outcomes: &[(FileKey, Outcome)],
 ) -> io::Result<()>
-    ensures { OnOk result (WritesPart (W.contents writer.old) (W.contents writer.new) text.new.items
-        (text.old.items ++ flat_map model.file_line (map restored outcomes.now))) }
+    ensures { OnOk result (Writes W.contents writer.old writer.new text.old.items text.new.items
+        (flat_map model.file_line (map restored outcomes.now))) }
 {
     for (key, outcome) in outcomes {
         write_line(writer, text, *key, outcome)?;
