@@ -21,7 +21,7 @@ const VOLUMES: usize = 8;
 /// The number of outcomes whose lines are told at once.
 const LINES: usize = 256;
 
-/// What was told of a restore while it ran.
+/// What a watcher noted of a restore while it ran.
 #[derive(Drop)]
 pub struct Told<'t> {
     /// The outcomes that are no files.
@@ -33,7 +33,7 @@ pub struct Told<'t> {
 }
 
 impl<'t> Told<'t> {
-    /// Returns what a watched writer was told of a restore by the bootstrap in this text.
+    /// Returns what a watched writer noted of a restore by the bootstrap in this text.
     pub fn by<W>(writer: &'t WatchedWriter<'_, '_, W>, bootstrap: &'t [u8]) -> Told<'t> {
         Told {
             faults: writer.faults(),
@@ -42,7 +42,7 @@ impl<'t> Told<'t> {
         }
     }
 
-    /// Returns what a watched writer was told of a console session.
+    /// Returns what a watched writer noted of a console session.
     pub fn of_session<W>(writer: &'t WatchedWriter<'_, '_, W>) -> Told<'t> {
         Told::by(writer, writer.plan())
     }

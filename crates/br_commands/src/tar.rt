@@ -102,7 +102,7 @@ pub(crate) enum Extent {
 /// What became of a tar stream.
 #[derive(Clone, Copy, Debug)]
 pub(crate) enum TarEnd {
-    /// It has its end. So many of the files have no entry in it.
+    /// It has its end. This number of the files have no entry in it.
     Whole(u64),
     /// Not all files were put, and it has no end.
     Cut,

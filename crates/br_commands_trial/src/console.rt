@@ -64,7 +64,7 @@ const CASES: &[Case] = &[
     (ALL, b"/d/b", 0, BOTH),
     // The first line is refused, and the lines after it are carried out.
     (b"mark nil\nmark *\ndone\n", b"/d/b", 1, BOTH),
-    // The path of the second file is in the way of the first one's, or no text.
+    // The path of the second file conflicts with the first one's, or is no text.
     (ALL, b"/a/b", 1, &[("into/a", b"hello")]),
     (ALL, b"/b\xff\xfe", 1, &[("into/a", b"hello")]),
     (b"mark *\nquit\n", b"/d/b", 0, &[]),

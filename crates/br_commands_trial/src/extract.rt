@@ -68,7 +68,7 @@ const STRANGE: &[u8] = b"\0\0\0\0\0\0\0\x57\0\0\0\0BB02\0\0\0\x03\0\0\x01\x2c\
     \0\0\0\x01\0\0\0\x01\0\0\0\x261 3 /s\0A A IGk B A A A F A A A A A A\0\0\
     \0\0\0\x01\0\0\0\x14\0\0\0\x01x";
 
-/// Two files; an older copy of one; a file that can't be restored; two files that begin on one volume and go on on another; a path in the way of
+/// Two files; an older copy of one; a file that can't be restored; two files that begin on one volume and go on on another; a path that conflicts with
 /// another; and a path that is no text.
 const VOLUMES: &[Volume] = &[
     ("V", [FRONT, b"/d/b", BACK]),

@@ -145,7 +145,7 @@ fn fails_once(case: &mut Case, calls: u64, fields: [&str; 2]) {
     }
 }
 
-/// Puts it over a maker that fails after this number of calls, or whose files take so many bytes.
+/// Puts it over a maker that fails after this number of calls, or whose files take this number of bytes.
 fn put_with(case: &mut Case, call: &str, number: u64, fields: [&str; 2]) {
     let mut maker = maker_of(case);
     match call {

@@ -1,4 +1,4 @@
-//! Fields that are texts of lines, in which a part `$NAME` stands for the bytes of that name.
+//! Fields that are texts of lines, in which a part `$NAME` is the bytes of that name.
 
 use br_trial_rows::Case;
 

@@ -158,7 +158,7 @@ fn run_alone(case: &mut Case, call: &str, n: u32) {
     case.done(done);
 }
 
-/// Runs a call, of so many numbers.
+/// Runs a call of this number of numbers.
 pub(crate) fn run(case: &mut Case, threads: &(impl Threads + Wait + Sync), call: &[&str]) {
     match call {
         ["threads", n] => {

@@ -1,7 +1,7 @@
 //! Fields that are texts of lines, and the blocks that rows name.
 //!
 //! A text is printed and read with `_` for a blank and `|` for a line feed, and its other bytes as
-//! names are printed. A part `$NAME` of a field stands for the bytes of that name.
+//! names are printed. A part `$NAME` of a field is the bytes of that name.
 
 use br_trial_rows::Case;
 

@@ -202,7 +202,7 @@ fn no_drive_left_of_two_is_70_at_any_call(rt: HostRuntime) -> Result<(), Fail> {
     Ok(())
 }
 
-/// A drive whose volumes are changed after so many calls: the byte at this place of each read is another.
+/// A drive whose volumes are changed after this number of calls: the byte at this place of each read is another.
 #[derive(Drop)]
 struct Turned {
     drive: MemDrive,
@@ -232,7 +232,7 @@ impl Drive for Turned {
     }
 }
 
-/// Returns a drive whose volumes are changed after so many calls, at this place.
+/// Returns a drive whose volumes are changed after this number of calls, at this place.
 fn turned_drives(alloc: Global, calls: u64, place: usize) -> Result<Vec<Turned>, Fail>
     ensures { IfOk result (λ drives. length drives.items ≡ 1) }
 {
@@ -265,7 +265,7 @@ fn bytes_of<'m>(maker: &'m MemMaker, path: &str) -> &'m [u8] {
     maker.bytes(path).unwrap_or(b"no file".as_slice())
 }
 
-/// Returns whether a volume that is changed after so many calls, at this place, stops a delivery into a
+/// Returns whether a volume that is changed after this number of calls, at this place, stops a delivery into a
 /// folder with 70 after this number of files. The file in question is not there then.
 fn stops_after(
     rt: &(impl Threads + Wait + Sync),

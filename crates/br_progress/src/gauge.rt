@@ -101,13 +101,13 @@ impl<'r> Gauge<'r> {
         }
     }
 
-    /// Notes that so many bytes were passed.
+    /// Notes that this number of bytes were passed.
     pub(crate) fn note_read(&self, bytes: u64) {
         self.read.fetch_add(bytes, Ordering::SeqCst);
         self.tell();
     }
 
-    /// Notes that so many more files are to be put.
+    /// Notes that this number of files more are to be put.
     pub(crate) fn note_files(&self, count: u64) {
         self.files.fetch_add(count, Ordering::SeqCst);
     }
@@ -138,7 +138,7 @@ impl<'r> Gauge<'r> {
         self.lost.fetch_add(1, Ordering::SeqCst);
     }
 
-    /// Notes that the files of the manifest are older copies that are left out, but for so many others.
+    /// Notes that the files of the manifest are older copies that are left out, but for this number of others.
     pub fn note_others(&self, others: u64) {
         let files = self.files.load(Ordering::SeqCst);
         self.older
@@ -169,7 +169,7 @@ impl<'r> Gauge<'r> {
         }
     }
 
-    /// Notes that so many more files were put.
+    /// Notes that this number of files more were put.
     pub fn note_put(&self, count: u64) {
         self.is_putting.store(true, Ordering::SeqCst);
         self.put.fetch_add(count, Ordering::SeqCst);

@@ -20,7 +20,7 @@ pub(crate) enum Stopping {
     Database,
 }
 
-/// Opens an empty database of which this file fails after so many calls. Returns none if it does not
+/// Opens an empty database of which this file fails after this number of calls. Returns none if it does not
 /// open.
 pub(crate) fn open_stopping(alloc: Global, file: Stopping, calls: u64) -> Option<Connection<Disk>>
     ensures idle { IfSome result (λ conn. conn.in_transaction ≡ false) }

@@ -45,7 +45,7 @@ fn shown(alloc: Global, history: &History) -> Result<String, Fail> {
     Ok(text)
 }
 
-/// Makes a database of version 1 of which this file fails after so many calls. Returns none if it fails
+/// Makes a database of version 1 of which this file fails after this number of calls. Returns none if it fails
 /// before the database is whole.
 fn made(alloc: Global, file: Stopping, calls: u64) -> Option<Connection<Disk>> {
     let mut conn = open_stopping(alloc, file, calls)?;
