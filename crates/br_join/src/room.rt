@@ -1,8 +1,8 @@
 //! The room in memory for the data of hits.
 ghost use Rattle.std.specs.Prelude.{◌≡◌};
 
-use crate::streams::{ATTRIBUTES, DIGEST};
 use br_match::Hit;
+use br_records::{ATTRIBUTES, DIGEST};
 
 /// The number of bytes of data that may be held. Attributes and digests are held beside them.
 #[derive(Clone, Copy, Debug)]

@@ -27,8 +27,8 @@ pub use outline::{Outline, Sketch, sketches_of};
 pub use records::{FileRecord, records_of};
 pub use runs::{around, settle};
 pub use streams::{
-    DIGEST, checks_digest, count_in, first_in, has_bytes, has_sparse_data, refuse_unsupported,
-    skipped_in,
+    ATTRIBUTES, DIGEST, checks_digest, count_in, first_in, has_bytes, has_sparse_data,
+    refuse_unsupported, skipped_in,
 };
 
 /// States that a file has its outline, and that there is none, for the same reason, where there is no file;

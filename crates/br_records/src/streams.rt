@@ -9,7 +9,7 @@ use crate::making_fault::FileFault;
 use crate::records::FileRecord;
 
 /// The stream of a file's attributes.
-pub(crate) const ATTRIBUTES: u32 = 1;
+pub const ATTRIBUTES: u32 = 1;
 
 /// The stream of plain data.
 pub(crate) const DATA: u32 = 2;

@@ -3,4 +3,4 @@ use Rattle.br_join.proofs.room.let_all_go.Given as goal
 
 -- for contracts the hits are the same
 abbrev pub invariant-loop-i : goal.invariant-loop-i
-invariant-loop-i l = l.hits.now.items ≡ l.initial.hits.now.items
+invariant-loop-i l = l.hits.items ≡ l.initial.hits.items
