@@ -1,1 +1,2 @@
 pub mod Folded
+pub mod Premises

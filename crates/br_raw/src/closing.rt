@@ -1,10 +1,10 @@
 //! The end of a store's use.
 
 ghost use Rattle.std.specs.Prelude.{◌≡◌, [], IfOk, IsTrue};
-ghost use Rattle.sqlite_wal.specs.Reads.{AreClean};
 ghost use Rattle.sqlite_store.specs.FileStore.{recovers, view};
 ghost use Rattle.sqlite.specs.Held.{AreDatabases};
 ghost use Rattle.br_raw.specs.Folded.{IsCopied, IsFolded};
+ghost use Rattle.br_raw.specs.Premises.{HaveKept};
 
 use sqlite::{Error, ErrorCode, FileStore, Files};
 use sqlite_disk::Disk;
@@ -26,7 +26,8 @@ fn fault_of(error: StoreError) -> Error {
 /// Copies the log into the database file, and gives the files back. What is not committed is lost.
 fn copied<D: Disk + Drop>(store: FileStore<D>) -> Result<Files<D>, Error>
     ensures usable { IfOk result (λ files. IsTrue (D.Disk.is_usable files.log)) }
-    ensures copied { IfOk result (λ files. AreClean D.Disk files.log files.db → IsTrue (view store).is_numbered → AreDatabases (recovers store) → IsCopied store files) }
+    ensures copied { IfOk result (λ files.
+        HaveKept D.Disk files → IsTrue (view store).is_numbered → AreDatabases (recovers store) → IsCopied store files) }
 {
     let mut store = store;
     store.rollback();
@@ -50,17 +51,20 @@ fn emptied<D: Disk + Drop>(files: Files<D>) -> Result<Files<D>, Error>
     }
 }
 
-/// Puts all that was committed into the database file, and empties the log. Returns both files: while they
-/// are there, no other program opens them. What is not committed is lost. If each database that a crash
-/// could leave is sound, the database file alone holds what was committed (`folded`).
+/// Puts all that was committed into the database file, and empties the log. Returns both files:
+/// while they are there, no other program opens them. What is not committed is lost. If each
+/// database that a crash could leave is sound, the database file alone holds what was committed
+/// (`folded`).
 ///
-/// A crash between the two leaves the log with a new header, which makes nothing of what comes after it.
+/// A crash between the two leaves the log with a new header, which makes nothing of what comes
+/// after it.
 ///
 /// # Errors
 ///
 /// If the log was not copied, or was not emptied. Nothing that was committed is lost.
 pub fn fold<D: Disk + Drop>(store: FileStore<D>) -> Result<Files<D>, Error>
-    ensures folded { IfOk result (λ files. AreClean D.Disk files.log files.db → IsTrue (view store).is_numbered → AreDatabases (recovers store) → IsFolded store files) }
+    ensures folded { IfOk result (λ files.
+        HaveKept D.Disk files → IsTrue (view store).is_numbered → AreDatabases (recovers store) → IsFolded store files) }
 {
     let files = copied(store)?;
     let left = emptied(files)?;

@@ -1,10 +1,9 @@
 //! A connection to a database file and its log.
 
-ghost use Rattle.std.specs.Prelude.{codes, ◌≡◌, true, false, ◌⊎◌, ◌↔◌, ℕ, ◌+◌, ◌<◌, ◌≤◌, pos, ◌==◌, [], map, find, All, OnOk, length, option_copied, Some, IsTrue, IfOk, IfErr, IfSome, IsSomeAnd, MatchOption, ⊤};
+ghost use Rattle.std.specs.Prelude.{codes, ◌≡◌, true, false, ◌⊎◌, ◌↔◌, ℕ, ◌+◌, ◌<◌, ◌≤◌, pos, ◌==◌, [], map, find, OnOk, length, option_copied, Some, IsTrue, IfOk, IfErr, IfSome, IsSomeAnd};
 ghost use Rattle.sqlite_wal.specs.PageSize.{bytes_of};
-ghost use Rattle.sqlite_wal.specs.Files as log_files;
 ghost use Rattle.sqlite_store.specs.FileStore.{state as store_state, log_frames, view, is_shielded, files as store_files};
-ghost use Rattle.sqlite_wal.specs.Reads.{AreClean, OnlyReads};
+ghost use Rattle.sqlite_wal.specs.Reads.{OnlyReads};
 ghost use Rattle.std.specs.List.{list_any};
 ghost use Rattle.sqlite.specs.State.{HasCleanDisk, store_error};
 ghost use Rattle.sqlite.specs.Held.{IsNew};
@@ -18,10 +17,10 @@ ghost use Rattle.sqlite_store.specs.Listing.{listed_from};
 ghost use Rattle.sqlite_value.specs.Order.{column, bytes};
 ghost use Rattle.sqlite_trees.specs.View.{View, IsClean};
 ghost use Rattle.sqlite_store.specs.Unopened.{state_of, files_of, image, wanted_by, AreUsable, Opens, Creates};
-ghost use Rattle.sqlite.specs.Opening.{unsorted, reported, unrooted, layout_at, layout_of, shape_of, Binds, IsBound, IsOwnTable, HasOwnTable, Suits, AllSuit, Meets, IsRead, IsNamed, IsListedIn, HasTree, Knows, IsListed, IsAttached, FailsToAttach, AreToSeal, IsAdopted, FailsToAdopt, IsSpared, IsMade, FailsToMake, is_open_error, probed, blurred, renamed, FailsFor};
-ghost use Rattle.sqlite.specs.Files.{faults_of, file_state, IsOpened, Finds, tally_left, FailsToOpenAs, FailsToOpenFiles, IsOver, IsCleanLeft, LeavesFiles, IsClosed, FailsToClose, HoldsDatabase, IsBlankAs, IsNothing, IsTooLong, BeginsWell, SaysSums, image_of};
-ghost use Rattle.sqlite_pool.specs.Stored.{stored_size, used_size};
-ghost use Rattle.sqlite_trees.specs.Tree.{Trees};
+ghost use Rattle.sqlite.specs.Opening.{unsorted, reported, unrooted, layout_at, shape_of, Binds, IsBound, IsOwnTable, HasOwnTable, Suits, AllSuit, IsRead, IsNamed, IsListedIn, Knows, IsListed, IsAttached, FailsToAttach, AreToSeal, IsAdopted, FailsToAdopt, IsSpared, IsMade, FailsToMake, is_open_error, probed, blurred, renamed};
+ghost use Rattle.sqlite.specs.Files.{faults_of, file_state, IsOpened, Finds, tally_left, FailsToOpenAs, FailsToOpenFiles, IsOver, IsCleanLeft, LeavesFiles, IsClosed, FailsToClose, IsBlankAs, BeginsWell, SaysSums, image_of};
+ghost use Rattle.sqlite_pool.specs.Stored.{used_size};
+ghost use Rattle.br_raw.specs.Premises.{AreToSealIn, FailsToRead, FailsToTest, HaveKept, IsNothingAs, OfLayouts, OfListed, UsesSized};
 ghost use Rattle.sqlite.specs.Closing.{IsCopied, files_left};
 
 use sqlite::{Error, ErrorCode, Leftover};
@@ -257,7 +256,7 @@ fn with_codes(alloc: Global, rows: &[Row], shapes: &[Shape]) -> Result<Vec<Row>,
     Ok(all)
 }
 
-/// The shape and the REAL columns of each row's tree.
+/// Returns the shape and the REAL columns of each row's tree.
 fn layouts(
     alloc: Global,
     schema: &Schema,
@@ -266,8 +265,8 @@ fn layouts(
 ) -> Result<Option<Vec<(Shape, u64)>>, AllocError>
     requires { length shapes.now ≡ length rows.now }
     ensures len { IfOk result (λ found. IfSome found (λ all. length all.items ≡ length rows.now)) }
-    ensures value { (v : View) → Knows v schema.now → All (HasTree schema.now) rows.now → shapes.now ≡ map (shape_of v) rows.now
-        → IfOk result (λ found. IsSomeAnd found (λ all. all.items ≡ map (layout_of v) rows.now)) }
+    ensures value { OfLayouts schema.now rows.now shapes.now (λ laid.
+        IfOk result (λ found. IsSomeAnd found (λ all. all.items ≡ laid))) }
 {
     let mut all = Vec::new(alloc);
     for at in 0..rows.len() {
@@ -308,7 +307,7 @@ fn read_rows<D: Disk>(
     Ok((rows, roots))
 }
 
-/// The shape and the REAL columns of each row, if the rows describe a schema.
+/// Returns the shape and the REAL columns of each row, if the rows describe a schema.
 fn lay_out(
     alloc: Global,
     rows: &[Row],
@@ -316,8 +315,8 @@ fn lay_out(
 ) -> Result<Option<Vec<(Shape, u64)>>, AllocError>
     requires { length roots.now ≡ length rows.now }
     ensures len { IfOk result (λ found. IfSome found (λ all. length all.items ≡ length rows.now)) }
-    ensures value { (schema : _) (wanted : _) → Meets schema wanted rows.now roots.now
-        → IfOk result (λ found. IsSomeAnd found (λ all. joined rows.now all.items ≡ listed_from 0 wanted)) }
+    ensures value { OfListed rows.now roots.now (λ wanted.
+        IfOk result (λ found. IsSomeAnd found (λ all. joined rows.now all.items ≡ listed_from 0 wanted))) }
 {
     let shapes = shapes_for(alloc, rows, roots)?;
     let coded = with_codes(alloc, rows, shapes.as_slice())?;
@@ -458,9 +457,9 @@ fn is_blank_as<D: Disk>(
     requires db { IsTrue (D.Disk.is_usable files.old.db) }
     requires size { bytes_of size ≡ 4096 }
     ensures named { IfErr result (λ e. IsTrue (is_open_error e)) }
-    ensures ok { IfOk result (λ b. AreClean D.Disk files.new.log files.new.db → (IsTrue b ↔ IsBlankAs has_sums (image_of D.Disk files.old))) }
+    ensures ok { IfOk result (λ b. HaveKept D.Disk files.new → (IsTrue b ↔ IsBlankAs has_sums (image_of D.Disk files.old))) }
     ensures counts { faults_of D.Disk files.old ≤ faults_of D.Disk files.new }
-    ensures cause { IfErr result (λ e. AreClean D.Disk files.new.log files.new.db → FailsFor (faults_of D.Disk files.old) (faults_of D.Disk files.new) (IsTooLong (image_of D.Disk files.old)) ⊤ e) }
+    ensures cause { IfErr result (FailsToTest D.Disk files.old files.new) }
     ensures log { OnlyReads D.Disk files.old.log files.new.log }
     ensures db { OnlyReads D.Disk files.old.db files.new.db }
 {
@@ -470,7 +469,8 @@ fn is_blank_as<D: Disk>(
     }
 }
 
-/// If there is no database yet, whether the new one gets sums: as asked, unless an earlier open has all but made one of the other kind.
+/// Returns whether the new database gets sums, if there is none yet: as asked, unless an earlier
+/// open has all but made one of the other kind.
 fn finds_nothing<D: Disk>(
     alloc: Global,
     files: &mut Files<D>,
@@ -481,10 +481,9 @@ fn finds_nothing<D: Disk>(
     requires db { IsTrue (D.Disk.is_usable files.old.db) }
     requires size { bytes_of size ≡ 4096 }
     ensures named { IfErr result (λ e. IsTrue (is_open_error e)) }
-    ensures ok { IfOk result (λ r. AreClean D.Disk files.new.log files.new.db → MatchOption r (¬ IsNothing (image_of D.Disk files.old))
-        (λ has_sums. IsBlankAs has_sums (image_of D.Disk files.old) × (IsBlankAs asked (image_of D.Disk files.old) → has_sums ≡ asked))) }
+    ensures ok { IfOk result (λ r. HaveKept D.Disk files.new → IsNothingAs asked (image_of D.Disk files.old) r) }
     ensures counts { faults_of D.Disk files.old ≤ faults_of D.Disk files.new }
-    ensures cause { IfErr result (λ e. AreClean D.Disk files.new.log files.new.db → FailsFor (faults_of D.Disk files.old) (faults_of D.Disk files.new) (IsTooLong (image_of D.Disk files.old)) ⊤ e) }
+    ensures cause { IfErr result (FailsToTest D.Disk files.old files.new) }
     ensures log { OnlyReads D.Disk files.old.log files.new.log }
     ensures db { OnlyReads D.Disk files.old.db files.new.db }
 {
@@ -497,18 +496,17 @@ fn finds_nothing<D: Disk>(
     Ok(None)
 }
 
-/// Whether the pages end in sums, by the header's count of reserved bytes. It refuses what is plainly no database, before recovery writes the log.
+/// Returns whether the pages end in sums, by the header's count of reserved bytes. It refuses what
+/// is plainly no database, before recovery writes the log.
 fn finds_sums<D: Disk>(alloc: Global, files: &mut Files<D>, size: PageSize) -> Result<bool, Error>
     requires log { IsTrue (D.Disk.is_usable files.old.log) }
     requires db { IsTrue (D.Disk.is_usable files.old.db) }
     ensures named { IfErr result (λ e. IsTrue (is_open_error e)) }
-    ensures ok { IfOk result (λ b. AreClean D.Disk files.new.log files.new.db → (db : Trees) (held : HoldsDatabase (image_of D.Disk files.old) db)
-        → stored_size held.0 ≡ bytes_of size → held.0 ≡ used_size (bytes_of size) b) }
-    ensures begins { OnOk result (AreClean D.Disk files.new.log files.new.db → BeginsWell (bytes_of size) (image_of D.Disk files.old)) }
-    ensures says { IfOk result (λ b. AreClean D.Disk files.new.log files.new.db → IsTrue b → SaysSums (bytes_of size) (image_of D.Disk files.old)) }
+    ensures ok { IfOk result (λ b. HaveKept D.Disk files.new → UsesSized (bytes_of size) b (image_of D.Disk files.old)) }
+    ensures begins { OnOk result (HaveKept D.Disk files.new → BeginsWell (bytes_of size) (image_of D.Disk files.old)) }
+    ensures says { IfOk result (λ b. HaveKept D.Disk files.new → IsTrue b → SaysSums (bytes_of size) (image_of D.Disk files.old)) }
     ensures same { OnOk result (faults_of D.Disk files.new ≡ faults_of D.Disk files.old) }
-    ensures cause { IfErr result (λ e. AreClean D.Disk files.new.log files.new.db → FailsFor (faults_of D.Disk files.old) (faults_of D.Disk files.new) (log_files.IsHuge (bytes_of size) (image_of D.Disk files.old))
-        ((db : Trees) × (held : HoldsDatabase (image_of D.Disk files.old) db) × (stored_size held.0 ≡ bytes_of size)) e) }
+    ensures cause { IfErr result (FailsToRead D.Disk (bytes_of size) files.old files.new) }
     ensures log { OnlyReads D.Disk files.old.log files.new.log }
     ensures db { OnlyReads D.Disk files.old.db files.new.db }
 {
@@ -531,10 +529,10 @@ fn to_seal<D: Disk>(
     requires log { IsTrue (D.Disk.is_usable files.old.log) }
     requires db { IsTrue (D.Disk.is_usable files.old.db) }
     ensures named { IfErr result (λ e. IsTrue (is_open_error e)) }
-    ensures ok { IfOk result (λ numbers. AreClean D.Disk files.new.log files.new.db → AreToSeal (used_size (bytes_of size) has_sums) (image_of D.Disk files.old) numbers.items) }
+    ensures ok { IfOk result (λ numbers. HaveKept D.Disk files.new
+        → AreToSealIn D.Disk (bytes_of size) has_sums files.old numbers.items) }
     ensures same { OnOk result (faults_of D.Disk files.new ≡ faults_of D.Disk files.old) }
-    ensures cause { IfErr result (λ e. AreClean D.Disk files.new.log files.new.db → FailsFor (faults_of D.Disk files.old) (faults_of D.Disk files.new) (log_files.IsHuge (bytes_of size) (image_of D.Disk files.old))
-        ((db : Trees) × (held : HoldsDatabase (image_of D.Disk files.old) db) × (stored_size held.0 ≡ bytes_of size)) e) }
+    ensures cause { IfErr result (FailsToRead D.Disk (bytes_of size) files.old files.new) }
     ensures log { OnlyReads D.Disk files.old.log files.new.log }
     ensures db { OnlyReads D.Disk files.old.db files.new.db }
 {

@@ -16,8 +16,9 @@ const CANNOT_OPEN: Error = Error::SqliteFailure(ErrorCode::CannotOpen);
 
 const NO_MEMORY: Error = Error::SqliteFailure(ErrorCode::OutOfMemory);
 
-/// The pages that are kept in memory, enough for the way from a root to a leaf. A table that is read from its first row
-/// to its last one comes back to no other page, and few pages stay in the processor's own memory.
+/// The pages that are kept in memory, enough for the way from a root to a leaf. A table that is
+/// read from its first row to its last one comes back to no other page, and few pages stay in the
+/// processor's own memory.
 const CACHE_PAGES: usize = 100;
 
 /// Opens the database file at a path and its log.
@@ -61,12 +62,12 @@ fn open_from<S: Start>(
     }
 }
 
-/// Opens the store in the database file at a path, or makes an empty one in a file that is empty or not there. No row is
-/// tested against the tables, so that this takes a tenth of the time of `Connection::open`. A path that SQLite takes for no
-/// file, as `:memory:`, is refused.
+/// Opens the store in the database file at a path, or makes an empty one in a file that is empty or
+/// not there. No row is tested against the tables, so that this takes a tenth of the time of
+/// `Connection::open`. A path that SQLite takes for no file, as `:memory:`, is refused.
 ///
-/// Over a file that is not empty no proof shows that the clauses on values of this store say anything, since no clause can
-/// say what a file holds.
+/// Over a file that is not empty no proof shows that the clauses on values of this store say
+/// anything, since no clause can say what a file holds.
 pub fn open(rt: &HostRuntime, path: &str) -> Result<FileStore<File>, Error>
     ensures { IfOk result (λ store. IsClean (view store) → IsFresh (view store)) }
 {
