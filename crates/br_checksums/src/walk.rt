@@ -4,7 +4,7 @@ ghost use Rattle.std.specs.List.{list_any};
 ghost use Rattle.br_model.specs.Meaning.{bound_of, covers, is_covered, just_groups};
 ghost use Rattle.br_model.specs.Volume.{is_above};
 ghost use Rattle.br_volume.specs.Drive.{OnlyGrows};
-ghost use Rattle.br_checksums.specs.Walk.{GoesOn, HasSize, InLater, IsCompared, IsSeen, IsStep, IsUnseen, seen_of};
+ghost use Rattle.br_checksums.specs.Walk.{GoesOn, HasSize, InLater, IsCompared, IsSeen, IsUnseen, seen_of};
 
 use crate::lines::push_differing;
 use br_block::BlockHead;
@@ -120,7 +120,7 @@ pub(crate) struct Asked<'p> {
 }
 
 impl<'p> Asked<'p> {
-    ghost use Rattle.br_checksums.specs.Asked.{groups_of, volume_of};
+    ghost use Rattle.br_checksums.specs.Asked.{StepOver, groups_of, volume_of};
 
     /// Returns the blocks of a volume for which these groups ask.
     pub(crate) fn new(crc: &'p Crc, vol: &'p VolName, groups: &'p [(u32, Group)]) -> Asked<'p>
@@ -164,8 +164,8 @@ impl<'p> Asked<'p> {
         Ok(Step::Passed(size))
     }
 
-    /// Passes the block at the address, which has this size, and appends its line if a group asks for
-    /// it and its checksum differs.
+    /// Passes the block at the address, which has this size, and appends its line if a group asks
+    /// for it and its checksum differs.
     fn pass<D: Drive>(
         &self,
         text: &mut Vec<u8>,
@@ -178,8 +178,8 @@ impl<'p> Asked<'p> {
         requires least { 16 ≤ size }
         requires low { addr < 2 ^ 63 }
         requires sized { InLater (D.shows drive.now) (volume_of self.now) (λ bytes. HasSize bytes addr size) }
-        ensures step { IfOk result (IsStep (D.shows drive.new) (D.failures drive.old) (D.failures drive.new)
-            (volume_of self.now) (groups_of self.now) addr text.old.items text.new.items) }
+        ensures step { IfOk result
+            (StepOver D.shows D.failures drive.old drive.new self.now addr text.old.items text.new.items) }
         ensures on { IfOk result (GoesOn addr) }
         ensures grows { OnlyGrows (D.shows drive.old) (D.shows drive.new) }
         ensures counted { D.failures drive.old ≤ D.failures drive.new }
@@ -194,8 +194,8 @@ impl<'p> Asked<'p> {
         }
     }
 
-    /// Passes the block at the address, or finds the end of the walk there, and appends the block's line
-    /// if a group asks for it and its checksum differs. The buffer is for the block's bytes.
+    /// Passes the block at the address, or finds the end of the walk there, and appends the block's
+    /// line if a group asks for it and its checksum differs. The buffer is for the block's bytes.
     pub(crate) fn step<D: Drive>(
         &self,
         text: &mut Vec<u8>,
@@ -203,8 +203,8 @@ impl<'p> Asked<'p> {
         addr: u64,
         buf: &mut Vec<u8>,
     ) -> Result<Step, AllocError>
-        ensures step { IfOk result (IsStep (D.shows drive.new) (D.failures drive.old) (D.failures drive.new)
-            (volume_of self.now) (groups_of self.now) addr text.old.items text.new.items) }
+        ensures step { IfOk result
+            (StepOver D.shows D.failures drive.old drive.new self.now addr text.old.items text.new.items) }
         ensures on { IfOk result (GoesOn addr) }
         ensures grows { OnlyGrows (D.shows drive.old) (D.shows drive.new) }
         ensures counted { D.failures drive.old ≤ D.failures drive.new }
