@@ -68,19 +68,14 @@ impl Held {
         self.full = self.hits.len().saturating_mul(2);
     }
 
-    /// Takes room for the data of hits. If there is too little, all data are let go, those of the hits that were
-    /// taken before, too: a restore that has not all data in memory reads them again.
-    fn make_room(&mut self, room: &mut Room, hits: &mut Vec<Hit>)
-        ensures same { self.new ≡ self.old }
-        ensures hits { hits.new.items ≡ hits.old.items }
+    /// Takes room for the data of hits. If there is too little, the data of the hits that were taken before are
+    /// let go: a restore that has not all data in memory reads them again.
+    fn make_room(&mut self, room: &mut Room, hits: &[Hit])
+        ensures { self.new ≡ self.old }
     {
         let held = room.holds_all();
         room.take(hits);
-        if room.holds_all() {
-            return;
-        }
-        let_all_go(hits);
-        if held {
+        if held && !room.holds_all() {
             let_all_go(&mut self.hits);
         }
     }
@@ -93,10 +88,11 @@ impl Held {
         ensures back { IfErr result (λ value. value ≡ hits) }
     {
         self.shorten();
+        self.make_room(room, &hits);
         if self.hits.try_reserve(hits.len()).is_err() {
             return Err(hits);
         }
-        self.make_room(room, &mut hits);
+        room.fit(&mut hits);
         append(&mut self.hits, hits);
         Ok(())
     }

@@ -72,6 +72,16 @@ impl Room {
         self.holds_all
     }
 
+    /// Lets the data of hits go if there was no room for all, but for attributes and digests. As contracts see
+    /// them the hits are the same.
+    pub(crate) fn fit(&self, hits: &mut Vec<Hit>)
+        ensures { hits.new.items ≡ hits.old.items }
+    {
+        if !self.holds_all {
+            let_all_go(hits);
+        }
+    }
+
     /// Returns the room when nothing is held.
     pub(crate) fn emptied(&self) -> Room {
         Room::new(self.all)
