@@ -95,3 +95,8 @@ AppendsLabel shown failures failed volume before after = (told : List ℕ) × Te
 abbrev pub AppendsLabels : Option (List Volume) → Option (List Volume) → ℕ → ℕ → List Piece → List ℕ → List ℕ → Type 0
 AppendsLabels earlier later failures failed pieces before after =
     (told : List (List ℕ)) × TellLabels earlier later failures failed pieces told × (after ≡ before ++ flat_map (λ line. line) told)
+
+-- the same, over the volumes that a drive may be taken to show
+abbrev pub LabelsOver : {D : Type 0} → (D → Option (List Volume)) → (D → ℕ) → D → D → List Piece → List ℕ → List ℕ → Type 0
+LabelsOver shows failures earlier later pieces before after =
+    AppendsLabels (shows earlier) (shows later) (failures earlier) (failures later) pieces before after

@@ -2,7 +2,7 @@
 ghost use Rattle.std.specs.Prelude.{◌≡◌, ◌⊎◌, ◌++◌, ◌≤◌, ◌==◌, bytes_eq, drop, find, length, OnOk, option_map, take};
 ghost use Rattle.std.specs.List.{position};
 ghost use Rattle.br_check.specs.Label as model;
-ghost use Rattle.br_check.specs.Label.{AppendsLabel, AppendsLabels, is_label, line_by, named_line, other_line};
+ghost use Rattle.br_check.specs.Label.{AppendsLabel, LabelsOver, is_label, line_by, named_line, other_line};
 ghost use Rattle.br_volume.specs.Drive.{OnlyGrows};
 ghost use Rattle.br_volume.specs.declared.fault.DriveFault.TheVariants.{Fault, UnknownVolume};
 
@@ -18,7 +18,8 @@ const MARK: &[u8] = b"Bacula 1.0 immortal\n\0";
 /// The number of bytes of the mark.
 const MARK_LEN: usize = 21;
 
-/// The number of bytes before the name: the mark, a version of four bytes, and four times of eight bytes.
+/// The number of bytes before the name: the mark, a version of four bytes, and four times of eight
+/// bytes.
 const NAME_AT: usize = 57;
 
 /// The number of bytes of a volume among which its label is.
@@ -195,7 +196,8 @@ pub(crate) fn push_labels<D: Drive>(
     pieces: &[Piece],
     drive: &mut D,
 ) -> Result<(), AllocError>
-    ensures tells { OnOk result (AppendsLabels (D.shows drive.old) (D.shows drive.new) (D.failures drive.old) (D.failures drive.new) pieces.now text.old.items text.new.items) }
+    ensures tells { OnOk result
+        (LabelsOver D.shows D.failures drive.old drive.new pieces.now text.old.items text.new.items) }
     ensures grows { OnlyGrows (D.shows drive.old) (D.shows drive.new) }
     ensures counted { D.failures drive.old ≤ D.failures drive.new }
 {
