@@ -1,25 +1,9 @@
 -- What the options of the commands ask for.
-use Rattle.std.specs.Prelude.{ℕ, Bool, true, false, List, Option, Some, None, Result}
+use Rattle.std.specs.Prelude.{ℕ, Result}
 use Rattle.br_model.specs.Choice.{Request}
 use Rattle.br_options.specs.declared.options.ConsoleOptions.{ConsoleOptions}
-use Rattle.br_options.specs.declared.options.Target.{Target}
-use Rattle.br_options.specs.declared.options.Target.TheVariants.{Nowhere, Folder, TarFile, TarOutput}
 use Rattle.br_request.specs.Asking.{checked_request}
 
 -- the request of `console`, or why it is refused
 abbrev pub request_asked : ConsoleOptions → Result Request ℕ
 request_asked given = checked_request given.client.now given.fileset.now given.before.now
-
--- the folder that the restored files go into, if they go into one
-abbrev pub folder_asked : Target → Option (List ℕ)
-folder_asked Nowhere = None
-folder_asked (Folder folder) = Some folder.now
-folder_asked (TarFile file) = None
-folder_asked TarOutput = None
-
--- whether the stream that the restored files go into is standard output, if they go into a stream
-abbrev pub stream_asked : Target → Option Bool
-stream_asked Nowhere = None
-stream_asked (Folder folder) = None
-stream_asked (TarFile file) = Some false
-stream_asked TarOutput = Some true

@@ -10,8 +10,8 @@ use Rattle.br_console.specs.declared.ending.End.TheVariants.{Done, Quit}
 use Rattle.br_console.specs.declared.ending.ConsoleRun.{ConsoleRun}
 use Rattle.br_console.specs.declared.console_fault.ConsoleFault.{ConsoleFault}
 use Rattle.br_console.specs.declared.console_fault.ConsoleFault.TheVariants.{Io, NoEnd}
-use Rattle.br_commands.specs.declared.tar.Extent.{Extent}
-use Rattle.br_commands.specs.declared.tar.Extent.TheVariants.{All, Part}
+use Rattle.br_targets.specs.declared.tar.Extent.{Extent}
+use Rattle.br_targets.specs.declared.tar.Extent.TheVariants.{All, Part}
 
 abbrev pub fault_status : ConsoleFault → ℕ
 fault_status (Io e) = 3

@@ -10,8 +10,8 @@ use Rattle.br_engine.specs.declared.fault.ExtractFault.TheVariants.{Io, NoEnd}
 use Rattle.br_extract.specs.Extracting.{done_lines}
 use Rattle.br_extract.specs.declared.extracting.Extracted.{Extracted}
 use Rattle.br_leaving.specs.Leaving.{InLeaving}
-use Rattle.br_commands.specs.declared.tar.Extent.{Extent}
-use Rattle.br_commands.specs.declared.tar.Extent.TheVariants.{All, Part}
+use Rattle.br_targets.specs.declared.tar.Extent.{Extent}
+use Rattle.br_targets.specs.declared.tar.Extent.TheVariants.{All, Part}
 
 abbrev pub fault_status : ExtractFault → ℕ
 fault_status (Io e) = 3

@@ -4,5 +4,4 @@ pub mod Starting
 pub mod Ending
 pub mod Checking
 pub mod ConsoleEnding
-pub mod TarEnding
 pub mod Migrating

@@ -3,7 +3,7 @@ use Rattle.std.specs.Prelude.{ℕ}
 use Rattle.br_folder_sink.specs.Fault.{folder_fault_number}
 use Rattle.br_request.specs.Asking as request
 use Rattle.br_setup.specs.Setup.{catalogue_number}
-use Rattle.br_commands.specs.TarEnding.{tar_fault_number}
+use Rattle.br_targets.specs.TarEnding.{tar_fault_number}
 use Rattle.br_commands.specs.declared.console.ConsoleStartFault.{ConsoleStartFault}
 use Rattle.br_commands.specs.declared.console.ConsoleStartFault.TheVariants.{Memory, Request, Folder, Tar, NoCatalogue, Catalogue}
 

@@ -16,7 +16,7 @@ use Rattle.br_progress.specs.declared.watched_sink.WatchedSink.{WatchedSink}
 use Rattle.br_tar.specs.Stream.{InTar}
 use Rattle.br_commands.specs.Ending.{extent as extract_extent}
 use Rattle.br_commands.specs.ConsoleEnding.{extent as console_extent}
-use Rattle.br_commands.specs.TarEnding.{StreamHolds, told_inside}
+use Rattle.br_targets.specs.TarEnding.{StreamHolds, told_inside}
 use Rattle.br_commands.specs.declared.extract.ExtractStream.{ExtractStream}
 use Rattle.br_commands.specs.declared.extract.ExtractTask.{ExtractTask}
 use Rattle.br_commands.specs.declared.console.ConsoleStream.{ConsoleStream}

@@ -8,7 +8,6 @@ ghost use Rattle.br_model.specs.Meaning.{pieces_of};
 ghost use Rattle.br_commands.specs.Checking.{ChecksFor, ChecksTask, HasSums, checked_status, run_refusal, run_status};
 
 use crate::extract::{BootstrapFile, ExtractStartFault, refuse, report_stream};
-use crate::status::{BAD_STREAM, Ending};
 use br_bsr::{Bootstrap, read_bootstrap};
 use br_check::{Checked, check};
 use br_checksums::push_checksums;
@@ -17,6 +16,7 @@ use br_engine::{ExtractFault, Flush, show};
 use br_folder::FolderDrive;
 use br_options::{CheckOptions, Checksums};
 use br_setup::{CLEAN, HostDrive, REFUSED};
+use br_targets::{BAD_STREAM, Ending};
 use br_volume::Drive;
 use std::alloc::{AllocError, Global};
 use std::io;

@@ -5,18 +5,14 @@ ghost use Rattle.br_options.specs.Options.{AreFew};
 ghost use Rattle.br_pool.specs.Pool.{AreDrives};
 ghost use Rattle.br_request.specs.Asking.{cause};
 ghost use Rattle.br_setup.specs.Setup.{AreJobs, AreOver};
-ghost use Rattle.br_commands.specs.Asked.{folder_asked, request_asked, stream_asked};
+ghost use Rattle.br_commands.specs.Asked.{request_asked};
+ghost use Rattle.br_targets.specs.Asked.{folder_asked, stream_asked};
 ghost use Rattle.br_commands.specs.ConsoleEnding.{end_line, extent, extent_by, run_refusal, run_status, status_by};
 ghost use Rattle.br_commands.specs.Starting.{start_number};
-ghost use Rattle.br_commands.specs.TarEnding.{IsShown};
+ghost use Rattle.br_targets.specs.TarEnding.{IsShown};
 ghost use Rattle.br_commands.specs.Tasks.{RunsTask, StreamsRun};
 ghost use Rattle.br_commands.specs.declared.console.ConsoleStartFault.TheVariants as start;
 
-use crate::folders::{HostSink, folder_of, sink_over};
-use crate::status::{BAD_STREAM, Ending};
-use crate::tar::{Channel, Extent, TarEnd, TarFault, add_tar_end, end_stream, tar_into, tar_onto};
-use crate::telling::{log_fault, refuse_place, say_nowhere, say_stop};
-use crate::watching::{gauge_of, refuse_log, watched_drives, watched_sink, watched_writer};
 use br_advice::{Told, say_volumes, tell_outcomes};
 use br_console::{ConsoleFault, ConsoleRun, End, JobSelection, Lines, run_console};
 use br_dir::with_help;
@@ -31,6 +27,11 @@ use br_request::{RequestFault, read_request};
 use br_setup::{CLEAN, Catalogue, CatalogueFault, HostDrive, REFUSED, drives_over, with_prompt};
 use br_sink::Sink;
 use br_tar::TarSink;
+use br_targets::{
+    BAD_STREAM, Channel, Ending, Extent, HostSink, TarEnd, TarFault, add_tar_end, end_stream,
+    folder_of, gauge_of, log_fault, refuse_log, refuse_place, say_nowhere, say_stop, sink_over,
+    tar_into, tar_onto, watched_drives, watched_sink, watched_writer,
+};
 use br_types::Path;
 use br_volume::Drive;
 use std::alloc::{AllocError, Global};

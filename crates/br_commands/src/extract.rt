@@ -3,18 +3,11 @@ ghost use Rattle.std.specs.Prelude.{◌≡◌, is_some, length, not, option_map,
 ghost use Rattle.br_options.specs.Options.{AreFew};
 ghost use Rattle.br_pool.specs.Pool.{AreDrives};
 ghost use Rattle.br_setup.specs.Setup.{AreOver};
-ghost use Rattle.br_commands.specs.Asked.{folder_asked, stream_asked};
+ghost use Rattle.br_targets.specs.Asked.{folder_asked, stream_asked};
 ghost use Rattle.br_commands.specs.Ending.{done_status, extent, failed_paths, is_whole, run_refusal, run_status};
-ghost use Rattle.br_commands.specs.TarEnding.{IsShown};
+ghost use Rattle.br_targets.specs.TarEnding.{IsShown};
 ghost use Rattle.br_commands.specs.Tasks.{ExtractsTask, StreamsTask};
 
-use crate::folders::{LeavingSink, folder_of, leaving_over};
-use crate::status::{BAD_STREAM, Ending};
-use crate::tar::{Channel, Extent, TarEnd, TarFault, add_tar_end, end_stream, tar_into, tar_onto};
-use crate::telling::{
-    log_fault, refuse_place, say_conflicts, say_files, say_nowhere, say_stop, tell_others,
-};
-use crate::watching::{gauge_of, refuse_log, watched_drives, watched_sink, watched_writer};
 use br_advice::{Told, advise, say_volumes, tell_outcomes};
 use br_engine::{Budget, ExtractFault, Flush, Outputs, RestoreEnd, read_text};
 use br_extract::{Extracted, extract_wanted};
@@ -25,6 +18,12 @@ use br_progress::{Gauge, WatchedDrive, WatchedSink, WatchedWriter};
 use br_setup::{CLEAN, HostDrive, REFUSED, drives_over, refuse_start};
 use br_sink::Sink;
 use br_tar::TarSink;
+use br_targets::{
+    BAD_STREAM, Channel, Ending, Extent, LeavingSink, TarEnd, TarFault, add_tar_end, end_stream,
+    folder_of, gauge_of, leaving_over, log_fault, refuse_log, refuse_place, say_conflicts,
+    say_files, say_nowhere, say_stop, tar_into, tar_onto, tell_others, watched_drives,
+    watched_sink, watched_writer,
+};
 use br_types::Path;
 use br_volume::Drive;
 use std::alloc::{AllocError, Global};

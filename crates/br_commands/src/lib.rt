@@ -9,13 +9,9 @@ mod command;
 mod console;
 mod explaining;
 mod extract;
-mod folders;
 mod migrating;
-mod status;
-mod tar;
-mod telling;
-mod watching;
 
+pub use br_targets::{BAD_STREAM, Ending, TarFault};
 pub use checking::{CheckTask, check_ending, check_over, set_up_check};
 pub use command::run_command;
 pub use console::{
@@ -25,5 +21,3 @@ pub use console::{
 pub use extract::{
     ExtractSetup, ExtractStartFault, ExtractTask, extract_ending, extract_over, set_up_extract,
 };
-pub use status::{BAD_STREAM, Ending};
-pub use tar::TarFault;

@@ -15,7 +15,7 @@ pub struct Ending {
 impl Ending {
     /// Prints the line of the refusal to standard error, and to a terminal what it means. Returns the exit
     /// status.
-    pub(crate) fn print(&self, rt: &HostRuntime) -> io::Result<u8> {
+    pub fn print(&self, rt: &HostRuntime) -> io::Result<u8> {
         let refusal = String::from_utf8_lossy(rt.alloc(), &self.refusal)?;
         eprint!(rt; "{refusal}")?;
         tell_refusals(rt, &self.refusal)?;

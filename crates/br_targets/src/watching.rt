@@ -11,7 +11,7 @@ use std::io::{self, ErrorKind};
 
 /// Returns the gauge of a restore from volumes in the folder with this path. It shows how far the restore is if that
 /// is asked for and standard error is a terminal, and appends to the file of a log if one is given.
-pub(crate) fn gauge_of<'r>(
+pub fn gauge_of<'r>(
     rt: &'r HostRuntime,
     volumes: &'r str,
     progress: Progress,
@@ -27,7 +27,7 @@ pub(crate) fn gauge_of<'r>(
 
 /// Prints to standard error that the file of a log can't be opened. Returns the exit status. An error for memory
 /// is returned.
-pub(crate) fn refuse_log(rt: &HostRuntime, log: Option<&str>, error: io::Error) -> io::Result<u8> {
+pub fn refuse_log(rt: &HostRuntime, log: Option<&str>, error: io::Error) -> io::Result<u8> {
     match log {
         Some(path) if error.kind() != ErrorKind::OutOfMemory => {
             eprintln!(rt; "brestore: {path}: {error}")?;
@@ -38,7 +38,7 @@ pub(crate) fn refuse_log(rt: &HostRuntime, log: Option<&str>, error: io::Error) 
 }
 
 /// Returns the drives, each of which is watched.
-pub(crate) fn watched_drives<'g, 'r, D: Drop>(
+pub fn watched_drives<'g, 'r, D: Drop>(
     alloc: Global,
     drives: Vec<D>,
     gauge: &'g Gauge<'r>,
@@ -53,7 +53,7 @@ pub(crate) fn watched_drives<'g, 'r, D: Drop>(
 }
 
 /// Returns the outputs, of which the writer is watched.
-pub(crate) fn watched_writer<'g, 'r, W, S>(
+pub fn watched_writer<'g, 'r, W, S>(
     out: Outputs<W, S>,
     gauge: &'g Gauge<'r>,
 ) -> Outputs<WatchedWriter<'g, 'r, W>, S>
@@ -67,7 +67,7 @@ pub(crate) fn watched_writer<'g, 'r, W, S>(
 }
 
 /// Returns the outputs, of which the sink is watched.
-pub(crate) fn watched_sink<'g, 'r, W, S>(
+pub fn watched_sink<'g, 'r, W, S>(
     out: Outputs<W, S>,
     gauge: &'g Gauge<'r>,
 ) -> Outputs<W, WatchedSink<'g, 'r, S>>

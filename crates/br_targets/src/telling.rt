@@ -15,7 +15,7 @@ use std::io::{self, ErrorKind};
 const FILES: usize = 8;
 
 /// Appends a line to the log that says which stream or which file of the program's own failed, if it has a name.
-pub(crate) fn log_fault<F: fmt::Display>(
+pub fn log_fault<F: fmt::Display>(
     rt: &HostRuntime,
     gauge: &Gauge<'_>,
     name: Option<&str>,
@@ -31,7 +31,7 @@ pub(crate) fn log_fault<F: fmt::Display>(
 
 /// Prints to standard error a line for what is in a folder that is resumed, and is neither a file among the outcomes
 /// nor a folder on the way to one, and appends it to the log. If the folder can't be listed, a line says why.
-pub(crate) fn tell_others(
+pub fn tell_others(
     rt: &HostRuntime,
     gauge: &Gauge<'_>,
     folder: &str,
@@ -67,7 +67,7 @@ fn say_stream(rt: &HostRuntime, gauge: &Gauge<'_>, path: &str) -> io::Result<()>
 }
 
 /// Says why the files of these paths could not be written, of the first of them.
-pub(crate) fn say_files(
+pub fn say_files(
     rt: &HostRuntime,
     gauge: &Gauge<'_>,
     target: Target<'_>,
@@ -114,7 +114,7 @@ fn say_conflict(rt: &HostRuntime, gauge: &Gauge<'_>, path: &Path, next: &str) ->
 }
 
 /// Says of the first of the files that are left out since they conflict with one before that they do.
-pub(crate) fn say_conflicts(rt: &HostRuntime, gauge: &Gauge<'_>, paths: &[Path]) -> io::Result<()> {
+pub fn say_conflicts(rt: &HostRuntime, gauge: &Gauge<'_>, paths: &[Path]) -> io::Result<()> {
     if gauge.is_watching() {
         for path in paths.iter().take(FILES) {
             say_conflict(rt, gauge, path, "Restore it into another folder.")?;
@@ -124,7 +124,7 @@ pub(crate) fn say_conflicts(rt: &HostRuntime, gauge: &Gauge<'_>, paths: &[Path])
 }
 
 /// Says why a delivery stopped at the file of a path, if it did.
-pub(crate) fn say_stop(
+pub fn say_stop(
     rt: &HostRuntime,
     gauge: &Gauge<'_>,
     target: Target<'_>,
@@ -142,7 +142,7 @@ pub(crate) fn say_stop(
 }
 
 /// Tells a terminal, unless it is to be quiet, that no file was written if there is no place for one.
-pub(crate) fn say_nowhere(gauge: &Gauge<'_>, target: Target<'_>) -> io::Result<()> {
+pub fn say_nowhere(gauge: &Gauge<'_>, target: Target<'_>) -> io::Result<()> {
     match target {
         Target::Nowhere if gauge.is_shown() => {
             gauge.say("no file was written. Next: `--into` and `--tar` say where to.")
@@ -152,7 +152,7 @@ pub(crate) fn say_nowhere(gauge: &Gauge<'_>, target: Target<'_>) -> io::Result<(
 }
 
 /// Says why the place for the restored files is not taken.
-pub(crate) fn say_place(rt: &HostRuntime, gauge: &Gauge<'_>, target: Target<'_>) -> io::Result<()> {
+pub fn say_place(rt: &HostRuntime, gauge: &Gauge<'_>, target: Target<'_>) -> io::Result<()> {
     if !gauge.is_watching() {
         return Ok(());
     }
@@ -169,7 +169,7 @@ pub(crate) fn say_place(rt: &HostRuntime, gauge: &Gauge<'_>, target: Target<'_>)
 /// # Errors
 ///
 /// `OutOfMemory` for the number 1, or if standard error failed.
-pub(crate) fn refuse_place(
+pub fn refuse_place(
     rt: &HostRuntime,
     gauge: &Gauge<'_>,
     target: Target<'_>,

@@ -1,6 +1,6 @@
 //! A sink over the folder of the command line.
 ghost use Rattle.std.specs.Prelude.{◌≡◌, [], option_map, IfOk, IfSome};
-ghost use Rattle.br_commands.specs.Asked.{folder_asked};
+ghost use Rattle.br_targets.specs.Asked.{folder_asked};
 
 use br_files::HostDisk;
 use br_folder_sink::{FolderFault, FolderSink};
@@ -20,7 +20,7 @@ pub type ResumingSink<'r> = Resuming<HostDisk<&'r HostRuntime>>;
 pub type LeavingSink<'g, 'r> = Leaving<WatchedSink<'g, 'r, ResumingSink<'r>>>;
 
 /// Returns the folder that the restored files go into, if they go into one.
-pub(crate) fn folder_of(target: Target<'_>) -> Option<&str>
+pub fn folder_of(target: Target<'_>) -> Option<&str>
     ensures { option_map (λ f. f.now) result ≡ folder_asked target.entry }
 {
     match target {
@@ -30,7 +30,7 @@ pub(crate) fn folder_of(target: Target<'_>) -> Option<&str>
 }
 
 /// Returns the sink over the folder to deliver into, if there is one.
-pub(crate) fn sink_over<'r>(
+pub fn sink_over<'r>(
     rt: &'r HostRuntime,
     into: Option<&str>,
 ) -> Result<Option<HostSink<'r>>, FolderFault>
@@ -62,7 +62,7 @@ fn resuming_over<'r>(
 
 /// Returns the sink over the folder to deliver into, if there is one. It leaves out the files that can't be
 /// made, if a delivery is not to stop there, and tells the gauge of those that are put.
-pub(crate) fn leaving_over<'g, 'r>(
+pub fn leaving_over<'g, 'r>(
     rt: &'r HostRuntime,
     gauge: &'g Gauge<'r>,
     stops: Stops,

@@ -1,5 +1,5 @@
 use Rattle.std.proofs.Common.{◌≡◌, ◌≤◌, ◌+◌, vec_len, vec_capacity}
-use Rattle.br_commands.proofs.watching.watched_drives.Given as goal
+use Rattle.br_targets.proofs.watching.watched_drives.Given as goal
 
 -- each drive so far is watched, and there is room for the others
 abbrev pub invariant-loop-drive : goal.invariant-loop-drive

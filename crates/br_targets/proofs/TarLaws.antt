@@ -3,10 +3,10 @@ use Rattle.std.proofs.Common.{◌≡◌, ◌∙◌, ℕ, List, Option, Some, Non
 use Rattle.std.specs.Io.KnownBytes.{Keeps}
 use Rattle.br_model.specs.File.{Item}
 use Rattle.br_tar.specs.Stream.{HoldsCut, HoldsTar}
-use Rattle.br_commands.specs.TarEnding.{EndsBy, HoldsBy, IsClosed, IsEnded, IsFlushed, IsShown, not_flushed}
-use Rattle.br_commands.specs.declared.tar.Extent.TheVariants as extents
-use Rattle.br_commands.specs.declared.tar.TarEnd.{TarEnd}
-use Rattle.br_commands.specs.declared.tar.TarEnd.TheVariants.{Whole, Cut, Refused}
+use Rattle.br_targets.specs.TarEnding.{EndsBy, HoldsBy, IsClosed, IsEnded, IsFlushed, IsShown, not_flushed}
+use Rattle.br_targets.specs.declared.tar.Extent.TheVariants as extents
+use Rattle.br_targets.specs.declared.tar.TarEnd.{TarEnd}
+use Rattle.br_targets.specs.declared.tar.TarEnd.TheVariants.{Whole, Cut, Refused}
 
 -- known bytes are the same after a flush
 bytes_kept : (before after : Option (List ℕ)) (bytes : List ℕ) → Keeps before after → before ≡ Some bytes → after ≡ Some bytes

@@ -6,12 +6,12 @@ use Rattle.br_sink.specs.Fault.{fault_number}
 use Rattle.br_sink.specs.declared.fault.SinkFault.TheVariants.{Fault}
 use Rattle.br_progress.specs.declared.watched_sink.WatchedSink.{WatchedSink}
 use Rattle.br_tar.specs.Stream.{HoldsCut, HoldsTar, InTar, told}
-use Rattle.br_commands.specs.declared.tar.Extent.{Extent}
-use Rattle.br_commands.specs.declared.tar.Extent.TheVariants as extents
-use Rattle.br_commands.specs.declared.tar.TarEnd.{TarEnd}
-use Rattle.br_commands.specs.declared.tar.TarEnd.TheVariants.{Whole, Cut, Refused}
-use Rattle.br_commands.specs.declared.tar.TarFault.{TarFault}
-use Rattle.br_commands.specs.declared.tar.TarFault.TheVariants as faults
+use Rattle.br_targets.specs.declared.tar.Extent.{Extent}
+use Rattle.br_targets.specs.declared.tar.Extent.TheVariants as extents
+use Rattle.br_targets.specs.declared.tar.TarEnd.{TarEnd}
+use Rattle.br_targets.specs.declared.tar.TarEnd.TheVariants.{Whole, Cut, Refused}
+use Rattle.br_targets.specs.declared.tar.TarFault.{TarFault}
+use Rattle.br_targets.specs.declared.tar.TarFault.TheVariants as faults
 
 -- what a watched sink was told of files, if it tells them
 abbrev pub told_inside : WatchedSink InTar → Option (List Item)

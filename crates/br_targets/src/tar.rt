@@ -3,9 +3,9 @@ ghost use Rattle.std.specs.Prelude.{◌≡◌, ◌++◌, Bool, true, false, opti
 ghost use Rattle.std.specs.Io.KnownBytes.{Keeps};
 ghost use Rattle.br_files.specs.Making.{IsFree, MakesFile};
 ghost use Rattle.br_tar.specs.Stream.{told};
-ghost use Rattle.br_commands.specs.TarEnding.{EndsBy, HoldsBy, IsClosed, IsEnded, IsFlushed, IsNewOver, IsShown, StreamHolds};
-ghost use Rattle.br_commands.specs.TarEnding.{left_out_text, not_flushed, tar_fault_number, tar_status, tar_text, told_inside};
-ghost use Rattle.br_commands.specs.declared.tar.TarEnd.TheVariants.{Cut};
+ghost use Rattle.br_targets.specs.TarEnding.{EndsBy, HoldsBy, IsClosed, IsEnded, IsFlushed, IsNewOver, IsShown, StreamHolds};
+ghost use Rattle.br_targets.specs.TarEnding.{left_out_text, not_flushed, tar_fault_number, tar_status, tar_text, told_inside};
+ghost use Rattle.br_targets.specs.declared.tar.TarEnd.TheVariants.{Cut};
 
 use crate::status::Ending;
 use br_engine::{Flush, push_refused_line};
@@ -42,7 +42,7 @@ impl TarFault {
 }
 
 /// Something that can be written to, and whether it is standard output.
-pub(crate) trait Channel: Write {
+pub trait Channel: Write {
     ghost is_output: { Bool };
 }
 
@@ -72,7 +72,7 @@ fn new_file<M: FileMaker>(maker: &mut M, path: &str) -> Result<M::New, TarFault>
 }
 
 /// Returns a sink that writes a tar stream to a writer, through a buffer.
-pub(crate) fn tar_onto<W: Write + Drop>(
+pub fn tar_onto<W: Write + Drop>(
     alloc: Global,
     writer: W,
 ) -> Result<TarSink<BufWriter<W>>, TarFault>
@@ -85,7 +85,7 @@ pub(crate) fn tar_onto<W: Write + Drop>(
 }
 
 /// Returns a sink that writes a tar stream into a new file at a path, at which nothing may be.
-pub(crate) fn tar_into(rt: &HostRuntime, path: &str) -> Result<TarSink<BufWriter<File>>, TarFault> {
+pub fn tar_into(rt: &HostRuntime, path: &str) -> Result<TarSink<BufWriter<File>>, TarFault> {
     let mut disk = HostDisk::new(rt.alloc(), rt);
     let file = new_file(&mut disk, path)?;
     tar_onto(rt.alloc(), file)
@@ -93,7 +93,7 @@ pub(crate) fn tar_into(rt: &HostRuntime, path: &str) -> Result<TarSink<BufWriter
 
 /// How many of the restored files were put into the sink.
 #[derive(Clone, Copy, Debug)]
-pub(crate) enum Extent {
+pub enum Extent {
     All,
     /// None, or those before a stop.
     Part,
@@ -101,7 +101,7 @@ pub(crate) enum Extent {
 
 /// What became of a tar stream.
 #[derive(Clone, Copy, Debug)]
-pub(crate) enum TarEnd {
+pub enum TarEnd {
     /// It has its end. This number of the files have no entry in it.
     Whole(u64),
     /// Not all files were put, and it has no end.
@@ -183,7 +183,7 @@ fn end_of<W: Flush + Drop>(sink: TarSink<W>, extent: Extent) -> (W, TarEnd)
 
 /// Ends the stream of a watched sink, if there is one and all files were put, and flushes what it was written
 /// to. Returns this writer, and what became of the stream.
-pub(crate) fn end_stream<W: Flush + Drop>(
+pub fn end_stream<W: Flush + Drop>(
     sink: Option<WatchedSink<'_, '_, TarSink<W>>>,
     extent: Extent,
 ) -> (Option<W>, TarEnd)
@@ -235,7 +235,7 @@ fn status_with(status: u8, end: TarEnd) -> u8
 }
 
 /// Adds what became of a stream to the ending of a run.
-pub(crate) fn add_tar_end(ending: &mut Ending, end: TarEnd) -> Result<(), AllocError>
+pub fn add_tar_end(ending: &mut Ending, end: TarEnd) -> Result<(), AllocError>
     ensures status { OnOk result (ending.new.status ≡ tar_status ending.old.status end) }
     ensures refusal { OnOk result (ending.new.refusal.items ≡ ending.old.refusal.items ++ tar_text end) }
 {
