@@ -1,16 +1,15 @@
 -- A file of which the plain data are read again and written, one hit after another.
-use Rattle.std.specs.Prelude.{◌≡◌, ℕ, ◌+◌, ◌≤◌, List, [], ◌∷◌, ◌++◌, length, Option, Ok}
+use Rattle.std.specs.Prelude.{◌≡◌, ℕ, ◌+◌, ◌≤◌, List, [], ◌∷◌, ◌++◌, length, Option}
 use Rattle.std.specs.Io.KnownBytes.{Appends}
 use Rattle.br_model.specs.File.{Item}
 use Rattle.br_model.specs.Meaning.{Hit}
 use Rattle.br_model.specs.Name.{FileKey}
-use Rattle.br_model.specs.Restored.{fragments_for, outcome_of}
 use Rattle.br_join.specs.Plain.{plain_bytes}
 use Rattle.br_records.specs.Records.{fragments}
-use Rattle.br_records.specs.Runs.{listed}
 use Rattle.br_reread.specs.Many.{RereadingMany}
 use Rattle.br_sink.specs.FileParts.{AreAlike, with_bytes}
 use Rattle.br_sink.specs.Sink.{HasMore}
+use Rattle.br_gather.specs.Again.{MakeItem}
 use Rattle.br_gather.specs.Given.{GivesHits}
 use Rattle.br_gather.specs.Windows.{data_bytes}
 use Rattle.br_gather.specs.declared.file_parts.Begun.{Begun}
@@ -21,7 +20,7 @@ GivesFile many hits item = GivesHits many hits × (item.bytes ≡ plain_bytes (f
 
 -- the hits are read again as they were found, and those with the key make the file
 abbrev pub GivesItem : RereadingMany → List Hit → FileKey → Item → Type 0
-GivesItem many hits key item = GivesHits many hits × (outcome_of key (fragments_for key (listed hits)) ≡ Ok item)
+GivesItem many hits key item = GivesHits many hits × MakeItem hits key item
 
 -- the data that came next were digested and written, and as many fewer bytes may follow
 pub record PutsWindow (before after : Option (List ℕ)) (old new : Begun) : Type 0 where

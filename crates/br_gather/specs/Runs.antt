@@ -5,7 +5,9 @@ use Rattle.br_model.specs.Meaning.{Hit}
 use Rattle.br_model.specs.Name.{FileKey}
 use Rattle.br_model.specs.Restored.{Restored}
 use Rattle.br_reread.specs.Many.{RereadingMany}
+use Rattle.br_join.specs.Outcome.{restored}
 use Rattle.br_join.specs.Runs.{file_of_run}
+use Rattle.br_join.specs.declared.item.Outcome.{Outcome}
 use Rattle.br_gather.specs.Given.{GivesHits}
 
 -- the hits of one file, and the path under which the file was planned, if it was
@@ -31,3 +33,7 @@ GivesRuns many runs = AllByRecursion (λ (r : Run). GivesHits many r.hits) runs
 -- these are the first of the files
 abbrev pub AreFirst : List Run → List Restored → Type 0
 AreFirst runs made = made ≡ map file_of (take (length made) runs)
+
+-- the files that are made stay the first ones, if the bytes of all hits are given as they were found
+abbrev pub StayFirst : RereadingMany → List Run → List (FileKey × Outcome) → List (FileKey × Outcome) → Type 0
+StayFirst many runs before after = GivesRuns many runs → AreFirst runs (map restored before) → AreFirst runs (map restored after)

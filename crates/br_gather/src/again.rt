@@ -1,13 +1,11 @@
 //! Files that are made once more.
-ghost use Rattle.std.specs.Prelude.{◌≡◌, ◌<◌, ◌∷◌, ◌++◌, [], length, map, Ok, Err, IfOk, OnErr, OnOk};
-ghost use Rattle.std.specs.List.{AllByRecursion, AllZip};
+ghost use Rattle.std.specs.Prelude.{◌≡◌, ◌<◌, ◌∷◌, ◌++◌, [], length, Ok, Err, IfOk, OnErr, OnOk};
+ghost use Rattle.std.specs.List.{AllZip};
 ghost use Rattle.br_again.specs.declared.fault.AgainFault.TheVariants.{Failed};
-ghost use Rattle.br_model.specs.Restored as model;
-ghost use Rattle.br_join.specs.Outcome.{restored};
-ghost use Rattle.br_records.specs.Runs.{AreListed, listed};
+ghost use Rattle.br_records.specs.Runs.{AreListed};
 ghost use Rattle.br_reread.specs.Many.{GoOn, HaveFailed};
 ghost use Rattle.br_sink.specs.Delivery.{items_in};
-ghost use Rattle.br_gather.specs.Again.{IsLike, IsMadeOf};
+ghost use Rattle.br_gather.specs.Again.{AreSameIfGiven, IsLike, MakeItem};
 ghost use Rattle.br_gather.specs.Given.{GivesHits};
 
 use crate::likeness::is_like;
@@ -35,8 +33,7 @@ pub(crate) fn item_once_more<D: Drive>(
 ) -> Result<Item, AgainFault>
     requires { AreListed hits.now }
     ensures like { IfOk result (λ made. IsLike made item.now) }
-    ensures same { IfOk result (λ made. GivesHits many.old hits.now
-        → model.outcome_of key (model.fragments_for key (listed hits.now)) ≡ Ok item.now → made ≡ item.now) }
+    ensures same { IfOk result (λ made. GivesHits many.old hits.now → MakeItem hits.now key item.now → made ≡ item.now) }
     ensures on { GoOn many.old many.new }
     ensures failed { result ≡ Err Failed → HaveFailed many.old many.new }
 {
@@ -73,8 +70,7 @@ pub(crate) fn made_once_more<D: Drive>(
 ) -> Result<Vec<(FileKey, Outcome)>, AgainFault>
     requires { AreListed hits.now }
     ensures like { IfOk result (λ made. AllZip IsLike (items_in made.items) (items_in outcomes.now)) }
-    ensures same { IfOk result (λ made. GivesHits many.old hits.now → AllByRecursion (IsMadeOf hits.now) (map restored outcomes.now)
-        → items_in made.items ≡ items_in outcomes.now) }
+    ensures same { IfOk result (λ made. AreSameIfGiven many.old hits.now outcomes.now made.items) }
     ensures some { OnErr result (0 < length (items_in outcomes.now)) }
     ensures on { GoOn many.old many.new }
     ensures failed { result ≡ Err Failed → HaveFailed many.old many.new }

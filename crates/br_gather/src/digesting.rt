@@ -11,7 +11,7 @@ ghost use Rattle.br_join.specs.Plain.{plain_bytes, plain_of};
 ghost use Rattle.br_records.specs.Records.{fragments};
 ghost use Rattle.br_reread.specs.Many.{GoOn, HaveFailed};
 ghost use Rattle.br_gather.specs.Digesting.{AreRead, IsDigested, IsRead, IsWhole, ReadsOn};
-ghost use Rattle.br_gather.specs.Windows.{data_bytes};
+ghost use Rattle.br_gather.specs.Windows.{AppendsPlain, data_bytes};
 
 use crate::light::DATA;
 use crate::putting::has_sparse_data;
@@ -57,8 +57,7 @@ fn read_next<D: Drive>(
 ) -> Result<Hit, AgainFault>
     ensures key { IfOk result (λ read. read.key ≡ hit.now.key) }
     ensures same { IfOk result (λ read. GivesHit many.old hit.now → read ≡ hit.now) }
-    ensures kept { IfOk result (λ read. data_bytes window.new.items
-        ≡ data_bytes window.old.items ++ plain_of (nat_abs read.fragment.stream) read.fragment.bytes) }
+    ensures kept { IfOk result (λ read. AppendsPlain window.old.items window.new.items read.fragment) }
     ensures on { GoOn many.old many.new }
     ensures failed { result ≡ Err Failed → HaveFailed many.old many.new }
 {
@@ -114,20 +113,6 @@ pub(crate) struct Digesting {
     pub(crate) window: Vec<Data>,
 }
 
-/// Returns hits that were read, of which nothing is digested yet.
-fn begin(ahead: Ahead) -> Digesting
-    requires window { data_bytes ahead.window.items ≡ plain_bytes (fragments ahead.hits.items) }
-    ensures read { IsRead result }
-    ensures hits { result.hits.items ≡ ahead.hits.items }
-{
-    let Ahead { hits, window } = ahead;
-    Digesting {
-        reading: Reading::new(),
-        hits,
-        window,
-    }
-}
-
 /// Takes hits that were read, after the data of those before them were digested.
 ///
 /// # Errors
@@ -168,7 +153,11 @@ pub(crate) fn open<'h, D: Drive>(
 {
     let first = cut_window(hits);
     let ahead = read_ahead(alloc, many, first.window)?;
-    let begun = begin(ahead);
+    let begun = Digesting {
+        reading: Reading::new(),
+        hits: ahead.hits,
+        window: ahead.window,
+    };
     Ok(Opened {
         begun,
         rest: first.rest,

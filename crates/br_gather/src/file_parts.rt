@@ -1,14 +1,14 @@
 //! A file of which the plain data are read again while it is put. While the data of one window are digested
 //! in another thread they are written, and those of the next one are read: these two are in memory.
-ghost use Rattle.std.specs.Prelude.{◌≡◌, ◌+◌, ◌≤◌, ◌++◌, [], length, nat_abs, IfOk, OnErr, OnOk};
+ghost use Rattle.std.specs.Prelude.{◌≡◌, ◌+◌, ◌≤◌, [], length, IfOk, OnErr, OnOk};
 ghost use Rattle.std.specs.Io.KnownBytes.{Appends};
-ghost use Rattle.br_join.specs.Plain.{plain_bytes, plain_of};
+ghost use Rattle.br_join.specs.Plain.{plain_bytes};
 ghost use Rattle.br_records.specs.Records.{fragments};
 ghost use Rattle.br_reread.specs.Many.{GoOn};
 ghost use Rattle.br_sink.specs.FileParts.{AreAlike, WritesSome};
 ghost use Rattle.br_gather.specs.FileParts.{GivesFile, PutsWindow, WritesFew};
 ghost use Rattle.br_gather.specs.Given.{GivesHit, GivesHits};
-ghost use Rattle.br_gather.specs.Windows.{data_bytes};
+ghost use Rattle.br_gather.specs.Windows.{AppendsPlain, data_bytes};
 
 use crate::light::DATA;
 use crate::likeness::are_alike;
@@ -74,8 +74,7 @@ fn push_part<D: Drive>(
     hit: &Hit,
     window: &mut Vec<Data>,
 ) -> Result<(), PartsFault>
-    ensures same { OnOk result (GivesHit many.old hit.now → data_bytes window.new.items
-        ≡ data_bytes window.old.items ++ plain_of (nat_abs hit.now.fragment.stream) hit.now.fragment.bytes) }
+    ensures same { OnOk result (GivesHit many.old hit.now → AppendsPlain window.old.items window.new.items hit.now.fragment) }
     ensures on { GoOn many.old many.new }
 {
     if hit.stream.unsigned_abs() != DATA {

@@ -1,5 +1,5 @@
 ghost use Rattle.std.specs.Prelude.{◌≡◌, ◌<◌, ◌≤◌, ◌==◌, length, map, nat_abs, Err, OnErr, OnOk, IfOk};
-ghost use Rattle.std.specs.List.{AllByRecursion, AllZip, list_any};
+ghost use Rattle.std.specs.List.{AllZip, list_any};
 ghost use Rattle.br_again.specs.declared.fault.AgainFault.TheVariants.{Failed};
 ghost use Rattle.br_model.specs.Meaning as meaning;
 ghost use Rattle.br_model.specs.Meaning.{hits_of};
@@ -7,7 +7,7 @@ ghost use Rattle.br_join.specs.Outcome.{restored};
 ghost use Rattle.br_reread.specs.Many.{GoOn, HaveFailed};
 ghost use Rattle.br_join.specs.Runs.{files_of};
 ghost use Rattle.br_sink.specs.Delivery.{items_in};
-ghost use Rattle.br_gather.specs.Again.{IsLike, IsMadeOf};
+ghost use Rattle.br_gather.specs.Again.{AreSameIfGiven, IsLike};
 ghost use Rattle.br_sink.specs.declared.file_parts.PartsFault.TheVariants.{Fault};
 ghost use Rattle.br_gather.specs.FileParts.{GivesItem, PutsAlike};
 ghost use Rattle.br_gather.specs.Given.{GivesHits};
@@ -117,8 +117,7 @@ impl Gathered {
         outcomes: &[(FileKey, Outcome)],
     ) -> Result<Vec<(FileKey, Outcome)>, AgainFault>
         ensures like { IfOk result (λ made. AllZip IsLike (items_in made.items) (items_in outcomes.now)) }
-        ensures same { IfOk result (λ made. GivesHits many.old self.now.hits → AllByRecursion (IsMadeOf self.now.hits) (map restored outcomes.now)
-            → items_in made.items ≡ items_in outcomes.now) }
+        ensures same { IfOk result (λ made. AreSameIfGiven many.old self.now.hits outcomes.now made.items) }
         ensures some { OnErr result (0 < length (items_in outcomes.now)) }
         ensures on { GoOn many.old many.new }
         ensures failed { result ≡ Err Failed → HaveFailed many.old many.new }

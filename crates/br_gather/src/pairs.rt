@@ -1,9 +1,8 @@
 //! Files that one drive makes: two long ones side by side, and each other one alone.
-ghost use Rattle.std.specs.Prelude.{◌≡◌, ◌<◌, ◌≤◌, ◌+◌, true, length, map, Err, OnOk};
+ghost use Rattle.std.specs.Prelude.{◌≡◌, ◌<◌, ◌≤◌, ◌+◌, length, Err, OnOk};
 ghost use Rattle.br_again.specs.declared.fault.AgainFault.TheVariants.{Failed};
-ghost use Rattle.br_join.specs.Outcome.{restored};
 ghost use Rattle.br_reread.specs.Many.{GoOn, HaveFailed};
-ghost use Rattle.br_gather.specs.Runs.{AreFirst, GivesRuns};
+ghost use Rattle.br_gather.specs.Runs.{StayFirst};
 
 use crate::both::files_by_two;
 use crate::made_again::push_file;
@@ -24,14 +23,6 @@ fn is_long(run: &Run<'_>) -> bool {
     !cut_window(run.hits).rest.is_empty() && !has_sparse_data(run.hits)
 }
 
-/// Returns whether a file and the one after it are both long.
-fn are_long(runs: &[Run<'_>], place: usize) -> bool
-    requires { place < length runs.now }
-    ensures { result ≡ true → place + 1 < length runs.now }
-{
-    place + 1 < runs.len() && is_long(&runs[place]) && is_long(&runs[place + 1])
-}
-
 /// Makes the next two files side by side: the ones after as many as are made.
 ///
 /// # Errors
@@ -45,7 +36,7 @@ fn make_two<D: Drive>(
     made: &mut Vec<(FileKey, Outcome)>,
 ) -> Result<(), AgainFault>
     requires { length made.old.items + 1 < length runs.now }
-    ensures first { GivesRuns many.old runs.now → AreFirst runs.now (map restored made.old.items) → AreFirst runs.now (map restored made.new.items) }
+    ensures first { StayFirst many.old runs.now made.old.items made.new.items }
     ensures more { OnOk result (length made.old.items < length made.new.items) }
     ensures on { GoOn many.old many.new }
     ensures failed { result ≡ Err Failed → HaveFailed many.old many.new }
@@ -71,12 +62,13 @@ fn make_next<D: Drive>(
     made: &mut Vec<(FileKey, Outcome)>,
 ) -> Result<(), AgainFault>
     requires { length made.old.items < length runs.now }
-    ensures first { GivesRuns many.old runs.now → AreFirst runs.now (map restored made.old.items) → AreFirst runs.now (map restored made.new.items) }
+    ensures first { StayFirst many.old runs.now made.old.items made.new.items }
     ensures more { OnOk result (length made.old.items < length made.new.items) }
     ensures on { GoOn many.old many.new }
     ensures failed { result ≡ Err Failed → HaveFailed many.old many.new }
 {
-    if are_long(runs, made.len()) {
+    let next = made.len();
+    if next + 1 < runs.len() && is_long(&runs[next]) && is_long(&runs[next + 1]) {
         return make_two(rt, alloc, many, runs, made);
     }
     make_one(rt, alloc, many, runs, made)
@@ -95,7 +87,7 @@ pub(crate) fn make_by_two<D: Drive>(
     runs: &[Run<'_>],
     made: &mut Vec<(FileKey, Outcome)>,
 ) -> Result<(), AgainFault>
-    ensures first { GivesRuns many.old runs.now → AreFirst runs.now (map restored made.old.items) → AreFirst runs.now (map restored made.new.items) }
+    ensures first { StayFirst many.old runs.now made.old.items made.new.items }
     ensures all { OnOk result (length runs.now ≤ length made.new.items) }
     ensures on { GoOn many.old many.new }
     ensures failed { result ≡ Err Failed → HaveFailed many.old many.new }

@@ -29,19 +29,13 @@ pub(crate) fn has_sparse_data(hits: &[Hit]) -> bool
         .any(|hit| hit.stream.unsigned_abs() == SPARSE_DATA)
 }
 
-/// Returns whether a file of this type has bytes: types 2 and 3 do.
-fn has_bytes(kind: u32) -> bool
-    ensures { result ≡ file.has_bytes kind }
-{
-    kind == 2 || kind == 3
-}
-
-/// Returns whether a file of this type has the plain data of the hits as its bytes.
+/// Returns whether a file of this type has the plain data of the hits as its bytes. Types 2 and 3
+/// have bytes.
 pub(crate) fn is_plain(kind: u32, hits: &[Hit]) -> bool
     ensures kind { result ≡ true → file.has_bytes kind ≡ true }
     ensures none { result ≡ true → list_any (λ (h : meaning.Hit). nat_abs h.fragment.stream == 6) hits.now ≡ false }
 {
-    has_bytes(kind) && !has_sparse_data(hits)
+    (kind == 2 || kind == 3) && !has_sparse_data(hits)
 }
 
 /// Puts a file like this one into a sink. The plain data of the hits are read again while it is put.
@@ -72,16 +66,6 @@ pub(crate) fn put_plain<D: Drive, S: Sink>(
     }
 }
 
-/// Returns the fault of a file that is not made once more.
-fn parts_fault_of(fault: AgainFault) -> PartsFault
-    ensures { result ≡ Fault → ⊥ }
-{
-    match fault {
-        AgainFault::Memory => PartsFault::Memory,
-        AgainFault::Failed | AgainFault::Changed => PartsFault::NoDriveLeft,
-    }
-}
-
 /// Makes the file once more in memory, and puts it into a sink.
 ///
 /// # Errors
@@ -107,6 +91,7 @@ pub(crate) fn put_whole<D: Drive, S: Sink>(
             sink.put(&made)?;
             Ok(())
         }
-        Err(fault) => Err(parts_fault_of(fault)),
+        Err(AgainFault::Memory) => Err(PartsFault::Memory),
+        Err(AgainFault::Failed | AgainFault::Changed) => Err(PartsFault::NoDriveLeft),
     }
 }

@@ -5,7 +5,7 @@ ghost use Rattle.br_again.specs.declared.fault.AgainFault.TheVariants.{Failed};
 ghost use Rattle.br_join.specs.Outcome.{restored};
 ghost use Rattle.br_reread.specs.Many.{GoesOn, GoOn, HaveFailed, driven_by};
 ghost use Rattle.br_gather.specs.Runs.{GivesRuns, file_of};
-ghost use Rattle.br_gather.specs.Sharing.{EachPairAt, HasMade, IsBegun, runs_in};
+ghost use Rattle.br_gather.specs.Sharing.{AreBegunIfGiven, EachPairAt, HasMade, drives_from_last, many_over, runs_in};
 
 use crate::runs::Run;
 use crate::work::{Work, finish_all, make_left};
@@ -112,8 +112,7 @@ fn into_shares<'r, 'h, D: Drive>(
     requires room { length works.items ≤ vec_capacity shares.old }
     ensures none { OnOk result (drives.new.items ≡ []) }
     ensures room { vec_capacity drives.new ≡ vec_capacity drives.old }
-    ensures drives { map (λ d. d ∷ []) drives.new.items ++ reverse (map (λ (s : Share D). s.drives.items) shares.new.items)
-        ≡ map (λ d. d ∷ []) drives.old.items }
+    ensures drives { map (λ d. d ∷ []) drives.new.items ++ drives_from_last shares.new.items ≡ map (λ d. d ∷ []) drives.old.items }
     ensures works { OnOk result (map (λ (s : Share D). s.work) shares.new.items ≡ works.entry.items) }
 {
     for work in works {
@@ -162,8 +161,7 @@ fn out_of_shares<'r, 'h, D: Drive>(
     requires one { AllByRecursion (λ (s : Share D). length s.drives.items ≡ 1) shares.items }
     requires none { works.old.items ≡ [] }
     requires room { (length drives.old.items + length shares.items ≤ vec_capacity drives.old) × (length shares.items ≤ vec_capacity works.old) }
-    ensures drives { map (λ d. d ∷ []) drives.new.items
-        ≡ map (λ d. d ∷ []) drives.old.items ++ reverse (map (λ (s : Share D). s.drives.items) shares.entry.items) }
+    ensures drives { map (λ d. d ∷ []) drives.new.items ≡ map (λ d. d ∷ []) drives.old.items ++ drives_from_last shares.entry.items }
     ensures works { works.new.items ≡ reverse (map (λ (s : Share D). s.work) shares.entry.items) }
 {
     while !shares.is_empty() {
@@ -194,8 +192,8 @@ fn run_apart<'r, 'h, D: Drive + Send>(
     requires many { length drives.old.items ≡ length works.items }
     requires none { AllByRecursion (λ (w : Work). w.made.items ≡ []) works.items }
     ensures runs { IfOk result (λ done. runs_in (reverse done.items) ≡ runs_in works.entry.items) }
-    ensures begun { IfOk result (λ done. GivesRuns (record { drives = driven_by D.shows D.failures drives.old.items; groups = groups.now })
-        (runs_in works.entry.items) → AllByRecursion IsBegun done.items) }
+    ensures begun { IfOk result
+        (λ done. AreBegunIfGiven (many_over D.shows D.failures groups.now drives.old.items) works.entry.items done.items) }
     ensures on { AllZip GoesOn (driven_by D.shows D.failures drives.old.items) (driven_by D.shows D.failures drives.new.items) }
 {
     let mut done = Vec::with_capacity(alloc, works.len())?;
@@ -223,7 +221,7 @@ fn run_works<'r, 'h, D: Drive + Send>(
     requires many { length many.old.drives ≡ length works.items }
     requires none { AllByRecursion (λ (w : Work). w.made.items ≡ []) works.items }
     ensures runs { IfOk result (λ done. runs_in (reverse done.items) ≡ runs_in works.entry.items) }
-    ensures begun { IfOk result (λ done. GivesRuns many.old (runs_in works.entry.items) → AllByRecursion IsBegun done.items) }
+    ensures begun { IfOk result (λ done. AreBegunIfGiven many.old works.entry.items done.items) }
     ensures on { GoOn many.old many.new }
 {
     let groups = many.groups();

@@ -1,11 +1,10 @@
 //! Files that are made one after another, begun by one drive and gone on with by others.
-ghost use Rattle.std.specs.Prelude.{◌≡◌, ◌++◌, ◌<◌, ◌≤◌, [], length, map, reverse, Err, IfOk, OnOk};
-ghost use Rattle.std.specs.List.{AllByRecursion};
+ghost use Rattle.std.specs.Prelude.{◌≡◌, ◌++◌, ◌<◌, ◌≤◌, [], length, map, Err, IfOk, OnOk};
 ghost use Rattle.br_again.specs.declared.fault.AgainFault.TheVariants.{Failed};
 ghost use Rattle.br_join.specs.Outcome.{restored};
 ghost use Rattle.br_reread.specs.Many.{GoOn, HaveFailed};
-ghost use Rattle.br_gather.specs.Runs.{AreFirst, GivesRuns, file_of};
-ghost use Rattle.br_gather.specs.Sharing.{IsBegun, runs_in};
+ghost use Rattle.br_gather.specs.Runs.{GivesRuns, StayFirst, file_of};
+ghost use Rattle.br_gather.specs.Sharing.{AppendsIfGiven, AreAllIfGiven, IsBegun};
 
 use crate::made_again::{file_by, push_file};
 use crate::runs::Run;
@@ -14,7 +13,7 @@ use br_join::Outcome;
 use br_reread::OverMany;
 use br_types::FileKey;
 use br_volume::Drive;
-use std::alloc::Global;
+use std::alloc::{AllocError, Global};
 use std::thread::Threads;
 
 /// Makes the next file: the one after as many as are made.
@@ -30,7 +29,7 @@ pub(crate) fn make_one<D: Drive>(
     made: &mut Vec<(FileKey, Outcome)>,
 ) -> Result<(), AgainFault>
     requires { length made.old.items < length runs.now }
-    ensures first { GivesRuns many.old runs.now → AreFirst runs.now (map restored made.old.items) → AreFirst runs.now (map restored made.new.items) }
+    ensures first { StayFirst many.old runs.now made.old.items made.new.items }
     ensures more { OnOk result (length made.old.items < length made.new.items) }
     ensures on { GoOn many.old many.new }
     ensures failed { result ≡ Err Failed → HaveFailed many.old many.new }
@@ -54,7 +53,7 @@ pub(crate) fn make_left<D: Drive>(
     runs: &[Run<'_>],
     made: &mut Vec<(FileKey, Outcome)>,
 ) -> Result<(), AgainFault>
-    ensures first { GivesRuns many.old runs.now → AreFirst runs.now (map restored made.old.items) → AreFirst runs.now (map restored made.new.items) }
+    ensures first { StayFirst many.old runs.now made.old.items made.new.items }
     ensures all { OnOk result (length runs.now ≤ length made.new.items) }
     ensures on { GoOn many.old many.new }
     ensures failed { result ≡ Err Failed → HaveFailed many.old many.new }
@@ -113,6 +112,26 @@ impl<'r, 'h> Work<'r, 'h> {
     }
 }
 
+/// Appends files. The first ones are taken as they are, so that no copy of them is made while the
+/// files of all other works are in memory.
+///
+/// # Errors
+///
+/// `AllocError` if memory runs out.
+fn append_files(
+    made: &mut Vec<(FileKey, Outcome)>,
+    mut files: Vec<(FileKey, Outcome)>,
+) -> Result<(), AllocError>
+    ensures { OnOk result (made.new.items ≡ made.old.items ++ files.items) }
+{
+    if made.is_empty() {
+        *made = files;
+        return Ok(());
+    }
+    made.append(&mut files)?;
+    Ok(())
+}
+
 /// Finishes a work, and appends its files.
 ///
 /// # Errors
@@ -125,13 +144,12 @@ fn push_work<D: Drive>(
     mut work: Work<'_, '_>,
     made: &mut Vec<(FileKey, Outcome)>,
 ) -> Result<(), AgainFault>
-    ensures files { OnOk result (GivesRuns many.old work.entry.runs.now → IsBegun work.entry
-        → map restored made.new.items ≡ map restored made.old.items ++ map file_of work.entry.runs.now) }
+    ensures files { OnOk result (AppendsIfGiven many.old work.entry made.old.items made.new.items) }
     ensures on { GoOn many.old many.new }
     ensures failed { result ≡ Err Failed → HaveFailed many.old many.new }
 {
     work.finish(rt, alloc, many)?;
-    made.append(&mut work.made)?;
+    append_files(made, work.made)?;
     Ok(())
 }
 
@@ -147,8 +165,7 @@ pub(crate) fn finish_all<D: Drive>(
     many: &mut OverMany<'_, D>,
     mut works: Vec<Work<'_, '_>>,
 ) -> Result<Vec<(FileKey, Outcome)>, AgainFault>
-    ensures files { IfOk result (λ made. GivesRuns many.old (runs_in (reverse works.entry.items)) → AllByRecursion IsBegun works.entry.items
-        → map restored made.items ≡ map file_of (runs_in (reverse works.entry.items))) }
+    ensures files { IfOk result (λ made. AreAllIfGiven many.old works.entry.items made.items) }
     ensures on { GoOn many.old many.new }
     ensures failed { result ≡ Err Failed → HaveFailed many.old many.new }
 {

@@ -1,14 +1,13 @@
-use Rattle.std.proofs.Common.{◌-◌, length, map}
-use Rattle.br_join.specs.Outcome.{restored}
+use Rattle.std.proofs.Common.{◌-◌, length}
 use Rattle.br_reread.specs.Many.{GoOn}
-use Rattle.br_gather.specs.Runs.{AreFirst, GivesRuns}
+use Rattle.br_gather.specs.Runs.{StayFirst}
 use Rattle.br_gather.proofs.pairs.make_by_two.Given as goal
 
 -- those that are made are the first ones, if they were before and all hits are given
 abbrev pub invariant-loop-alloc : goal.invariant-loop-alloc
 invariant-loop-alloc g l = record {
   on : GoOn l.fn.many l.many;
-  first : GivesRuns l.fn.many l.runs → AreFirst l.runs (map restored l.fn.made.items) → AreFirst l.runs (map restored l.made.items);
+  first : StayFirst l.fn.many l.runs l.fn.made.items l.made.items;
 }
 
 abbrev pub decreases-loop-alloc : goal.decreases-loop-alloc
