@@ -214,7 +214,7 @@ module _ {D : Type 0} (shows : D → Option (List Volume)) (failures : D → ℕ
   -- and they can be made once more
   pub made_gives : (result : Result Made ExtractFault)
       → IfOk result (λ (m : Made). CanReread shows failures ys groups joining.hits → CanGive shows failures zs groups m.gathered (map restored m.outcomes.items))
-      → IfOk result (λ (m : Made). GivesAgain shows failures xs zs groups m.gathered (map restored m.outcomes.items))
+      → IfOk result (λ (m : Made). GivesAgain shows failures xs zs groups m)
   made_gives (Err f) gives = tt
   made_gives (Ok m) gives = λ volumes stands. gives (can_reread volumes stands)
 

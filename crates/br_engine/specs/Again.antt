@@ -1,5 +1,5 @@
 -- Files that are made once more for their delivery.
-use Rattle.std.specs.Prelude.{◌≡◌, ◌⊎◌, ◌<◌, ℕ, List, map, Option, option_map, Some, None, Result, Ok, Err, ⊤}
+use Rattle.std.specs.Prelude.{◌≡◌, ◌⊎◌, ◌<◌, ℕ, List, [], ◌∷◌, map, Option, option_map, Some, None, Result, Ok, Err, ⊤}
 use Rattle.std.specs.List.{AllByRecursion, AllZip}
 use Rattle.br_model.specs.Bootstrap.{Group}
 use Rattle.br_model.specs.Answer.{Answers, IsRefusal}
@@ -7,24 +7,28 @@ use Rattle.br_model.specs.Delivery.{Stop, delivery}
 use Rattle.br_model.specs.Manifest.{totals_of}
 use Rattle.br_model.specs.File.{Item, Outcome}
 use Rattle.br_model.specs.Meaning.{Hit, Hits, hits_of, pieces_of}
+use Rattle.br_model.specs.Name.{FileKey}
 use Rattle.br_model.specs.Restored.{Names, Restored, files, planned_in}
 use Rattle.br_model.specs.Volume.{Volume}
 use Rattle.br_join.specs.Joining.{Joining}
 use Rattle.br_join.specs.Outcome.{restored}
 use Rattle.br_records.specs.Runs.{AreListed}
+use Rattle.br_join.specs.declared.item.Outcome as join
 use Rattle.br_gather.specs.Again.{IsLike, IsMadeOf}
+use Rattle.br_gather.specs.FileParts.{GivesItem}
 use Rattle.br_gather.specs.Gathered.{Gathered}
 use Rattle.br_gather.specs.Given.{GivesHits}
 use Rattle.br_reread.specs.Many.{RereadingMany, driven_by}
 use Rattle.br_again.specs.declared.fault.AgainFault.{AgainFault}
 use Rattle.br_again.specs.declared.fault.AgainFault.TheVariants as again
-use Rattle.br_sink.specs.Delivery.{items_put, stop_cause}
+use Rattle.br_sink.specs.Delivery.{items_in, items_put, stop_cause}
 use Rattle.br_sink.specs.Sink.{HasMore}
 use Rattle.br_engine.specs.Delivering.{EndsWith}
 use Rattle.br_engine.specs.Extracting.{OverVolumes}
 use Rattle.br_engine.specs.Fault.{cause}
 use Rattle.br_engine.specs.Outputs.{InSink}
 use Rattle.br_engine.specs.Restoring.{AllStand}
+use Rattle.br_engine.specs.declared.again.Source.{Source}
 use Rattle.br_engine.specs.declared.fault.ExtractFault.{ExtractFault}
 use Rattle.br_engine.specs.declared.made.Made.{Made}
 use Rattle.br_engine.specs.declared.outputs.RestoreEnd.{RestoreEnd}
@@ -60,6 +64,14 @@ pub record PutsLike {A : Type 0} (given : Type 0) (items : List Item) (had has :
   pub same : given → put ≡ items_put result items
   pub more : HasMore put had has
 
+-- the files among the outcomes are put so, and are these files if they are made of what was gathered
+abbrev pub PutsAgain : {A : Type 0} → RereadingMany → Gathered → List (FileKey × join.Outcome) → Option (List Item) → Option (List Item) → Result A Stop → Type 0
+PutsAgain many gathered outcomes had has result = PutsLike (CanMake many gathered (map restored outcomes)) (items_in outcomes) had has result
+
+-- the file with the key is put so, and is this file if it is made of what was gathered
+abbrev pub PutsItemAgain : {A : Type 0} → RereadingMany → Gathered → FileKey → Item → Option (List Item) → Option (List Item) → Result A Stop → Type 0
+PutsItemAgain many gathered key item had has result = PutsLike (GivesItem many gathered.hits key item) (item ∷ []) had has result
+
 -- a stop behind fewer files than so many: for want of memory (1), of a drive (70), or for a fault of the sink (80)
 pub record IsStopAgain (count : ℕ) (stop : Stop) : Type 0 where
   pub number : (stop.number ≡ 1) ⊎ (stop.number ≡ 80) ⊎ (stop.number ≡ 70)
@@ -71,6 +83,23 @@ pub record EndsLike (given : Type 0) (had has : InSink) (os : List Restored) (en
   pub like : AllZip IsFileLike rs os
   pub same : given → rs ≡ os
   pub ends : EndsWith had has rs end
+
+-- a delivery of the files among the outcomes ends so, and they are these files if they are made of what was gathered, if something was
+abbrev pub EndsAgain : {D : Type 0} → (D → Option (List Volume)) → (D → ℕ) → List D → List Group → Option Gathered → List (FileKey × join.Outcome)
+    → InSink → InSink → RestoreEnd → Type 0
+EndsAgain shows failures drives groups gathered outcomes had has end =
+    EndsLike (CanGive shows failures drives groups gathered (map restored outcomes)) had has (map restored outcomes) end
+
+-- the same of files that are made of a source
+abbrev pub EndsBy : {D : Type 0} → (D → Option (List Volume)) → (D → ℕ) → List D → List Group → Source → List (FileKey × join.Outcome)
+    → InSink → InSink → RestoreEnd → Type 0
+EndsBy shows failures drives groups source outcomes had has end =
+    EndsAgain shows failures drives groups (Some source.gathered.now) outcomes had has end
+
+-- the same of the files of a restore
+abbrev pub EndsMade : {D : Type 0} → (D → Option (List Volume)) → (D → ℕ) → List D → List Group → Made → InSink → InSink → RestoreEnd → Type 0
+EndsMade shows failures drives groups made had has end =
+    EndsAgain shows failures drives groups made.gathered made.outcomes.items had has end
 
 -- the number of a stop if a file is not made once more
 abbrev pub again_number : AgainFault → ℕ
@@ -100,7 +129,16 @@ abbrev pub MakesOver : {D : Type 0} → (D → Option (List Volume)) → List D 
 MakesOver shows before after groups names result =
     OverVolumes (map shows before) (map shows after) groups (option_map planned_in names) (Answers (λ (m : Made). map restored m.outcomes.items) cause result)
 
+-- the files can be made once more of what the drives show
+abbrev pub CanGiveMade : {D : Type 0} → (D → Option (List Volume)) → (D → ℕ) → List D → List Group → Made → Type 0
+CanGiveMade shows failures drives groups made = CanGive shows failures drives groups made.gathered (map restored made.outcomes.items)
+
+-- if the hits of a joiner are read again as they were found, the files can be made once more of what the drives show afterwards
+abbrev pub GivesIfReread : {D : Type 0} → (D → Option (List Volume)) → (D → ℕ) → List D → List D → List Group → Joining → Made → Type 0
+GivesIfReread shows failures before after groups joining made =
+    CanReread shows failures before groups joining.hits → CanGiveMade shows failures after groups made
+
 -- over all such volumes, the files can be made once more of what the drives show afterwards
-abbrev pub GivesAgain : {D : Type 0} → (D → Option (List Volume)) → (D → ℕ) → List D → List D → List Group → Option Gathered → List Restored → Type 0
-GivesAgain shows failures before after groups gathered rs =
-    (volumes : List Volume) → AllStand (map shows before) (map shows after) (pieces_of groups) volumes → CanGive shows failures after groups gathered rs
+abbrev pub GivesAgain : {D : Type 0} → (D → Option (List Volume)) → (D → ℕ) → List D → List D → List Group → Made → Type 0
+GivesAgain shows failures before after groups made =
+    (volumes : List Volume) → AllStand (map shows before) (map shows after) (pieces_of groups) volumes → CanGiveMade shows failures after groups made

@@ -1,5 +1,6 @@
 -- Texts of bootstraps that are refused whatever follows, so that reading may stop at them.
-use Rattle.std.specs.Prelude.{◌≡◌, ◌≤◌, ℕ, ◌-◌, Bool, false, not, ◌&&◌, nat_le, ◌==◌, List, ◌++◌, length, drop, Option, IfSome}
+use Rattle.std.specs.Prelude.{◌≡◌, ◌≤◌, ℕ, ◌-◌, Bool, false, not, ◌&&◌, nat_le, ◌==◌, List, ◌++◌, length, drop, Option, IfSome, Result, OnOk}
+use Rattle.std.specs.Io.KnownBytes.{Consumes}
 use Rattle.std.specs.List.{list_any}
 use Rattle.br_model.specs.BootstrapText.{read_bootstrap}
 
@@ -18,6 +19,10 @@ IsSettled text = (more : List ℕ) → read_bootstrap (text ++ more) ≡ read_bo
 -- the text gives the same groups, or the same refused line, as all that a reader had left, if this is known
 abbrev pub ReadsAs : List ℕ → Option (List ℕ) → Type 0
 ReadsAs text known = IfSome known (λ bytes. read_bootstrap text ≡ read_bootstrap bytes)
+
+-- a text grew by what was read: if it was all that a reader gave, as far as this is known, it still is
+abbrev pub GrowsAsRead : {A E : Type 0} → Option (List ℕ) → Option (List ℕ) → List ℕ → List ℕ → Result A E → Type 0
+GrowsAsRead old new before after result = (known : Option (List ℕ)) → Consumes known old before → OnOk result (Consumes known new after)
 
 -- the text after one turn of reading: at most `most` bytes were added
 abbrev pub GrowsBy : ℕ → List ℕ → List ℕ → Type 0

@@ -4,11 +4,10 @@ ghost use Rattle.br_model.specs.Answer.{IsRefusal};
 ghost use Rattle.br_model.specs.Delivery.{delivery};
 ghost use Rattle.br_join.specs.Outcome.{restored};
 ghost use Rattle.br_join.specs.declared.item.Outcome.TheVariants.{File};
-ghost use Rattle.br_gather.specs.FileParts.{GivesItem};
 ghost use Rattle.br_reread.specs.Many.{GoOn};
 ghost use Rattle.br_sink.specs.Delivery.{AreApart, IsStopIn, items_in, stop_cause};
 ghost use Rattle.br_sink.specs.Fault.{cause_number};
-ghost use Rattle.br_engine.specs.Again.{CanMake, DeliversAll, IsStopAgain, PutsLike, again_number};
+ghost use Rattle.br_engine.specs.Again.{DeliversAll, IsStopAgain, PutsAgain, PutsItemAgain, again_number};
 
 use br_again::{AgainFault, standing_stays};
 use br_gather::Gathered;
@@ -98,8 +97,7 @@ fn put_together<D: Drive, S: Sink>(
     window: &[(FileKey, Outcome)],
     sink: &mut S,
 ) -> Result<(), SinkStop>
-    ensures put { PutsLike (CanMake many.old source.now.gathered.now (map restored window.now)) (items_in window.now)
-        (S.has sink.old) (S.has sink.new) result }
+    ensures put { PutsAgain many.old source.now.gathered.now window.now (S.has sink.old) (S.has sink.new) result }
     ensures stopped { IfErr result (IsStopAgain (length (items_in window.now))) }
     ensures on { GoOn many.old many.new }
     ensures counted { S.failures sink.old ≤ S.failures sink.new }
@@ -119,8 +117,7 @@ fn put_alone<D: Drive, S: Sink>(
     alone: &Alone<'_>,
     sink: &mut S,
 ) -> Result<(), SinkStop>
-    ensures put { PutsLike (GivesItem many.old source.now.gathered.now.hits alone.now.key alone.now.item.now) (alone.now.item.now ∷ [])
-        (S.has sink.old) (S.has sink.new) result }
+    ensures put { PutsItemAgain many.old source.now.gathered.now alone.now.key alone.now.item.now (S.has sink.old) (S.has sink.new) result }
     ensures stopped { IfErr result (IsStopAgain 1) }
     ensures on { GoOn many.old many.new }
     ensures counted { S.failures sink.old ≤ S.failures sink.new }
@@ -144,8 +141,7 @@ fn put_window<D: Drive, S: Sink>(
     window: &[(FileKey, Outcome)],
     sink: &mut S,
 ) -> Result<(), SinkStop>
-    ensures put { PutsLike (CanMake many.old source.now.gathered.now (map restored window.now)) (items_in window.now)
-        (S.has sink.old) (S.has sink.new) result }
+    ensures put { PutsAgain many.old source.now.gathered.now window.now (S.has sink.old) (S.has sink.new) result }
     ensures stopped { IfErr result (IsStopAgain (length (items_in window.now))) }
     ensures on { GoOn many.old many.new }
     ensures counted { S.failures sink.old ≤ S.failures sink.new }
@@ -166,8 +162,7 @@ fn put_windows<D: Drive, S: Sink>(
     outcomes: &[(FileKey, Outcome)],
     sink: &mut S,
 ) -> Result<(), SinkStop>
-    ensures put { PutsLike (CanMake many.old source.now.gathered.now (map restored outcomes.now)) (items_in outcomes.now)
-        (S.has sink.old) (S.has sink.new) result }
+    ensures put { PutsAgain many.old source.now.gathered.now outcomes.now (S.has sink.old) (S.has sink.new) result }
     ensures stopped { IfErr result (IsStopAgain (length (items_in outcomes.now))) }
     ensures on { GoOn many.old many.new }
     ensures counted { S.failures sink.old ≤ S.failures sink.new }
@@ -201,8 +196,7 @@ pub(crate) fn deliver_again<D: Drive, S: Sink>(
     outcomes: &[(FileKey, Outcome)],
     sink: &mut S,
 ) -> Result<(), SinkStop>
-    ensures put { PutsLike (CanMake many.old source.now.gathered.now (map restored outcomes.now)) (items_in outcomes.now)
-        (S.has sink.old) (S.has sink.new) result }
+    ensures put { PutsAgain many.old source.now.gathered.now outcomes.now (S.has sink.old) (S.has sink.new) result }
     ensures all { DeliversAll result (map restored outcomes.now) }
     ensures stopped { IfErr result (IsStopIn (items_in outcomes.now)) }
     ensures on { GoOn many.old many.new }

@@ -1,8 +1,7 @@
 //! The files of a restore, made within a budget of memory.
-ghost use Rattle.std.specs.Prelude.{◌≡◌, map, option_map, Some, IfErr, IfOk};
-ghost use Rattle.br_join.specs.Outcome.{restored};
+ghost use Rattle.std.specs.Prelude.{◌≡◌, option_map, Some, IfErr, IfOk};
 ghost use Rattle.br_pool.specs.Pool.{AreDrives, OnlyIfAllFail, StayInPlace};
-ghost use Rattle.br_engine.specs.Again.{CanGive, CanReread, EndsLike, GivesAgain, MadeOver, MakesOver};
+ghost use Rattle.br_engine.specs.Again.{CanReread, EndsBy, EndsMade, GivesAgain, GivesIfReread, MadeOver, MakesOver};
 ghost use Rattle.br_engine.specs.Fault.{IsNoDriveLeft, IsNoLine, IsUnmade};
 ghost use Rattle.br_engine.specs.Outputs.{SinkCounts, StopsByFailure};
 
@@ -64,8 +63,7 @@ fn made_of<D: Drive + Send>(
     drives: &mut Vec<D>,
 ) -> Result<Made, ExtractFault>
     ensures made { IfOk result (λ made. MadeOver (CanReread D.shows D.failures drives.old.items groups.now joiner.hits) joiner made) }
-    ensures again { IfOk result (λ made. CanReread D.shows D.failures drives.old.items groups.now joiner.hits
-        → CanGive D.shows D.failures drives.new.items groups.now made.gathered (map restored made.outcomes.items)) }
+    ensures again { IfOk result (λ made. GivesIfReread D.shows D.failures drives.old.items drives.new.items groups.now joiner made) }
     ensures places { StayInPlace D.shows D.failures drives.old.items drives.new.items }
     ensures failed { OnlyIfAllFail D.failures drives.old.items drives.new.items IsNoDriveLeft result }
     ensures free { IfErr result IsUnmade }
@@ -104,8 +102,7 @@ pub fn restore_within<D: Drive + Send>(
 ) -> Result<Made, ExtractFault>
     requires drives { AreDrives drives.old.items }
     ensures files { MakesOver D.shows drives.old.items drives.new.items bootstrap.now names result }
-    ensures again { IfOk result (λ made. GivesAgain D.shows D.failures drives.old.items drives.new.items bootstrap.now
-        made.gathered (map restored made.outcomes.items)) }
+    ensures again { IfOk result (λ made. GivesAgain D.shows D.failures drives.old.items drives.new.items bootstrap.now made) }
     ensures places { StayInPlace D.shows D.failures drives.old.items drives.new.items }
     ensures driven { IfErr result IsNoLine }
     ensures failed { OnlyIfAllFail D.failures drives.old.items drives.new.items IsNoDriveLeft result }
@@ -133,8 +130,8 @@ fn deliver_by<D: Drive, S: Sink>(
     outcomes: &[(FileKey, Outcome)],
     sink: &mut S,
 ) -> RestoreEnd
-    ensures ends { EndsLike (CanGive D.shows D.failures drives.old.items groups.now (Some source.now.gathered.now) (map restored outcomes.now))
-        (Some (S.has sink.old)) (Some (S.has sink.new)) (map restored outcomes.now) result }
+    ensures ends { EndsBy D.shows D.failures drives.old.items groups.now source.now outcomes.now
+        (Some (S.has sink.old)) (Some (S.has sink.new)) result }
     ensures places { StayInPlace D.shows D.failures drives.old.items drives.new.items }
     ensures counted { SinkCounts (Some (S.failures sink.old)) (Some (S.failures sink.new)) }
     ensures failed { StopsByFailure (Some (S.failures sink.old)) (Some (S.failures sink.new)) result }
@@ -159,8 +156,8 @@ fn deliver_from<D: Drive, S: Sink>(
     outcomes: &[(FileKey, Outcome)],
     sink: &mut Option<S>,
 ) -> RestoreEnd
-    ensures ends { EndsLike (CanGive D.shows D.failures drives.old.items groups.now (Some source.now.gathered.now) (map restored outcomes.now))
-        (option_map S.has sink.old) (option_map S.has sink.new) (map restored outcomes.now) result }
+    ensures ends { EndsBy D.shows D.failures drives.old.items groups.now source.now outcomes.now
+        (option_map S.has sink.old) (option_map S.has sink.new) result }
     ensures places { StayInPlace D.shows D.failures drives.old.items drives.new.items }
     ensures counted { SinkCounts (option_map S.failures sink.old) (option_map S.failures sink.new) }
     ensures failed { StopsByFailure (option_map S.failures sink.old) (option_map S.failures sink.new) result }
@@ -181,8 +178,7 @@ pub fn deliver_made<D: Drive, S: Sink>(
     drives: &mut Vec<D>,
     sink: &mut Option<S>,
 ) -> RestoreEnd
-    ensures ends { EndsLike (CanGive D.shows D.failures drives.old.items groups.now made.now.gathered (map restored made.now.outcomes.items))
-        (option_map S.has sink.old) (option_map S.has sink.new) (map restored made.now.outcomes.items) result }
+    ensures ends { EndsMade D.shows D.failures drives.old.items groups.now made.now (option_map S.has sink.old) (option_map S.has sink.new) result }
     ensures places { StayInPlace D.shows D.failures drives.old.items drives.new.items }
     ensures counted { SinkCounts (option_map S.failures sink.old) (option_map S.failures sink.new) }
     ensures failed { StopsByFailure (option_map S.failures sink.old) (option_map S.failures sink.new) result }

@@ -1,9 +1,9 @@
 //! Reading the text of a bootstrap, which stops at a line without an end.
-ghost use Rattle.std.specs.Prelude.{◌≡◌, ◌+◌, ◌^◌, ◌<◌, ℕ, List, false, length, Option, IfOk, IfErr, OnOk};
+ghost use Rattle.std.specs.Prelude.{◌≡◌, ◌+◌, ◌^◌, ◌<◌, false, length, IfOk, IfErr, OnOk};
 ghost use Rattle.std.specs.List.{list_any};
-ghost use Rattle.std.specs.Io.KnownBytes.{Consumes, IsAtEnd};
+ghost use Rattle.std.specs.Io.KnownBytes.{IsAtEnd};
 ghost use Rattle.br_engine.specs.Fault.{EndlessAfterAll, IsUnread};
-ghost use Rattle.br_engine.specs.Reading.{ReadsAs, GrowsBy, StopsInTime, has_long_end, is_line_end};
+ghost use Rattle.br_engine.specs.Reading.{GrowsAsRead, GrowsBy, ReadsAs, StopsInTime, has_long_end, is_line_end};
 
 use crate::fault::ExtractFault;
 use crate::turns::Turns;
@@ -30,8 +30,7 @@ fn read_part<R: Read>(
     requires room { 0 < length buffer.old }
     ensures turn { OnOk result (turns.new ≡ turns.old + 1) }
     ensures few { OnOk result (turns.old < 2 ^ 40) }
-    ensures read { (known : Option (List ℕ)) → Consumes known (R.remaining reader.old) text.old.items
-        → OnOk result (Consumes known (R.remaining reader.new) text.new.items) }
+    ensures read { GrowsAsRead (R.remaining reader.old) (R.remaining reader.new) text.old.items text.new.items result }
     ensures part { OnOk result (GrowsBy (length buffer.old) text.old.items text.new.items) }
     ensures end { IfOk result (λ more. more ≡ false → IsAtEnd (R.remaining reader.new)) }
     ensures unread { IfErr result IsUnread }
