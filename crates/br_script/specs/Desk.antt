@@ -24,6 +24,10 @@ HasLearned receipt session = MatchOption session ⊥ (λ s. IsPrefix receipt.log
 abbrev pub SeesMore : Option Known → Option Known → Type 0
 SeesMore before after = (after ≡ before) ⊎ MatchOption before ⊥ (λ s. MatchOption after ⊥ (λ t. Extends s t))
 
+-- a snapshot of the session is taken, which is missing then; or none is, and the session is as before
+abbrev pub TakesSnapshot : Option Known → Option Known → Option Known → Type 0
+TakesSnapshot before after taken = MatchOption taken (after ≡ before) (λ view. (after ≡ None) × MatchOption before ⊥ (λ s. Extends s view))
+
 -- The keeper commits the job. If it gives a receipt, its job's number is returned, and the session has
 -- learned it.
 abbrev pub CommitsAt : {C W : Type 0} → (JobRows → C → C → Type 0) → (JobRows → C → C → Type 0) → (Keeping C W → Shelf) → ToCommit

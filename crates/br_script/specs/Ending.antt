@@ -19,6 +19,7 @@ use Rattle.br_driven.specs.Restoring.{IsRestored}
 use Rattle.br_script.specs.Answering.{Tells, refusal_at}
 use Rattle.br_script.specs.declared.fault.ScriptFault.{ScriptFault}
 use Rattle.br_script.specs.declared.fault.ScriptFault.TheVariants as of_script
+use Rattle.br_script.specs.declared.script.Script.{Script}
 use Rattle.br_script.specs.declared.script.ScriptEnd.{ScriptEnd}
 use Rattle.br_script.specs.declared.script.ScriptEnd.TheVariants.{Refused}
 
@@ -86,3 +87,23 @@ abbrev pub EndsDialogue : Option (List Volume) → ℕ → Option (List ℕ) →
 EndsDialogue volumes count before after was now result judged None = (now ≡ after_lines judged was) × Keeps before after × (result ≡ Ok tt)
 EndsDialogue volumes count before after was now result judged (Some plan) =
     Restores volumes count plan.groups (Some plan.names) before after (after_lines judged was) now result
+
+-- ---- as a script states it, over its volumes, its drives and its end
+
+-- the kept bootstrap is restored; without one the line is refused
+abbrev pub RunsKeptBy : {C V : Type 0} → (V → Option (List Volume)) → Script C V → Script C V → Option (List ℕ) → Option (List ℕ) → ℕ
+    → Result (Unit {0}) ScriptFault → Type 0
+RunsKeptBy holds old new before after place result =
+    RunsKept (holds old.desk.keeper.volumes) old.drives place before after old.end new.end result old.kept
+
+-- the files of a plan are restored
+abbrev pub RestoresPlan : {C V : Type 0} → (V → Option (List Volume)) → Script C V → Script C V → Option (List ℕ) → Option (List ℕ)
+    → Result (Unit {0}) ScriptFault → Plan → Type 0
+RestoresPlan holds old new before after result plan =
+    Restores (holds old.desk.keeper.volumes) old.drives plan.groups (Some plan.names) before after old.end new.end result
+
+-- after a dialogue its plan is restored, if there is one
+abbrev pub EndsDialogueBy : {C V : Type 0} → (V → Option (List Volume)) → Script C V → Script C V → Option (List ℕ) → Option (List ℕ)
+    → Result (Unit {0}) ScriptFault → Lines → Option Plan → Type 0
+EndsDialogueBy holds old new before after result judged plan =
+    EndsDialogue (holds old.desk.keeper.volumes) old.drives before after old.end new.end result judged plan

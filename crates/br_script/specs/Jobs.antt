@@ -3,15 +3,18 @@ use Rattle.std.specs.Prelude.{◌≡◌, ℕ, ◌⊎◌, Bool, true, false, List
 use Rattle.std.specs.Io.KnownBytes.{Appends, Keeps}
 use Rattle.br_model.specs.Answer.{IsRefusal}
 use Rattle.br_model.specs.Job.{JobRows}
+use Rattle.br_model.specs.Volume.{Volume}
+use Rattle.br_history.specs.Saving.{ToCommit}
 use Rattle.br_publish.specs.Sessions.{Known}
-use Rattle.br_keeper.specs.Keeping.{Keeping}
+use Rattle.br_keeper.specs.Keeping.{Keeping, shelf_of}
 use Rattle.br_keeper.specs.Writing.{Shelf}
 use Rattle.br_draft.specs.Drafting.{Drafting, TakesLine, begins, ended, given_up}
 use Rattle.br_draft.specs.Fault.{cause, fault_number}
 use Rattle.br_draft.specs.Head.{Begun, head_said}
 use Rattle.br_draft.specs.declared.fault.JobLineFault.{JobLineFault}
 use Rattle.br_script.specs.Answering.{refusal_at}
-use Rattle.br_script.specs.Desk.{EndsJob}
+use Rattle.br_script.specs.Desk.{AnswersCommit, EndsJob}
+use Rattle.br_script.specs.declared.script.Script.{Script}
 
 -- The fields begin a job, and nothing is written. Or they are refused, the refusal is written, and the job is as before.
 abbrev pub BeginsJob : {E : Type 0} → ℕ → Option (List ℕ) → Option (List ℕ) → Result (Unit {0}) E → List ℕ → Option Drafting → Option Drafting → Type 0
@@ -41,3 +44,24 @@ abbrev pub TakesIn : {C W E : Type 0} → (JobRows → C → C → Type 0) → (
 TakesIn inserts refuses shelf place old new session before after result line draft left =
     (taken : Drafting) × (r : Result Bool JobLineFault) × TakesLine line draft taken r
     × GoesOn inserts refuses shelf place old new session before after result taken left r
+
+-- ---- as a script states it, over what its catalogue, its volumes and its writer show
+
+-- a job is committed, and its line is written
+abbrev pub CommitsJob : {C V W E : Type 0} → (JobRows → C → C → Type 0) → (JobRows → C → C → Type 0) → (V → Option (List Volume)) → (V → ℕ)
+    → (W → Option (List ℕ)) → Script C V → Script C V → W → W → ToCommit → Result (Unit {0}) E → Type 0
+CommitsJob inserts refuses holds failures contents old new before after c result =
+    AnswersCommit inserts refuses (shelf_of holds failures) c old.desk.keeper new.desk.keeper new.desk.session (contents before) (contents after) result
+
+-- what becomes of a job that ends
+abbrev pub EndsDraft : {C V W E : Type 0} → (JobRows → C → C → Type 0) → (JobRows → C → C → Type 0) → (V → Option (List Volume)) → (V → ℕ)
+    → (W → Option (List ℕ)) → Script C V → Script C V → W → W → ℕ → Result (Unit {0}) E → Drafting → Type 0
+EndsDraft inserts refuses holds failures contents old new before after place result draft =
+    EndsJob inserts refuses (shelf_of holds failures) place old.desk.keeper new.desk.keeper new.desk.session (contents before) (contents after) result (ended draft)
+
+-- a job takes a line, and goes on or ends
+abbrev pub DraftTakes : {C V W E : Type 0} → (JobRows → C → C → Type 0) → (JobRows → C → C → Type 0) → (V → Option (List Volume)) → (V → ℕ)
+    → (W → Option (List ℕ)) → Script C V → Script C V → W → W → ℕ → Result (Unit {0}) E → List ℕ → Drafting → Type 0
+DraftTakes inserts refuses holds failures contents old new before after place result line draft =
+    TakesIn inserts refuses (shelf_of holds failures) place old.desk.keeper new.desk.keeper new.desk.session (contents before) (contents after) result
+    line draft new.draft

@@ -13,11 +13,10 @@ use Rattle.br_engine.specs.declared.fault.ExtractFault.TheVariants as of_extract
 use Rattle.br_fields.specs.Fault.{line_cause}
 use Rattle.br_fields.specs.declared.fault.LineFault.{LineFault}
 use Rattle.br_fields.specs.declared.fault.LineFault.TheVariants.{Memory, BadScript}
-use Rattle.br_keeper.specs.Keeping.{shelf_of}
 use Rattle.br_script.specs.Answering.{refusal_at}
 use Rattle.br_script.specs.Deeds.{AnswersBytes}
-use Rattle.br_script.specs.Ending.{RefusesBy, RefusesExtract, RunsKept}
-use Rattle.br_script.specs.Jobs.{BeginsJob, TakesIn}
+use Rattle.br_script.specs.Ending.{RefusesBy, RefusesExtract, RunsKeptBy}
+use Rattle.br_script.specs.Jobs.{BeginsJob, DraftTakes}
 use Rattle.br_script.specs.Line.{Said, line_said}
 use Rattle.br_script.specs.Line.Said.{Drives, Volume as Bytes, Bsr, Extract, Job, Restore}
 use Rattle.br_script.specs.Restoring.{RestoresBy}
@@ -40,15 +39,20 @@ KeepsBootstrap before after was now result kept keeps =
     ⊎ ((text : List ℕ) × (read : Result (List Group) BsrFault) × Answers (λ (groups : List Group). groups) bootstrap.cause read (read_bootstrap text)
     × KeepsRead before after was now result keeps read))
 
+-- the bytes are appended to the volume, or some of the first of them and the refusal is written
+abbrev pub AppendsBy : {C V E : Type 0} → (V → Option (List Volume)) → (V → ℕ) → Script C V → Script C V → Option (List ℕ) → Option (List ℕ)
+    → List ℕ → List ℕ → Result (Unit {0}) E → Type 0
+AppendsBy holds failures old new before after volume bytes result =
+    AnswersBytes holds failures volume bytes old.desk.keeper new.desk.keeper before after result
+
 -- what a line outside of a job does that asks for this
 abbrev pub Obeys : {C V : Type 0} → (V → Option (List Volume)) → (V → ℕ) → Script C V → Script C V → Option (List ℕ) → Option (List ℕ) → ℕ
     → Result (Unit {0}) ScriptFault → Said → Type 0
 Obeys holds failures old new before after place result (Drives n) = (new ≡ record old { drives = n }) × Keeps before after
 Obeys holds failures old new before after place result (Bytes name bytes) =
-    AnswersBytes holds failures name bytes old.desk.keeper new.desk.keeper before after result
+    AppendsBy holds failures old new before after name bytes result
 Obeys holds failures old new before after place result Bsr = KeepsBootstrap before after old.end new.end result old.kept new.kept
-Obeys holds failures old new before after place result Extract =
-    RunsKept (holds old.desk.keeper.volumes) old.drives place before after old.end new.end result old.kept
+Obeys holds failures old new before after place result Extract = RunsKeptBy holds old new before after place result
 Obeys holds failures old new before after place result (Job fields) = BeginsJob place before after result fields old.draft new.draft
 Obeys holds failures old new before after place result (Restore fields) = RestoresBy holds old new before after place result fields
 
@@ -65,8 +69,8 @@ TakesOutside holds failures old new before after place result line =
     ⊎ ((asked : Said) × (line_said line ≡ Ok asked) × Obeys holds failures old new before after place result asked)
 
 -- a line is taken by the job that it is in, or by the script
-abbrev pub CarriesOut : {C V : Type 0} → (JobRows → C → C → Type 0) → (JobRows → C → C → Type 0) → (V → Option (List Volume)) → (V → ℕ)
-    → Script C V → Script C V → Option (List ℕ) → Option (List ℕ) → ℕ → Result (Unit {0}) ScriptFault → List ℕ → Type 0
-CarriesOut inserts refuses holds failures old new before after place result line =
-    MatchOption old.draft (TakesOutside holds failures old new before after place result line)
-    (λ d. TakesIn inserts refuses (shelf_of holds failures) place old.desk.keeper new.desk.keeper new.desk.session before after result line d new.draft)
+abbrev pub CarriesOut : {C V W : Type 0} → (JobRows → C → C → Type 0) → (JobRows → C → C → Type 0) → (V → Option (List Volume)) → (V → ℕ)
+    → (W → Option (List ℕ)) → Script C V → Script C V → W → W → ℕ → Result (Unit {0}) ScriptFault → List ℕ → Type 0
+CarriesOut inserts refuses holds failures contents old new before after place result line =
+    MatchOption old.draft (TakesOutside holds failures old new (contents before) (contents after) place result line)
+    (λ d. DraftTakes inserts refuses holds failures contents old new before after place result line d)

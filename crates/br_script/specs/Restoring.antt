@@ -54,6 +54,12 @@ FinishesDialogue volumes count before after was now result Unended = (now ≡ wa
 FinishesDialogue volumes count before after was now result (Held judged plan) = EndsDialogue volumes count before after was now result judged plan
 FinishesDialogue volumes count before after was now result (Broken why) = RefusesDialogue before after now why result
 
+-- the same, as a script states it
+abbrev pub FinishesDialogueBy : {C V : Type 0} → (V → Option (List Volume)) → Script C V → Script C V → Option (List ℕ) → Option (List ℕ)
+    → Result (Unit {0}) ScriptFault → Dialogue → Type 0
+FinishesDialogueBy holds old new before after result dialogue =
+    FinishesDialogue (holds old.desk.keeper.volumes) old.drives before after old.end new.end result dialogue
+
 -- what follows a dialogue, unless reading or writing failed
 abbrev pub FinishesOver : Option (List Volume) → ℕ → Option (List ℕ) → Option (List ℕ) → ScriptEnd → ScriptEnd → Result (Unit {0}) ScriptFault
     → Result Dialogue ScriptFault → Type 0

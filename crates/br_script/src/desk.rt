@@ -1,9 +1,8 @@
 //! A keeper, and the session that takes the snapshots of a script.
-ghost use Rattle.std.specs.Prelude.{◌≡◌, IfSome, MatchOption, None};
+ghost use Rattle.std.specs.Prelude.{◌≡◌, IfSome, None};
 ghost use mathlib.Core.List.{IsPrefix};
-ghost use Rattle.br_publish.specs.Sessions.{Extends};
 ghost use Rattle.br_keeper.specs.Keeping.{shelf_of};
-ghost use Rattle.br_script.specs.Desk.{CommitsAt, IsOwn, SeesMore};
+ghost use Rattle.br_script.specs.Desk.{CommitsAt, IsOwn, SeesMore, TakesSnapshot};
 
 use br_history::SavedJob;
 use br_keeper::{JobStore, Keeper, KeeperFault, Session, Snapshot};
@@ -40,8 +39,7 @@ impl<C: JobStore, W: VolumeStore> Desk<C, W> {
     pub(crate) fn snapshot(&mut self) -> Option<Snapshot>
         requires own { IsOwn self.old.session self.old.keeper }
         ensures keeper { self.new.keeper ≡ self.old.keeper }
-        ensures seen { MatchOption result (self.new.session ≡ self.old.session)
-            (λ view. (self.new.session ≡ None) × MatchOption self.old.session ⊥ (λ s. Extends s view)) }
+        ensures seen { TakesSnapshot self.old.session self.new.session result }
         ensures own { IfSome result (λ view. view.book ≡ self.new.keeper.list.book) }
     {
         let Some(session) = self.session.take() else {

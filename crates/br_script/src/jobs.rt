@@ -2,12 +2,10 @@
 ghost use Rattle.std.specs.Prelude.{◌≡◌, ◌≤◌, None, OnOk};
 ghost use Rattle.std.specs.Io.KnownBytes.{Appends};
 ghost use Rattle.br_model.specs.Text.{refused_line};
-ghost use Rattle.br_draft.specs.Drafting.{ended};
-ghost use Rattle.br_keeper.specs.Keeping.{shelf_of};
 ghost use Rattle.br_script.specs.Answering.{refusal_at};
 ghost use Rattle.br_script.specs.Deeds.{DoesFew};
-ghost use Rattle.br_script.specs.Desk.{AnswersCommit, EndsJob, IsOwn, SeesMore};
-ghost use Rattle.br_script.specs.Jobs.{BeginsJob, GivesUp, TakesIn};
+ghost use Rattle.br_script.specs.Desk.{IsOwn, SeesMore};
+ghost use Rattle.br_script.specs.Jobs.{BeginsJob, CommitsJob, DraftTakes, EndsDraft, GivesUp};
 
 use crate::fault::ScriptFault;
 use crate::input::Lines;
@@ -49,8 +47,7 @@ impl<C: JobStore, V: VolumeStore> Script<C, V> {
         ensures sees { SeesMore self.old.desk.session self.new.desk.session }
         ensures drives { self.new.drives ≡ self.old.drives }
         ensures draft { self.new.draft ≡ self.old.draft }
-        ensures answers { AnswersCommit C.inserts C.refuses (shelf_of V.holds V.failures) job self.old.desk.keeper self.new.desk.keeper
-            self.new.desk.session (W.contents writer.old) (W.contents writer.new) result }
+        ensures answers { CommitsJob C.inserts C.refuses V.holds V.failures W.contents self.old self.new writer.old writer.new job result }
     {
         match self.desk.commit(rt, job) {
             Ok(id) => {
@@ -74,8 +71,7 @@ impl<C: JobStore, V: VolumeStore> Script<C, V> {
         ensures sees { SeesMore self.old.desk.session self.new.desk.session }
         ensures drives { self.new.drives ≡ self.old.drives }
         ensures draft { self.new.draft ≡ self.old.draft }
-        ensures ends { EndsJob C.inserts C.refuses (shelf_of V.holds V.failures) line self.old.desk.keeper self.new.desk.keeper
-            self.new.desk.session (W.contents writer.old) (W.contents writer.new) result (ended draft) }
+        ensures ends { EndsDraft C.inserts C.refuses V.holds V.failures W.contents self.old self.new writer.old writer.new line result draft }
     {
         match draft.end() {
             Ok(Some(job)) => self.commit(rt, job, writer),
@@ -122,8 +118,8 @@ impl<C: JobStore, V: VolumeStore> Script<C, V> {
         ensures drives { self.new.drives ≡ self.old.drives }
         ensures turns { OnOk result (lines.old.turns ≤ lines.new.turns) }
         ensures few { DoesFew C.inserts C.refuses V.holds V.failures self.new.desk.session self.old.desk.keeper self.new.desk.keeper }
-        ensures takes { TakesIn C.inserts C.refuses (shelf_of V.holds V.failures) lines.old.number self.old.desk.keeper
-            self.new.desk.keeper self.new.desk.session (W.contents writer.old) (W.contents writer.new) result line.now draft self.new.draft }
+        ensures takes { DraftTakes C.inserts C.refuses V.holds V.failures W.contents self.old self.new writer.old writer.new
+            lines.old.number result line.now draft }
     {
         match draft.take(self.alloc, line) {
             Ok(true) => Ok(self.end_job(rt, draft, lines.number(), writer)?),

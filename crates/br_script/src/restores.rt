@@ -1,10 +1,10 @@
 //! The lines of a script that restore.
 ghost use Rattle.std.specs.Prelude.{◌≡◌, ◌≤◌, ◌++◌, IfSome, MatchOption, OnOk, Some};
 ghost use Rattle.br_script.specs.Answering.{refusal_at};
-ghost use Rattle.br_script.specs.Restoring.{Converses, ConversesIn, ConversesOver, FinishesDialogue, IsUnchosen, RestoresBy};
+ghost use Rattle.br_script.specs.Restoring.{Converses, ConversesIn, ConversesOver, FinishesDialogueBy, IsUnchosen, RestoresBy};
 ghost use Rattle.br_script.specs.Obeying.{KeepsBootstrap};
 ghost use Rattle.br_script.specs.Desk.{IsOwn, SeesMore};
-ghost use Rattle.br_script.specs.Ending.{EndsDialogue, RefusesBy, Restores, RunsKept};
+ghost use Rattle.br_script.specs.Ending.{EndsDialogueBy, RefusesBy, RestoresPlan, RunsKeptBy};
 
 use crate::fault::ScriptFault;
 use crate::input::Lines;
@@ -147,8 +147,7 @@ impl<C: JobStore, V: DrivenStore> Script<C, V> {
         ensures drives { self.new.drives ≡ self.old.drives }
         ensures desk { self.new.desk ≡ self.old.desk }
         ensures kept { self.new.kept ≡ self.old.kept }
-        ensures runs { RunsKept (V.holds self.old.desk.keeper.volumes) self.old.drives line (W.contents writer.old) (W.contents writer.new)
-            self.old.end self.new.end result self.old.kept }
+        ensures runs { RunsKeptBy V.holds self.old self.new (W.contents writer.old) (W.contents writer.new) line result }
     {
         let Some(bootstrap) = &self.kept else {
             return Ok(self.refuse_line(BAD_SCRIPT, line, writer)?);
@@ -171,8 +170,7 @@ impl<C: JobStore, V: DrivenStore> Script<C, V> {
     ) -> Result<(), ScriptFault>
         ensures drives { self.new.drives ≡ self.old.drives }
         ensures desk { self.new.desk ≡ self.old.desk }
-        ensures restores { Restores (V.holds self.old.desk.keeper.volumes) self.old.drives plan.groups (Some plan.names)
-            (W.contents writer.old) (W.contents writer.new) self.old.end self.new.end result }
+        ensures restores { RestoresPlan V.holds self.old self.new (W.contents writer.old) (W.contents writer.new) result plan }
     {
         let (bootstrap, names) = plan.into_parts();
         let wanted = Wanted {
@@ -194,8 +192,7 @@ impl<C: JobStore, V: DrivenStore> Script<C, V> {
     ) -> Result<(), ScriptFault>
         ensures drives { self.new.drives ≡ self.old.drives }
         ensures desk { self.new.desk ≡ self.old.desk }
-        ensures ends { EndsDialogue (V.holds self.old.desk.keeper.volumes) self.old.drives (W.contents writer.old) (W.contents writer.new)
-            self.old.end self.new.end result judged plan }
+        ensures ends { EndsDialogueBy V.holds self.old self.new (W.contents writer.old) (W.contents writer.new) result judged plan }
     {
         if judged == Judged::SomeRefused {
             self.end = ScriptEnd::Refused;
@@ -233,8 +230,7 @@ impl<C: JobStore, V: DrivenStore> Script<C, V> {
         ensures drives { self.new.drives ≡ self.old.drives }
         ensures desk { self.new.desk ≡ self.old.desk }
         ensures turns { OnOk result (lines.old.turns ≤ lines.new.turns) }
-        ensures finishes { FinishesDialogue (V.holds self.old.desk.keeper.volumes) self.old.drives (W.contents writer.old) (W.contents writer.new)
-            self.old.end self.new.end result dialogue }
+        ensures finishes { FinishesDialogueBy V.holds self.old self.new (W.contents writer.old) (W.contents writer.new) result dialogue }
     {
         match dialogue {
             Dialogue::Refused(number) => {

@@ -1,12 +1,12 @@
 //! Scripts, line by line.
 ghost use Rattle.std.specs.Prelude.{◌≡◌, ◌≤◌, Err, IfErr, OnOk};
-ghost use Rattle.br_script.specs.Deeds.{AnswersBytes, AppendsRaw, Does, DoesFew, DoesSome};
+ghost use Rattle.br_script.specs.Deeds.{AppendsRaw, Does, DoesFew, DoesSome};
 ghost use Rattle.br_script.specs.Answering.{refusal_at};
 ghost use Rattle.br_script.specs.Desk.{IsOwn, SeesMore};
 ghost use Rattle.br_script.specs.Ending.{RefusesBy};
 ghost use Rattle.br_script.specs.Fault.{EndlessAfterAll};
 ghost use Rattle.br_script.specs.Line.{drives_after, drives_by, line_said, said};
-ghost use Rattle.br_script.specs.Obeying.{CarriesOut, Obeys, TakesOutside, number_of};
+ghost use Rattle.br_script.specs.Obeying.{AppendsBy, CarriesOut, Obeys, TakesOutside, number_of};
 ghost use Rattle.br_script.specs.declared.script.ScriptEnd.TheVariants.{Refused};
 
 use crate::fault::ScriptFault;
@@ -33,8 +33,7 @@ impl<C: JobStore, V: DrivenStore> Script<C, V> {
         ensures sees { SeesMore self.old.desk.session self.new.desk.session }
         ensures drives { self.new.drives ≡ self.old.drives }
         ensures appended { AppendsRaw V.holds name bytes.now self.old.desk.keeper self.new.desk.keeper }
-        ensures answers { AnswersBytes V.holds V.failures name bytes.now self.old.desk.keeper self.new.desk.keeper
-            (W.contents writer.old) (W.contents writer.new) result }
+        ensures answers { AppendsBy V.holds V.failures self.old self.new (W.contents writer.old) (W.contents writer.new) name bytes.now result }
     {
         match self.desk.keeper.append_raw(&name, bytes) {
             Ok(()) => Ok(()),
@@ -135,7 +134,7 @@ impl<C: JobStore, V: DrivenStore> Script<C, V> {
         ensures sees { SeesMore self.old.desk.session self.new.desk.session }
         ensures turns { OnOk result (lines.old.turns ≤ lines.new.turns) }
         ensures few { DoesFew C.inserts C.refuses V.holds V.failures self.new.desk.session self.old.desk.keeper self.new.desk.keeper }
-        ensures carries { CarriesOut C.inserts C.refuses V.holds V.failures self.old self.new (W.contents writer.old) (W.contents writer.new)
+        ensures carries { CarriesOut C.inserts C.refuses V.holds V.failures W.contents self.old self.new writer.old writer.new
             lines.old.number result line.now }
     {
         match self.draft.take() {
