@@ -41,6 +41,10 @@ MakesNew path contents earlier later =
 abbrev pub PutsNew : List ℕ → List ℕ → Option Nodes → Option Nodes → Type 0
 PutsNew path bytes earlier later = IsFileOrFree earlier path × SetsBytes path bytes earlier later
 
+-- a new file that was made, now has these bytes
+abbrev pub WritesNew : List ℕ → Option (List ℕ) → List ℕ → Option Nodes → Option Nodes → Type 0
+WritesNew path contents bytes before after = (earlier : Option Nodes) → MakesNew path contents earlier before → PutsNew path bytes earlier after
+
 -- If the nodes are told, folders were made below the folder, and then the file, and nothing else is changed.
 abbrev pub PutsBelow : List ℕ → List ℕ → List ℕ → Option Nodes → Option Nodes → Type 0
 PutsBelow root path bytes earlier later =

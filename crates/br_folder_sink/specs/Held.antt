@@ -1,7 +1,7 @@
 -- What a delivery of several files leaves below its folder, and what it has left while some of them
 -- are held open.
 use Rattle.std.specs.Prelude.{◌≡◌, ℕ, ◌<◌, ◌⊎◌, Bool, ◌&&◌, if◌then◌else◌, List, [], ◌∷◌, ◌++◌, length, map, fold, slice_index_or}
-use Rattle.std.specs.Prelude.{bytes_eq, Option, Some, None, Ok, OnErr, ⊤}
+use Rattle.std.specs.Prelude.{bytes_eq, true, Option, Some, None, Result, Ok, OnErr, OnOk, ⊤}
 use Rattle.std.specs.List.{AllByRecursion}
 use Rattle.std.specs.Io.KnownBytes.{Appends}
 use Rattle.br_model.specs.File.{Item, has_bytes}
@@ -82,6 +82,40 @@ HoldsOver P root items held (Some earlier) (Some later) = Holds P root items hel
 HoldsOver P root items held None (Some later) = ⊥
 HoldsOver P root items held (Some earlier) None = ⊥
 
+-- if items were put, but for the new files that are held open, they still are, but for those that are held open now
+abbrev pub HoldsStill : {W A E : Type 0} → (W → Option (List ℕ)) → List ℕ → List (Made W) → List (Made W) → Option Nodes → Option Nodes
+    → Result A E → Type 0
+HoldsStill contents root held left before after result =
+    (items : List Item) (nodes : Option Nodes) → HoldsOver (IsNew contents root) root items held nodes before
+    → OnOk result (HoldsOver (IsNew contents root) root items left nodes after)
+
+-- and so is one item more
+abbrev pub HoldsMore : {W A E : Type 0} → (W → Option (List ℕ)) → List ℕ → Item → List (Made W) → List (Made W) → Option Nodes → Option Nodes
+    → Result A E → Type 0
+HoldsMore contents root item held left before after result =
+    (items : List Item) (nodes : Option Nodes) → HoldsOver (IsNew contents root) root items held nodes before
+    → OnOk result (HoldsOver (IsNew contents root) root (items ++ item ∷ []) left nodes after)
+
+-- and so is one file more that has bytes
+abbrev pub HoldsFile : {W A E : Type 0} → (W → Option (List ℕ)) → List ℕ → Item → List (Made W) → List (Made W) → Option Nodes → Option Nodes
+    → Result A E → Type 0
+HoldsFile contents root item held left before after result =
+    (items : List Item) (nodes : Option Nodes) → has_bytes item.kind ≡ true → HoldsOver (IsNew contents root) root items held nodes before
+    → OnOk result (HoldsOver (IsNew contents root) root (items ++ item ∷ []) left nodes after)
+
+-- if items were put, but for the files that are held open, and this holds of each of these, all are left
+abbrev pub LeavesHeld : {W A E : Type 0} → (Nodes → Made W → Type 0) → List ℕ → List (Made W) → Option Nodes → Option Nodes
+    → Result A E → Type 0
+LeavesHeld P root held before after result =
+    (items : List Item) (nodes : Option Nodes) → HoldsOver P root items held nodes before → OnOk result (LeavesFiles root items nodes after)
+
+-- and so is one item more
+abbrev pub LeavesMore : {W A E : Type 0} → (Nodes → Made W → Type 0) → List ℕ → Item → List (Made W) → Option Nodes → Option Nodes
+    → Result A E → Type 0
+LeavesMore P root item held before after result =
+    (items : List Item) (nodes : Option Nodes) → HoldsOver P root items held nodes before
+    → OnOk result (LeavesFiles root (items ++ item ∷ []) nodes after)
+
 -- folders were made on the way of a file, and then the file, where nothing was
 abbrev pub MakesOne : {W : Type 0} → (W → Option (List ℕ)) → List ℕ → Made W → Option Nodes → Option Nodes → Type 0
 MakesOne {W} contents root m earlier later =
@@ -125,3 +159,9 @@ FinishesOne contents root old new earlier later =
 -- no answer is a fault
 abbrev pub AreAnswered : {W : Type 0} → List (Made W) → Type 0
 AreAnswered made = AllByRecursion (λ (m : Made _). m.answer ≡ Ok tt) made
+
+-- if items were put, but for the written files that are held open, all are left, unless the answer of one is a fault
+abbrev pub FinishesHeld : {W : Type 0} → (W → Option (List ℕ)) → List ℕ → List (Made W) → List (Made W) → Option Nodes → Option Nodes → Type 0
+FinishesHeld contents root old new before after =
+    (items : List Item) (nodes : Option Nodes) → HoldsOver (IsWritten contents root) root items old nodes before
+    → AreAnswered new → LeavesFiles root items nodes after

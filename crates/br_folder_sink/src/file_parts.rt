@@ -1,11 +1,11 @@
 //! How a file is put of which the bytes are read again, part by part, while it is written.
-ghost use Rattle.std.specs.Prelude.{◌≡◌, true, false, IfOk, OnErr, OnOk, Option};
+ghost use Rattle.std.specs.Prelude.{◌≡◌, true, false, IfOk, OnErr, OnOk};
 ghost use Rattle.std.specs.Str.{IsUtf8};
 ghost use Rattle.br_model.specs.File.{has_bytes};
 ghost use Rattle.br_model.specs.Name.{is_directory};
-ghost use Rattle.br_files.specs.Making.{KeepsOthers, Nodes};
+ghost use Rattle.br_files.specs.Making.{KeepsOthers};
 ghost use Rattle.br_sink.specs.FileParts.{AreAlike, with_bytes};
-ghost use Rattle.br_folder_sink.specs.Below.{AddsFolders, KeepsOutside, MakesNew, PutsBelow, PutsNew};
+ghost use Rattle.br_folder_sink.specs.Below.{AddsFolders, KeepsOutside, PutsBelow, WritesNew};
 ghost use Rattle.br_folder_sink.specs.FolderSink.{PutsItem, is_on_disk};
 ghost use Rattle.br_folder_sink.specs.Removed.{GivesUp};
 
@@ -27,8 +27,7 @@ fn write_parts<M: FileMaker, P: Parts>(
     item: &Item,
     parts: &mut P,
 ) -> Result<FileBytes, PartsFault>
-    ensures put { IfOk result (λ bytes. (earlier : Option Nodes) → MakesNew path.now (M.New.contents file) earlier (M.nodes maker.old)
-        → PutsNew path.now bytes earlier (M.nodes maker.new)) }
+    ensures put { IfOk result (λ bytes. WritesNew path.now (M.New.contents file) bytes (M.nodes maker.old) (M.nodes maker.new)) }
     ensures alike { IfOk result (λ bytes. AreAlike bytes item.now.bytes) }
     ensures same { IfOk result (λ bytes. P.gives parts.old item.now → bytes ≡ item.now.bytes) }
     ensures others { KeepsOthers path.now (M.nodes maker.old) (M.nodes maker.new) }

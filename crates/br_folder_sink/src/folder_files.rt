@@ -1,14 +1,12 @@
 //! How a sink over a folder puts several files at once.
-ghost use Rattle.std.specs.Prelude.{◌≡◌, ℕ, ◌++◌, ◌∷◌, ◌<◌, ◌≤◌, true, false, List, [], length, All, Option, IfOk, OnErr, OnOk, IfErr};
+ghost use Rattle.std.specs.Prelude.{◌≡◌, ℕ, ◌<◌, ◌≤◌, true, false, [], length, All, IfOk, OnErr, OnOk, IfErr};
 ghost use Rattle.std.specs.Str.{IsUtf8};
-ghost use Rattle.br_model.specs.File as model;
 ghost use Rattle.br_model.specs.File.{has_bytes};
 ghost use Rattle.br_model.specs.Name.{is_directory};
-ghost use Rattle.br_files.specs.Making.{Nodes};
 ghost use Rattle.br_sink.specs.Delivery.{IsStopBelow, items_in};
 ghost use Rattle.br_folder_sink.specs.Below.{AddsFolders, KeepsOutside};
 ghost use Rattle.br_folder_sink.specs.FolderSink.{HasName, HasText, is_on_disk};
-ghost use Rattle.br_folder_sink.specs.Held.{HoldsOver, IsNew, LeavesFiles, MakesOne};
+ghost use Rattle.br_folder_sink.specs.Held.{HoldsFile, HoldsMore, IsNew, LeavesFiles, LeavesMore, MakesOne};
 ghost use Rattle.br_folder_sink.specs.Window.{AreBelow};
 
 use crate::alone::write_item;
@@ -62,10 +60,7 @@ fn hold<'i, W: Write + Drop, M: FileMaker<New = W>>(
     requires { length window.old.made.items < 16 }
     ensures most { length window.new.made.items ≤ 16 }
     ensures below { (n : ℕ) → AreBelow n window.old.made.items → place < n → AreBelow n window.new.made.items }
-    ensures held { (items : List model.Item) (nodes : Option Nodes) → has_bytes item.now.kind ≡ true
-        → HoldsOver (IsNew W.contents root.now) root.now items window.old.made.items nodes (M.nodes maker.old)
-        → OnOk result (HoldsOver (IsNew W.contents root.now) root.now (items ++ item.now ∷ [])
-        window.new.made.items nodes (M.nodes maker.new)) }
+    ensures held { HoldsFile W.contents root.now item.now window.old.made.items window.new.made.items (M.nodes maker.old) (M.nodes maker.new) result }
     ensures added { OnErr result (AddsFolders root.now (M.nodes maker.old) (M.nodes maker.new)) }
     ensures kept { OnErr result (window.new.made.items ≡ window.old.made.items) }
     ensures text { OnOk result (IsUtf8 item.now.path) }
@@ -91,9 +86,7 @@ fn put_alone<'i, W: Write + Drop, M: ManyWriter<New = W>>(
 ) -> Result<(), SinkStop>
     requires { length window.old.made.items < 16 }
     ensures stopped { (n : ℕ) → AreBelow n window.old.made.items → place < n → IfErr result (IsStopBelow n) }
-    ensures left { (items : List model.Item) (nodes : Option Nodes)
-        → HoldsOver (IsNew W.contents root.now) root.now items window.old.made.items nodes (M.nodes maker.old)
-        → OnOk result (LeavesFiles root.now (items ++ item.now ∷ []) nodes (M.nodes maker.new)) }
+    ensures left { LeavesMore (IsNew W.contents root.now) root.now item.now window.old.made.items (M.nodes maker.old) (M.nodes maker.new) result }
     ensures empty { window.new.made.items ≡ [] }
     ensures text { OnOk result (is_on_disk item.now.kind ≡ true → IsUtf8 item.now.path) }
     ensures name { OnOk result (has_bytes item.now.kind ≡ true → is_directory item.now.path ≡ false) }
@@ -120,10 +113,7 @@ fn put_file<'i, W: Write + Drop, M: ManyWriter<New = W>>(
     ensures few { OnOk result (length window.new.made.items < 16) }
     ensures stopped { (n : ℕ) → AreBelow n window.old.made.items → place < n → IfErr result (IsStopBelow n) }
     ensures below { (n : ℕ) → AreBelow n window.old.made.items → place < n → OnOk result (AreBelow n window.new.made.items) }
-    ensures held { (items : List model.Item) (nodes : Option Nodes) → has_bytes item.now.kind ≡ true
-        → HoldsOver (IsNew W.contents root.now) root.now items window.old.made.items nodes (M.nodes maker.old)
-        → OnOk result (HoldsOver (IsNew W.contents root.now) root.now (items ++ item.now ∷ [])
-        window.new.made.items nodes (M.nodes maker.new)) }
+    ensures held { HoldsFile W.contents root.now item.now window.old.made.items window.new.made.items (M.nodes maker.old) (M.nodes maker.new) result }
     ensures text { OnOk result (is_on_disk item.now.kind ≡ true → IsUtf8 item.now.path) }
     ensures name { OnOk result (has_bytes item.now.kind ≡ true → is_directory item.now.path ≡ false) }
     ensures outside { KeepsOutside root.now (M.nodes maker.old) (M.nodes maker.new) }
@@ -148,10 +138,7 @@ fn put_next<'i, W: Write + Drop, M: ManyWriter<New = W>>(
     ensures few { OnOk result (length window.new.made.items < 16) }
     ensures stopped { (n : ℕ) → AreBelow n window.old.made.items → place < n → IfErr result (IsStopBelow n) }
     ensures below { (n : ℕ) → AreBelow n window.old.made.items → place < n → OnOk result (AreBelow n window.new.made.items) }
-    ensures held { (items : List model.Item) (nodes : Option Nodes)
-        → HoldsOver (IsNew W.contents root.now) root.now items window.old.made.items nodes (M.nodes maker.old)
-        → OnOk result (HoldsOver (IsNew W.contents root.now) root.now (items ++ item.now ∷ [])
-        window.new.made.items nodes (M.nodes maker.new)) }
+    ensures held { HoldsMore W.contents root.now item.now window.old.made.items window.new.made.items (M.nodes maker.old) (M.nodes maker.new) result }
     ensures text { OnOk result (is_on_disk item.now.kind ≡ true → IsUtf8 item.now.path) }
     ensures name { OnOk result (has_bytes item.now.kind ≡ true → is_directory item.now.path ≡ false) }
     ensures outside { KeepsOutside root.now (M.nodes maker.old) (M.nodes maker.new) }

@@ -1,7 +1,7 @@
 //! Files below a folder, and the folders on their ways.
-ghost use Rattle.std.specs.Prelude.{◌≡◌, ℕ, List, ◌++◌, ◌∷◌, Option, None, OnOk, OnErr, IfOk, string_bytes};
-ghost use Rattle.br_files.specs.Making.{IsBelow, IsFileOrFree, IsFinished, IsFree, KeepsOthers, MakesFile, Nodes, Sets};
-ghost use Rattle.br_folder_sink.specs.Below.{AddsFolders, IsOnWay, MakesNew, PutsNew};
+ghost use Rattle.std.specs.Prelude.{◌≡◌, ℕ, List, ◌++◌, ◌∷◌, None, OnOk, OnErr, IfOk, string_bytes};
+ghost use Rattle.br_files.specs.Making.{IsBelow, IsFileOrFree, IsFinished, IsFree, KeepsOthers, MakesFile, Sets};
+ghost use Rattle.br_folder_sink.specs.Below.{AddsFolders, IsOnWay, MakesNew, WritesNew};
 ghost use Rattle.br_folder_sink.specs.Fault.{sink_fault};
 ghost use Rattle.br_folder_sink.specs.Removed.{HasNoFile, MakesNoFile, MakesNone};
 
@@ -156,8 +156,7 @@ pub(crate) fn write_made<M: FileMaker>(
     file: M::New,
     bytes: &FileBytes,
 ) -> Result<(), SinkFault>
-    ensures put { OnOk result ((earlier : Option Nodes) → MakesNew path.now (M.New.contents file) earlier (M.nodes maker.old)
-        → PutsNew path.now bytes.now earlier (M.nodes maker.new)) }
+    ensures put { OnOk result (WritesNew path.now (M.New.contents file) bytes.now (M.nodes maker.old) (M.nodes maker.new)) }
     ensures others { KeepsOthers path.now (M.nodes maker.old) (M.nodes maker.new) }
 {
     let mut file = file;

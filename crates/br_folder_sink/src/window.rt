@@ -1,12 +1,11 @@
 //! Files that were made on disk one after another, and are written in threads.
-ghost use Rattle.std.specs.Prelude.{◌≡◌, ℕ, ◌++◌, ◌∷◌, ◌<◌, ◌≤◌, List, [], true, false, length, vec_len, vec_capacity};
+ghost use Rattle.std.specs.Prelude.{◌≡◌, ℕ, ◌++◌, ◌∷◌, ◌<◌, ◌≤◌, [], true, false, length, vec_len, vec_capacity};
 ghost use Rattle.std.specs.Prelude.{Option, Ok, IfErr, IfOk, OnErr, OnOk};
 ghost use Rattle.std.specs.Thread.{IsSync};
-ghost use Rattle.br_model.specs.File as model;
-ghost use Rattle.br_files.specs.Making.{IsFinished, Nodes};
+ghost use Rattle.br_files.specs.Making.{IsFinished};
 ghost use Rattle.br_sink.specs.Delivery.{IsStopBelow};
 ghost use Rattle.br_folder_sink.specs.Below.{KeepsOutside};
-ghost use Rattle.br_folder_sink.specs.Held.{AppendsSome, AreAnswered, FinishesOne, FinishesSome, HoldsOver, IsNew, IsWritten, LeavesFiles};
+ghost use Rattle.br_folder_sink.specs.Held.{AppendsSome, AreAnswered, FinishesHeld, FinishesOne, FinishesSome, HoldsStill, IsNew, IsWritten, LeavesHeld};
 ghost use Rattle.br_folder_sink.specs.Held.{AppendsFrontSome, WritesEach, WritesOne};
 ghost use Rattle.br_folder_sink.specs.Removed.{AreRemoved, AreRemovedFrom, IsRemoved, MakesNoFile, files_of};
 ghost use Rattle.br_folder_sink.specs.Window.{AreBelow};
@@ -168,9 +167,7 @@ fn finish_each<W: Write + Drop, M: FileMaker<New = W>>(
 )
     ensures below { (n : ℕ) → AreBelow n made.old → AreBelow n made.new }
     ensures files { files_of made.new ≡ files_of made.old }
-    ensures left { (items : List model.Item) (nodes : Option Nodes)
-        → HoldsOver (IsWritten W.contents root.now) root.now items made.old nodes (M.nodes maker.old)
-        → AreAnswered made.new → LeavesFiles root.now items nodes (M.nodes maker.new) }
+    ensures left { FinishesHeld W.contents root.now made.old made.new (M.nodes maker.old) (M.nodes maker.new) }
     ensures outside { KeepsOutside root.now (M.nodes maker.old) (M.nodes maker.new) }
 {
     for i in 0..made.len() {
@@ -237,9 +234,7 @@ fn close_all<W: Write + Drop, M: Remover<New = W>>(
     made: &mut [Made<'_, W>],
 ) -> Result<(), SinkStop>
     ensures stopped { (n : ℕ) → AreBelow n made.old → IfErr result (IsStopBelow n) }
-    ensures left { (items : List model.Item) (nodes : Option Nodes)
-        → HoldsOver (IsWritten W.contents root.now) root.now items made.old nodes (M.nodes maker.old)
-        → OnOk result (LeavesFiles root.now items nodes (M.nodes maker.new)) }
+    ensures left { LeavesHeld (IsWritten W.contents root.now) root.now made.old (M.nodes maker.old) (M.nodes maker.new) result }
     ensures removed { IfErr result (AreRemovedFrom M.is_refused root.now (files_of made.old) (M.nodes maker.new)) }
     ensures outside { KeepsOutside root.now (M.nodes maker.old) (M.nodes maker.new) }
 {
@@ -265,9 +260,7 @@ fn write_and_close<W: Write + Drop, M: ManyWriter<New = W> + Remover, T: Threads
 ) -> Result<(), SinkStop>
     requires { 0 < count }
     ensures stopped { (n : ℕ) → AreBelow n made.old → IfErr result (IsStopBelow n) }
-    ensures left { (items : List model.Item) (nodes : Option Nodes)
-        → HoldsOver (IsNew W.contents root.now) root.now items made.old nodes (M.nodes maker.old)
-        → OnOk result (LeavesFiles root.now items nodes (M.nodes maker.new)) }
+    ensures left { LeavesHeld (IsNew W.contents root.now) root.now made.old (M.nodes maker.old) (M.nodes maker.new) result }
     ensures removed { IfErr result (AreRemovedFrom M.is_refused root.now (files_of made.old) (M.nodes maker.new)) }
     ensures outside { KeepsOutside root.now (M.nodes maker.old) (M.nodes maker.new) }
 {
@@ -336,9 +329,7 @@ impl<'i, W: Write + Drop> Window<'i, W> {
     ) -> Result<(), SinkStop>
         requires most { length self.old.made.items ≤ 16 }
         ensures stopped { (n : ℕ) → AreBelow n self.old.made.items → IfErr result (IsStopBelow n) }
-        ensures left { (items : List model.Item) (nodes : Option Nodes)
-            → HoldsOver (IsNew W.contents root.now) root.now items self.old.made.items nodes (M.nodes maker.old)
-            → OnOk result (LeavesFiles root.now items nodes (M.nodes maker.new)) }
+        ensures left { LeavesHeld (IsNew W.contents root.now) root.now self.old.made.items (M.nodes maker.old) (M.nodes maker.new) result }
         ensures removed { IfErr result (AreRemovedFrom M.is_refused root.now (files_of self.old.made.items) (M.nodes maker.new)) }
         ensures empty { self.new.made.items ≡ [] }
         ensures outside { KeepsOutside root.now (M.nodes maker.old) (M.nodes maker.new) }
@@ -363,9 +354,7 @@ impl<'i, W: Write + Drop> Window<'i, W> {
         ensures waits { length self.old.made.items < 16 → self.new.made.items ≡ self.old.made.items }
         ensures stopped { (n : ℕ) → AreBelow n self.old.made.items → IfErr result (IsStopBelow n) }
         ensures below { (n : ℕ) → AreBelow n self.old.made.items → OnOk result (AreBelow n self.new.made.items) }
-        ensures held { (items : List model.Item) (nodes : Option Nodes)
-            → HoldsOver (IsNew W.contents root.now) root.now items self.old.made.items nodes (M.nodes maker.old)
-            → OnOk result (HoldsOver (IsNew W.contents root.now) root.now items self.new.made.items nodes (M.nodes maker.new)) }
+        ensures held { HoldsStill W.contents root.now self.old.made.items self.new.made.items (M.nodes maker.old) (M.nodes maker.new) result }
         ensures outside { KeepsOutside root.now (M.nodes maker.old) (M.nodes maker.new) }
     {
         if self.is_full() {
