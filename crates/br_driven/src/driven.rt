@@ -1,14 +1,9 @@
 //! Volumes over which restores run while jobs are appended to them.
-ghost use Rattle.std.specs.Prelude.{map, option_map, Some, None};
 ghost use Rattle.std.specs.List.{AllZip};
 ghost use Rattle.std.specs.Thread.{IsSync};
-ghost use Rattle.br_model.specs.Volume.{Volume};
-ghost use Rattle.br_model.specs.Restored.{planned_in};
 ghost use Rattle.br_volume.specs.Drive.{OnlyGrows};
 ghost use Rattle.br_pool.specs.Pool.{AreDrives};
-ghost use Rattle.br_engine.specs.Delivering.{Delivers};
-ghost use Rattle.br_engine.specs.Extracting.{OverVolumes};
-ghost use Rattle.br_driven.specs.Restoring.{IsRestored, some_shown};
+ghost use Rattle.br_driven.specs.Restoring.{DeliversWanted, RestoresWanted, some_shown};
 
 use crate::drives::{DriveCount, drives_over};
 use br_bsr::Bootstrap;
@@ -42,8 +37,7 @@ pub trait DrivenStore: VolumeStore {
         writer: &mut W,
     ) -> Result<RestoreEnd, ExtractFault>
         requires threads { IsSync T.row }
-        ensures restored { IsRestored (Self.holds self.now) drives wanted.entry.bootstrap.now (option_map planned_in wanted.entry.names)
-            (W.contents writer.old) (W.contents writer.new) result };
+        ensures restored { RestoresWanted (Self.holds self.now) drives wanted.entry (W.contents writer.old) (W.contents writer.new) result };
 }
 
 /// Restores by drives over memory.
@@ -56,8 +50,7 @@ fn restore_by<'v, T: Threads + Wait + Sync, W: Write>(
     writer: &mut W,
 ) -> Result<RestoreEnd, ExtractFault>
     requires few { AreDrives drives.old.items }
-    ensures delivers { Delivers (λ holds. OverVolumes (some_shown drives.old.items) (some_shown drives.new.items) wanted.entry.bootstrap.now
-        (option_map planned_in wanted.entry.names) holds) (W.contents writer.old) (W.contents writer.new) None None result }
+    ensures delivers { DeliversWanted drives.old.items drives.new.items wanted.entry (W.contents writer.old) (W.contents writer.new) result }
     ensures grow { AllZip OnlyGrows (some_shown drives.old.items) (some_shown drives.new.items) }
 {
     let Wanted { bootstrap, names } = wanted;
