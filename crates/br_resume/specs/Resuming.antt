@@ -3,6 +3,7 @@ use Rattle.std.specs.Prelude.{◌≡◌, ℕ, List, [], ◌∷◌, length, Optio
 use Rattle.md5.specs.Md5.{md5}
 use Rattle.br_model.specs.File.{Item}
 use Rattle.br_files.specs.Making.{Nodes}
+use Rattle.br_sink.specs.FileParts.{with_bytes}
 use Rattle.br_folder_sink.specs.FolderSink.{InFolder, PutsItem}
 use Rattle.br_folder_sink.specs.Held.{LeavesFiles}
 use Rattle.br_options.specs.declared.options.Start.{Start}
@@ -29,6 +30,10 @@ AreLike (other ∷ others) [] = ⊥
 -- a file like this is put
 abbrev pub PutsLike : List ℕ → Item → Option Nodes → Option Nodes → Type 0
 PutsLike root item earlier later = (other : Item) × IsLike other item × PutsItem root other earlier later
+
+-- the file is put with these bytes in place of its own
+abbrev pub PutsBytes : List ℕ → Item → List ℕ → Option Nodes → Option Nodes → Type 0
+PutsBytes root item bytes earlier later = PutsItem root (with_bytes item bytes) earlier later
 
 -- files like these are put
 abbrev pub LeavesLike : List ℕ → List Item → Option Nodes → Option Nodes → Type 0

@@ -10,10 +10,9 @@ ghost use Rattle.br_sink.specs.declared.fault.SinkFault.TheVariants.{Fault};
 ghost use Rattle.br_sink.specs.declared.file_parts.PartsFault.TheVariants as why;
 ghost use Rattle.br_folder_sink.specs.Below.{KeepsOutside};
 ghost use Rattle.br_folder_sink.specs.Fault.{IsRefused};
-ghost use Rattle.br_folder_sink.specs.FolderSink.{PutsItem};
 ghost use Rattle.br_folder_sink.specs.Held.{LeavesFiles};
 ghost use Rattle.br_folder_sink.specs.There.{IsNotThere};
-ghost use Rattle.br_resume.specs.Resuming.{LeavesLike, PutsLike};
+ghost use Rattle.br_resume.specs.Resuming.{LeavesLike, PutsBytes, PutsLike};
 ghost use Rattle.br_options.specs.declared.options.Start.TheVariants.{Empty, Resumed};
 
 use crate::passing::{put_each, put_missing, put_missing_parts};
@@ -162,7 +161,7 @@ impl<M: ManyWriter + Comparer + Drop> Sink for Resuming<M> {
         ensures path { self.new.folder.path ≡ self.old.folder.path }
         ensures file { OnOk result (PutsLike self.old.folder.path item.now self.old.folder.nodes self.new.folder.nodes) }
         ensures whole { self.old.start ≡ Empty
-            → IfOk result (λ bytes. PutsItem self.old.folder.path (with_bytes item.now bytes) self.old.folder.nodes self.new.folder.nodes) }
+            → IfOk result (λ bytes. PutsBytes self.old.folder.path item.now bytes self.old.folder.nodes self.new.folder.nodes) }
         ensures outside { KeepsOutside self.old.folder.path self.old.folder.nodes self.new.folder.nodes }
     {
         match self.start {
