@@ -1,5 +1,5 @@
 -- The rows that a database holds, with names in place of numbers, and what a call adds to them.
-use Rattle.std.specs.Prelude.{◌≡◌, ℕ, ◌-◌, pos, List, [], ◌∷◌, Bool, true, map, filter, find, unwrap_or, codes, bytes_eq, IsTrue, false}
+use Rattle.std.specs.Prelude.{◌≡◌, ℕ, ◌-◌, pos, List, [], ◌∷◌, Bool, true, map, filter, find, unwrap_or, codes, bytes_eq, IsTrue, false, Option, Result, IfSome, OnOk}
 use Rattle.std.specs.List.{AllByRecursion}
 use Rattle.sqlite.specs.declared.types.Value.TheVariants.{Int, Text, Blob}
 use Rattle.sqlite.specs.declared.types.Value.{Value}
@@ -14,14 +14,16 @@ use Rattle.sqlite.specs.Tree.{Trees, put_row}
 use Rattle.sqlite.specs.Effect.{Database, IsDatabase}
 use Rattle.sqlite.specs.View.{IsShaped}
 use Rattle.sqlite_trees.specs.declared.store.Shape.TheVariants.{Table as Shaped}
-use Rattle.sqlite.specs.State.{State, Shows, HasCleanDisk}
+use Rattle.sqlite.specs.State.{State, IsUnchanged, Shows, HasCleanDisk}
 use Rattle.sqlite.specs.Held.{Held, state}
 use Rattle.sqlite_trees.specs.declared.store.Store.{Ghosts}
-use Rattle.br_model.specs.Job.{JobRow}
+use Rattle.br_model.specs.Job.{JobRow, Span}
 use Rattle.br_rows.specs.Inserted.{IsNewIn}
 use Rattle.br_store.specs.declared.names.Dictionary.{Dictionary}
+use Rattle.br_store.specs.declared.names.Dictionary.TheVariants.{Client, FileSet, Media, Path}
+use Rattle.br_store.specs.declared.write.Parts.{Parts}
 use Rattle.br_store.specs.Names.{tree_of, word}
-use Rattle.br_rows.specs.Rows.{Rows, with_job}
+use Rattle.br_rows.specs.Rows.{Rows, with_file_row, with_job, with_spans}
 use Rattle.sqlite_trees.specs.Objects.{catalog_tree, number_in}
 use Rattle.sqlite_catalog.specs.Listing.{is_table_row}
 use Rattle.br_schema.specs.Places.{Layout, row_number, version_id, name_column}
@@ -160,6 +162,14 @@ IsNumberAt l trees dictionary name shown =
 abbrev pub IsNumberOf : Trees → Dictionary → List ℕ → Row → Type 0
 IsNumberOf trees dictionary name shown = IsNumberAt (layout_in trees) trees dictionary name shown
 
+-- each row shows a number that the catalogue gives to this name
+abbrev pub AreNumbersOf : State → Dictionary → List ℕ → List Row → Type 0
+AreNumbersOf db dictionary name rows = AllByRecursion (IsNumberOf db.now.trees dictionary name) rows
+
+-- nothing is changed, and if a number is found, the catalogue gives it to this name
+abbrev pub FindsName : State → State → Dictionary → List ℕ → Option ℕ → Type 0
+FindsName old new dictionary name found = IsUnchanged old new × IfSome found (IsName old.now.trees dictionary name)
+
 -- the transaction goes on, and nothing is committed
 abbrev pub GoesOn : State → State → Type 0
 GoesOn old new = Shows old new new.now old.committed true
@@ -181,6 +191,29 @@ Writes more old new = Wrote (more (rows_in old.now.trees)) old new
 abbrev pub WritesNoRow : State → State → Type 0
 WritesNoRow old new = Wrote (rows_in old.now.trees) old new
 
+-- no row of the catalogue's is written, and it gives this number to the name
+abbrev pub NamesBy : State → State → Dictionary → List ℕ → ℕ → Type 0
+NamesBy old new dictionary name id = WritesNoRow old new × IsName new.now.trees dictionary name id
+
 -- the job's own row was written, and the job was new
 abbrev pub WritesJob : JobRow → State → State → Type 0
 WritesJob j old new = Wrote (with_job j (rows_in old.now.trees)) old new × IsNewIn j (rows_in old.now.trees)
+
+-- the job's own row is written if the call does not fail and these are the numbers of its client and
+-- its file set
+abbrev pub WritesJobOf : {A E : Type 0} → JobRow → ℕ → ℕ → State → State → Result A E → Type 0
+WritesJobOf j client fileset old new result =
+    IsName old.now.trees Client j.client client → IsName old.now.trees FileSet j.fileset fileset
+    → OnOk result (WritesJob j old new)
+
+-- the row of a span is written if the call does not fail and this is the number of its volume
+abbrev pub WritesSpanOf : {A E : Type 0} → ℕ → Span → ℕ → State → State → Result A E → Type 0
+WritesSpanOf job span media old new result =
+    IsName old.now.trees Media span.volume media → OnOk result (Writes (with_spans job (span ∷ [])) old new)
+
+-- the row of a file is written if the call does not fail, with the front of which the parts have the
+-- number
+abbrev pub WritesFileOf : {A E : Type 0} → ℕ → ℕ → Parts → List ℕ → List ℕ → State → State → Result A E → Type 0
+WritesFileOf job index parts lstat digest old new result =
+    (front : List ℕ) → IsName old.now.trees Path front parts.path
+    → OnOk result (Writes (with_file_row (file_cells job index front parts.rest.now lstat digest)) old new)

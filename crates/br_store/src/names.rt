@@ -1,7 +1,6 @@
 //! Names, and the numbers that the catalogue keeps in their place.
 
 ghost use Rattle.std.specs.Prelude.{◌≡◌, pos, IfOk, IfSome, OnOk, OnErr};
-ghost use Rattle.std.specs.List.{AllByRecursion};
 ghost use Rattle.sqlite_value.specs.declared.value.Value.TheVariants.{Int};
 ghost use Rattle.sqlite_value.specs.Value.{owned};
 ghost use Rattle.sqlite.specs.Order.{column};
@@ -9,7 +8,7 @@ ghost use Rattle.sqlite.specs.State.{IsUnchanged, KeepsCommit};
 ghost use Rattle.sqlite_rules.specs.Lists.{Has};
 ghost use Rattle.br_store.specs.Names.{word, select_text, insert_text};
 ghost use Rattle.br_store.specs.Calls.{BorrowsSame, CommitsNothing, InCatalogue, InTransaction, OnTables};
-ghost use Rattle.br_store.specs.Held.{IsName, IsNumberOf, WritesNoRow};
+ghost use Rattle.br_store.specs.Held.{AreNumbersOf, FindsName, NamesBy, WritesNoRow};
 
 use sqlite::types::ValueRef;
 use sqlite::{Alter, Error, Row, Transaction};
@@ -65,7 +64,7 @@ fn numbers_of<S: Alter>(
 ) -> Result<Vec<Row>, Error>
     ensures same_reference { BorrowsSame tx.old.conn tx.new.conn }
     ensures found { OnTables S.Store tx.old.conn.now tx.new.conn.now (λ old new.
-        IfOk result (λ rows. AllByRecursion (IsNumberOf old.now.trees dictionary name.now) rows.items)) }
+        IfOk result (λ rows. AreNumbersOf old dictionary name.now rows.items)) }
     ensures same { OnTables S.Store tx.old.conn.now tx.new.conn.now (λ old new. OnOk result (IsUnchanged old new)) }
     ensures kept { OnTables S.Store tx.old.conn.now tx.new.conn.now (λ old new. OnErr result (KeepsCommit old new)) }
     ensures survives { CommitsNothing S.Store tx.old.conn.now tx.new.conn.now }
@@ -91,7 +90,7 @@ fn known_id<S: Alter>(
 ) -> Result<Option<u32>, Error>
     ensures same_reference { BorrowsSame tx.old.conn tx.new.conn }
     ensures found { OnTables S.Store tx.old.conn.now tx.new.conn.now (λ old new.
-        IfOk result (λ o. IsUnchanged old new × IfSome o (IsName old.now.trees dictionary name.now))) }
+        IfOk result (FindsName old new dictionary name.now)) }
     ensures kept { OnTables S.Store tx.old.conn.now tx.new.conn.now (λ old new. OnErr result (KeepsCommit old new)) }
     ensures survives { CommitsNothing S.Store tx.old.conn.now tx.new.conn.now }
 {
@@ -123,7 +122,7 @@ pub(crate) fn name_id<S: Alter>(
 ) -> Result<u32, Error>
     ensures same_reference { BorrowsSame tx.old.conn tx.new.conn }
     ensures found { InCatalogue S.Store tx.old.conn.now tx.new.conn.now (λ old new.
-        IfOk result (λ id. WritesNoRow old new × IsName new.now.trees dictionary name.now id)) }
+        IfOk result (NamesBy old new dictionary name.now)) }
     ensures kept { InCatalogue S.Store tx.old.conn.now tx.new.conn.now (λ old new. OnErr result (KeepsCommit old new)) }
     ensures survives { CommitsNothing S.Store tx.old.conn.now tx.new.conn.now }
 {

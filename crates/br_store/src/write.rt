@@ -1,13 +1,12 @@
 //! A job written row by row, in a transaction that a caller commits.
 
-ghost use Rattle.std.specs.Prelude.{◌≡◌, ℕ, List, [], ◌∷◌, OnOk, OnErr};
+ghost use Rattle.std.specs.Prelude.{◌≡◌, [], ◌∷◌, OnOk, OnErr};
 ghost use Rattle.std.specs.List.{AllByRecursion};
 ghost use Rattle.sqlite.specs.State.{KeepsCommit};
-ghost use Rattle.br_store.specs.declared.names.Dictionary.TheVariants.{Client, FileSet, Media, Path};
-ghost use Rattle.br_rows.specs.Rows.{with_spans, with_files, with_rows, with_file_row};
+ghost use Rattle.br_rows.specs.Rows.{with_spans, with_files, with_rows};
 ghost use Rattle.br_rows.specs.Inserted.{IsFile, IsSpan};
 ghost use Rattle.br_store.specs.Calls.{AddsJob, BorrowsSame, CommitsNothing, InCatalogue, InTransaction};
-ghost use Rattle.br_store.specs.Held.{IsName, Writes, WritesJob, file_cells};
+ghost use Rattle.br_store.specs.Held.{Writes, WritesFileOf, WritesJob, WritesJobOf, WritesSpanOf};
 
 use crate::names::{Dictionary, name_id};
 use br_history::{FileRow, JobRow, JobRows};
@@ -48,8 +47,7 @@ fn put_job_row<'a, S: Alter>(
     requires session { session ≡ job.now.session }
     ensures same_reference { BorrowsSame tx.old.conn tx.new.conn }
     ensures added { InCatalogue S.Store tx.old.conn.now tx.new.conn.now (λ old new.
-        IsName old.now.trees Client job.now.client client → IsName old.now.trees FileSet job.now.fileset fileset
-        → OnOk result (WritesJob job.now old new)) }
+        WritesJobOf job.now client fileset old new result) }
     ensures kept { InTransaction S.Store tx.old.conn.now tx.new.conn.now (λ old new.
         OnErr result (KeepsCommit old new)) }
     ensures survives { CommitsNothing S.Store tx.old.conn.now tx.new.conn.now }
@@ -83,7 +81,7 @@ fn put_span_row<S: Alter>(
 ) -> Result<(), Error>
     ensures same_reference { BorrowsSame tx.old.conn tx.new.conn }
     ensures added { InCatalogue S.Store tx.old.conn.now tx.new.conn.now (λ old new.
-        IsName old.now.trees Media span.now.volume media → OnOk result (Writes (with_spans job (span.now ∷ [])) old new)) }
+        WritesSpanOf job span.now media old new result) }
     ensures kept { InTransaction S.Store tx.old.conn.now tx.new.conn.now (λ old new.
         OnErr result (KeepsCommit old new)) }
     ensures survives { CommitsNothing S.Store tx.old.conn.now tx.new.conn.now }
@@ -105,7 +103,8 @@ fn put_span_row<S: Alter>(
     Ok(())
 }
 
-/// Adds the row of a file, given the two parts of its path, and its numbers and its digest as texts.
+/// Adds the row of a file, given the two parts of its path, and its numbers and its digest as
+/// texts.
 fn put_file_row<'a, S: Alter>(
     tx: &mut Transaction<'_, S>,
     job: u32,
@@ -116,8 +115,7 @@ fn put_file_row<'a, S: Alter>(
 ) -> Result<(), Error>
     ensures same_reference { BorrowsSame tx.old.conn tx.new.conn }
     ensures added { InCatalogue S.Store tx.old.conn.now tx.new.conn.now (λ old new.
-        (front : List ℕ) → IsName old.now.trees Path front parts.now.path
-        → OnOk result (Writes (with_file_row (file_cells job index front parts.now.rest.now lstat.now digest.now)) old new)) }
+        WritesFileOf job index parts.now lstat.now digest.now old new result) }
     ensures kept { InTransaction S.Store tx.old.conn.now tx.new.conn.now (λ old new.
         OnErr result (KeepsCommit old new)) }
     ensures survives { CommitsNothing S.Store tx.old.conn.now tx.new.conn.now }
