@@ -1,7 +1,7 @@
 //! Reading the text of a bootstrap, which stops at a line without an end.
 ghost use Rattle.std.specs.Prelude.{◌≡◌, ◌+◌, ◌^◌, ◌<◌, false, length, IfOk, IfErr, OnOk};
 ghost use Rattle.std.specs.List.{list_any};
-ghost use Rattle.std.specs.Io.KnownBytes.{IsAtEnd};
+ghost use Rattle.std.specs.Io.KnownBytes.{Consumes, IsAtEnd};
 ghost use Rattle.br_engine.specs.Fault.{EndlessAfterAll, IsUnread};
 ghost use Rattle.br_engine.specs.Reading.{GrowsAsRead, GrowsBy, ReadsAs, StopsInTime, has_long_end, is_line_end};
 
