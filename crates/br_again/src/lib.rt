@@ -23,13 +23,13 @@ pub use fetch::{Fetch, InMemory};
 pub use place::Place;
 pub use spot::Spot;
 
-/// States that each hit of a piece stands at its place on the piece's volume: the block at its
+/// States that each hit of a piece is at its place on the piece's volume: the block at its
 /// address is valid, and of its fragments the one with the hit's ordinal is the hit's.
 pub fn hits_stand()
     ensures { HitsStand }
 {}
 
-/// States that what stands at a place stays there while volumes grow.
+/// States that what is at a place stays there while volumes grow.
 pub fn standing_stays()
     ensures { StandingStays }
 {}

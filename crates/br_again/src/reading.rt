@@ -112,7 +112,8 @@ fn fragment_at(mut fragments: Fragments<'_>, ordinal: u32) -> Option<Fragment<'_
 ///
 /// `Changed` if the bytes are no block, or it has too few fragments.
 pub(crate) fn fragment_in(bytes: &[u8], ordinal: u32) -> Result<Fragment<'_>, AgainFault>
-    ensures same { read_block bytes.now ≡ Ok bytes.now → AnswersAlways (λ f. f) (λ e. e) result (some_or (slice_get (fragments_of bytes.now) ordinal) Changed) }
+    ensures same { read_block bytes.now ≡ Ok bytes.now → AnswersAlways (λ f. f) (λ e. e) result
+        (some_or (slice_get (fragments_of bytes.now) ordinal) Changed) }
     ensures fault { IfErr result (λ e. e ≡ Changed) }
 {
     match Block::read(bytes) {

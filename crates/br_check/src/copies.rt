@@ -120,7 +120,8 @@ impl Known<'_, '_> {
     fn push_line(&self, text: &mut Vec<u8>, key: FileKey, sketch: &Sketch) -> Result<(), AllocError>
         requires noted { AreNoted self.now.copies.now (copies_of (map outlined self.now.all.now)) }
         requires old { AreNoted self.now.old.now (outdated (copies_of (map outlined self.now.all.now))) }
-        ensures { OnOk result (text.new.items ≡ text.old.items ++ lines_at (copies_of (map outlined self.now.all.now)) (outlined (key, sketch.now))) }
+        ensures { OnOk result (text.new.items ≡ text.old.items ++ lines_at (copies_of (map outlined self.now.all.now))
+            (outlined (key, sketch.now))) }
     {
         match sketch {
             Sketch::File(outline) => {

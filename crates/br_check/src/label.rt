@@ -179,7 +179,8 @@ fn push_label<D: Drive>(
     vol: &VolName,
     buf: &mut Vec<u8>,
 ) -> Result<(), AllocError>
-    ensures tells { OnOk result (AppendsLabel (D.shows drive.new) (D.failures drive.old) (D.failures drive.new) vol.now text.old.items text.new.items) }
+    ensures tells { OnOk result (AppendsLabel (D.shows drive.new) (D.failures drive.old)
+        (D.failures drive.new) vol.now text.old.items text.new.items) }
     ensures grows { OnlyGrows (D.shows drive.old) (D.shows drive.new) }
     ensures counted { D.failures drive.old ≤ D.failures drive.new }
 {

@@ -16,7 +16,7 @@ fn unit_of(letter: u8) -> Option<u64>
     }
 }
 
-/// Returns the number of bytes of so many units, if it is below 2^64.
+/// Returns the number of bytes of this number of units, if it is below 2^64.
 fn in_units(unit: u64, digits: &[u8]) -> Option<u64>
     ensures { result ≡ in_units unit digits.now }
 {

@@ -37,7 +37,7 @@ pub(crate) fn len_of(outcome: &Outcome) -> u64 {
     }
 }
 
-/// Returns the number of the first outcomes whose files have so many bytes at most: one outcome at least.
+/// Returns the number of the first outcomes whose files have at most `window` bytes together: one at least.
 fn window_len(window: u64, outcomes: &[(FileKey, Outcome)]) -> usize
     requires { 0 < length outcomes.now }
     ensures some { 0 < result }

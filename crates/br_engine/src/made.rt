@@ -178,7 +178,8 @@ pub fn deliver_made<D: Drive, S: Sink>(
     drives: &mut Vec<D>,
     sink: &mut Option<S>,
 ) -> RestoreEnd
-    ensures ends { EndsMade D.shows D.failures drives.old.items groups.now made.now (option_map S.has sink.old) (option_map S.has sink.new) result }
+    ensures ends { EndsMade D.shows D.failures drives.old.items groups.now made.now (option_map S.has sink.old)
+        (option_map S.has sink.new) result }
     ensures places { StayInPlace D.shows D.failures drives.old.items drives.new.items }
     ensures counted { SinkCounts (option_map S.failures sink.old) (option_map S.failures sink.new) }
     ensures failed { StopsByFailure (option_map S.failures sink.old) (option_map S.failures sink.new) result }

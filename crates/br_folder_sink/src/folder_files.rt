@@ -60,7 +60,8 @@ fn hold<'i, W: Write + Drop, M: FileMaker<New = W>>(
     requires { length window.old.made.items < 16 }
     ensures most { length window.new.made.items ≤ 16 }
     ensures below { (n : ℕ) → AreBelow n window.old.made.items → place < n → AreBelow n window.new.made.items }
-    ensures held { HoldsFile W.contents root.now item.now window.old.made.items window.new.made.items (M.nodes maker.old) (M.nodes maker.new) result }
+    ensures held { HoldsFile W.contents root.now item.now window.old.made.items window.new.made.items (M.nodes maker.old)
+        (M.nodes maker.new) result }
     ensures added { OnErr result (AddsFolders root.now (M.nodes maker.old) (M.nodes maker.new)) }
     ensures kept { OnErr result (window.new.made.items ≡ window.old.made.items) }
     ensures text { OnOk result (IsUtf8 item.now.path) }
@@ -86,7 +87,8 @@ fn put_alone<'i, W: Write + Drop, M: ManyWriter<New = W>>(
 ) -> Result<(), SinkStop>
     requires { length window.old.made.items < 16 }
     ensures stopped { (n : ℕ) → AreBelow n window.old.made.items → place < n → IfErr result (IsStopBelow n) }
-    ensures left { LeavesMore (IsNew W.contents root.now) root.now item.now window.old.made.items (M.nodes maker.old) (M.nodes maker.new) result }
+    ensures left { LeavesMore (IsNew W.contents root.now) root.now item.now window.old.made.items (M.nodes maker.old)
+        (M.nodes maker.new) result }
     ensures empty { window.new.made.items ≡ [] }
     ensures text { OnOk result (is_on_disk item.now.kind ≡ true → IsUtf8 item.now.path) }
     ensures name { OnOk result (has_bytes item.now.kind ≡ true → is_directory item.now.path ≡ false) }
@@ -113,7 +115,8 @@ fn put_file<'i, W: Write + Drop, M: ManyWriter<New = W>>(
     ensures few { OnOk result (length window.new.made.items < 16) }
     ensures stopped { (n : ℕ) → AreBelow n window.old.made.items → place < n → IfErr result (IsStopBelow n) }
     ensures below { (n : ℕ) → AreBelow n window.old.made.items → place < n → OnOk result (AreBelow n window.new.made.items) }
-    ensures held { HoldsFile W.contents root.now item.now window.old.made.items window.new.made.items (M.nodes maker.old) (M.nodes maker.new) result }
+    ensures held { HoldsFile W.contents root.now item.now window.old.made.items window.new.made.items (M.nodes maker.old)
+        (M.nodes maker.new) result }
     ensures text { OnOk result (is_on_disk item.now.kind ≡ true → IsUtf8 item.now.path) }
     ensures name { OnOk result (has_bytes item.now.kind ≡ true → is_directory item.now.path ≡ false) }
     ensures outside { KeepsOutside root.now (M.nodes maker.old) (M.nodes maker.new) }
@@ -138,7 +141,8 @@ fn put_next<'i, W: Write + Drop, M: ManyWriter<New = W>>(
     ensures few { OnOk result (length window.new.made.items < 16) }
     ensures stopped { (n : ℕ) → AreBelow n window.old.made.items → place < n → IfErr result (IsStopBelow n) }
     ensures below { (n : ℕ) → AreBelow n window.old.made.items → place < n → OnOk result (AreBelow n window.new.made.items) }
-    ensures held { HoldsMore W.contents root.now item.now window.old.made.items window.new.made.items (M.nodes maker.old) (M.nodes maker.new) result }
+    ensures held { HoldsMore W.contents root.now item.now window.old.made.items window.new.made.items (M.nodes maker.old)
+        (M.nodes maker.new) result }
     ensures text { OnOk result (is_on_disk item.now.kind ≡ true → IsUtf8 item.now.path) }
     ensures name { OnOk result (has_bytes item.now.kind ≡ true → is_directory item.now.path ≡ false) }
     ensures outside { KeepsOutside root.now (M.nodes maker.old) (M.nodes maker.new) }

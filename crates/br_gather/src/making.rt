@@ -60,7 +60,8 @@ pub(crate) fn files_by<D: Drive + Send>(
     names: Option<&Names>,
 ) -> Result<Vec<(FileKey, Outcome)>, AgainFault>
     requires { AreListed hits.now }
-    ensures files { IfOk result (λ made. GivesHits many.old hits.now → map restored made.items ≡ files_of hits.now (option_copied names.entry)) }
+    ensures files { IfOk result (λ made. GivesHits many.old hits.now → map restored made.items ≡ files_of hits.now
+        (option_copied names.entry)) }
     ensures on { GoOn many.old many.new }
     ensures failed { result ≡ Err Failed → HaveFailed many.old many.new }
 {

@@ -14,7 +14,7 @@ fn no_text(alloc: Global) -> Result<Vec<u8>, AllocError>
     Vec::from_slice(alloc, b"-")
 }
 
-/// Returns the instant so many seconds after the beginning of 1970, unless it is beyond the last one.
+/// Returns the instant this number of seconds after the beginning of 1970, unless it is beyond the last one.
 fn instant_at(seconds: u64) -> Option<Timestamp>
     ensures known { IsSome result ↔ IsTimestampNanos (nanos_at seconds) }
     ensures value { IfSome result (λ instant. instant.nanosecond ≡ nanos_at seconds) }

@@ -18,7 +18,7 @@ fn seconds_text(alloc: Global, seconds: u64) -> Result<Vec<u8>, AllocError>
     Ok(text)
 }
 
-/// Returns the moment so many seconds after the beginning of 1970, in UTC, if the calendar has it.
+/// Returns the moment this number of seconds after the beginning of 1970, in UTC, if the calendar has it.
 fn civil_at(seconds: u64) -> Option<DateTime> {
     let second = i64::try_from(seconds).ok()?;
     let start = DateTime::new(1970, 1, 1, 0, 0, 0, 0).ok()?;

@@ -33,7 +33,7 @@ impl MemSight {
         }
     }
 
-    /// Has another program write to the file for so many moments.
+    /// Has another program write to the file for this number of moments.
     pub fn busy_for(mut self, moments: u32) -> MemSight
         ensures { result ≡ record self { busy = moments } }
     {
@@ -41,7 +41,7 @@ impl MemSight {
         self
     }
 
-    /// Makes each read give at most so many bytes.
+    /// Makes each read give at most this number of bytes.
     pub fn reading_at_most(mut self, bytes: usize) -> MemSight
         ensures { result ≡ record self { at_most = bytes } }
     {

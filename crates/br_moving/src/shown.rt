@@ -92,7 +92,8 @@ pub(crate) fn read_jobs<S: Store>(
     clients: &Names,
     filesets: &Names,
 ) -> Result<Vec<Shown>, StoreFault>
-    ensures jobs { OnCleanStore S.Store store.old store.new (λ old new. IfOk result (λ jobs. ShowJobs clients.now filesets.now old.trees jobs.items)) }
+    ensures jobs { OnCleanStore S.Store store.old store.new (λ old new. IfOk result
+        (λ jobs. ShowJobs clients.now filesets.now old.trees jobs.items)) }
     ensures reads { OnCleanStore S.Store store.old store.new (λ old new. OnOk result (Reads old new)) }
     ensures kept { CommitsNothing S.Store store.old store.new }
 {

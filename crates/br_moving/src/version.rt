@@ -53,7 +53,8 @@ fn first_version(alloc: Global, row: &Row) -> Result<i64, StoreFault>
 ///
 /// `BadCatalogue` if the version is not the one row 1; `Store`, with its cause, if the store fails.
 pub(crate) fn read_version<S: Store>(alloc: Global, store: &mut S) -> Result<i64, StoreFault>
-    ensures version { OnCleanStore S.Store store.old store.new (λ old new. IfOk result (λ id. old.trees version_tree ≡ (Int id ∷ Int (pos 1) ∷ []) ∷ [])) }
+    ensures version { OnCleanStore S.Store store.old store.new (λ old new. IfOk result
+        (λ id. old.trees version_tree ≡ (Int id ∷ Int (pos 1) ∷ []) ∷ [])) }
     ensures reads { OnCleanStore S.Store store.old store.new (λ old new. OnOk result (Reads old new)) }
     ensures kept { CommitsNothing S.Store store.old store.new }
 {

@@ -121,7 +121,8 @@ fn is_view(views: &[StoredView], tree: u32) -> bool
 }
 
 fn layout_or_view(schema: &Schema, tree: u32, shape: Shape) -> Option<(Shape, u64)>
-    ensures { (v : View) → Knows v schema.now → IsListedIn schema.now tree → shape ≡ unsorted (v.shape tree) → result ≡ Some (layout_at v tree) }
+    ensures { (v : View) → Knows v schema.now → IsListedIn schema.now tree → shape ≡ unsorted (v.shape tree) →
+        result ≡ Some (layout_at v tree) }
 {
     if is_view(schema.views.as_slice(), tree) {
         return Some((shape, 0));
@@ -556,7 +557,8 @@ pub fn store_over<D: Disk>(
     ensures named { IfErr result (λ e. IsTrue (is_open_error e.0)) }
     ensures guarded { IfOk result (λ store. IsTrue (view store).is_clean → is_shielded store) }
     ensures ok { IfOk result (λ store. IsTrue (view store).is_clean → IsOver files store) }
-    ensures sums { IfOk result (λ store. IsTrue (view store).is_clean → IsBlankAs new_has_sums (image_of D.Disk files) → (view store).has_sums ≡ new_has_sums) }
+    ensures sums { IfOk result (λ store. IsTrue (view store).is_clean → IsBlankAs new_has_sums (image_of D.Disk files) →
+        (view store).has_sums ≡ new_has_sums) }
     ensures cause { IfErr result (λ e. IsCleanLeft e.1 → FailsToOpenAs StoreError.Io files e.1 e.0) }
     ensures unharmed { IfErr result (λ e. IsCleanLeft e.1 → LeavesFiles files e.1) }
 {

@@ -95,7 +95,8 @@ fn converse_at<R: BufRead, W: Write>(
     writer: &mut W,
 ) -> Result<Dialogue, ScriptFault>
     ensures turns { OnOk result (lines.old.turns ≤ lines.new.turns) }
-    ensures over { ConversesOver (W.contents writer.old) (W.contents writer.new) (snapshot.now.opening ++ snapshot.now.list) request.now result }
+    ensures over { ConversesOver (W.contents writer.old) (W.contents writer.new)
+        (snapshot.now.opening ++ snapshot.now.list) request.now result }
 {
     let asked = JobSelection {
         history: snapshot.history(),

@@ -31,7 +31,7 @@ pub(crate) fn count_before(flags: &[bool], sums: &[usize], end: usize) -> usize
     }
 }
 
-/// Returns a number of set flags after so many were set or taken.
+/// Returns a number of set flags after some were set or taken.
 fn recount(count: usize, changed: usize, value: bool) -> usize
     requires { moved value count changed < 2 ^ 64 }
     ensures { result ≡ moved value count changed }

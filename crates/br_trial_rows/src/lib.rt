@@ -6,7 +6,7 @@
 //!
 //! A field of bytes is `-` for no bytes, or parts with `+` between them. A part is a text as names
 //! are printed, `3*ab` for that text three times, or `#6162` for bytes in hexadecimal.
-//! A text of lines is such a field, too, in which `_` stands for a blank and `|` for a line feed.
+//! A text of lines is such a field, too, in which `_` is a blank and `|` a line feed.
 //!
 //! No call here returns an error: a [`Case`] remembers what went wrong, and its row does not hold.
 #![tactic(auto)]

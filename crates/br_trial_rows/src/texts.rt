@@ -1,9 +1,9 @@
-//! Fields that are texts of lines: `_` stands for a blank, and `|` for a line feed.
+//! Fields that are texts of lines: `_` is a blank, and `|` a line feed.
 
 use crate::Case;
 use std::alloc::AllocError;
 
-/// Returns the byte that a byte of a field stands for.
+/// Returns the byte that a byte of a field means.
 fn read(byte: u8) -> u8 {
     match byte {
         b'_' => b' ',
