@@ -19,7 +19,8 @@ pub struct Gauge<'r> {
     rt: &'r HostRuntime,
     /// True if standard error is a terminal.
     is_terminal: bool,
-    log: Option<Log>,
+    /// The log, if there is one.
+    pub(crate) log: Option<Log>,
     /// The path of the folder with the volumes.
     volumes: &'r str,
     /// When the gauge was made, if it shows how far the restore is.
@@ -143,11 +144,6 @@ impl<'r> Gauge<'r> {
         let files = self.files.load(Ordering::SeqCst);
         self.older
             .store(files.saturating_sub(others), Ordering::SeqCst);
-    }
-
-    /// Returns the log, if there is one.
-    pub(crate) fn log(&self) -> Option<&Log> {
-        self.log.as_ref()
     }
 
     /// Prints a text to standard error if that is a terminal.

@@ -41,9 +41,10 @@ impl LineStart {
 #[derive(Drop)]
 pub(crate) struct Lines {
     start: LineStart,
-    faults: Faults,
+    /// The outcomes that are no files.
+    pub(crate) faults: Faults,
     /// The keys of the outcomes, unless memory ran out.
-    keys: Option<Vec<FileKey>>,
+    pub(crate) keys: Option<Vec<FileKey>>,
     /// The number of the last line `refused N`, until it is taken.
     refused: Option<u32>,
 }
@@ -112,18 +113,5 @@ impl Lines {
     /// Takes the number of the last line `refused N` since the last call.
     pub(crate) fn take_refused(&mut self) -> Option<u32> {
         self.refused.take()
-    }
-
-    /// Returns the outcomes that are no files.
-    pub(crate) fn faults(&self) -> &Faults {
-        &self.faults
-    }
-
-    /// Returns the keys of the outcomes, unless memory ran out.
-    pub(crate) fn keys(&self) -> Option<&[FileKey]> {
-        match &self.keys {
-            Some(keys) => Some(keys),
-            None => None,
-        }
     }
 }

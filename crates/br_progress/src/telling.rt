@@ -42,7 +42,7 @@ fn refusal_lines(alloc: Global, number: u32) -> Result<Vec<u8>, AllocError> {
 impl<'r> Gauge<'r> {
     /// Appends lines to the log, if there is one. For lines for which memory ran out the log is torn.
     fn log_lines(&self, lines: Result<Vec<u8>, AllocError>) {
-        if let Some(log) = self.log() {
+        if let Some(log) = &self.log {
             match lines {
                 Ok(lines) => log.append(&lines),
                 Err(_) => log.tear(),
@@ -52,14 +52,14 @@ impl<'r> Gauge<'r> {
 
     /// Appends the line of an outcome that is no file to the log.
     pub(crate) fn log_fault(&self, line: &[u8]) {
-        if self.log().is_some() {
+        if self.log.is_some() {
             self.log_lines(ended(self.alloc(), line));
         }
     }
 
     /// Notes that the first files among the outcomes were put, as many as `count`.
     pub(crate) fn note_files_put(&self, outcomes: &[(FileKey, Outcome)], count: u64) {
-        if self.log().is_some() {
+        if self.log.is_some() {
             self.log_lines(put_lines(self.alloc(), outcomes, count));
         }
         self.note_put(count);
@@ -67,7 +67,7 @@ impl<'r> Gauge<'r> {
 
     /// Notes that a file was put.
     pub(crate) fn note_file_put(&self, item: &Item) {
-        if self.log().is_some() {
+        if self.log.is_some() {
             self.log_lines(put_line(self.alloc(), item));
         }
         self.note_put(1);
@@ -75,7 +75,7 @@ impl<'r> Gauge<'r> {
 
     /// Appends the line of a file at which the sink failed to the log.
     pub(crate) fn log_failed(&self, item: &Item) {
-        if self.log().is_some() {
+        if self.log.is_some() {
             self.log_lines(failed_line(self.alloc(), item));
         }
     }
@@ -87,7 +87,7 @@ impl<'r> Gauge<'r> {
         if push_words(&mut words, number).is_ok() {
             let _shown = self.show(&words);
         }
-        if self.log().is_some() {
+        if self.log.is_some() {
             self.log_lines(refusal_lines(self.alloc(), number));
         }
     }
@@ -95,7 +95,7 @@ impl<'r> Gauge<'r> {
     /// Appends lines to the log, if there is one, and after each line `refused N` what it means and what to do
     /// next.
     pub fn log_refusals(&self, lines: &[u8]) {
-        if self.log().is_some() {
+        if self.log.is_some() {
             let mut text = Vec::new(self.alloc());
             let pushed = push_with_words(&mut text, lines);
             self.log_lines(pushed.map(|_| text));

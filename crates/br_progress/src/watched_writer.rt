@@ -38,13 +38,16 @@ impl<'g, 'r, W> WatchedWriter<'g, 'r, W> {
 
     /// Returns the outcomes that are no files, of the manifest as far as it is written.
     pub fn faults(&self) -> &Faults {
-        self.lines.faults()
+        &self.lines.faults
     }
 
     /// Returns the keys of the outcomes, of the manifest as far as it is written, unless memory ran out. Nothing is
     /// kept if nobody reads what the gauge tells.
     pub fn keys(&self) -> Option<&[FileKey]> {
-        self.lines.keys()
+        match &self.lines.keys {
+            Some(keys) => Some(keys),
+            None => None,
+        }
     }
 
     /// Returns the text of the bootstrap that a console session wrote, if it did and somebody reads what the gauge
