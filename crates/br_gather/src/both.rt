@@ -11,7 +11,7 @@ ghost use Rattle.br_gather.specs.Windows.{data_bytes};
 
 use crate::digesting::{Ahead, Digesting, digest_rest, finish, open, read_ahead, take_ahead};
 use crate::runs::Run;
-use crate::windows::{cut_window, digest_window};
+use crate::windows::{DIGESTED, cut_window, digest_window};
 use br_again::{AgainFault, standing_stays};
 use br_join::{Outcome, named};
 use br_match::Hit;
@@ -140,8 +140,8 @@ fn read_both_on<'h, D: Drive>(
     ensures on { GoOn many.old many.new }
     ensures failed { result ≡ Err Failed → HaveFailed many.old many.new }
 {
-    let first = cut_window(rest.one);
-    let second = cut_window(rest.other);
+    let first = cut_window(rest.one, DIGESTED);
+    let second = cut_window(rest.other, DIGESTED);
     let next = Both {
         one: first.window,
         other: second.window,

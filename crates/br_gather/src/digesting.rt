@@ -16,7 +16,7 @@ ghost use Rattle.br_gather.specs.Windows.{AppendsPlain, data_bytes};
 use crate::light::DATA;
 use crate::putting::has_sparse_data;
 use crate::rereading::{outcome_by, push_hit};
-use crate::windows::{cut_window, digest_window, push_data};
+use crate::windows::{DIGESTED, cut_window, digest_window, push_data};
 use br_again::{AgainFault, Data, standing_stays};
 use br_body::Reading;
 use br_join::{Outcome, outcome_with};
@@ -151,7 +151,7 @@ pub(crate) fn open<'h, D: Drive>(
     ensures on { GoOn many.old many.new }
     ensures failed { result ≡ Err Failed → HaveFailed many.old many.new }
 {
-    let first = cut_window(hits);
+    let first = cut_window(hits, DIGESTED);
     let ahead = read_ahead(alloc, many, first.window)?;
     let begun = Digesting {
         reading: Reading::new(),
@@ -211,7 +211,7 @@ fn read_on<'h, D: Drive>(
     ensures on { GoOn many.old many.new }
     ensures failed { result ≡ Err Failed → HaveFailed many.old many.new }
 {
-    let next = cut_window(rest);
+    let next = cut_window(rest, DIGESTED);
     let ahead = digest_beside(rt, alloc, many, begun, next.window)?;
     take_ahead(begun, ahead)?;
     Ok(next.rest)

@@ -12,7 +12,7 @@ ghost use Rattle.br_gather.specs.Windows.{AppendsPlain, data_bytes};
 
 use crate::light::DATA;
 use crate::likeness::are_alike;
-use crate::windows::{cut_window, digest_window, push_data, share_window};
+use crate::windows::{PUT, cut_window, digest_window, push_data, share_window};
 use br_again::{AgainFault, Data, standing_stays};
 use br_body::{Reading, write_bytes};
 use br_join::{FileBytes, Item};
@@ -253,11 +253,11 @@ fn write_hits<D: Drive, W: Write>(
     ensures on { GoOn many.old many.new }
 {
     standing_stays();
-    let first = cut_window(hits);
+    let first = cut_window(hits, PUT);
     begun.window = read_window(alloc, many, first.window)?;
     let mut rest = first.rest;
     while !rest.is_empty() {
-        let next = cut_window(rest);
+        let next = cut_window(rest, PUT);
         put_beside(rt, alloc, many, begun, next.window, writer)?;
         rest = next.rest;
     }

@@ -127,7 +127,7 @@ impl Gathered {
 
     /// Puts a file like this one, made of the hits with its key, into a sink. Their paths, numbers, links and
     /// lengths are the same, and the digests of their bytes. The data are read again while it is put: at most two
-    /// windows of them are in memory, each of about 1 MiB, of which another thread digests the one. A file with
+    /// windows of them are in memory, each of about 4 MiB, of which another thread digests the one. A file with
     /// sparse data is in memory as a whole.
     ///
     /// # Errors

@@ -8,7 +8,7 @@ use crate::both::files_by_two;
 use crate::made_again::push_file;
 use crate::putting::has_sparse_data;
 use crate::runs::Run;
-use crate::windows::cut_window;
+use crate::windows::{DIGESTED, cut_window};
 use crate::work::make_one;
 use br_again::{AgainFault, standing_stays};
 use br_join::Outcome;
@@ -20,7 +20,7 @@ use std::thread::Threads;
 
 /// Returns whether a file has more data than one window, and none that are sparse.
 fn is_long(run: &Run<'_>) -> bool {
-    !cut_window(run.hits).rest.is_empty() && !has_sparse_data(run.hits)
+    !cut_window(run.hits, DIGESTED).rest.is_empty() && !has_sparse_data(run.hits)
 }
 
 /// Makes the next two files side by side: the ones after as many as are made.

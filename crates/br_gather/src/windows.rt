@@ -7,23 +7,27 @@ use br_body::Reading;
 use br_match::Hit;
 use std::alloc::{AllocError, Global};
 
-/// The number of bytes with which a window is full.
-const WINDOW: usize = 1 << 20;
+/// The number of bytes with which a window of a file that is digested is full. Each drive has four at most.
+pub(crate) const DIGESTED: usize = 1 << 20;
+
+/// The number of bytes with which a window of a file that is put is full. One file is put at a time, so all drives
+/// together have two, and there is room for longer ones: a thread begins and ends for each.
+pub(crate) const PUT: usize = 1 << 22;
 
 /// Returns the number of bytes that a hit has.
 fn len_of(hit: &Hit) -> usize {
     hit.data.len()
 }
 
-/// Returns how many of the first hits are in a window: one at least, and no more than fill it.
-fn window_len(hits: &[Hit]) -> usize
+/// Returns how many of the first hits are in a window of this size: one at least, and no more than fill it.
+fn window_len(hits: &[Hit], size: usize) -> usize
     requires { 0 < length hits.now }
     ensures some { 0 < result }
     ensures within { result ≤ length hits.now }
 {
     let mut bytes = len_of(&hits[0]);
     let mut count = 1;
-    while count < hits.len() && bytes < WINDOW {
+    while count < hits.len() && bytes < size {
         bytes = bytes.saturating_add(len_of(&hits[count]));
         count += 1;
     }
@@ -37,8 +41,8 @@ pub(crate) struct Cut<'h> {
     pub(crate) rest: &'h [Hit],
 }
 
-/// Cuts the first window off.
-pub(crate) fn cut_window(hits: &[Hit]) -> Cut<'_>
+/// Cuts off the first window, which is full with this number of bytes.
+pub(crate) fn cut_window(hits: &[Hit], size: usize) -> Cut<'_>
     ensures joined { result.window.now ++ result.rest.now ≡ hits.now }
     ensures fewer { length result.rest.now ≤ length hits.now - 1 }
 {
@@ -48,7 +52,7 @@ pub(crate) fn cut_window(hits: &[Hit]) -> Cut<'_>
             rest: hits,
         };
     }
-    let (window, rest) = hits.split_at(window_len(hits));
+    let (window, rest) = hits.split_at(window_len(hits, size));
     Cut { window, rest }
 }
 
