@@ -7,7 +7,8 @@ use br_body::Reading;
 use br_match::Hit;
 use std::alloc::{AllocError, Global};
 
-/// The number of bytes with which a window of a file that is digested is full. Each drive has four at most.
+/// The number of bytes with which a window of a file that is digested is full. A single drive has four of them at
+/// once, and each of several has two.
 pub(crate) const DIGESTED: usize = 1 << 20;
 
 /// The number of bytes with which a window of a file that is put is full. One file is put at a time, so all drives

@@ -15,9 +15,9 @@ use std::thread::Threads;
 /// A file: its number, the block of its attributes, and the letter of which each of its blocks of data is.
 type Long = (u8, &'static [u8], &'static [u8]);
 
-/// The files, of two windows, three and two. A block has 300,000 bytes of data, and four of them fill a
-/// window.
-const FILES: [Long; 3] = [
+/// The files, which are digested in two windows, three, two and eight. A block has 300,000 bytes of data, and
+/// four of them fill such a window. The last file is put in three windows, each of which 14 blocks fill.
+const FILES: [Long; 4] = [
     (
         1,
         b"\0\0\0\0\0\0\0\x4d\0\0\0\0BB02\0\0\0\x01\0\0\0\x64\0\0\0\x01\0\0\0\x01\0\0\0\x29\
@@ -36,7 +36,16 @@ const FILES: [Long; 3] = [
         3 3 /c\0A A IGk B A A A G3dA A A A A A A\0\0",
         b"ABCDEF",
     ),
+    (
+        4,
+        b"\0\0\0\0\0\0\0\x4d\0\0\0\0BB02\0\0\0\x01\0\0\0\x64\0\0\0\x04\0\0\0\x01\0\0\0\x29\
+        4 3 /d\0A A IGk B A A A hMBg A A A A A A\0\0",
+        LAST,
+    ),
 ];
+
+/// The letters of the last file.
+const LAST: &[u8] = b"abcdefghijklmnopqrstuvwxyzABC";
 
 /// What is before and after the number of the file in the head of a block of data.
 const HEAD: [&[u8]; 2] = [
@@ -45,11 +54,11 @@ const HEAD: [&[u8]; 2] = [
 ];
 
 const TEXT: &[u8] =
-    b"Volume=\"A\"\nVolSessionId=1\nVolSessionTime=100\nVolAddr=0-1500256\nFileIndex=1\n";
+    b"Volume=\"A\"\nVolSessionId=1\nVolSessionTime=100\nVolAddr=6000951-14702071\nFileIndex=4\n";
 
 /// The digest is that of the letters, as `md5sum` prints it.
 const MANIFEST: &[u8] =
-    b"F 1 100 1 3 /a 0,0,33188,1,0,0,0,1500000,0,0,0,0,0,0 = 1500000 2098b880b81b6eb8453e11a01b453c8f\ntotal 1 0 0\n";
+    b"F 1 100 4 3 /d 0,0,33188,1,0,0,0,8700000,0,0,0,0,0,0 = 8700000 d418118a6d3453ee4c37a13397854239\ntotal 1 0 0\n";
 
 /// Bootstraps of several files, and their manifests. The first of two files is the shorter one, and then the
 /// longer one; of three files one is left.
@@ -128,18 +137,18 @@ fn are_of(bytes: &[u8], letter: u8) -> bool {
     bytes.iter().all(|byte| *byte == letter)
 }
 
-/// Returns whether the bytes are those of the file.
-fn are_all(bytes: &[u8]) -> bool {
+/// Returns whether the bytes are those of the file with these letters.
+fn are_all(bytes: &[u8], letters: &[u8]) -> bool {
     let mut rest = bytes;
-    for letter in [b'a', b'b', b'c', b'd', b'e'] {
+    for letter in letters {
         if rest.len() < 300_000 {
             return false;
         }
-        let (block, behind) = rest.split_at(300_000);
-        if !are_of(block, letter) {
+        let (block, more) = rest.split_at(300_000);
+        if !are_of(block, *letter) {
             return false;
         }
-        rest = behind;
+        rest = more;
     }
     rest.is_empty()
 }
@@ -158,7 +167,7 @@ fn windows_are_read_beside_the_digest(rt: HostRuntime) -> Result<(), Fail> {
     assert!(rt; out.writer.as_slice() == MANIFEST);
     let sink = out.sink.ok_or("a sink")?;
     let item = sink.items().first().ok_or("a file")?;
-    assert!(rt; are_all(&item.bytes.to_vec(alloc)?));
+    assert!(rt; are_all(&item.bytes.to_vec(alloc)?, LAST));
     Ok(())
 }
 
