@@ -178,7 +178,7 @@ pub(crate) fn quiet_option<'a>(alloc: Global) -> Arg<'a>
     flag_option(
         alloc,
         "quiet",
-        "Shows no progress, where a terminal would show how far the restore is",
+        "Does not show at a terminal how far the restore is",
     )
 }
 

@@ -672,7 +672,7 @@ fn text_of_fault(matches: &ArgMatches<'_>, kind: ErrorKind) -> &'static str {
             "the argument '--into <DIR>' cannot be used with '--tar <FILE>'"
         }
         ErrorKind::ValueValidation => {
-            "the value of '--memory <SIZE>' is no number of bytes, nor one with K, M or G"
+            "the value of '--memory <SIZE>' is no number of bytes below 2^64, alone or with K, M or G"
         }
         _ if is_resumed(matches) => "the argument '--resume' must be given with '--into <DIR>'",
         _ => "the arguments '--db <FILE>' and '--volumes <DIR>' must be given together",

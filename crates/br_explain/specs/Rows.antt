@@ -156,7 +156,7 @@ all_rows =
     (codes "Restore the file with Bacula's `bextract`; if its data are encrypted or of Windows, with the Director and the client.") ∷
     row_with 66 (codes "DigestDiffers")
     (codes "The file has two MD5 digests, or one that is not that of its bytes.")
-    (codes "Do not use the file: try another copy or choose an earlier moment.") ∷
+    (codes "The file was not written: try another copy or choose an earlier moment.") ∷
     row_with 67 (codes "SparseBack")
     (codes "A sparse record of the file has no address, or one before the end of what came before.")
     (codes "Try another copy or choose an earlier moment.") ∷
@@ -176,8 +176,8 @@ all_rows =
     (codes "A file or folder could not be written, or its path is not UTF-8.")
     (codes "The first file of the manifest that is not whole in the folder is the one: check space and whether you may write there, or leave it out.") ∷
     row_with 81 (codes "PathInTheWay")
-    (codes "The target folder does not exist or is not empty; or one path of the restore is both a file and a folder.")
-    (codes "Make an empty folder for `--into`; if the manifest was printed, restore the two paths into two folders.") ∷
+    (codes "The folder of `--into` does not exist or is not empty, or the file of `--tar` is there already; or one path of the restore is both a file and a folder.")
+    (codes "Make an empty folder for `--into`, or name a new file for `--tar`; if the manifest was printed, restore the two paths into two folders.") ∷
     row_with 90 (codes "BadScript")
     (codes "The printed line of the script fits no form, or comes at a wrong place.")
     (codes "Correct the line: docs/formats.md lists the forms.") ∷

@@ -276,7 +276,7 @@ pub const REFUSALS: [Refusal; 54] = [
         number: 66,
         name: "DigestDiffers",
         meaning: "The file has two MD5 digests, or one that is not that of its bytes.",
-        next: "Do not use the file: try another copy or choose an earlier moment.",
+        next: "The file was not written: try another copy or choose an earlier moment.",
     },
     Refusal {
         number: 67,
@@ -317,8 +317,8 @@ pub const REFUSALS: [Refusal; 54] = [
     Refusal {
         number: 81,
         name: "PathInTheWay",
-        meaning: "The target folder does not exist or is not empty; or one path of the restore is both a file and a folder.",
-        next: "Make an empty folder for `--into`; if the manifest was printed, restore the two paths into two folders.",
+        meaning: "The folder of `--into` does not exist or is not empty, or the file of `--tar` is there already; or one path of the restore is both a file and a folder.",
+        next: "Make an empty folder for `--into`, or name a new file for `--tar`; if the manifest was printed, restore the two paths into two folders.",
     },
     Refusal {
         number: 90,

@@ -45,15 +45,23 @@ fn print_lines(rt: &HostRuntime, text: &[u8]) -> io::Result<()> {
     writer.flush()
 }
 
-/// Prints to standard error that no job is listed, and how all are, if there is no line and standard error is
-/// a terminal.
-fn tell_if_none(rt: &HostRuntime, lines: &[u8]) -> io::Result<()> {
-    if lines.is_empty() && is_shown(rt) {
+/// Returns whether each job is asked for.
+fn asks_for_all(filter: &Filter<'_>) -> bool {
+    filter.client.is_none() && filter.fileset.is_none() && filter.before.is_none()
+}
+
+/// Prints to standard error why no job is listed, if there is no line and standard error is a terminal.
+fn tell_if_none(rt: &HostRuntime, lines: &[u8], filter: &Filter<'_>) -> io::Result<()> {
+    if !lines.is_empty() || !is_shown(rt) {
+        return Ok(());
+    }
+    if asks_for_all(filter) {
+        eprintln!(rt; "The catalogue has no jobs.")
+    } else {
         eprintln!(rt;
             "No job of this catalogue is asked for. Without --client, --fileset and --before all are listed."
-        )?;
+        )
     }
-    Ok(())
 }
 
 /// Prints the lines of the jobs that the filter lists, and why none is marked, if the choice was refused.
@@ -69,7 +77,7 @@ fn print_jobs(
     match marked_lines_in(rt.alloc(), history, filter, zones) {
         Ok(text) => {
             print_lines(rt, &text)?;
-            tell_if_none(rt, &text)?;
+            tell_if_none(rt, &text, filter)?;
             Ok(CLEAN)
         }
         Err(fault) => {
