@@ -50,6 +50,7 @@ CHOSEN = [
 ]
 NOWHERE = "no file was written. Next: `--into` and `--tar` say where to."
 NO_JOB = "No job of this catalogue is asked for. Without --client, --fileset and --before all are listed."
+EMPTY = "The catalogue has no jobs."
 QUIT = "nothing was restored. `done` restores what is marked."
 AWAITED = "brestore: reads a script from standard input. `brestore --help` lists the commands; Ctrl-D ends the input."
 
@@ -175,6 +176,11 @@ def restores(checks, folder):
     checks.check("another client", (status, shown, printed), (1, told(53), ""))
     status, shown, printed = play(checks.program, ["jobs", "--db", db, "--client", "mars-fd"], [], folder)
     checks.check("its jobs", (status, shown, printed), (0, [NO_JOB], ""))
+    blank = os.path.join(folder, "blank.db")
+    with open(blank, "w"):
+        pass
+    status, shown, printed = play(checks.program, ["jobs", "--db", blank], [], folder)
+    checks.check("the jobs of an empty catalogue", (status, shown, printed), (0, [EMPTY], ""))
     status, shown, printed = play(checks.program, console_words(db, into), typed("done"), folder)
     checks.check("nothing is marked", (status, shown, printed), (1, [*CHOSEN, *GREETING, *told(51, f"{PROMPT}refused 51")], ""))
     with open(os.path.join(CASES, "order-inc", "expected")) as text:
