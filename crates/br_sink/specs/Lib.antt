@@ -4,3 +4,4 @@ pub mod FileParts
 pub mod MemSink
 pub mod Delivery
 pub mod Parts
+pub mod TwoParts

@@ -14,6 +14,7 @@ mod parts;
 mod report;
 mod sink;
 mod text;
+mod two_parts;
 mod writing;
 
 pub use br_join::Item;
@@ -24,4 +25,5 @@ pub use mem_sink::{MemSink, copy_of};
 pub use parts::{manifest_room, write_manifest};
 pub use report::{Report, totals};
 pub use sink::Sink;
+pub use two_parts::{TwoParts, TwoPut};
 pub use writing::manifest;

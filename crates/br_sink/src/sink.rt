@@ -1,14 +1,16 @@
-ghost use Rattle.std.specs.Prelude.{◌≡◌, ◌∷◌, ℕ, ◌<◌, ◌≤◌, List, [], length, Option, Err, IfOk, OnOk, OnErr, IfErr};
+ghost use Rattle.std.specs.Prelude.{◌≡◌, ◌∷◌, ℕ, ◌<◌, ◌≤◌, List, [], length, Option, Err, IfOk, IfSome, OnOk, OnErr, IfErr};
 ghost use Rattle.std.specs.Thread.{IsSync};
 ghost use Rattle.br_model.specs.File as model;
 ghost use Rattle.br_sink.specs.Delivery.{IsStopBelow, items_in, items_put};
 ghost use Rattle.br_sink.specs.FileParts.{AreAlike, with_bytes};
 ghost use Rattle.br_sink.specs.Sink.{HasMore};
+ghost use Rattle.br_sink.specs.TwoParts.{AreTwoAlike, AreTwoSame, FailsTwo, two_put};
 ghost use Rattle.br_sink.specs.declared.fault.SinkFault.TheVariants.{Fault};
 ghost use Rattle.br_sink.specs.declared.file_parts.PartsFault.TheVariants as why;
 
 use crate::fault::{SinkFault, SinkStop};
 use crate::file_parts::{Parts, PartsFault, whole_of};
+use crate::two_parts::{TwoParts, TwoPut};
 use br_join::{FileBytes, Item, Outcome};
 use br_types::FileKey;
 use std::alloc::Global;
@@ -86,5 +88,28 @@ pub trait Sink {
         let whole = whole_of(alloc, item, parts)?;
         self.put(&whole)?;
         Ok(whole.bytes)
+    }
+
+    /// Adds two files like these, of which the bytes are read again while they are put, side by side. Returns
+    /// `None`, and has what it had, if it does not put these two so: then the caller puts one after the other.
+    ///
+    /// The paths of the two are apart: a caller sees to that. What comes of them is what comes of putting one
+    /// after the other. If the first one can't be put, neither is; if only the second can't, the first one is
+    /// put. Of a file that is not put, a sink that does not tell its files may hold a part.
+    fn put_two<P: TwoParts>(
+        &mut self,
+        _alloc: Global,
+        one: &Item,
+        other: &Item,
+        parts: &mut P,
+    ) -> Option<TwoPut>
+        ensures put { HasMore (two_put one.now other.now result) (has self.old) (has self.new) }
+        ensures alike { IfSome result (AreTwoAlike one.now other.now) }
+        ensures same { P.gives parts.old one.now other.now → IfSome result (AreTwoSame one.now other.now) }
+        ensures counted { failures self.old ≤ failures self.new }
+        ensures failed { FailsTwo result → failures self.old < failures self.new }
+        ensures on { P.goes_on parts.old parts.new }
+    {
+        None
     }
 }

@@ -1,0 +1,45 @@
+-- Two files of which the bytes are read again, side by side, while both are put.
+use Rattle.std.specs.Prelude.{◌≡◌, ℕ, List, [], ◌∷◌, Option, Some, None, ⊤}
+use Rattle.std.specs.Io.KnownBytes.{Appends}
+use Rattle.br_model.specs.File.{Item}
+use Rattle.br_sink.specs.FileParts.{AreAlike, WritesSome, with_bytes}
+use Rattle.br_sink.specs.declared.file_parts.PartsFault.{PartsFault}
+use Rattle.br_sink.specs.declared.file_parts.PartsFault.TheVariants as parts
+use Rattle.br_sink.specs.declared.two_parts.TwoPut.{TwoPut}
+use Rattle.br_sink.specs.declared.two_parts.TwoPut.TheVariants.{Both, One, Neither}
+
+-- What was written of two files: all bytes of one that was put, and of one that was not some bytes, as many as it has at most.
+abbrev pub WritesTwo : Item → Item → Option (List ℕ) → Option (List ℕ) → Option (List ℕ) → Option (List ℕ) → TwoPut → Type 0
+WritesTwo one other a b c d (Both x y) = Appends a b x × Appends c d y
+WritesTwo one other a b c d (One x why) = Appends a b x × WritesSome other.bytes c d
+WritesTwo one other a b c d (Neither why) = WritesSome one.bytes a b × WritesSome other.bytes c d
+
+-- what was put of two files has as many bytes as was found, with the same digests
+abbrev pub AreTwoAlike : Item → Item → TwoPut → Type 0
+AreTwoAlike one other (Both x y) = AreAlike x one.bytes × AreAlike y other.bytes
+AreTwoAlike one other (One x why) = AreAlike x one.bytes
+AreTwoAlike one other (Neither why) = ⊤
+
+-- what was put of two files has the bytes that were found
+abbrev pub AreTwoSame : Item → Item → TwoPut → Type 0
+AreTwoSame one other (Both x y) = (x ≡ one.bytes) × (y ≡ other.bytes)
+AreTwoSame one other (One x why) = x ≡ one.bytes
+AreTwoSame one other (Neither why) = ⊤
+
+-- the files that were put, in their order, with the bytes that were given
+abbrev pub two_put : Item → Item → Option TwoPut → List Item
+two_put one other (Some (Both x y)) = with_bytes one x ∷ with_bytes other y ∷ []
+two_put one other (Some (One x why)) = with_bytes one x ∷ []
+two_put one other (Some (Neither why)) = []
+two_put one other None = []
+
+-- why one of two files was not put
+abbrev pub why_of : TwoPut → Option PartsFault
+why_of (Both x y) = None
+why_of (One x why) = Some why
+why_of (Neither why) = Some why
+
+-- one of two files was not put for a fault of the sink
+abbrev pub FailsTwo : Option TwoPut → Type 0
+FailsTwo None = ⊥
+FailsTwo (Some two) = why_of two ≡ Some parts.Fault

@@ -1,0 +1,65 @@
+//! Two files of which the bytes are read again, side by side, while both are put.
+ghost use Rattle.std.specs.Prelude.{◌≡◌};
+ghost use Rattle.br_model.specs.File as model;
+ghost use Rattle.br_sink.specs.TwoParts.{AreTwoAlike, AreTwoSame, WritesTwo, why_of};
+
+use crate::file_parts::PartsFault;
+use br_join::{FileBytes, Item};
+use std::io::Write;
+
+/// What became of two files that were put side by side.
+#[derive(Debug, Drop)]
+pub enum TwoPut {
+    /// Both were put; these are their bytes, which are not in memory.
+    Both { one: FileBytes, other: FileBytes },
+    /// The first one was put, and these are its bytes. The other was not.
+    One { one: FileBytes, why: PartsFault },
+    /// Neither was put.
+    Neither { why: PartsFault },
+}
+
+impl TwoPut {
+    /// Returns the reason why a file was not put, if there is one.
+    pub fn why(&self) -> Option<PartsFault>
+        ensures { result ≡ why_of self.now }
+    {
+        match self {
+            TwoPut::Both { .. } => None,
+            TwoPut::One { why, .. } | TwoPut::Neither { why } => Some(*why),
+        }
+    }
+}
+
+/// What reads the bytes of two files again, side by side.
+pub trait TwoParts {
+    /// It gives the bytes of these two files as they are.
+    ghost gives: { Self → model.Item → model.Item → Type 0 };
+
+    /// What it was before it read, and what it may be after that.
+    ghost goes_on: { Self → Self → Type 0 };
+
+    /// Writes the bytes of two files, each part as it is read, and returns them; they are not in memory. They
+    /// are as many as those of the items, and have the same digests.
+    ///
+    /// It stops at the first of the two files, in their order, whose bytes are not all written. Of a file that
+    /// is not put some bytes may be written, as many as the item has at most. The reason is
+    ///
+    /// - `NoDriveLeft` if no drive is left that gives such bytes.
+    /// - `Fault` if the writer failed.
+    /// - `Memory` if memory ran out, also that of the writer.
+    fn write_both<W: Write>(
+        &mut self,
+        one: &Item,
+        other: &Item,
+        first: &mut W,
+        second: &mut W,
+    ) -> TwoPut
+        ensures written { WritesTwo one.now other.now (W.contents first.old) (W.contents first.new) (W.contents second.old)
+            (W.contents second.new) result }
+        ensures alike { AreTwoAlike one.now other.now result }
+        ensures same { gives self.old one.now other.now → AreTwoSame one.now other.now result }
+        ensures on { goes_on self.old self.new };
+
+    /// One that has read nothing went on.
+    ghost stays: { (x : Self) → goes_on x x };
+}
