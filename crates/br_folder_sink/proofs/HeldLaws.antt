@@ -16,13 +16,13 @@ use Rattle.br_folder_sink.proofs.BelowLaws.{adds_both, differs}
 
 -- what is at one path after one more change
 
-folder_left : (root path : List ℕ) (was : Option (List ℕ)) (a b c : Nodes) → IsLeft root path was a b
+pub folder_left : (root path : List ℕ) (was : Option (List ℕ)) (a b c : Nodes) → IsLeft root path was a b
     → (node_at c path ≡ node_at b path) ⊎ IsNewFolder root path b c → IsLeft root path was a c
 folder_left root path (Some bytes) a b c left (inl same) = same ∙ left
 folder_left root path (Some bytes) a b c left (inr (below, free, is)) = let never : None ≡ Some (Bytes bytes) = sym free ∙ left in absurd cc
 folder_left root path None a b c left added = adds_both root path a b c left added
 
-still_opened : (root path : List ℕ) (n : ℕ) (b c : Nodes) → node_at b path ≡ Some (Opened n)
+pub still_opened : (root path : List ℕ) (n : ℕ) (b c : Nodes) → node_at b path ≡ Some (Opened n)
     → (node_at c path ≡ node_at b path) ⊎ IsNewFolder root path b c → node_at c path ≡ Some (Opened n)
 still_opened root path n b c is (inl same) = same ∙ is
 still_opened root path n b c is (inr (below, free, folder)) = let never : None ≡ Some (Opened n) = sym free ∙ is in absurd cc
@@ -30,12 +30,12 @@ still_opened root path n b c is (inr (below, free, folder)) = let never : None �
 pub set_own : (path : List ℕ) (node : Option Node) (b c : Nodes) → AreSet path node b c → node_at c path ≡ node
 set_own path node b c set = set path ∙ ap (λ (t : Bool). cond t node (node_at b path)) ((bytes_eq-Decides path path).1 refl)
 
-set_apart : (path other : List ℕ) (node : Option Node) (b c : Nodes) → AreSet path node b c → (path ≡ other → ⊥)
+pub set_apart : (path other : List ℕ) (node : Option Node) (b c : Nodes) → AreSet path node b c → (path ≡ other → ⊥)
     → node_at c other ≡ node_at b other
 set_apart path other node b c set apart =
     set other ∙ ap (λ (t : Bool). cond t node (node_at b other)) (differs path other apart (bytes_eq path other) refl)
 
-apart_if : (path other : List ℕ) → bytes_eq path other ≡ false → path ≡ other → ⊥
+pub apart_if : (path other : List ℕ) → bytes_eq path other ≡ false → path ≡ other → ⊥
 apart_if path other none is = let never : true ≡ false = sym ((bytes_eq-Decides path other).1 is) ∙ none in absurd cc
 
 -- the bytes of a path after one more item was put
@@ -44,14 +44,14 @@ put_more : (root path : List ℕ) (items : List Item) (item : Item)
     → bytes_put root (items ++ item ∷ []) path ≡ bytes_after root path (bytes_put root items path) item
 put_more root path items item = fold-append (bytes_after root path) None items (item ∷ [])
 
-put_apart : (root path : List ℕ) (items : List Item) (item : Item) → (root ++ item.path ≡ path → ⊥)
+pub put_apart : (root path : List ℕ) (items : List Item) (item : Item) → (root ++ item.path ≡ path → ⊥)
     → bytes_put root (items ++ item ∷ []) path ≡ bytes_put root items path
 put_apart root path items item apart =
     put_more root path items item
     ∙ ap (λ (t : Bool). cond (t && has_bytes item.kind) (Some item.bytes) (bytes_put root items path))
     (differs (root ++ item.path) path apart (bytes_eq (root ++ item.path) path) refl)
 
-put_own : (root : List ℕ) (items : List Item) (item : Item) → has_bytes item.kind ≡ true
+pub put_own : (root : List ℕ) (items : List Item) (item : Item) → has_bytes item.kind ≡ true
     → bytes_put root (items ++ item ∷ []) (root ++ item.path) ≡ Some item.bytes
 put_own root items item has =
     let path : List ℕ = root ++ item.path in

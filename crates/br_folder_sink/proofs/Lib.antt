@@ -4,3 +4,4 @@ pub mod HeldLaws
 pub mod RemovalLaws
 pub mod EmptyLaws
 pub mod ThereLaws
+pub mod TwoLaws

@@ -4,13 +4,13 @@ use Rattle.std.specs.Prelude.{bytes_eq, suc}
 use Rattle.std.proofs.Math.Seq.{map-set_same}
 use Rattle.std.proofs.lemmas.List.{map-append, take_more}
 use Rattle.br_model.specs.File.{Item}
-use Rattle.br_files.specs.Making.{Nodes, AreSet, Else, IsFileOrFree, Sets, node_at}
+use Rattle.br_files.specs.Making.{Nodes, AreSet, Else, IsFileOrFree, KeepsOthers, Sets, node_at}
 use Rattle.br_files.specs.declared.kind.Kind.TheVariants.{Folder}
 use Rattle.br_folder_sink.specs.Below.{AddsFolders, IsNewFolder, MakesNew}
 use Rattle.br_folder_sink.specs.Held.{WritesEach, WritesOne}
-use Rattle.br_folder_sink.specs.Removed.{AreRemoved, GivesUp, HasNoFile, IsRemoved, LacksFile, MakesNoFile, MakesNone, files_of}
+use Rattle.br_folder_sink.specs.Removed.{AreRemoved, ChangesOne, GivesUp, HasNoFile, IsRemoved, LacksFile, MakesNoFile, MakesNone, files_of}
 use Rattle.br_folder_sink.specs.declared.window.Made.{Made}
-use Rattle.br_folder_sink.proofs.BelowLaws.{adds_same}
+use Rattle.br_folder_sink.proofs.BelowLaws.{adds_both, adds_same}
 use Rattle.br_folder_sink.proofs.HeldLaws.{all_more, set_own}
 
 -- where no file was, none is
@@ -65,6 +65,35 @@ no_file_now path None (Some b) set = absurd set
 no_file_now path (Some a) None set = absurd set
 no_file_now path (Some a) (Some b) set = inl (set_own path None a b set)
 
+-- what is changed at one path
+
+pub changes_added : (root path : List ℕ) (a b : Option Nodes) → AddsFolders root a b → ChangesOne root path a b
+changes_added root path None None added = tt
+changes_added root path None (Some b) added = absurd added
+changes_added root path (Some a) None added = absurd added
+changes_added root path (Some a) (Some b) added = λ other apart. added other
+
+pub changes_kept : (root path : List ℕ) (a b : Option Nodes) → KeepsOthers (root ++ path) a b → ChangesOne root path a b
+changes_kept root path None None kept = tt
+changes_kept root path None (Some b) kept = absurd kept
+changes_kept root path (Some a) None kept = absurd kept
+changes_kept root path (Some a) (Some b) kept = λ other apart. inl (kept other apart)
+
+pub changes_more : (root path : List ℕ) (a b c : Option Nodes) → ChangesOne root path a b → ChangesOne root path b c → ChangesOne root path a c
+changes_more root path None None None f g = tt
+changes_more root path None None (Some c) f g = absurd g
+changes_more root path None (Some b) c f g = absurd f
+changes_more root path (Some a) None c f g = absurd f
+changes_more root path (Some a) (Some b) None f g = absurd g
+changes_more root path (Some a) (Some b) (Some c) f g = λ other apart. adds_both root other a b c (f other apart) (g other apart)
+
+-- folders were made first
+pub changes_then : (root path whole : List ℕ) (a b c : Option Nodes) → whole ≡ root ++ path → AddsFolders root a b → KeepsOthers whole b c
+    → ChangesOne root path a c
+changes_then root path whole a b c is added kept =
+    changes_more root path a b c (changes_added root path a b added)
+    (changes_kept root path b c (subst (λ (p : List ℕ). KeepsOthers p b c) is kept))
+
 -- a file that could not be made or written
 
 pub unmade_same : (path : List ℕ) (a b : Option Nodes) → b ≡ a → MakesNone path a b
@@ -92,7 +121,7 @@ module _ (refused : List ℕ → Type 0) (root path whole : List ℕ) where
 pub no_file_then : (root : List ℕ) (a b c : Option Nodes) → AddsFolders root a b → MakesNoFile b c → MakesNoFile a c
 no_file_then root a b c added kept = no_file_more a b c (no_file_added root a b added) kept
 
-no_file_still : (path : List ℕ) (a b : Option Nodes) → HasNoFile path a → MakesNoFile a b → HasNoFile path b
+pub no_file_still : (path : List ℕ) (a b : Option Nodes) → HasNoFile path a → MakesNoFile a b → HasNoFile path b
 no_file_still path None None none kept = tt
 no_file_still path None (Some b) none kept = absurd kept
 no_file_still path (Some a) None none kept = absurd kept

@@ -5,3 +5,4 @@ pub mod Window
 pub mod Held
 pub mod Removed
 pub mod There
+pub mod TwoFiles

@@ -1,10 +1,10 @@
 -- What is removed again after a delivery has stopped.
-use Rattle.std.specs.Prelude.{◌≡◌, ℕ, ◌≤◌, ◌⊎◌, List, ◌++◌, map, Option, Some, None, ⊤}
+use Rattle.std.specs.Prelude.{◌≡◌, ℕ, false, ◌≤◌, ◌⊎◌, List, ◌++◌, bytes_eq, map, Option, Some, None, ⊤}
 use Rattle.std.specs.List.{AllByRecursion}
 use Rattle.br_model.specs.Delivery.{Stop}
 use Rattle.br_files.specs.Making.{Nodes, Else, IsFileOrFree, node_at}
 use Rattle.br_files.specs.declared.kind.Kind.TheVariants.{Folder}
-use Rattle.br_folder_sink.specs.Below.{AddsFolders}
+use Rattle.br_folder_sink.specs.Below.{AddsFolders, IsNewFolder}
 use Rattle.br_folder_sink.specs.declared.window.Made.{Made}
 
 -- nothing is at the path, or a folder
@@ -22,6 +22,15 @@ MakesNoFile None None = ⊤
 MakesNoFile (Some earlier) (Some later) = (path : List ℕ) → LacksFile earlier path → LacksFile later path
 MakesNoFile None (Some later) = ⊥
 MakesNoFile (Some earlier) None = ⊥
+
+-- If the nodes are told, nothing is changed but for what is at the path and for new folders below the folder.
+abbrev pub ChangesOne : List ℕ → List ℕ → Option Nodes → Option Nodes → Type 0
+ChangesOne root path None None = ⊤
+ChangesOne root path (Some earlier) (Some later) =
+    (other : List ℕ) → bytes_eq (root ++ path) other ≡ false
+    → (node_at later other ≡ node_at earlier other) ⊎ IsNewFolder root other earlier later
+ChangesOne root path None (Some later) = ⊥
+ChangesOne root path (Some earlier) None = ⊥
 
 -- no file is at the path, or its removal was refused
 abbrev pub IsRemoved : (List ℕ → Type 0) → Option Nodes → List ℕ → Type 0

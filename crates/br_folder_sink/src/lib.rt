@@ -10,6 +10,7 @@ mod folder_sink;
 mod place;
 mod remover;
 mod resumed;
+mod two_files;
 mod way;
 mod window;
 

@@ -1,7 +1,7 @@
 //! Files that are removed again after a delivery has stopped.
 ghost use Rattle.std.specs.Prelude.{ℕ, List, ◌++◌, OnOk, OnErr};
 ghost use Rattle.br_folder_sink.specs.Below.{KeepsOutside};
-ghost use Rattle.br_folder_sink.specs.Removed.{HasNoFile, IsRemoved, MakesNoFile};
+ghost use Rattle.br_folder_sink.specs.Removed.{ChangesOne, HasNoFile, IsRemoved, MakesNoFile};
 
 use crate::place::path_of;
 use crate::way::remove;
@@ -26,11 +26,12 @@ pub(crate) trait Remover: FileMaker {
         ensures removed { OnOk result (HasNoFile (root.now ++ item.now.path) (Self.nodes self.new)) }
         ensures refused { OnErr result (is_refused (root.now ++ item.now.path)) }
         ensures others { MakesNoFile (Self.nodes self.old) (Self.nodes self.new) }
+        ensures rest { ChangesOne root.now item.now.path (Self.nodes self.old) (Self.nodes self.new) }
         ensures outside { KeepsOutside root.now (Self.nodes self.old) (Self.nodes self.new) };
 }
 
 impl<M: FileMaker> Remover for M {
-    #[tactic(auto, using(crate::proofs::BelowLaws::outside_then, crate::proofs::RemovalLaws::no_file_then, crate::proofs::RemovalLaws::no_file_added))]
+    #[tactic(auto, using(crate::proofs::BelowLaws::outside_then, crate::proofs::RemovalLaws::no_file_then, crate::proofs::RemovalLaws::no_file_added, crate::proofs::RemovalLaws::changes_added, crate::proofs::RemovalLaws::changes_then))]
     fn take_away(&mut self, alloc: Global, root: &str, item: &Item) -> Result<(), SinkFault> {
         let path = path_of(alloc, self, root, item)?;
         remove(self, path.as_str())
@@ -41,6 +42,7 @@ impl<M: FileMaker> Remover for M {
 pub(crate) fn take_back<M: Remover>(alloc: Global, maker: &mut M, root: &str, item: &Item)
     ensures removed { IsRemoved M.is_refused (M.nodes maker.new) (root.now ++ item.now.path) }
     ensures others { MakesNoFile (M.nodes maker.old) (M.nodes maker.new) }
+    ensures rest { ChangesOne root.now item.now.path (M.nodes maker.old) (M.nodes maker.new) }
     ensures outside { KeepsOutside root.now (M.nodes maker.old) (M.nodes maker.new) }
 {
     let _ = maker.take_away(alloc, root, item);

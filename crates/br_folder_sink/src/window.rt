@@ -2,7 +2,7 @@
 ghost use Rattle.std.specs.Prelude.{◌≡◌, ℕ, ◌++◌, ◌∷◌, ◌<◌, ◌≤◌, [], true, false, length, vec_len, vec_capacity};
 ghost use Rattle.std.specs.Prelude.{Option, Ok, IfErr, IfOk, OnErr, OnOk};
 ghost use Rattle.std.specs.Thread.{IsSync};
-ghost use Rattle.br_files.specs.Making.{IsFinished};
+ghost use Rattle.br_files.specs.Making.{IsFinished, KeepsOthers};
 ghost use Rattle.br_sink.specs.Delivery.{IsStopBelow};
 ghost use Rattle.br_folder_sink.specs.Below.{KeepsOutside};
 ghost use Rattle.br_folder_sink.specs.Held.{AppendsSome, AreAnswered, FinishesHeld, FinishesOne, FinishesSome, HoldsStill, IsNew, IsWritten, LeavesHeld};
@@ -54,8 +54,26 @@ fn write_bytes<W: Write>(file: &mut Option<W>, item: &Item) -> Result<(), SinkFa
     }
 }
 
+/// Closes the file of an item.
+#[tactic(auto, using(crate::proofs::BelowLaws::outside_set, crate::proofs::BelowLaws::outside_same, crate::proofs::BelowLaws::same_others))]
+pub(crate) fn close_file<M: FileMaker>(
+    alloc: Global,
+    maker: &mut M,
+    root: &str,
+    item: &Item,
+    file: M::New,
+) -> Result<(), SinkFault>
+    ensures finished { OnOk result (IsFinished (root.now ++ item.now.path) (M.New.contents file) (M.nodes maker.old)
+        (M.nodes maker.new)) }
+    ensures others { KeepsOthers (root.now ++ item.now.path) (M.nodes maker.old) (M.nodes maker.new) }
+    ensures outside { KeepsOutside root.now (M.nodes maker.old) (M.nodes maker.new) }
+{
+    let path = known_path_of(alloc, root, item)?;
+    finish(maker, path.as_str(), file)
+}
+
 /// Closes the file of an item, unless it could not be written.
-#[tactic(auto, using(crate::proofs::BelowLaws::outside_set, crate::proofs::BelowLaws::outside_same))]
+#[tactic(auto, using(crate::proofs::BelowLaws::outside_same))]
 fn close<M: FileMaker>(
     alloc: Global,
     maker: &mut M,
@@ -69,8 +87,7 @@ fn close<M: FileMaker>(
     ensures outside { KeepsOutside root.now (M.nodes maker.old) (M.nodes maker.new) }
 {
     written?;
-    let path = known_path_of(alloc, root, item)?;
-    finish(maker, path.as_str(), file)
+    close_file(alloc, maker, root, item, file)
 }
 
 /// Closes the file of an item, if there is one.
