@@ -46,7 +46,7 @@ pub(crate) struct Lines {
     /// The keys of the outcomes, unless memory ran out.
     pub(crate) keys: Option<Vec<FileKey>>,
     /// The number of the last line `refused N`, until it is taken.
-    refused: Option<u32>,
+    pub(crate) refused: Option<u32>,
 }
 
 /// Adds a key, or lets all go if memory runs out.
@@ -108,10 +108,5 @@ impl Lines {
                 self.start.push(*byte);
             }
         }
-    }
-
-    /// Takes the number of the last line `refused N` since the last call.
-    pub(crate) fn take_refused(&mut self) -> Option<u32> {
-        self.refused.take()
     }
 }

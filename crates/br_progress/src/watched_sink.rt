@@ -6,7 +6,7 @@ ghost use Rattle.br_sink.specs.Sink.{HasMore};
 
 use crate::gauge::Gauge;
 use br_join::{FileBytes, Item, Outcome};
-use br_sink::{Parts, PartsFault, Sink, SinkFault, SinkStop, StopCause, totals};
+use br_sink::{Parts, PartsFault, Sink, SinkFault, SinkStop, StopCause, TwoParts, TwoPut, totals};
 use br_types::{FileKey, Path};
 use std::alloc::Global;
 use std::thread::Threads;
@@ -154,6 +154,38 @@ impl<'g, 'r, S: Sink> Sink for WatchedSink<'g, 'r, S> {
             Ok(_) => self.gauge.note_file_put(item),
             Err(PartsFault::Fault) => note_failed(self.gauge, &mut self.failed, item),
             Err(PartsFault::Memory | PartsFault::NoDriveLeft) => {}
+        }
+        put
+    }
+
+    fn put_two<P: TwoParts>(
+        &mut self,
+        alloc: Global,
+        one: &Item,
+        other: &Item,
+        parts: &mut P,
+    ) -> Option<TwoPut> {
+        self.gauge.begin_putting();
+        let put = self.inner.put_two(alloc, one, other, parts);
+        match &put {
+            Some(TwoPut::Both { .. }) => {
+                self.gauge.note_file_put(one);
+                self.gauge.note_file_put(other);
+            }
+            Some(TwoPut::One { why, .. }) => {
+                self.gauge.note_file_put(one);
+                if *why == PartsFault::Fault {
+                    note_failed(self.gauge, &mut self.failed, other);
+                }
+            }
+            Some(
+                TwoPut::Neither {
+                    why: PartsFault::Fault,
+                },
+            ) => {
+                note_failed(self.gauge, &mut self.failed, one);
+            }
+            Some(TwoPut::Neither { .. }) | None => {}
         }
         put
     }

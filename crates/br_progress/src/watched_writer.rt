@@ -84,7 +84,7 @@ impl<'g, 'r, W: Write> Write for WatchedWriter<'g, 'r, W> {
     fn flush(&mut self) -> io::Result<()> {
         self.gauge.clear();
         let flushed = self.inner.flush();
-        if let Some(number) = self.lines.take_refused() {
+        if let Some(number) = self.lines.refused.take() {
             self.gauge.explain(number);
         }
         flushed
