@@ -2,7 +2,9 @@
 ghost use Rattle.std.specs.Prelude.{◌≡◌, ◌++◌, ◌∷◌, [], List};
 ghost use Rattle.std.specs.Borrow.{ftrue};
 ghost use Rattle.br_model.specs.File as model;
+ghost use Rattle.br_sink.specs.FileParts.{with_bytes};
 
+use br_body::FileBytes;
 use br_join::Item;
 use std::marker::Model;
 
@@ -27,6 +29,13 @@ impl Files {
     /// Returns these files and one more.
     pub(crate) fn and(_before: &Files, _item: &Item) -> Files
         ensures { result.items ≡ _before.now.items ++ _item.now ∷ [] }
+    {
+        Files {}
+    }
+
+    /// Returns these files and one more, the item with these bytes.
+    pub(crate) fn and_with(_before: &Files, _item: &Item, _bytes: &FileBytes) -> Files
+        ensures { result.items ≡ _before.now.items ++ with_bytes _item.now _bytes.now ∷ [] }
     {
         Files {}
     }

@@ -1,19 +1,20 @@
 //! A sink around a sink, which goes on after a file at which that one fails.
-ghost use Rattle.std.specs.Prelude.{◌≡◌, ◌<◌, ◌≤◌, ◌∷◌, [], length, map, OnOk, OnErr, IfErr, IfOk, Err, Some};
+ghost use Rattle.std.specs.Prelude.{◌≡◌, ◌<◌, ◌≤◌, ◌∷◌, [], length, map, OnOk, OnErr, IfErr, IfOk, IfSome, Err, Some};
 ghost use Rattle.std.specs.Thread.{IsSync};
 ghost use Rattle.br_options.specs.declared.options.Stops.TheVariants.{AtFirst};
 ghost use Rattle.br_sink.specs.Delivery.{IsStopBelow, items_in, items_put};
 ghost use Rattle.br_sink.specs.FileParts.{AreAlike, with_bytes};
 ghost use Rattle.br_sink.specs.Sink.{HasMore};
+ghost use Rattle.br_sink.specs.TwoParts.{AreTwoAlike, AreTwoSame, FailsTwo, two_put};
 ghost use Rattle.br_sink.specs.declared.fault.SinkFault.TheVariants.{Fault};
 ghost use Rattle.br_sink.specs.declared.file_parts.PartsFault.TheVariants as why;
 ghost use Rattle.br_leaving.specs.Leaving.{ArePut};
 
 use crate::noted::Noted;
-use crate::passing::{put_each, put_one, put_one_by_parts};
+use crate::passing::{put_each, put_one, put_one_by_parts, put_two_noted};
 use br_join::{FileBytes, Item, Outcome};
 use br_options::Stops;
-use br_sink::{Parts, PartsFault, Sink, SinkFault, SinkStop};
+use br_sink::{Parts, PartsFault, Sink, SinkFault, SinkStop, TwoParts, TwoPut};
 use br_types::{FileKey, Path};
 use std::alloc::Global;
 use std::marker::Model;
@@ -134,5 +135,37 @@ impl<S: Sink + Drop> Sink for Leaving<S> {
             item,
             parts,
         )
+    }
+
+    /// Puts two files side by side, as the sink inside does, if it stops at the first fault. Else it puts one
+    /// file at a time, since each may be left out by itself.
+    fn put_two<P: TwoParts>(
+        &mut self,
+        alloc: Global,
+        one: &Item,
+        other: &Item,
+        parts: &mut P,
+    ) -> Option<TwoPut>
+        ensures put { HasMore (two_put one.now other.now result) (Some self.old.taken) (Some self.new.taken) }
+        ensures alike { IfSome result (AreTwoAlike one.now other.now) }
+        ensures same { P.gives parts.old one.now other.now → IfSome result (AreTwoSame one.now other.now) }
+        ensures counted { S.failures self.old.inner ≤ S.failures self.new.inner }
+        ensures failed { FailsTwo result → S.failures self.old.inner < S.failures self.new.inner }
+        ensures on { P.goes_on parts.old parts.new }
+        ensures first { FailsTwo result → self.old.stops ≡ AtFirst }
+        ensures stops { self.new.stops ≡ self.old.stops }
+        ensures kept { self.new.left ≡ self.old.left }
+    {
+        match self.stops {
+            Stops::Never => None,
+            Stops::AtFirst => put_two_noted(
+                alloc,
+                &mut self.inner,
+                &mut self.noted,
+                one,
+                other,
+                parts,
+            ),
+        }
     }
 }

@@ -1,10 +1,13 @@
 //! What is noted of a delivery that leaves out files.
-ghost use Rattle.std.specs.Prelude.{◌≡◌, ◌++◌, ◌∷◌, ◌<◌, [], length, OnErr, OnOk, IfSome, IsSome};
+ghost use Rattle.std.specs.Prelude.{◌≡◌, ◌++◌, ◌∷◌, ◌<◌, [], length, OnErr, OnOk, IfSome, IsSome, Some};
 ghost use Rattle.br_sink.specs.Delivery.{items_in};
+ghost use Rattle.br_sink.specs.FileParts.{with_bytes};
+ghost use Rattle.br_sink.specs.TwoParts.{two_put};
 ghost use Rattle.br_leaving.specs.Leaving.{IsFileAt, Leaves, Takes};
 
 use crate::files::Files;
-use br_join::{Item, Outcome};
+use br_join::{FileBytes, Item, Outcome};
+use br_sink::TwoPut;
 use br_types::{FileKey, Path};
 use std::alloc::{AllocError, Global};
 
@@ -81,6 +84,30 @@ impl Noted {
         ensures { Takes self.old self.new (item.now ∷ []) }
     {
         self.taken = Files::and(&self.taken, item);
+    }
+
+    /// Notes that a file with these bytes was taken.
+    fn take_with(&mut self, item: &Item, bytes: &FileBytes)
+        ensures { Takes self.old self.new (with_bytes item.now bytes.now ∷ []) }
+    {
+        self.taken = Files::and_with(&self.taken, item, bytes);
+    }
+
+    /// Notes which of two files were taken.
+    pub(crate) fn take_two(&mut self, one: &Item, other: &Item, put: &TwoPut)
+        ensures { Takes self.old self.new (two_put one.now other.now (Some put.now)) }
+    {
+        match put {
+            TwoPut::Both {
+                one: first,
+                other: second,
+            } => {
+                self.take_with(one, first);
+                self.take_with(other, second);
+            }
+            TwoPut::One { one: first, .. } => self.take_with(one, first),
+            TwoPut::Neither { .. } => {}
+        }
     }
 
     /// Notes that a file is left out.

@@ -1,17 +1,20 @@
 //! A delivery that goes on after a file at which its sink fails.
-ghost use Rattle.std.specs.Prelude.{◌≡◌, ◌++◌, ◌∷◌, [], ◌<◌, ◌≤◌, true, false, length, IfErr, IfOk, OnErr, OnOk, Err};
+ghost use Rattle.std.specs.Prelude.{◌≡◌, ◌++◌, ◌∷◌, [], ◌<◌, ◌≤◌, true, false, length, IfErr, IfOk, IfSome, OnErr, OnOk, Err};
 ghost use Rattle.std.specs.Thread.{IsSync};
 ghost use Rattle.br_options.specs.declared.options.Stops.TheVariants.{AtFirst};
 ghost use Rattle.br_sink.specs.Delivery.{IsStopBelow, items_in, items_put};
 ghost use Rattle.br_sink.specs.declared.fault.SinkFault.TheVariants.{Fault};
 ghost use Rattle.br_sink.specs.FileParts.{AreAlike, with_bytes};
+ghost use Rattle.br_sink.specs.TwoParts.{AreTwoAlike, AreTwoSame, FailsTwo, two_put};
 ghost use Rattle.br_sink.specs.declared.file_parts.PartsFault.TheVariants as why;
 ghost use Rattle.br_leaving.specs.Leaving.{Leaves, NotesStop, StaysNoted, Takes, passed};
 
 use crate::noted::{Noted, file_at};
 use br_join::{FileBytes, Item, Outcome};
 use br_options::Stops;
-use br_sink::{Parts, PartsFault, Sink, SinkFault, SinkStop, StopCause, copy_of, totals};
+use br_sink::{
+    Parts, PartsFault, Sink, SinkFault, SinkStop, StopCause, TwoParts, TwoPut, copy_of, totals,
+};
 use br_types::FileKey;
 use std::alloc::Global;
 use std::thread::Threads;
@@ -123,6 +126,34 @@ pub(crate) fn put_one_by_parts<S: Sink, P: Parts>(
             leave_parts_at(stops, noted, item, fault)?;
             Ok(made.bytes)
         }
+    }
+}
+
+/// Puts two files like these into a sink, side by side, and notes those that were put. Returns `None` if the
+/// sink does not put these two so.
+pub(crate) fn put_two_noted<S: Sink, P: TwoParts>(
+    alloc: Global,
+    sink: &mut S,
+    noted: &mut Noted,
+    one: &Item,
+    other: &Item,
+    parts: &mut P,
+) -> Option<TwoPut>
+    ensures taken { noted.new.taken.items ≡ noted.old.taken.items ++ two_put one.now other.now result }
+    ensures alike { IfSome result (AreTwoAlike one.now other.now) }
+    ensures same { P.gives parts.old one.now other.now → IfSome result (AreTwoSame one.now other.now) }
+    ensures noted { StaysNoted S.has S.failures sink.old sink.new noted.old noted.new }
+    ensures counted { S.failures sink.old ≤ S.failures sink.new }
+    ensures failed { FailsTwo result → S.failures sink.old < S.failures sink.new }
+    ensures kept { noted.new.left.items ≡ noted.old.left.items }
+    ensures on { P.goes_on parts.old parts.new }
+{
+    match sink.put_two(alloc, one, other, parts) {
+        Some(put) => {
+            noted.take_two(one, other, &put);
+            Some(put)
+        }
+        None => None,
     }
 }
 

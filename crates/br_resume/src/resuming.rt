@@ -1,17 +1,19 @@
 //! A sink over a folder that may hold files already.
-ghost use Rattle.std.specs.Prelude.{◌≡◌, ◌∷◌, [], ◌<◌, ◌≤◌, true, length, IfOk, OnOk, OnErr, IfErr, Ok, Err};
+ghost use Rattle.std.specs.Prelude.{◌≡◌, ◌∷◌, [], ◌<◌, ◌≤◌, true, length, IfOk, OnOk, OnErr, IfErr, IfSome, Ok, Err, None};
 ghost use Rattle.std.specs.Thread.{IsSync};
 ghost use Rattle.br_files.specs.Making.{IsEmptyAt, IsKindAt};
 ghost use Rattle.br_files.specs.declared.kind.Kind.TheVariants.{Folder};
 ghost use Rattle.br_sink.specs.Delivery.{IsStopBelow, items_in, items_put};
 ghost use Rattle.br_sink.specs.FileParts.{AreAlike, with_bytes};
 ghost use Rattle.br_sink.specs.Sink.{HasMore};
+ghost use Rattle.br_sink.specs.TwoParts.{AreTwoAlike, AreTwoSame, FailsTwo, two_put};
 ghost use Rattle.br_sink.specs.declared.fault.SinkFault.TheVariants.{Fault};
 ghost use Rattle.br_sink.specs.declared.file_parts.PartsFault.TheVariants as why;
 ghost use Rattle.br_folder_sink.specs.Below.{KeepsOutside};
 ghost use Rattle.br_folder_sink.specs.Fault.{IsRefused};
 ghost use Rattle.br_folder_sink.specs.Held.{LeavesFiles};
 ghost use Rattle.br_folder_sink.specs.There.{IsNotThere};
+ghost use Rattle.br_folder_sink.specs.TwoFiles.{LeavesTwo};
 ghost use Rattle.br_resume.specs.Resuming.{LeavesLike, PutsBytes, PutsLike};
 ghost use Rattle.br_options.specs.declared.options.Start.TheVariants.{Empty, Resumed};
 
@@ -21,7 +23,7 @@ use br_files::FileMaker;
 use br_folder_sink::{FolderFault, FolderSink, ManyWriter};
 use br_join::{FileBytes, Item, Outcome};
 use br_options::Start;
-use br_sink::{Parts, PartsFault, Sink, SinkFault, SinkStop};
+use br_sink::{Parts, PartsFault, Sink, SinkFault, SinkStop, TwoParts, TwoPut};
 use br_types::FileKey;
 use std::alloc::Global;
 use std::marker::Model;
@@ -167,6 +169,32 @@ impl<M: ManyWriter + Comparer + Drop> Sink for Resuming<M> {
         match self.start {
             Start::Empty => self.folder.put_parts(alloc, item, parts),
             Start::Resumed => put_missing_parts(alloc, &mut self.folder, item, parts),
+        }
+    }
+
+    /// Puts two files like these side by side, as the sink over the folder does. If the delivery is resumed it
+    /// puts one file at a time, since either may be there already.
+    fn put_two<P: TwoParts>(
+        &mut self,
+        alloc: Global,
+        one: &Item,
+        other: &Item,
+        parts: &mut P,
+    ) -> Option<TwoPut>
+        ensures put { HasMore (two_put one.now other.now result) told told }
+        ensures alike { IfSome result (AreTwoAlike one.now other.now) }
+        ensures same { P.gives parts.old one.now other.now → IfSome result (AreTwoSame one.now other.now) }
+        ensures counted { self.old.folder.failures ≤ self.new.folder.failures }
+        ensures failed { FailsTwo result → self.old.folder.failures < self.new.folder.failures }
+        ensures on { P.goes_on parts.old parts.new }
+        ensures path { self.new.folder.path ≡ self.old.folder.path }
+        ensures files { IfSome result (LeavesTwo self.old.folder.path one.now other.now self.old.folder.nodes self.new.folder.nodes) }
+        ensures resumed { self.old.start ≡ Resumed → result ≡ None }
+        ensures outside { KeepsOutside self.old.folder.path self.old.folder.nodes self.new.folder.nodes }
+    {
+        match self.start {
+            Start::Empty => self.folder.put_two(alloc, one, other, parts),
+            Start::Resumed => None,
         }
     }
 }
