@@ -15,7 +15,7 @@ use Rattle.br_join.specs.declared.item.Outcome.TheVariants.{File}
 use Rattle.br_sink.specs.Delivery.{items_in}
 use Rattle.br_sink.proofs.DeliveryLaws.{items_at}
 use Rattle.br_gather.specs.Again.{IsLike, IsMadeOf}
-use Rattle.br_gather.proofs.GivenLaws.{one_of}
+use Rattle.br_parts.proofs.GivenLaws.{one_of}
 
 -- ---- each file is made of the hits of its key
 

@@ -9,11 +9,11 @@ use Rattle.br_join.specs.Plain.{plain_bytes}
 use Rattle.br_records.specs.Records.{fragments}
 use Rattle.br_reread.specs.Many.{GoOn, RereadingMany}
 use Rattle.br_gather.specs.Digesting.{AreRead, IsDigested, IsRead, ReadsOn, keys_of}
-use Rattle.br_gather.specs.Windows.{data_bytes}
+use Rattle.br_parts.specs.Windows.{data_bytes}
 use Rattle.br_gather.specs.declared.digesting.Ahead.{Ahead}
 use Rattle.br_gather.specs.declared.digesting.Digesting.{Digesting}
-use Rattle.br_gather.proofs.GivenLaws.{all_from, hits_kept}
-use Rattle.br_gather.proofs.WindowLaws.{given_both}
+use Rattle.br_parts.proofs.GivenLaws.{all_from, hits_kept}
+use Rattle.br_parts.proofs.WindowLaws.{given_both}
 
 -- the keys of some hits and of those after them
 pub keys_both : (xs ys : List Hit) → keys_of (xs ++ ys) ≡ keys_of xs ++ keys_of ys

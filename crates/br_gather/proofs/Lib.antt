@@ -1,12 +1,10 @@
 mod DigestingLaws
 mod GivenLaws
-mod PartLaws
 mod PlainFileLaws
-mod PlainLaws
 mod RunLaws
 mod SharingLaws
 mod StatLaws
 mod TurnLaws
-mod WindowLaws
+mod TwoLaws
 pub mod AgainLaws
 pub mod MeantLaws

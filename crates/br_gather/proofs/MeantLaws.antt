@@ -21,7 +21,7 @@ use Rattle.br_reread.specs.Over.{GivesOver, IsFragmentOf}
 use Rattle.br_reread.specs.Many.{Driven, RereadingMany}
 use Rattle.br_records.specs.Runs.{AreListed, hit_order, listed}
 use Rattle.br_records.proofs.SortLaws.{place}
-use Rattle.br_gather.specs.Given.{GivesHit, GivesHits}
+use Rattle.br_parts.specs.Given.{GivesHit, GivesHits}
 
 -- ---- the hits of a set in order are found in it
 

@@ -7,9 +7,10 @@ use Rattle.br_model.specs.Meaning.{Hit}
 use Rattle.br_model.specs.Restored.{Restored}
 use Rattle.br_again.specs.Stands.{StandingStays}
 use Rattle.br_reread.specs.Many.{GoOn, RereadingMany}
-use Rattle.br_gather.specs.Given.{GivesHits}
+use Rattle.br_parts.specs.Given.{GivesHits}
 use Rattle.br_gather.specs.Runs.{AreFirst, GivesRuns, IsPart, Run, file_of}
-use Rattle.br_gather.proofs.GivenLaws.{given_run, hits_kept}
+use Rattle.br_parts.proofs.GivenLaws.{hits_kept}
+use Rattle.br_gather.proofs.GivenLaws.{given_run}
 
 -- if all hits are given, those of each file are
 pub given_runs : (m : RereadingMany) (hits : List Hit) (runs : List Run) → AllByRecursion (IsPart hits) runs → GivesHits m hits → GivesRuns m runs

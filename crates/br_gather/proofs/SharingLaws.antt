@@ -8,13 +8,13 @@ use Rattle.br_model.specs.Restored.{Restored}
 use Rattle.br_model.specs.Volume.{Volume}
 use Rattle.br_join.specs.Outcome.{restored}
 use Rattle.br_reread.specs.Many.{GivesMany, GoesOn, RereadingMany, driven_by}
-use Rattle.br_gather.specs.Given.{GivesHits}
+use Rattle.br_parts.specs.Given.{GivesHits}
 use Rattle.br_gather.specs.Runs.{AreFirst, GivesRuns, Run, file_of}
 use Rattle.br_gather.specs.Sharing.{HasMade, IsBegun, many_of, runs_in}
 use Rattle.br_reread.proofs.GoOnLaws.{all_go}
 use Rattle.br_gather.specs.declared.sharing.Share.{Share}
 use Rattle.br_gather.specs.declared.work.Work.{Work}
-use Rattle.br_gather.proofs.GivenLaws.{all_behind}
+use Rattle.br_parts.proofs.GivenLaws.{all_behind}
 use Rattle.br_gather.proofs.RunLaws.{none_first}
 use Rattle.br_gather.proofs.TurnLaws.{all_mapped, all_over, all_reverse, all_unmapped, length_map, length_reverse, reverse_reverse, zip_length, zip_map, zip_reverse, zip_so}
 

@@ -1,5 +1,5 @@
 -- Lists that grow at their end, and lists the other way round.
-use Rattle.std.proofs.Common.{◌≡◌, ℕ, zero, suc, ◌+◌, ◌<◌, append-nil, List, [], ◌∷◌, ◌++◌, map, flat_map, reverse, length, take, drop, slice_index_or, refl, ap, sym, subst, ◌∙◌, append_assoc, arith}
+use Rattle.std.proofs.Common.{◌≡◌, ℕ, zero, suc, ◌+◌, ◌<◌, List, [], ◌∷◌, ◌++◌, map, flat_map, reverse, length, take, drop, slice_index_or, refl, ap, sym, subst, ◌∙◌, append_assoc, arith}
 use Rattle.std.specs.List.{AllByRecursion, AllZip}
 use mathlib.Core.List.{reverse-append}
 
@@ -154,8 +154,3 @@ drop_front (x ∷ xs) ys = drop_front xs ys
 -- what comes next, and what comes after it
 pub next_and_rest : {X : Type 0} (xs next rest : List X) (n : ℕ) → next ++ rest ≡ drop n xs → next ++ drop (n + length next) xs ≡ drop n xs
 next_and_rest xs next rest n e = ap (λ l. next ++ l) (drop_sum n (length next) xs ∙ ap (drop (length next)) (sym e) ∙ drop_front next rest) ∙ e
-
--- works one after another
-pub flat_more : {A B : Type 0} (f : A → List B) (xs : List A) (x : A) → flat_map f (xs ++ x ∷ []) ≡ flat_map f xs ++ f x
-flat_more f [] x = append-nil (f x)
-flat_more f (y ∷ ys) x = ap (λ l. f y ++ l) (flat_more f ys x) ∙ sym (append_assoc (f y) (flat_map f ys) (f x))

@@ -11,7 +11,7 @@ use Rattle.br_join.specs.declared.item.Outcome.{Outcome}
 use Rattle.br_reread.specs.Many.{RereadingMany}
 use Rattle.br_sink.specs.Delivery.{items_in}
 use Rattle.br_sink.specs.FileParts.{AreAlike}
-use Rattle.br_gather.specs.Given.{GivesHits}
+use Rattle.br_parts.specs.Given.{GivesHits}
 
 -- Two files differ at most in their bytes, which are as many and have the same digest.
 pub record IsLike (one other : Item) : Type 0 where

@@ -5,8 +5,8 @@ use Rattle.br_model.specs.Name.{FileKey}
 use Rattle.br_join.specs.Plain.{plain_bytes}
 use Rattle.br_records.specs.Records.{fragments}
 use Rattle.br_reread.specs.Many.{RereadingMany}
-use Rattle.br_gather.specs.Given.{GivesHits}
-use Rattle.br_gather.specs.Windows.{data_bytes}
+use Rattle.br_parts.specs.Given.{GivesHits}
+use Rattle.br_parts.specs.Windows.{data_bytes}
 use Rattle.br_gather.specs.declared.digesting.Ahead.{Ahead}
 use Rattle.br_gather.specs.declared.digesting.Digesting.{Digesting}
 

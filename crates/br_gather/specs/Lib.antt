@@ -3,7 +3,6 @@ pub mod Code
 pub mod Digesting
 pub mod FileParts
 pub mod Gathered
-pub mod Given
 pub mod Runs
 pub mod Sharing
-pub mod Windows
+pub mod TwoFiles

@@ -8,7 +8,7 @@ use Rattle.br_reread.specs.Many.{RereadingMany}
 use Rattle.br_join.specs.Outcome.{restored}
 use Rattle.br_join.specs.Runs.{file_of_run}
 use Rattle.br_join.specs.declared.item.Outcome.{Outcome}
-use Rattle.br_gather.specs.Given.{GivesHits}
+use Rattle.br_parts.specs.Given.{GivesHits}
 
 -- the hits of one file, and the path under which the file was planned, if it was
 pub record Run : Type 0 where

@@ -6,7 +6,7 @@ ghost use Rattle.br_records.specs.Runs.{AreListed};
 ghost use Rattle.br_reread.specs.Many.{GoOn, HaveFailed};
 ghost use Rattle.br_sink.specs.Delivery.{items_in};
 ghost use Rattle.br_gather.specs.Again.{AreSameIfGiven, IsLike, MakeItem};
-ghost use Rattle.br_gather.specs.Given.{GivesHits};
+ghost use Rattle.br_parts.specs.Given.{GivesHits};
 
 use crate::likeness::is_like;
 use crate::rereading::outcome_by;

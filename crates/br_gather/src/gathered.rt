@@ -9,16 +9,20 @@ ghost use Rattle.br_join.specs.Runs.{files_of};
 ghost use Rattle.br_sink.specs.Delivery.{items_in};
 ghost use Rattle.br_gather.specs.Again.{AreSameIfGiven, IsLike};
 ghost use Rattle.br_sink.specs.declared.file_parts.PartsFault.TheVariants.{Fault};
-ghost use Rattle.br_gather.specs.FileParts.{GivesItem, PutsAlike};
-ghost use Rattle.br_gather.specs.Given.{GivesHits};
+ghost use Rattle.br_parts.specs.FileParts.{PutsAlike};
+ghost use Rattle.br_gather.specs.FileParts.{GivesItem};
+ghost use Rattle.br_parts.specs.Given.{GivesHits};
+ghost use Rattle.br_gather.specs.TwoFiles.{FailsAny, FailsEither, GivesBoth, PutsAny, PutsTwo};
 
 use crate::again::made_once_more;
 use crate::light::lightened;
 use crate::making::files_by;
-use crate::putting::{has_sparse_data, is_plain, put_plain, put_whole};
-use br_again::AgainFault;
+use crate::putting::{has_sparse_data, is_plain, put_whole};
+use crate::two_files::{KeyedItem, TwoDone, plain_run, put_two};
+use br_again::{AgainFault, standing_stays};
 use br_join::{Item, Joiner, Outcome};
 use br_match::Hit;
+use br_parts::{PlainFile, put_plain};
 use br_records::around;
 use br_reread::OverMany;
 use br_sink::{PartsFault, Sink};
@@ -157,5 +161,96 @@ impl Gathered {
             return put_whole(alloc, many, &self.hits, key, item, sink);
         }
         put_plain(rt, alloc, many, run, item, sink)
+    }
+
+    /// Puts two files like these side by side, if no data of either are sparse. Returns `None`, and the sink has what
+    /// it had, if some are, or if the sink does not put these two so.
+    #[tactic(auto, using(br_reread::proofs::GoOnLaws::go_itself))]
+    fn put_side_by_side<D: Drive, S: Sink>(
+        &self,
+        rt: &impl Threads,
+        alloc: Global,
+        many: &mut OverMany<'_, D>,
+        one: &KeyedItem<'_>,
+        other: &KeyedItem<'_>,
+        sink: &mut S,
+    ) -> Option<TwoDone>
+        ensures put { PutsAny result (GivesBoth many.old self.now.hits one.now.key other.now.key one.now.item.now other.now.item.now)
+            one.now.item.now other.now.item.now (S.has sink.old) (S.has sink.new) }
+        ensures counted { S.failures sink.old ≤ S.failures sink.new }
+        ensures failed { FailsAny result → S.failures sink.old < S.failures sink.new }
+        ensures on { GoOn many.old many.new }
+    {
+        let Some(run) = plain_run(&self.hits, one.key, one.item) else {
+            return None;
+        };
+        let Some(more) = plain_run(&self.hits, other.key, other.item) else {
+            return None;
+        };
+        let first = PlainFile {
+            hits: run,
+            item: one.item,
+        };
+        let second = PlainFile {
+            hits: more,
+            item: other.item,
+        };
+        put_two(rt, alloc, many, &first, &second, sink)
+    }
+
+    /// Puts two files like these, one after the other.
+    #[tactic(auto, using(br_reread::proofs::GoOnLaws::go_more))]
+    fn put_one_by_one<D: Drive, S: Sink>(
+        &self,
+        rt: &impl Threads,
+        alloc: Global,
+        many: &mut OverMany<'_, D>,
+        one: &KeyedItem<'_>,
+        other: &KeyedItem<'_>,
+        sink: &mut S,
+    ) -> TwoDone
+        ensures put { PutsTwo result (GivesBoth many.old self.now.hits one.now.key other.now.key one.now.item.now other.now.item.now)
+            one.now.item.now other.now.item.now (S.has sink.old) (S.has sink.new) }
+        ensures counted { S.failures sink.old ≤ S.failures sink.new }
+        ensures failed { FailsEither result → S.failures sink.old < S.failures sink.new }
+        ensures on { GoOn many.old many.new }
+    {
+        standing_stays();
+        if let Err(why) = self.put_by_parts(rt, alloc, many, one.key, one.item, sink) {
+            return TwoDone::Neither(why);
+        }
+        match self.put_by_parts(rt, alloc, many, other.key, other.item, sink) {
+            Ok(()) => TwoDone::Both,
+            Err(why) => TwoDone::One(why),
+        }
+    }
+
+    /// Puts two files like these, made of the hits with their keys, into a sink, as `put_by_parts` does: side by side,
+    /// if no data of either are sparse and the sink puts these two so, else one after the other. Side by side, two other
+    /// threads digest, and at most two windows of each file are in memory.
+    ///
+    /// The two have different paths, and neither is below the other: a caller sees to that. If the first can't be put,
+    /// neither is. A sink that does not tell its files may hold a part of a file that was not put.
+    #[tactic(auto, using(br_reread::proofs::GoOnLaws::go_more))]
+    pub fn put_two_by_parts<D: Drive, S: Sink>(
+        &self,
+        rt: &impl Threads,
+        alloc: Global,
+        many: &mut OverMany<'_, D>,
+        one: &KeyedItem<'_>,
+        other: &KeyedItem<'_>,
+        sink: &mut S,
+    ) -> TwoDone
+        ensures put { PutsTwo result (GivesBoth many.old self.now.hits one.now.key other.now.key one.now.item.now other.now.item.now)
+            one.now.item.now other.now.item.now (S.has sink.old) (S.has sink.new) }
+        ensures counted { S.failures sink.old ≤ S.failures sink.new }
+        ensures failed { FailsEither result → S.failures sink.old < S.failures sink.new }
+        ensures on { GoOn many.old many.new }
+    {
+        standing_stays();
+        if let Some(done) = self.put_side_by_side(rt, alloc, many, one, other, sink) {
+            return done;
+        }
+        self.put_one_by_one(rt, alloc, many, one, other, sink)
     }
 }

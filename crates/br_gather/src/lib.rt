@@ -9,7 +9,6 @@
 mod again;
 mod both;
 mod digesting;
-mod file_parts;
 mod gathered;
 mod light;
 mod likeness;
@@ -20,7 +19,8 @@ mod putting;
 mod rereading;
 mod runs;
 mod sharing;
-mod windows;
+mod two_files;
 mod work;
 
 pub use gathered::Gathered;
+pub use two_files::{KeyedItem, TwoDone};

@@ -2,9 +2,7 @@
 ghost use Rattle.std.specs.Prelude.{◌≡◌};
 
 use br_match::Hit;
-
-/// The stream of plain data.
-pub(crate) const DATA: u32 = 2;
+use br_parts::DATA;
 
 /// The stream of sparse data.
 pub(crate) const SPARSE_DATA: u32 = 6;

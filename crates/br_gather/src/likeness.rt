@@ -1,10 +1,9 @@
 //! Whether two files differ at most in their bytes, and in these neither in number nor in digest.
-ghost use Rattle.std.specs.Prelude.{◌≡◌, true, length};
-ghost use Rattle.md5.specs.Md5.{md5};
-ghost use Rattle.br_sink.specs.FileParts.{AreAlike};
+ghost use Rattle.std.specs.Prelude.{◌≡◌, true};
 ghost use Rattle.br_gather.specs.Again.{IsLike};
 
-use br_join::{FileBytes, Item};
+use br_join::Item;
+use br_parts::are_alike;
 
 /// Returns whether two files have the same path and the same link.
 fn have_same_names(one: &Item, other: &Item) -> bool
@@ -23,14 +22,6 @@ fn have_same_numbers(one: &Item, other: &Item) -> bool
     ensures same { one.now ≡ other.now → result ≡ true }
 {
     one.kind == other.kind && one.skipped == other.skipped && one.stat == other.stat
-}
-
-/// Returns whether two bodies have as many bytes and the same digest.
-pub(crate) fn are_alike(one: &FileBytes, other: &FileBytes) -> bool
-    ensures alike { result ≡ true → AreAlike one.now other.now }
-    ensures same { one.now ≡ other.now → result ≡ true }
-{
-    one.len() == other.len() && one.digest() == other.digest()
 }
 
 /// Returns whether two files are alike.

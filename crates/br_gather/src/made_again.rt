@@ -4,7 +4,7 @@ ghost use Rattle.std.specs.List.{AllByRecursion};
 ghost use Rattle.std.specs.Option.{option_copied};
 ghost use Rattle.br_again.specs.declared.fault.AgainFault.TheVariants.{Failed};
 ghost use Rattle.br_model.specs.Meaning as meaning;
-ghost use Rattle.br_gather.specs.Given.{GivesHits};
+ghost use Rattle.br_parts.specs.Given.{GivesHits};
 ghost use Rattle.br_join.specs.Outcome.{restored};
 ghost use Rattle.br_reread.specs.Many.{GoOn, HaveFailed};
 ghost use Rattle.br_join.specs.Runs.{file_of_run};

@@ -6,7 +6,7 @@ ghost use Rattle.br_join.specs.Outcome.{restored};
 ghost use Rattle.br_records.specs.Runs.{AreListed};
 ghost use Rattle.br_join.specs.Runs.{files_of};
 ghost use Rattle.br_reread.specs.Many.{GoOn, HaveFailed};
-ghost use Rattle.br_gather.specs.Given.{GivesHits};
+ghost use Rattle.br_parts.specs.Given.{GivesHits};
 ghost use Rattle.br_gather.specs.Runs.{GivesRuns, file_of};
 
 use crate::pairs::make_by_two;

@@ -6,10 +6,10 @@ ghost use Rattle.br_model.specs.Meaning as meaning;
 ghost use Rattle.br_records.specs.Runs.{AreListed};
 ghost use Rattle.br_reread.specs.Many.{GoOn};
 ghost use Rattle.br_sink.specs.declared.file_parts.PartsFault.TheVariants.{Fault};
-ghost use Rattle.br_gather.specs.FileParts.{GivesFile, GivesItem, PutsAlike};
+ghost use Rattle.br_parts.specs.FileParts.{PutsAlike};
+ghost use Rattle.br_gather.specs.FileParts.{GivesItem};
 
 use crate::again::item_once_more;
-use crate::file_parts::FileParts;
 use crate::light::SPARSE_DATA;
 use br_again::AgainFault;
 use br_join::Item;
@@ -19,7 +19,6 @@ use br_sink::{PartsFault, Sink};
 use br_types::FileKey;
 use br_volume::Drive;
 use std::alloc::Global;
-use std::thread::Threads;
 
 /// Returns whether some of the data are sparse.
 pub(crate) fn has_sparse_data(hits: &[Hit]) -> bool
@@ -36,34 +35,6 @@ pub(crate) fn is_plain(kind: u32, hits: &[Hit]) -> bool
     ensures none { result ≡ true → list_any (λ (h : meaning.Hit). nat_abs h.fragment.stream == 6) hits.now ≡ false }
 {
     (kind == 2 || kind == 3) && !has_sparse_data(hits)
-}
-
-/// Puts a file like this one into a sink. The plain data of the hits are read again while it is put.
-///
-/// # Errors
-///
-/// As `Gathered::put_by_parts`.
-pub(crate) fn put_plain<D: Drive, S: Sink>(
-    rt: &impl Threads,
-    alloc: Global,
-    many: &mut OverMany<'_, D>,
-    hits: &[Hit],
-    item: &Item,
-    sink: &mut S,
-) -> Result<(), PartsFault>
-    ensures put { OnOk result (PutsAlike (GivesFile many.old hits.now item.now) item.now (S.has sink.old) (S.has sink.new)) }
-    ensures refused { OnErr result (S.has sink.new ≡ S.has sink.old) }
-    ensures counted { S.failures sink.old ≤ S.failures sink.new }
-    ensures failed { result ≡ Err Fault → S.failures sink.old < S.failures sink.new }
-    ensures on { GoOn many.old many.new }
-{
-    let mut parts = FileParts::new(rt, alloc, hits, many.take(alloc));
-    let put = sink.put_parts(alloc, item, &mut parts);
-    many.put_back(parts.into_many());
-    match put {
-        Ok(_bytes) => Ok(()),
-        Err(fault) => Err(fault),
-    }
 }
 
 /// Makes the file once more in memory, and puts it into a sink.

@@ -4,7 +4,7 @@ ghost use Rattle.std.specs.List.{AllByRecursion};
 ghost use Rattle.br_again.specs.declared.fault.AgainFault.TheVariants.{Failed};
 ghost use Rattle.br_model.specs.Meaning as meaning;
 ghost use Rattle.br_model.specs.Restored as model;
-ghost use Rattle.br_gather.specs.Given.{GivesHit, GivesHits};
+ghost use Rattle.br_parts.specs.Given.{GivesHit, GivesHits};
 ghost use Rattle.br_join.specs.Outcome.{shown};
 ghost use Rattle.br_reread.specs.Many.{GoOn, HaveFailed};
 

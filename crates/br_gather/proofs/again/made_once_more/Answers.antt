@@ -8,7 +8,7 @@ use Rattle.br_sink.specs.Delivery.{items_in}
 use Rattle.br_sink.proofs.DeliveryLaws.{items_fault, items_file, items_one_more}
 use Rattle.br_gather.specs.Again.{IsLike}
 use Rattle.br_gather.proofs.AgainLaws.{like_more, made_at, some_file}
-use Rattle.br_gather.proofs.GivenLaws.{hits_kept}
+use Rattle.br_parts.proofs.GivenLaws.{hits_kept}
 use Rattle.br_gather.proofs.again.made_once_more.Goals as goal
 use Rattle.br_gather.proofs.again.made_once_more.Goals.{in-File+in_ok-made+in_ok-push_item, in_default}
 

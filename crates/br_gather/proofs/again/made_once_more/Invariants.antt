@@ -4,7 +4,7 @@ use Rattle.br_join.specs.Outcome.{restored}
 use Rattle.br_reread.specs.Many.{GoOn}
 use Rattle.br_sink.specs.Delivery.{items_in}
 use Rattle.br_gather.specs.Again.{IsLike, IsMadeOf}
-use Rattle.br_gather.specs.Given.{GivesHits}
+use Rattle.br_parts.specs.Given.{GivesHits}
 use Rattle.br_gather.proofs.again.made_once_more.Given as goal
 
 -- the files so far were made once more; if all are given, they are the same

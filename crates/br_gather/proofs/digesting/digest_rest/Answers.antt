@@ -1,9 +1,9 @@
 use Rattle.std.proofs.Common.{List, ◌++◌, length, sym, ap, refl, ◌∙◌, eqb-true}
 use Rattle.br_again.specs.Kept.{Kept}
 use Rattle.br_reread.proofs.GoOnLaws.{go_itself, go_more}
-use Rattle.br_gather.specs.Windows.{data_bytes}
+use Rattle.br_parts.specs.Windows.{data_bytes}
 use Rattle.br_gather.proofs.DigestingLaws.{ends_read, more_read, none_read}
-use Rattle.br_gather.proofs.WindowLaws.{none_left}
+use Rattle.br_parts.proofs.WindowLaws.{none_left}
 use Rattle.br_gather.proofs.digesting.digest_rest.Goals as goal
 
 pub loop-left-init : goal.loop-left-init

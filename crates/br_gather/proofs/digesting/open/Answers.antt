@@ -1,5 +1,5 @@
 use Rattle.std.proofs.Common.{List, ℕ, [], ◌++◌, ap, refl, ◌∙◌}
-use Rattle.br_gather.specs.Windows.{data_bytes}
+use Rattle.br_parts.specs.Windows.{data_bytes}
 use Rattle.br_gather.proofs.DigestingLaws.{window_read}
 use Rattle.br_gather.proofs.digesting.open.Goals as goal
 

@@ -6,11 +6,11 @@ use Rattle.br_join.specs.Plain.{plain_bytes, plain_of}
 use Rattle.br_records.specs.Records.{fragments}
 use Rattle.br_reread.proofs.GoOnLaws.{given_on, go_itself, go_more}
 use Rattle.br_gather.specs.Digesting.{keys_of}
-use Rattle.br_gather.specs.Given.{GivesHit}
-use Rattle.br_gather.specs.Windows.{data_bytes}
+use Rattle.br_parts.specs.Given.{GivesHit}
+use Rattle.br_parts.specs.Windows.{data_bytes}
 use Rattle.br_gather.proofs.DigestingLaws.{keys_after, keys_before}
-use Rattle.br_gather.proofs.GivenLaws.{one_of}
-use Rattle.br_gather.proofs.PlainLaws.{plain_one_more}
+use Rattle.br_parts.proofs.GivenLaws.{one_of}
+use Rattle.br_parts.proofs.PlainLaws.{plain_one_more}
 use Rattle.br_gather.proofs.digesting.read_ahead.Goals as goal
 
 pub loop-hit-init : goal.loop-hit-init

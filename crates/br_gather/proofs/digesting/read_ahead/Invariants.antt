@@ -3,8 +3,8 @@ use Rattle.br_join.specs.Plain.{plain_bytes}
 use Rattle.br_records.specs.Records.{fragments}
 use Rattle.br_reread.specs.Many.{GoOn}
 use Rattle.br_gather.specs.Digesting.{keys_of}
-use Rattle.br_gather.specs.Given.{GivesHits}
-use Rattle.br_gather.specs.Windows.{data_bytes}
+use Rattle.br_parts.specs.Given.{GivesHits}
+use Rattle.br_parts.specs.Windows.{data_bytes}
 use Rattle.br_gather.proofs.digesting.read_ahead.Given as goal
 
 -- the hits so far were read, and their plain data kept; if all are given, they are the same

@@ -2,7 +2,7 @@ use Rattle.std.proofs.Common.{List, ◌++◌, sym, ap, ◌∙◌}
 use Rattle.br_model.specs.Meaning.{Hit}
 use Rattle.br_join.specs.Plain.{plain_bytes}
 use Rattle.br_records.specs.Records.{fragments}
-use Rattle.br_gather.proofs.WindowLaws.{plain_both}
+use Rattle.br_parts.proofs.WindowLaws.{plain_both}
 use Rattle.br_gather.proofs.digesting.take_ahead.Goals as goal
 
 pub returns-clause-read : goal.returns-clause-read

@@ -4,8 +4,8 @@ use Rattle.std.proofs.lemmas.List.{take_all, take_more}
 use Rattle.br_model.specs.Meaning.{Hit}
 use Rattle.br_model.proofs.ListLaws.{all_append}
 use Rattle.br_reread.proofs.GoOnLaws.{given_on, go_itself, go_more}
-use Rattle.br_gather.specs.Given.{GivesHit}
-use Rattle.br_gather.proofs.GivenLaws.{all_from, one_of}
+use Rattle.br_parts.specs.Given.{GivesHit}
+use Rattle.br_parts.proofs.GivenLaws.{all_from, one_of}
 use Rattle.br_gather.proofs.rereading.read_hits.Goals as goal
 
 pub loop-hit-init : goal.loop-hit-init

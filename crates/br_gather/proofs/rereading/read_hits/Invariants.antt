@@ -2,7 +2,7 @@ use Rattle.std.proofs.Common.{◌≡◌, take}
 use Rattle.std.specs.List.{AllByRecursion}
 use Rattle.br_model.specs.Meaning.{Hit}
 use Rattle.br_reread.specs.Many.{GoOn}
-use Rattle.br_gather.specs.Given.{GivesHits}
+use Rattle.br_parts.specs.Given.{GivesHits}
 use Rattle.br_gather.proofs.rereading.read_hits.Given as goal
 
 -- the hits so far were read; if all are given, they are the same

@@ -8,10 +8,12 @@ use Rattle.br_records.specs.Records.{fragments}
 use Rattle.br_records.specs.Runs.{listed}
 use Rattle.br_records.proofs.FilesLaws.{fragments_in_run}
 use Rattle.br_join.proofs.PlainLaws.{plain_file}
-use Rattle.br_gather.specs.FileParts.{GivesFile, GivesItem, PutsAlike}
+use Rattle.br_parts.specs.FileParts.{GivesFile, PutsAlike}
+use Rattle.br_gather.specs.FileParts.{GivesItem}
 use Rattle.br_gather.specs.Gathered.{Gathered}
 use Rattle.br_gather.proofs.GivenLaws.{given_run}
-use Rattle.br_gather.proofs.PlainFileLaws.{ok_weaker, puts_if, sparse_hits}
+use Rattle.br_parts.proofs.PutLaws.{ok_weaker, puts_if}
+use Rattle.br_gather.proofs.PlainFileLaws.{sparse_hits}
 use Rattle.br_gather.proofs.gathered.Gathered.put_by_parts.Goals as goal
 
 pub returns-clause-put : goal.returns-clause-put

@@ -1,0 +1,17 @@
+//! Files of which the plain data are read again while they are put, a window of them at a time.
+#![tactic(auto)]
+
+mod ahead;
+mod both;
+mod file_parts;
+mod likeness;
+mod putting;
+mod streams;
+mod two_parts;
+mod windows;
+
+pub use both::PlainFile;
+pub use likeness::are_alike;
+pub use putting::{put_plain, put_two_plain};
+pub use streams::DATA;
+pub use windows::{Cut, DIGESTED, cut_window, digest_window, push_data};

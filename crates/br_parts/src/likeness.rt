@@ -1,0 +1,14 @@
+//! Whether two bodies differ neither in their number of bytes nor in their digest.
+ghost use Rattle.std.specs.Prelude.{◌≡◌, true, length};
+ghost use Rattle.md5.specs.Md5.{md5};
+ghost use Rattle.br_sink.specs.FileParts.{AreAlike};
+
+use br_join::FileBytes;
+
+/// Returns whether two bodies have as many bytes and the same digest.
+pub fn are_alike(one: &FileBytes, other: &FileBytes) -> bool
+    ensures alike { result ≡ true → AreAlike one.now other.now }
+    ensures same { one.now ≡ other.now → result ≡ true }
+{
+    one.len() == other.len() && one.digest() == other.digest()
+}
