@@ -29,7 +29,7 @@ use Rattle.br_reread.specs.Many.{Driven, GoOn, GoesOn, HaveFailed, RereadingMany
 use Rattle.br_reread.proofs.GoOnLaws.{given_on}
 use Rattle.br_gather.specs.Again.{IsMadeOf}
 use Rattle.br_gather.specs.Gathered.{Gathered}
-use Rattle.br_gather.specs.Given.{GivesHit, GivesHits}
+use Rattle.br_parts.specs.Given.{GivesHit, GivesHits}
 use Rattle.br_gather.proofs.AgainLaws.{all_made}
 use Rattle.br_gather.proofs.MeantLaws.{ShowsThem, meant_given}
 use Rattle.br_engine.specs.Again.{CanGive, CanMake, CanReread, EndsLike, GivesAgain, MadeOver, MakesOver}

@@ -16,17 +16,20 @@ use Rattle.br_join.specs.declared.item.Outcome.{Outcome}
 use Rattle.br_join.specs.declared.item.Outcome.TheVariants.{File}
 use Rattle.br_reread.specs.Many.{RereadingMany}
 use Rattle.br_gather.specs.Again.{IsLike}
-use Rattle.br_gather.specs.FileParts.{GivesItem, PutsAlike}
+use Rattle.br_parts.specs.FileParts.{PutsAlike}
+use Rattle.br_gather.specs.FileParts.{GivesItem}
 use Rattle.br_gather.specs.Gathered.{Gathered}
+use Rattle.br_gather.specs.TwoFiles.{GivesBoth, PutsBoth}
+use Rattle.br_gather.specs.declared.two_files.KeyedItem.{KeyedItem}
 use Rattle.br_sink.specs.Delivery.{AreApart, IsStopBelow, IsStopIn, StandApart, items_in, items_put, stop_cause}
-use Rattle.br_sink.specs.FileParts.{parts_number, with_bytes}
+use Rattle.br_sink.specs.FileParts.{AreAlike, parts_number, with_bytes}
 use Rattle.br_sink.specs.Sink.{HasMore}
 use Rattle.br_sink.specs.declared.file_parts.PartsFault.{PartsFault}
 use Rattle.br_sink.specs.declared.file_parts.PartsFault.TheVariants as parts
 use Rattle.br_sink.proofs.DeliveryLaws.{apart_taken, fewer_items, items_of_both, more_behind, none_more, taken_items}
 use Rattle.br_again.specs.declared.fault.AgainFault.{AgainFault}
 use Rattle.br_again.specs.declared.fault.AgainFault.TheVariants as again
-use Rattle.br_engine.specs.Again.{CanMake, IsStopAgain, PutsLike, again_number}
+use Rattle.br_engine.specs.Again.{CanMake, IsStopAgain, PutsLike, PutsTwoAgain, again_number, keyed}
 use Rattle.br_engine.specs.Delivering.{items_of}
 use Rattle.br_engine.proofs.LikeLaws.{items_fault, items_file, like_length, like_take}
 
@@ -252,30 +255,34 @@ items_around place n os window is few =
 
 -- ---- a file that is put alone
 
+-- a file whose bytes are others with the same digest
+like_item : (item : Item) (bytes : List ℕ) → AreAlike bytes item.bytes → IsLike (with_bytes item bytes) item
+like_item item bytes alike = record { path = refl; kind = refl; stat = refl; link = refl; skipped = refl; bytes = alike }
+
 -- a file like it was put
 pub put_alike : (given : Type 0) (item : Item) (had has : Option (List Item)) → PutsAlike given item had has → PutsLike {A = Unit {0}} given (item ∷ []) had has (Ok tt)
 put_alike given item had has puts = record {
   put = with_bytes item puts.bytes ∷ [];
-  like = (record { path = refl; kind = refl; stat = refl; link = refl; skipped = refl; bytes = puts.alike }, tt);
+  like = (like_item item puts.bytes puts.alike, tt);
   same = λ g. ap (λ (bytes : List ℕ). with_bytes item bytes ∷ []) (puts.same g);
   more = puts.more;
 }
 
 -- or nothing
-pub none_alike : (given : Type 0) (item : Item) (had has : Option (List Item)) (number : ℕ) → has ≡ had
-    → PutsLike {A = Unit {0}} given (item ∷ []) had has (Err (record { number = number; done = 0 }))
-none_alike given item had has number same = record {
+pub none_alike : (given : Type 0) (items : List Item) (had has : Option (List Item)) (number : ℕ) → has ≡ had
+    → PutsLike {A = Unit {0}} given items had has (Err (record { number = number; done = 0 }))
+none_alike given items had has number same = record {
   put = [];
   like = tt;
   same = λ _. refl;
   more = subst (λ (later : Option (List Item)). HasMore [] had later) (sym same) (none_more had);
 }
 
--- the stop at it
-pub stops_alone : (fault : PartsFault) → IsStopAgain 1 (record { number = parts_number fault; done = 0 })
-stops_alone parts.Memory = record { number = inl refl; within = omega arith }
-stops_alone parts.Fault = record { number = inr (inl refl); within = omega arith }
-stops_alone parts.NoDriveLeft = record { number = inr (inr refl); within = omega arith }
+-- the stop after fewer files than so many
+pub stops_alone : (fault : PartsFault) (done count : ℕ) → done < count → IsStopAgain count (record { number = parts_number fault; done = done })
+stops_alone parts.Memory done count few = record { number = inl refl; within = few }
+stops_alone parts.Fault done count few = record { number = inr (inl refl); within = few }
+stops_alone parts.NoDriveLeft done count few = record { number = inr (inr refl); within = few }
 
 -- only a sink that failed is 80
 pub parts_at_80 : (fault : PartsFault) → parts_number fault ≡ 80 → fault ≡ parts.Fault
@@ -299,3 +306,38 @@ puts_window many gathered key item window had has result is puts =
 pub stops_window : {A : Type 0} (key : FileKey) (item : Item) (window : List (FileKey × Outcome)) (result : Result A Stop)
     → window ≡ (key, File item) ∷ [] → IfErr result (IsStopAgain 1) → IfErr result (IsStopAgain (length (items_in window)))
 stops_window key item window result is stops = subst (λ (os : List (FileKey × Outcome)). IfErr result (IsStopAgain (length (items_in os)))) (sym is) stops
+
+-- ---- two files that are put side by side
+
+-- files like both were put
+pub both_alike : (given : Type 0) (one other : Item) (had has : Option (List Item)) → PutsBoth given one other had has
+    → PutsLike {A = Unit {0}} given (one ∷ other ∷ []) had has (Ok tt)
+both_alike given one other had has puts = record {
+  put = with_bytes one puts.first ∷ with_bytes other puts.second ∷ [];
+  like = (like_item one puts.first puts.alike.0, (like_item other puts.second puts.alike.1, tt));
+  same = λ g i. with_bytes one ((puts.same g).0 i) ∷ with_bytes other ((puts.same g).1 i) ∷ [];
+  more = puts.more;
+}
+
+-- or one like the first alone
+pub first_alike : (given : Type 0) (one other : Item) (had has : Option (List Item)) (number : ℕ) → PutsAlike given one had has
+    → PutsLike {A = Unit {0}} given (one ∷ other ∷ []) had has (Err (record { number = number; done = 1 }))
+first_alike given one other had has number puts = record {
+  put = with_bytes one puts.bytes ∷ [];
+  like = (like_item one puts.bytes puts.alike, tt);
+  same = λ g. ap (λ (bytes : List ℕ). with_bytes one bytes ∷ []) (puts.same g);
+  more = puts.more;
+}
+
+-- a window of two files
+pub puts_two_window : {A : Type 0} (many : RereadingMany) (gathered : Gathered) (one other : KeyedItem) (window : List (FileKey × Outcome)) (had has : Option (List Item)) (result : Result A Stop)
+    → window ≡ keyed one ∷ keyed other ∷ [] → PutsTwoAgain many gathered one other had has result
+    → PutsLike (CanMake many gathered (map restored window)) (items_in window) had has result
+puts_two_window many gathered one other window had has result is puts =
+    subst (λ (os : List (FileKey × Outcome)). PutsLike (CanMake many gathered (map restored os)) (items_in os) had has result) (sym is)
+    (puts_given (CanMake many gathered (map restored (keyed one ∷ keyed other ∷ []))) (GivesBoth many gathered.hits one.key other.key one.item.now other.item.now)
+    (one.item.now ∷ other.item.now ∷ []) had has result (λ g. ((g.0, g.1.0), (g.0, g.1.1.0))) puts)
+
+pub stops_two_window : {A : Type 0} (one other : KeyedItem) (window : List (FileKey × Outcome)) (result : Result A Stop)
+    → window ≡ keyed one ∷ keyed other ∷ [] → IfErr result (IsStopAgain 2) → IfErr result (IsStopAgain (length (items_in window)))
+stops_two_window one other window result is stops = subst (λ (os : List (FileKey × Outcome)). IfErr result (IsStopAgain (length (items_in os)))) (sym is) stops

@@ -14,10 +14,13 @@ use Rattle.br_join.specs.Joining.{Joining}
 use Rattle.br_join.specs.Outcome.{restored}
 use Rattle.br_records.specs.Runs.{AreListed}
 use Rattle.br_join.specs.declared.item.Outcome as join
+use Rattle.br_join.specs.declared.item.Outcome.TheVariants.{File}
 use Rattle.br_gather.specs.Again.{IsLike, IsMadeOf}
 use Rattle.br_gather.specs.FileParts.{GivesItem}
 use Rattle.br_gather.specs.Gathered.{Gathered}
-use Rattle.br_gather.specs.Given.{GivesHits}
+use Rattle.br_gather.specs.TwoFiles.{GivesBoth}
+use Rattle.br_gather.specs.declared.two_files.KeyedItem.{KeyedItem}
+use Rattle.br_parts.specs.Given.{GivesHits}
 use Rattle.br_reread.specs.Many.{RereadingMany, driven_by}
 use Rattle.br_again.specs.declared.fault.AgainFault.{AgainFault}
 use Rattle.br_again.specs.declared.fault.AgainFault.TheVariants as again
@@ -29,6 +32,8 @@ use Rattle.br_engine.specs.Fault.{cause}
 use Rattle.br_engine.specs.Outputs.{InSink}
 use Rattle.br_engine.specs.Restoring.{AllStand}
 use Rattle.br_engine.specs.declared.again.Source.{Source}
+use Rattle.br_engine.specs.declared.again.Window.{Window}
+use Rattle.br_engine.specs.declared.again.Window.TheVariants.{Alone, Two, Together}
 use Rattle.br_engine.specs.declared.fault.ExtractFault.{ExtractFault}
 use Rattle.br_engine.specs.declared.made.Made.{Made}
 use Rattle.br_engine.specs.declared.outputs.RestoreEnd.{RestoreEnd}
@@ -71,6 +76,21 @@ PutsAgain many gathered outcomes had has result = PutsLike (CanMake many gathere
 -- the file with the key is put so, and is this file if it is made of what was gathered
 abbrev pub PutsItemAgain : {A : Type 0} → RereadingMany → Gathered → FileKey → Item → Option (List Item) → Option (List Item) → Result A Stop → Type 0
 PutsItemAgain many gathered key item had has result = PutsLike (GivesItem many gathered.hits key item) (item ∷ []) had has result
+
+-- the two files with their keys are put so, and are these files if they are made of what was gathered
+abbrev pub PutsTwoAgain : {A : Type 0} → RereadingMany → Gathered → KeyedItem → KeyedItem → Option (List Item) → Option (List Item) → Result A Stop → Type 0
+PutsTwoAgain many gathered one other had has result =
+    PutsLike (GivesBoth many gathered.hits one.key other.key one.item.now other.item.now) (one.item.now ∷ other.item.now ∷ []) had has result
+
+-- a file that is put part by part, as the outcome that it is
+abbrev pub keyed : KeyedItem → FileKey × join.Outcome
+keyed file = (file.key, File file.item.now)
+
+-- these outcomes are the files that are put part by part, if some are
+abbrev pub IsWindowOf : List (FileKey × join.Outcome) → Window → Type 0
+IsWindowOf outcomes (Alone one) = outcomes ≡ keyed one ∷ []
+IsWindowOf outcomes (Two one other) = outcomes ≡ keyed one ∷ keyed other ∷ []
+IsWindowOf outcomes Together = ⊤
 
 -- a stop behind fewer files than so many: for want of memory (1), of a drive (70), or for a fault of the sink (80)
 pub record IsStopAgain (count : ℕ) (stop : Stop) : Type 0 where

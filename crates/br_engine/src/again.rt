@@ -1,17 +1,16 @@
 //! Files that are made once more and put into a sink, some at a time.
-ghost use Rattle.std.specs.Prelude.{◌≡◌, ◌<◌, ◌≤◌, ◌∷◌, [], length, map, IfErr, IfSome};
+ghost use Rattle.std.specs.Prelude.{◌≡◌, ◌<◌, ◌≤◌, length, map, IfErr};
 ghost use Rattle.br_model.specs.Answer.{IsRefusal};
 ghost use Rattle.br_model.specs.Delivery.{delivery};
 ghost use Rattle.br_join.specs.Outcome.{restored};
-ghost use Rattle.br_join.specs.declared.item.Outcome.TheVariants.{File};
 ghost use Rattle.br_reread.specs.Many.{GoOn};
 ghost use Rattle.br_sink.specs.Delivery.{AreApart, IsStopIn, items_in, stop_cause};
 ghost use Rattle.br_sink.specs.Fault.{cause_number};
-ghost use Rattle.br_engine.specs.Again.{DeliversAll, IsStopAgain, PutsAgain, PutsItemAgain, again_number};
+ghost use Rattle.br_engine.specs.Again.{DeliversAll, IsStopAgain, IsWindowOf, PutsAgain, PutsItemAgain, PutsTwoAgain, again_number};
 
 use br_again::{AgainFault, standing_stays};
-use br_gather::Gathered;
-use br_join::{Item, Outcome};
+use br_gather::{Gathered, KeyedItem, TwoDone};
+use br_join::Outcome;
 use br_reread::OverMany;
 use br_sink::{Sink, SinkStop, StopCause, stand_apart, totals};
 use br_types::FileKey;
@@ -25,7 +24,7 @@ pub(crate) struct Source<'g> {
     pub(crate) alloc: Global,
     pub(crate) gathered: &'g Gathered,
     /// The number of bytes of the files that are made once more together, in memory. A file with more is
-    /// put alone, one part after another.
+    /// put part by part: alone, or side by side with the next one, if that has more, too.
     pub(crate) window: u64,
 }
 
@@ -37,14 +36,27 @@ pub(crate) fn len_of(outcome: &Outcome) -> u64 {
     }
 }
 
-/// Returns the number of the first outcomes whose files have at most `window` bytes together: one at least.
+/// Returns the number of the first outcomes that are files with more than `window` bytes: two at most.
+fn long_files(window: u64, outcomes: &[(FileKey, Outcome)]) -> usize
+    ensures { result ≤ length outcomes.now }
+{
+    match outcomes {
+        [(_, one), (_, other), ..] if len_of(one) > window && len_of(other) > window => 2,
+        [(_, one), ..] if len_of(one) > window => 1,
+        _ => 0,
+    }
+}
+
+/// Returns the number of the first outcomes that are put in one step, one at least: those whose files have at
+/// most `window` bytes together, or one or two files with more.
 fn window_len(window: u64, outcomes: &[(FileKey, Outcome)]) -> usize
     requires { 0 < length outcomes.now }
     ensures some { 0 < result }
     ensures within { result ≤ length outcomes.now }
 {
-    if len_of(&outcomes[0].1) > window {
-        return 1;
+    let long = long_files(window, outcomes);
+    if long > 0 {
+        return long;
     }
     let mut count = 0;
     let mut left = window;
@@ -59,23 +71,42 @@ fn window_len(window: u64, outcomes: &[(FileKey, Outcome)]) -> usize
     count
 }
 
-/// A file that is put alone.
+/// The outcomes of which the files are put in one step.
 #[derive(Drop)]
-struct Alone<'o> {
-    key: FileKey,
-    item: &'o Item,
+enum Window<'o> {
+    /// One file, which is put part by part.
+    Alone(KeyedItem<'o>),
+    /// Two files, which are put part by part.
+    Two {
+        one: KeyedItem<'o>,
+        other: KeyedItem<'o>,
+    },
+    /// Others: their files are made once more in memory.
+    Together,
 }
 
-/// Returns the only file of these outcomes, if it has more bytes than the window.
-fn alone_in(window: u64, outcomes: &[(FileKey, Outcome)]) -> Option<Alone<'_>>
-    ensures { IfSome result (λ alone. outcomes.now ≡ (alone.key, File alone.item.now) ∷ []) }
+/// Returns the files to be put part by part, if these outcomes are one or two files with more bytes than `window`.
+fn window_of(window: u64, outcomes: &[(FileKey, Outcome)]) -> Window<'_>
+    ensures { IsWindowOf outcomes.now result }
 {
     match outcomes {
-        [(key, Outcome::File(item))] if item.bytes.len() > window => Some(Alone {
-            key: *key,
-            item,
-        }),
-        _ => None,
+        [(key, Outcome::File(item))] if item.bytes.len() > window => {
+            Window::Alone(KeyedItem { key: *key, item })
+        }
+        [(key, Outcome::File(one)), (later, Outcome::File(other))]
+            if one.bytes.len() > window && other.bytes.len() > window => {
+            Window::Two {
+                one: KeyedItem {
+                    key: *key,
+                    item: one,
+                },
+                other: KeyedItem {
+                    key: *later,
+                    item: other,
+                },
+            }
+        }
+        _ => Window::Together,
     }
 }
 
@@ -114,7 +145,7 @@ fn put_alone<D: Drive, S: Sink>(
     rt: &impl Threads,
     source: &Source<'_>,
     many: &mut OverMany<'_, D>,
-    alone: &Alone<'_>,
+    alone: &KeyedItem<'_>,
     sink: &mut S,
 ) -> Result<(), SinkStop>
     ensures put { PutsItemAgain many.old source.now.gathered.now alone.now.key alone.now.item.now (S.has sink.old) (S.has sink.new) result }
@@ -132,8 +163,34 @@ fn put_alone<D: Drive, S: Sink>(
     }
 }
 
-/// Makes the files among the outcomes once more, and puts them into a sink. A file with more bytes than the
-/// window is put alone, one part after another.
+/// Puts two files like these into a sink: side by side, if it puts two at once, else one after the other. Their
+/// data are read again while they are put.
+fn put_two_alone<D: Drive, S: Sink>(
+    rt: &impl Threads,
+    source: &Source<'_>,
+    many: &mut OverMany<'_, D>,
+    one: &KeyedItem<'_>,
+    other: &KeyedItem<'_>,
+    sink: &mut S,
+) -> Result<(), SinkStop>
+    ensures put { PutsTwoAgain many.old source.now.gathered.now one.now other.now (S.has sink.old) (S.has sink.new) result }
+    ensures stopped { IfErr result (IsStopAgain 2) }
+    ensures on { GoOn many.old many.new }
+    ensures counted { S.failures sink.old ≤ S.failures sink.new }
+    ensures failed { IfErr result (λ stop. stop.number ≡ 80 → S.failures sink.old < S.failures sink.new) }
+{
+    let put = source
+        .gathered
+        .put_two_by_parts(rt, source.alloc, many, one, other, sink);
+    match put {
+        TwoDone::Both => Ok(()),
+        TwoDone::One(fault) => Err(SinkStop::new(fault.cause(), 1)),
+        TwoDone::Neither(fault) => Err(SinkStop::new(fault.cause(), 0)),
+    }
+}
+
+/// Makes the files among the outcomes once more, and puts them into a sink. One or two files with more bytes than
+/// the window are put part by part.
 fn put_window<D: Drive, S: Sink>(
     rt: &(impl Threads + Sync),
     source: &Source<'_>,
@@ -147,9 +204,10 @@ fn put_window<D: Drive, S: Sink>(
     ensures counted { S.failures sink.old ≤ S.failures sink.new }
     ensures failed { IfErr result (λ stop. stop.number ≡ 80 → S.failures sink.old < S.failures sink.new) }
 {
-    match alone_in(source.window, window) {
-        Some(alone) => put_alone(rt, source, many, &alone, sink),
-        None => put_together(rt, source, many, window, sink),
+    match window_of(source.window, window) {
+        Window::Alone(alone) => put_alone(rt, source, many, &alone, sink),
+        Window::Two { one, other } => put_two_alone(rt, source, many, &one, &other, sink),
+        Window::Together => put_together(rt, source, many, window, sink),
     }
 }
 

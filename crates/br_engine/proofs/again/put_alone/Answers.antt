@@ -1,4 +1,4 @@
-use Rattle.std.proofs.Common.{◌≡◌, [], ◌∷◌, Err, ap, sym, subst, ◌∙◌}
+use Rattle.std.proofs.Common.{◌≡◌, [], ◌∷◌, Err, ap, sym, subst, arith, ◌∙◌}
 use Rattle.br_model.specs.Delivery.{Stop}
 use Rattle.br_gather.specs.FileParts.{GivesItem}
 use Rattle.br_sink.specs.FileParts.{parts_number}
@@ -18,13 +18,13 @@ returns-in-Err-clause-put g c =
     let has = g.S.Sink.has c.put_by_parts-put.new.sink in
     let new : c.new.result ≡ record { number = parts_number fault; done = 0 } = c.new.ensures ∙ (λ i. record { number = c.cause.ensures i; done = 0 }) in
     subst (λ (stop : Stop). PutsLike given (c.args.alone.now.item.now ∷ []) had has (Err stop)) (sym new)
-    (none_alike given c.args.alone.now.item.now had has (parts_number fault) c.in-Err.ensures.refused)
+    (none_alike given (c.args.alone.now.item.now ∷ []) had has (parts_number fault) c.in-Err.ensures.refused)
 
 pub returns-in-Err-clause-stopped : goal.returns-in-Err-clause-stopped
 returns-in-Err-clause-stopped g c =
     let fault = c.in-Err.fault in
     let new : c.new.result ≡ record { number = parts_number fault; done = 0 } = c.new.ensures ∙ (λ i. record { number = c.cause.ensures i; done = 0 }) in
-    subst (IsStopAgain 1) (sym new) (stops_alone fault)
+    subst (IsStopAgain 1) (sym new) (stops_alone fault 0 1 (omega arith))
 
 pub returns-in-Err-clause-failed : goal.returns-in-Err-clause-failed
 returns-in-Err-clause-failed g c = λ eighty.
