@@ -11,6 +11,7 @@ mod matches;
 mod parts;
 mod sinks;
 mod texts;
+mod two_files;
 mod windows;
 
 use br_trial_rows::{Case, Rows, fields_of};
@@ -28,6 +29,7 @@ fn run(case: &mut Case, rt: &HostRuntime, threads: &(impl Threads + Sync), field
         ["window", call @ ..] => windows::run(case, rt, threads, call),
         ["small", call @ ..] => makers::run(case, threads, call),
         ["parts", call @ ..] => parts::run(case, call),
+        ["two", call @ ..] => two_files::run(case, rt, call),
         _ => case.fail("there is no such call"),
     }
 }

@@ -19,9 +19,9 @@ use br_trial_rows::Case;
 use std::alloc::Global;
 use std::io::Write;
 
-/// What is read again.
+/// What is read again of a file.
 #[derive(Drop)]
-struct Given {
+pub(crate) struct Given {
     alloc: Global,
     bytes: FileBytes,
 }
@@ -74,14 +74,25 @@ impl Parts for Given {
     ghost stays = { λ _. tt };
 }
 
+/// Reads what is given of a file.
+pub(crate) fn given_of(case: &mut Case, given: &str) -> Option<Given> {
+    let bytes = case.text_of(given);
+    let alloc = case.alloc();
+    match FileBytes::new(alloc, bytes) {
+        Ok(bytes) => Some(Given { alloc, bytes }),
+        Err(_fault) => {
+            case.fail("out of memory");
+            None
+        }
+    }
+}
+
 /// Puts a file of which these bytes are read again, and prints the number of the refusal, 0 if there is none.
 fn push_parts(case: &mut Case, sink: &mut impl Sink, item: &Item, given: &str) {
-    let bytes = case.text_of(given);
-    let Ok(bytes) = FileBytes::new(case.alloc(), bytes) else {
-        return case.fail("out of memory");
+    let Some(mut given) = given_of(case, given) else {
+        return;
     };
-    let alloc = case.alloc();
-    let put = sink.put_parts(alloc, item, &mut Given { alloc, bytes });
+    let put = sink.put_parts(case.alloc(), item, &mut given);
     case.number(match put {
         Ok(_) => 0,
         Err(fault) => u64::from(SinkStop::new(fault.cause(), 0).number()),
@@ -91,7 +102,7 @@ fn push_parts(case: &mut Case, sink: &mut impl Sink, item: &Item, given: &str) {
 
 /// Prints what is at the path of a file: its bytes, `folder`, `part` of a file that was not finished, or
 /// `none`. No call fails from here on.
-fn push_at(case: &mut Case, maker: &mut MemMaker, file: &str) {
+pub(crate) fn push_at(case: &mut Case, maker: &mut MemMaker, file: &str) {
     let (name, _) = case.split(file, ',');
     let Ok(path) = format!(in case.alloc(); "/into{name}") else {
         return case.fail("out of memory");

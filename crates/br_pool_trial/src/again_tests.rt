@@ -71,7 +71,7 @@ fn files_in(alloc: Global, out: &Outputs<Vec<u8>, MemSink>) -> Result<Option<usi
 }
 
 /// Returns the number of a stop, and that of the files before it, if a delivery stopped.
-fn stop_of(end: &Result<RestoreEnd, ExtractFault>) -> Option<(u32, u64)> {
+pub(crate) fn stop_of(end: &Result<RestoreEnd, ExtractFault>) -> Option<(u32, u64)> {
     match end {
         Ok(RestoreEnd::Stopped(stop)) => Some((stop.number(), stop.done())),
         _ => None,
@@ -249,7 +249,7 @@ fn turned_drives(alloc: Global, calls: u64, place: usize) -> Result<Vec<Turned>,
 const FOLDER: &str = "/into";
 
 /// Returns a sink over a folder in memory.
-fn folder_sink(alloc: Global) -> Result<FolderSink<MemMaker>, Fail> {
+pub(crate) fn folder_sink(alloc: Global) -> Result<FolderSink<MemMaker>, Fail> {
     let mut maker = MemMaker::new(alloc);
     if maker.plant(FOLDER, Kind::Folder).is_err() {
         return Err(Fail::new("no folder"));
@@ -296,6 +296,35 @@ fn stops_after(
     let are_left = bytes_of(&maker, "/into/a") == first
         && bytes_of(&maker, "/into/b") == b"no file".as_slice();
     Ok(stop_of(&end) == Some((70, done)) && are_left && has_manifest)
+}
+
+/// Returns whether both files are put into a folder if the first of two drives fails from this call on.
+fn folder_gets_both(
+    rt: &(impl Threads + Wait + Sync),
+    alloc: Global,
+    call: u64,
+) -> Result<bool, Fail> {
+    let drives = drives(alloc, &[Some(call), None])?;
+    let (end, out) = run_by(rt, alloc, NO_ROOM, drives, folder_sink(alloc)?);
+    let are_all = matches!(end, Ok(RestoreEnd::AllFiles));
+    let Outputs { writer, sink } = out;
+    let has_manifest = writer.as_slice() == MANIFEST;
+    let Some(sink) = sink else {
+        return Ok(false);
+    };
+    let maker = sink.into_maker();
+    let are_there = bytes_of(&maker, "/into/a") == b"message digest".as_slice()
+        && bytes_of(&maker, "/into/b") == b"message digest".as_slice();
+    Ok(are_all && are_there && has_manifest)
+}
+
+#[test]
+fn another_drive_takes_over_between_two_that_are_put(rt: HostRuntime) -> Result<(), Fail> {
+    // The blocks of both are read by 12 calls, and the data by 8 more, and then by 8 while they are put.
+    for call in 20..30 {
+        assert!(rt; folder_gets_both(&rt, rt.alloc(), call)?);
+    }
+    Ok(())
 }
 
 #[test]

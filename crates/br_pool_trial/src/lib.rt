@@ -28,3 +28,5 @@ mod streaming_gate_tests;
 mod streaming_tests;
 #[cfg(test)]
 mod tar_tests;
+#[cfg(test)]
+mod two_tests;

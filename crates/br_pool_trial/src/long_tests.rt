@@ -13,7 +13,7 @@ use std::test::Fail;
 use std::thread::Threads;
 
 /// A file: its number, the block of its attributes, and the letter of which each of its blocks of data is.
-type Long = (u8, &'static [u8], &'static [u8]);
+pub(crate) type Long = (u8, &'static [u8], &'static [u8]);
 
 /// The files, which are digested in two windows, three, two and eight. A block has 300,000 bytes of data, and
 /// four of them fill such a window. The last file is put in three windows, each of which 14 blocks fill.
@@ -107,22 +107,22 @@ fn push_file(
     Ok(())
 }
 
-/// Returns the volume.
-fn volumes(alloc: Global) -> Result<Vec<(VolName, Vec<u8>)>, Fail> {
+/// Returns the volume of these files.
+fn volumes(alloc: Global, files: &[Long]) -> Result<Vec<(VolName, Vec<u8>)>, Fail> {
     let mut bytes = Vec::new(alloc);
-    for (number, attributes, letters) in FILES {
-        push_file(&mut bytes, number, attributes, letters)?;
+    for (number, attributes, letters) in files {
+        push_file(&mut bytes, *number, attributes, letters)?;
     }
     let mut volumes = Vec::new(alloc);
     volumes.push((VolName::new(alloc, b"A")?, bytes))?;
     Ok(volumes)
 }
 
-/// Returns a drive over the volume, which fails from this call on, if it is to fail.
-fn drives(alloc: Global, from: FailsFrom) -> Result<Vec<MemDrive>, Fail>
+/// Returns a drive over the volume of these files, which fails from this call on, if it is to fail.
+pub(crate) fn drives(alloc: Global, files: &[Long], from: FailsFrom) -> Result<Vec<MemDrive>, Fail>
     ensures { IfOk result (λ drives. length drives.items ≡ 1) }
 {
-    let volumes = volumes(alloc)?;
+    let volumes = volumes(alloc, files)?;
     let drive = match from {
         None => MemDrive::new(volumes),
         Some(k) => MemDrive::failing_from(volumes, k),
@@ -156,7 +156,7 @@ fn are_all(bytes: &[u8], letters: &[u8]) -> bool {
 #[test]
 fn windows_are_read_beside_the_digest(rt: HostRuntime) -> Result<(), Fail> {
     let alloc = rt.alloc();
-    let mut drives = drives(alloc, None)?;
+    let mut drives = drives(alloc, &FILES, None)?;
     let mut out = Outputs {
         writer: Vec::new(alloc),
         sink: Some(MemSink::new(alloc)),
@@ -179,7 +179,7 @@ fn extracted(
     text: &[u8],
     from: FailsFrom,
 ) -> Result<Result<Vec<u8>, u32>, Fail> {
-    let mut drives = drives(alloc, from)?;
+    let mut drives = drives(alloc, &FILES, from)?;
     let mut out = Outputs {
         writer: Vec::new(alloc),
         sink: None::<MemSink>,
