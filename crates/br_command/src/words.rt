@@ -9,7 +9,8 @@ ghost use Rattle.br_command.specs.Words.{checksums_asked, checksums_by, progress
 ghost use Rattle.br_command.specs.Words.{clock_asked, clock_by, start_asked, start_by, start_for};
 ghost use Rattle.br_command.specs.Words.{is_no_size, memory_asked};
 ghost use Rattle.br_command.specs.Words.{AsksFor, MissesBy, asked, asked_by, words_asked, words_fault, words_kind};
-ghost use Rattle.br_command.specs.Words.{console_asked, drives_asked, explain_asked, extract_asked, migrate_asked, number_asked, serve_asked, serve_by};
+ghost use Rattle.br_command.specs.Words.{console_asked, drives_asked, explain_asked, extract_asked};
+ghost use Rattle.br_command.specs.Words.{migrate_asked, number_asked, serve_asked, serve_by};
 ghost use Rattle.br_command.specs.Words.{target_asked};
 ghost use Rattle.br_command.specs.Words.{kind_by, kind_in, tar_target, target, target_by};
 ghost use Rattle.br_command.specs.Words.{check_app, check_asked, jobs_app, jobs_asked, jobs_start_app, listing_app};
@@ -563,7 +564,8 @@ fn serve_by<'a>(
     volumes: Option<&'a str>,
     memory: u64,
 ) -> Option<Invocation<'a>>
-    ensures asked { option_map asked result ≡ serve_by (option_map (λ s. s.now) db.entry) (option_map (λ s. s.now) volumes.entry) memory }
+    ensures asked { option_map asked result
+        ≡ serve_by (option_map (λ s. s.now) db.entry) (option_map (λ s. s.now) volumes.entry) memory }
     ensures drives { IfSome result HasDrives }
 {
     match (db, volumes) {

@@ -5,7 +5,8 @@ ghost use Rattle.std.specs.Thread.{IsSync};
 ghost use Rattle.br_files.specs.Making.{IsFinished, KeepsOthers};
 ghost use Rattle.br_sink.specs.Delivery.{IsStopBelow};
 ghost use Rattle.br_folder_sink.specs.Below.{KeepsOutside};
-ghost use Rattle.br_folder_sink.specs.Held.{AppendsSome, AreAnswered, FinishesHeld, FinishesOne, FinishesSome, HoldsStill, IsNew, IsWritten, LeavesHeld};
+ghost use Rattle.br_folder_sink.specs.Held.{AppendsSome, AreAnswered, FinishesHeld, FinishesOne};
+ghost use Rattle.br_folder_sink.specs.Held.{FinishesSome, HoldsStill, IsNew, IsWritten, LeavesHeld};
 ghost use Rattle.br_folder_sink.specs.Held.{AppendsFrontSome, WritesEach, WritesOne};
 ghost use Rattle.br_folder_sink.specs.Removed.{AreRemoved, AreRemovedFrom, IsRemoved, MakesNoFile, files_of};
 ghost use Rattle.br_folder_sink.specs.Window.{AreBelow};
@@ -371,7 +372,8 @@ impl<'i, W: Write + Drop> Window<'i, W> {
         ensures waits { length self.old.made.items < 16 → self.new.made.items ≡ self.old.made.items }
         ensures stopped { (n : ℕ) → AreBelow n self.old.made.items → IfErr result (IsStopBelow n) }
         ensures below { (n : ℕ) → AreBelow n self.old.made.items → OnOk result (AreBelow n self.new.made.items) }
-        ensures held { HoldsStill W.contents root.now self.old.made.items self.new.made.items (M.nodes maker.old) (M.nodes maker.new) result }
+        ensures held { HoldsStill W.contents root.now self.old.made.items self.new.made.items (M.nodes maker.old)
+            (M.nodes maker.new) result }
         ensures outside { KeepsOutside root.now (M.nodes maker.old) (M.nodes maker.new) }
     {
         if self.is_full() {

@@ -2,7 +2,8 @@
 ghost use Rattle.std.specs.Prelude.{◌≡◌, ◌++◌, flat_map, IfOk, OnOk};
 ghost use Rattle.br_model.specs.Bootstrap.{range_text};
 ghost use Rattle.br_missing.specs.Lines as model;
-ghost use Rattle.br_missing.specs.Lines.{count_at, count_line, count_lines, count_text, gap_line, gap_text, line_of, next_text, numbers_text, ranges_text, sessions_text};
+ghost use Rattle.br_missing.specs.Lines.{count_at, count_line, count_lines, count_text, gap_line, gap_text};
+ghost use Rattle.br_missing.specs.Lines.{line_of, next_text, numbers_text, ranges_text, sessions_text};
 ghost use Rattle.br_missing.specs.Near.{AreSorted};
 
 use crate::counting::got_of;

@@ -1,7 +1,8 @@
 //! Where files come from.
 ghost use Rattle.std.specs.Prelude.{◌≡◌, find, map, option_map, IfOk};
 ghost use Rattle.std.specs.Option.{option_copied};
-ghost use Rattle.br_origin.specs.Origins.{AreOrigins, ComeFrom, group_hit as hit_by, origin_by, origin_of as origin, volume_asked, volume_for};
+ghost use Rattle.br_origin.specs.Origins.{AreOrigins, ComeFrom, group_hit as hit_by, origin_by};
+ghost use Rattle.br_origin.specs.Origins.{origin_of as origin, volume_asked, volume_for};
 ghost use Rattle.br_records.specs.Runs.{AreListed};
 
 use crate::asking::Asking;

@@ -1,6 +1,7 @@
 //! A connection to a database file and its log.
 
-ghost use Rattle.std.specs.Prelude.{codes, ◌≡◌, true, false, ◌⊎◌, ◌↔◌, ℕ, ◌+◌, ◌<◌, ◌≤◌, pos, ◌==◌, [], map, find, OnOk, length, option_copied, Some, IsTrue, IfOk, IfErr, IfSome, IsSomeAnd};
+ghost use Rattle.std.specs.Prelude.{codes, ◌≡◌, true, false, ◌⊎◌, ◌↔◌, ℕ, ◌+◌, ◌<◌, ◌≤◌, pos, ◌==◌, [], map, find, OnOk};
+ghost use Rattle.std.specs.Prelude.{length, option_copied, Some, IsTrue, IfOk, IfErr, IfSome, IsSomeAnd};
 ghost use Rattle.sqlite_wal.specs.PageSize.{bytes_of};
 ghost use Rattle.sqlite_store.specs.FileStore.{state as store_state, log_frames, view, is_shielded, files as store_files};
 ghost use Rattle.sqlite_wal.specs.Reads.{OnlyReads};
@@ -17,8 +18,13 @@ ghost use Rattle.sqlite_store.specs.Listing.{listed_from};
 ghost use Rattle.sqlite_value.specs.Order.{column, bytes};
 ghost use Rattle.sqlite_trees.specs.View.{View, IsClean};
 ghost use Rattle.sqlite_store.specs.Unopened.{state_of, files_of, image, wanted_by, AreUsable, Opens, Creates};
-ghost use Rattle.sqlite.specs.Opening.{unsorted, reported, unrooted, layout_at, shape_of, Binds, IsBound, IsOwnTable, HasOwnTable, Suits, AllSuit, IsRead, IsNamed, IsListedIn, Knows, IsListed, IsAttached, FailsToAttach, AreToSeal, IsAdopted, FailsToAdopt, IsSpared, IsMade, FailsToMake, is_open_error, probed, blurred, renamed};
-ghost use Rattle.sqlite.specs.Files.{faults_of, file_state, IsOpened, Finds, tally_left, FailsToOpenAs, FailsToOpenFiles, IsOver, IsCleanLeft, LeavesFiles, IsClosed, FailsToClose, IsBlankAs, BeginsWell, SaysSums, image_of};
+ghost use Rattle.sqlite.specs.Opening.{unsorted, reported, unrooted, layout_at, shape_of, Binds, IsBound, IsOwnTable};
+ghost use Rattle.sqlite.specs.Opening.{HasOwnTable, Suits, AllSuit, IsRead, IsNamed, IsListedIn, Knows, IsListed};
+ghost use Rattle.sqlite.specs.Opening.{IsAttached, FailsToAttach, AreToSeal, IsAdopted, FailsToAdopt, IsSpared, IsMade};
+ghost use Rattle.sqlite.specs.Opening.{FailsToMake, is_open_error, probed, blurred, renamed};
+ghost use Rattle.sqlite.specs.Files.{faults_of, file_state, IsOpened, Finds, tally_left, FailsToOpenAs};
+ghost use Rattle.sqlite.specs.Files.{FailsToOpenFiles, IsOver, IsCleanLeft, LeavesFiles, IsClosed};
+ghost use Rattle.sqlite.specs.Files.{FailsToClose, IsBlankAs, BeginsWell, SaysSums, image_of};
 ghost use Rattle.sqlite_pool.specs.Stored.{used_size};
 ghost use Rattle.br_raw.specs.Premises.{AreToSealIn, FailsToRead, FailsToTest, HaveKept, IsNothingAs, OfLayouts, OfListed, UsesSized};
 ghost use Rattle.sqlite.specs.Closing.{IsCopied, files_left};
@@ -248,7 +254,8 @@ fn shapes_for(alloc: Global, rows: &[Row], roots: &[bool]) -> Result<Vec<Shape>,
 
 fn with_codes(alloc: Global, rows: &[Row], shapes: &[Shape]) -> Result<Vec<Row>, AllocError>
     requires { length shapes.now ≡ length rows.now }
-    ensures { (v : View) → shapes.now ≡ map (shape_of v) rows.now → IfOk result (λ all. all.items ≡ map (coded_by v.shape) rows.now) }
+    ensures { (v : View) → shapes.now ≡ map (shape_of v) rows.now
+        → IfOk result (λ all. all.items ≡ map (coded_by v.shape) rows.now) }
 {
     let mut all = Vec::new(alloc);
     for at in 0..rows.len() {

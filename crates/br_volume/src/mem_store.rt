@@ -1,4 +1,5 @@
-ghost use Rattle.std.specs.Prelude.{◌≡◌, ℕ, ◌+◌, ◌<◌, ◌≤◌, List, [], length, Option, OnOk, OnErr, IfOk, bytes_eq, position, take, true, false, Err, Ok};
+ghost use Rattle.std.specs.Prelude.{◌≡◌, ℕ, ◌+◌, ◌<◌, ◌≤◌, List, [], length, Option, OnOk, OnErr, IfOk};
+ghost use Rattle.std.specs.Prelude.{bytes_eq, position, take, true, false, Err, Ok};
 ghost use Rattle.br_model.specs.Volume.{Volume, volume_bytes};
 ghost use Rattle.br_model.specs.SessionHolds.{bytes_of_volume};
 ghost use Rattle.br_volume.specs.Calls.{is_out};
