@@ -1,30 +1,34 @@
 -- What is below a folder after several changes.
-use Rattle.std.proofs.Common.{◌≡◌, ℕ, ◌⊎◌, Bool, true, false, cond, Option, Some, None, Result, Ok, Err, OnOk, List, ◌∷◌, ◌++◌, inl, inr, refl, ap, sym, ◌∙◌}
-use Rattle.std.specs.Prelude.{bytes_eq}
+use Rattle.std.proofs.Common.{◌≡◌, ℕ, ◌<◌, ◌+◌, ◌-◌, ◌⊎◌, Bool, true, false, cond, Option, Some, None, Result, Ok, Err, OnOk, List, ◌∷◌, ◌++◌, length, take, inl, inr, refl, ap, sym, arith, ◌∙◌}
+use Rattle.std.specs.Prelude.{bytes_eq, slice_range, suc}
 use Rattle.std.proofs.lemmas.Slice.Eq.{bytes_eq-Decides}
 use Rattle.std.proofs.lemmas.List.{append_assoc}
+use Rattle.std.proofs.Math.Seq.{take-append-add}
 use Rattle.std.specs.Io.KnownBytes.{Appends}
 use Rattle.br_files.specs.Making.{Node, Nodes, Bytes, Else, IsBelow, IsFileOrFree, IsFinished, IsFolderNow, KeepsOthers, MakesFile, Opened, Sets, node_at}
 use Rattle.br_files.specs.declared.kind.Kind.TheVariants.{Folder}
 use Rattle.br_files.proofs.MakingLaws.{opened_still, put_whole, same_keeps, set_keeps, set_over}
-use Rattle.br_folder_sink.specs.Below.{AddsFolders, IsOnWay, IsNewFolder, KeepsOutside, MakesNew, PutsBelow, PutsNew}
+use Rattle.br_folder_sink.specs.Below.{AddsFolders, IsNewFolder, KeepsOutside, MakesNew, PutsBelow, PutsNew}
 
 -- paths that begin with the folder's
 
 pub below_root : (root path rest : List ℕ) → path ≡ 47 ∷ rest → IsBelow root (root ++ path)
 below_root root path rest is = (rest, ap (λ (p : List ℕ). root ++ p) is)
 
--- a name in a folder on the way is below
-pub on_way_below : (root folder name next : List ℕ) → IsOnWay root folder → next ≡ folder ++ 47 ∷ name → IsBelow root next
-on_way_below root folder name next (inl is) next_is = (name, next_is ∙ ap (λ (f : List ℕ). f ++ 47 ∷ name) is)
-on_way_below root folder name next (inr (rest, is)) next_is =
-    (rest ++ 47 ∷ name, next_is ∙ ap (λ (f : List ℕ). f ++ 47 ∷ name) is ∙ append_assoc root (47 ∷ rest) (47 ∷ name))
+-- a longer path is below the folder, too
+pub below_longer : (root path more : List ℕ) → IsBelow root path → IsBelow root (path ++ more)
+below_longer root path more (rest, is) = (rest ++ more, ap (λ (p : List ℕ). p ++ more) is ∙ append_assoc root (47 ∷ rest) more)
 
-pub root_on_way : (root path : List ℕ) → path ≡ root → IsOnWay root path
-root_on_way root path is = inl is
-
-pub below_on_way : (root path : List ℕ) → IsBelow root path → IsOnWay root path
-below_on_way root path below = inr below
+-- a front of a path below the folder that is longer than the folder's
+pub front_below : (root path front : List ℕ) (at : ℕ) → IsBelow root path → length root < at → front ≡ slice_range path 0 at
+    → IsBelow root front
+front_below root path front at (rest, is) long cut =
+    let n : ℕ = at - (length root + 1) in
+    let same : length root + suc n ≡ at = omega (arith, long) in
+    let more : take (length root + suc n) (root ++ 47 ∷ rest) ≡ root ++ 47 ∷ take n rest = take-append-add root (47 ∷ rest) (suc n) in
+    let less : at - 0 ≡ at = omega arith in
+    let front_is : slice_range path 0 at ≡ take at path = ap (λ (k : ℕ). take k path) less in
+    (take n rest, cut ∙ front_is ∙ ap (λ (k : ℕ). take k path) (sym same) ∙ ap (λ (p : List ℕ). take (length root + suc n) p) is ∙ more)
 
 -- folders that are added
 
@@ -155,6 +159,11 @@ outside_set root path (Some a) (Some b) below f =
 pub outside_then : (root path : List ℕ) (a b c : Option Nodes) → KeepsOutside root a b → IsBelow root path → KeepsOthers path b c
     → KeepsOutside root a c
 outside_then root path a b c f below others = outside_more root a b c f (outside_set root path b c below others)
+
+-- something below the folder was changed before that
+pub outside_first : (root path : List ℕ) (a b c : Option Nodes) → IsBelow root path → KeepsOthers path a b → KeepsOutside root b c
+    → KeepsOutside root a c
+outside_first root path a b c below others f = outside_more root a b c (outside_set root path a b below others) f
 
 -- twice, and then something else below the folder
 pub outside_twice : (root path : List ℕ) (a b c d : Option Nodes) → KeepsOutside root a b → IsBelow root path → KeepsOthers path b c

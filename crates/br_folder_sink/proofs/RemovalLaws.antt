@@ -73,7 +73,7 @@ changes_added root path None (Some b) added = absurd added
 changes_added root path (Some a) None added = absurd added
 changes_added root path (Some a) (Some b) added = λ other apart. added other
 
-pub changes_kept : (root path : List ℕ) (a b : Option Nodes) → KeepsOthers (root ++ path) a b → ChangesOne root path a b
+pub changes_kept : (root path : List ℕ) (a b : Option Nodes) → KeepsOthers path a b → ChangesOne root path a b
 changes_kept root path None None kept = tt
 changes_kept root path None (Some b) kept = absurd kept
 changes_kept root path (Some a) None kept = absurd kept
@@ -88,11 +88,8 @@ changes_more root path (Some a) (Some b) None f g = absurd g
 changes_more root path (Some a) (Some b) (Some c) f g = λ other apart. adds_both root other a b c (f other apart) (g other apart)
 
 -- folders were made first
-pub changes_then : (root path whole : List ℕ) (a b c : Option Nodes) → whole ≡ root ++ path → AddsFolders root a b → KeepsOthers whole b c
-    → ChangesOne root path a c
-changes_then root path whole a b c is added kept =
-    changes_more root path a b c (changes_added root path a b added)
-    (changes_kept root path b c (subst (λ (p : List ℕ). KeepsOthers p b c) is kept))
+pub changes_then : (root path : List ℕ) (a b c : Option Nodes) → AddsFolders root a b → KeepsOthers path b c → ChangesOne root path a c
+changes_then root path a b c added kept = changes_more root path a b c (changes_added root path a b added) (changes_kept root path b c kept)
 
 -- a file that could not be made or written
 
@@ -114,8 +111,8 @@ module _ (refused : List ℕ → Type 0) (root path whole : List ℕ) where
   gives_unmade a b c is added (inr (file, none)) = inr (b, added, rw is at file, inl (rw is at none))
 
   pub gives_unwritten : (contents : Option (List ℕ)) (a b m c : Option Nodes) → whole ≡ root ++ path → AddsFolders root a b
-      → MakesNew whole contents b m → IsRemoved refused c (root ++ path) → GivesUp refused root path a c
-  gives_unwritten contents a b m c is added (middle, file, cleared, made) removed = inr (b, added, rw is at file, removed)
+      → MakesNew whole contents b m → IsRemoved refused c whole → GivesUp refused root path a c
+  gives_unwritten contents a b m c is added (middle, file, cleared, made) removed = inr (b, added, rw is at file, rw is at removed)
 
 -- folders were made first
 pub no_file_then : (root : List ℕ) (a b c : Option Nodes) → AddsFolders root a b → MakesNoFile b c → MakesNoFile a c

@@ -1,54 +1,49 @@
 -- Two files that are put side by side.
 use Rattle.std.proofs.Common.{◌≡◌, ℕ, ◌⊎◌, Bool, true, false, Option, Some, None, List, [], ◌∷◌, ◌++◌, inl, inr, refl, ap, sym, subst, ◌∙◌}
-use Rattle.std.specs.Prelude.{bytes_eq, ⊤}
+use Rattle.std.specs.Prelude.{bytes_eq, string_bytes, ⊤}
 use Rattle.std.proofs.lemmas.Slice.Eq.{bytes_eq-Decides}
 use Rattle.std.specs.Io.KnownBytes.{Appends}
 use Rattle.br_model.specs.File.{Item, has_bytes}
-use Rattle.br_files.specs.Making.{Nodes, Bytes, Opened, AreSet, IsFinished, IsFree, MakesFile, node_at}
+use Rattle.br_files.specs.Making.{Nodes, Bytes, Opened, AreSet, IsBelow, IsFinished, IsFree, MakesFile, node_at}
 use Rattle.br_sink.specs.FileParts.{AreAlike, with_bytes}
 use Rattle.br_sink.specs.TwoParts.{AreTwoAlike, AreTwoSame, WritesTwo}
 use Rattle.br_sink.specs.declared.two_parts.TwoPut.{TwoPut}
 use Rattle.br_sink.specs.declared.two_parts.TwoPut.TheVariants.{Both, One, Neither}
 use Rattle.br_folder_sink.specs.Below.{AddsFolders, IsNewFolder}
 use Rattle.br_folder_sink.specs.Held.{IsLeft, LeavesFiles, bytes_put}
-use Rattle.br_folder_sink.specs.Removed.{ChangesOne, GivesUp, IsRemoved, MakesNoFile}
-use Rattle.br_folder_sink.specs.TwoFiles.{AreBothRemoved, ClosesTwo, FinishesFirst, FinishesTwo, IsWholeAt, LeavesTwo, MakesFree, MakesTwo, PutsAtMost, first_of}
+use Rattle.br_folder_sink.specs.Removed.{ChangesOne, IsRemoved, MakesNoFile}
+use Rattle.br_folder_sink.specs.TwoFiles.{AreBothRemoved, ClosesTwo, FinishesFirst, FinishesTwo, HavePathsBelow, IsNewBelow, IsRestRemoved, IsWholeAt}
+use Rattle.br_folder_sink.specs.TwoFiles.{LeavesTwo, MakesFree, MakesTwo, PutsAtMost, first_of}
+use Rattle.br_folder_sink.specs.declared.two_files.NewFile.{NewFile}
+use Rattle.br_folder_sink.specs.declared.two_files.Paths.{Paths}
 use Rattle.br_folder_sink.proofs.BelowLaws.{differs}
 use Rattle.br_folder_sink.proofs.HeldLaws.{apart_if, folder_left, put_apart, put_own, set_apart, set_own, still_opened}
 use Rattle.br_folder_sink.proofs.RemovalLaws.{no_file_still}
 
 -- files that were made where nothing was
 
-pub makes_free : (root path whole : List ℕ) (contents : Option (List ℕ)) (a b c : Option Nodes) → whole ≡ root ++ path → AddsFolders root a b
-    → IsFree b whole → MakesFile whole contents b c → MakesFree root path contents a c
-makes_free root path whole contents a b c is added free made = (b, added, rw is at free, rw is at made)
+pub makes_free : (root path : List ℕ) (contents : Option (List ℕ)) (a b c : Option Nodes) → AddsFolders root a b → IsFree b path
+    → MakesFile path contents b c → MakesFree root path contents a c
+makes_free root path contents a b c added free made = (b, added, free, made)
 
-pub makes_two : (root one other : List ℕ) (first second : Option (List ℕ)) (a b c : Option Nodes) → MakesFree root one first a b
-    → MakesFree root other second b c → MakesTwo root one other first second a c
-makes_two root one other first second a b c made more = (b, made, more)
+pub finishes_two : (one other : List ℕ) (first second : Option (List ℕ)) (a b c : Option Nodes) → IsFinished one first a b
+    → IsFinished other second b c → FinishesTwo one other first second a c
+finishes_two one other first second a b c done more = (b, done, more)
 
-pub finishes_two : (root one other : List ℕ) (first second : Option (List ℕ)) (a b c : Option Nodes) → IsFinished (root ++ one) first a b
-    → IsFinished (root ++ other) second b c → FinishesTwo root one other first second a c
-finishes_two root one other first second a b c done more = (b, done, more)
-
-pub finishes_first : (root one other : List ℕ) (first : Option (List ℕ)) (a b c : Option Nodes) → IsFinished (root ++ one) first a b
+pub finishes_first : (root one other : List ℕ) (first : Option (List ℕ)) (a b c : Option Nodes) → IsFinished one first a b
     → ChangesOne root other b c → FinishesFirst root one other first a c
 finishes_first root one other first a b c done changes = (b, done, changes)
 
 -- files that are removed again
-
-pub gives_taken : (refused : List ℕ → Type 0) (root path : List ℕ) (contents : Option (List ℕ)) (a m c : Option Nodes)
-    → MakesFree root path contents a m → IsRemoved refused c (root ++ path) → GivesUp refused root path a c
-gives_taken refused root path contents a m c (b, added, free, made) removed = inr (b, added, inr free, removed)
 
 still_removed : (refused : List ℕ → Type 0) (path : List ℕ) (a b : Option Nodes) → IsRemoved refused a path → MakesNoFile a b
     → IsRemoved refused b path
 still_removed refused path a b (inl none) kept = inl (no_file_still path a b none kept)
 still_removed refused path a b (inr tried) kept = inr tried
 
-pub both_removed : (refused : List ℕ → Type 0) (root one other : List ℕ) (a b : Option Nodes) → IsRemoved refused a (root ++ one)
-    → MakesNoFile a b → IsRemoved refused b (root ++ other) → AreBothRemoved refused root one other b
-both_removed refused root one other a b removed kept more = (still_removed refused (root ++ one) a b removed kept, more)
+pub both_removed : (refused : List ℕ → Type 0) (one other : List ℕ) (a b : Option Nodes) → IsRemoved refused a one
+    → MakesNoFile a b → IsRemoved refused b other → AreBothRemoved refused one other b
+both_removed refused one other a b removed kept more = (still_removed refused one a b removed kept, more)
 
 -- what was written of two files, and what is put of them
 
@@ -123,9 +118,9 @@ opened_as root one other first second (Some a) (Some b) (Some c) (Some d) (Some 
     (made.0, again.0, made.1, again.1, opened root one other made.0 again.0 a b c d e added made.2 more free again.2)
 
 two_open : (root one other : List ℕ) (first second : Option (List ℕ)) (a c : Option Nodes) → MakesTwo root one other first second a c
-    → AreOpenAs root (root ++ one) (root ++ other) first second a c
+    → AreOpenAs root one other first second a c
 two_open root one other first second a c (m, (b, added, clear, made), (d, more, free, again)) =
-    opened_as root (root ++ one) (root ++ other) first second a b m d c added made more free again
+    opened_as root one other first second a b m d c added made more free again
 
 -- both are finished
 
@@ -211,28 +206,56 @@ still_whole root path bytes b c is (inl same) = same ∙ is
 still_whole root path bytes b c is (inr (below, free, folder)) = let never : None ≡ Some (Bytes bytes) = sym free ∙ is in absurd cc
 
 first_finished : (root one other bytes : List ℕ) (first first_now second : Option (List ℕ)) (a c d e : Option Nodes)
-    → AreOpenAs root (root ++ one) (root ++ other) first second a c → Appends first first_now bytes → IsFinished (root ++ one) first_now c d
-    → ChangesOne root other d e → IsWholeAt (root ++ one) bytes e
+    → AreOpenAs root one other first second a c → Appends first first_now bytes → IsFinished one first_now c d
+    → ChangesOne root other d e → IsWholeAt one bytes e
 first_finished root one other bytes first first_now second a c d None o more done changes = tt
 first_finished root one other bytes first first_now second a c None (Some e) o more done changes = absurd changes
 first_finished root one other bytes first first_now second a None (Some d) (Some e) o more done changes = absurd (done tt)
 first_finished root one other bytes first first_now second None (Some c) (Some d) (Some e) o more done changes = absurd o
 first_finished root one other bytes first first_now second (Some a) (Some c) (Some d) (Some e) (n, k, is, also, o) more done changes =
-    let own : List ℕ = root ++ one in
-    let set = finish_set own bytes n first_now c d (known n bytes first first_now is more) o.first done in
-    let away = differs (root ++ other) own (λ same. o.apart (sym same)) (bytes_eq (root ++ other) own) refl in
-    still_whole root own bytes d e (set_own own (Some (Bytes bytes)) c d set) (changes own away)
+    let set = finish_set one bytes n first_now c d (known n bytes first first_now is more) o.first done in
+    let away = differs other one (λ same. o.apart (sym same)) (bytes_eq other one) refl in
+    still_whole root one bytes d e (set_own one (Some (Bytes bytes)) c d set) (changes one away)
 
-pub two_left : (root : List ℕ) (one other : Item) (first first_now second second_now : Option (List ℕ)) (c e : Option Nodes)
+whole_left : (root : List ℕ) (one other : Item) (first first_now second second_now : Option (List ℕ)) (c e : Option Nodes)
     (written result : TwoPut) → WritesTwo one other first first_now second second_now written → PutsAtMost written result
-    → ClosesTwo root one.path other.path first_now second_now c e result → has_bytes one.kind ≡ true → has_bytes other.kind ≡ true
-    → (a : Option Nodes) → MakesTwo root one.path other.path first second a c → LeavesTwo root one other a e result
-two_left root one other first first_now second second_now c e written (Both x y) writes is (d, done, over) has also a made =
+    → ClosesTwo root (root ++ one.path) (root ++ other.path) first_now second_now c e result → has_bytes one.kind ≡ true
+    → has_bytes other.kind ≡ true → (a : Option Nodes) → MakesTwo root (root ++ one.path) (root ++ other.path) first second a c
+    → LeavesTwo root one other a e result
+whole_left root one other first first_now second second_now c e written (Both x y) writes is (d, done, over) has also a made =
     let more : WritesTwo one other first first_now second second_now (Both x y) =
     subst (WritesTwo one other first first_now second second_now) is writes in
     both_finished root (with_bytes one x) (with_bytes other y) first first_now second second_now a c d e has also
-    (two_open root one.path other.path first second a c made) more.0 more.1 done over
-two_left root one other first first_now second second_now c e written (One x why) writes is (d, done, changes) has also a made =
-    first_finished root one.path other.path x first first_now second a c d e (two_open root one.path other.path first second a c made)
+    (two_open root (root ++ one.path) (root ++ other.path) first second a c made) more.0 more.1 done over
+whole_left root one other first first_now second second_now c e written (One x why) writes is (d, done, changes) has also a made =
+    first_finished root (root ++ one.path) (root ++ other.path) x first first_now second a c d e
+    (two_open root (root ++ one.path) (root ++ other.path) first second a c made)
     (first_written one other first first_now second second_now written x writes is) done changes
-two_left root one other first first_now second second_now c e written (Neither why) writes is finished has also a made = tt
+whole_left root one other first first_now second second_now c e written (Neither why) writes is finished has also a made = tt
+
+pub two_left : {W : Type 0} (root : List ℕ) (one other : Item) (new also_new : NewFile W) (first first_now second second_now : Option (List ℕ))
+    (c e : Option Nodes) (written result : TwoPut) → IsNewBelow root one.path new → IsNewBelow root other.path also_new
+    → WritesTwo one other first first_now second second_now written → PutsAtMost written result
+    → ClosesTwo root (string_bytes new.path) (string_bytes also_new.path) first_now second_now c e result → has_bytes one.kind ≡ true
+    → has_bytes other.kind ≡ true → (a : Option Nodes)
+    → MakesTwo root (string_bytes new.path) (string_bytes also_new.path) first second a c → LeavesTwo root one other a e result
+two_left root one other new also_new first first_now second second_now c e written result at there writes is finished has also a made =
+    whole_left root one other first first_now second second_now c e written result writes is
+    (rw (at.whole, there.whole) at finished) has also a (rw (at.whole, there.whole) at made)
+
+-- the paths of two new files
+
+pub paths_below : {W : Type 0} (one other : List ℕ) (new also : NewFile W) (paths : Paths) → IsNewBelow paths.root.now one new
+    → IsNewBelow paths.root.now other also → paths.one.now ≡ string_bytes new.path → paths.other.now ≡ string_bytes also.path
+    → HavePathsBelow paths
+paths_below one other new also paths at there is same =
+    record {
+      one = subst (IsBelow paths.root.now) (sym is) at.below;
+      other = subst (IsBelow paths.root.now) (sym same) there.below;
+    }
+
+pub rest_removed : {W : Type 0} (refused : List ℕ → Type 0) (root one other : List ℕ) (new also : NewFile W) (nodes : Option Nodes)
+    (result : TwoPut) → IsNewBelow root one new → IsNewBelow root other also
+    → IsRestRemoved refused (string_bytes new.path) (string_bytes also.path) nodes result
+    → IsRestRemoved refused (root ++ one) (root ++ other) nodes result
+rest_removed refused root one other new also nodes result at there rest = rw (at.whole, there.whole) at rest

@@ -3,10 +3,6 @@ use Rattle.std.specs.Prelude.{◌≡◌, ℕ, ◌⊎◌, List, ◌++◌, Option,
 use Rattle.br_files.specs.Making.{Nodes, Bytes, Else, node_at, IsBelow, IsFileOrFree, MakesFile, Sets}
 use Rattle.br_files.specs.declared.kind.Kind.TheVariants.{Folder}
 
--- the folder itself, or one below it
-abbrev pub IsOnWay : List ℕ → List ℕ → Type 0
-IsOnWay root path = (path ≡ root) ⊎ IsBelow root path
-
 -- what a path below the folder has where nothing was: a folder
 abbrev pub IsNewFolder : List ℕ → List ℕ → Nodes → Nodes → Type 0
 IsNewFolder root path earlier later =

@@ -27,7 +27,7 @@ MakesNoFile (Some earlier) None = ⊥
 abbrev pub ChangesOne : List ℕ → List ℕ → Option Nodes → Option Nodes → Type 0
 ChangesOne root path None None = ⊤
 ChangesOne root path (Some earlier) (Some later) =
-    (other : List ℕ) → bytes_eq (root ++ path) other ≡ false
+    (other : List ℕ) → bytes_eq path other ≡ false
     → (node_at later other ≡ node_at earlier other) ⊎ IsNewFolder root other earlier later
 ChangesOne root path None (Some later) = ⊥
 ChangesOne root path (Some earlier) None = ⊥

@@ -1,18 +1,30 @@
 -- Two files that are made, written and finished side by side.
-use Rattle.std.specs.Prelude.{◌≡◌, ℕ, List, [], ◌∷◌, ◌++◌, Option, Some, None, ⊤}
+use Rattle.std.specs.Prelude.{◌≡◌, ℕ, List, [], ◌∷◌, ◌++◌, Option, Some, None, ⊤, string_bytes}
 use Rattle.br_model.specs.File.{Item}
-use Rattle.br_files.specs.Making.{Nodes, Bytes, IsFinished, IsFree, MakesFile, node_at}
+use Rattle.br_files.specs.Making.{Nodes, Bytes, IsBelow, IsFinished, IsFree, MakesFile, node_at}
 use Rattle.br_sink.specs.FileParts.{with_bytes}
 use Rattle.br_sink.specs.declared.two_parts.TwoPut.{TwoPut}
 use Rattle.br_sink.specs.declared.two_parts.TwoPut.TheVariants.{Both, One, Neither}
 use Rattle.br_folder_sink.specs.Below.{AddsFolders}
 use Rattle.br_folder_sink.specs.Held.{LeavesFiles}
 use Rattle.br_folder_sink.specs.Removed.{ChangesOne, IsRemoved}
+use Rattle.br_folder_sink.specs.declared.two_files.NewFile.{NewFile}
+use Rattle.br_folder_sink.specs.declared.two_files.Paths.{Paths}
+
+-- a new file's own path is that of an item below the folder
+pub record IsNewBelow {W : Type 0} (root path : List ℕ) (new : NewFile W) : Type 0 where
+  pub whole : string_bytes new.path ≡ root ++ path
+  pub below : IsBelow root (string_bytes new.path)
+
+-- both paths are below the folder
+pub record HavePathsBelow (paths : Paths) : Type 0 where
+  pub one : IsBelow paths.root.now paths.one.now
+  pub other : IsBelow paths.root.now paths.other.now
 
 -- folders were made on the way of a file, and then the file, where nothing was
 abbrev pub MakesFree : List ℕ → List ℕ → Option (List ℕ) → Option Nodes → Option Nodes → Type 0
 MakesFree root path contents earlier later =
-    (middle : Option Nodes) × AddsFolders root earlier middle × IsFree middle (root ++ path) × MakesFile (root ++ path) contents middle later
+    (middle : Option Nodes) × AddsFolders root earlier middle × IsFree middle path × MakesFile path contents middle later
 
 -- so one file was made, and then another
 abbrev pub MakesTwo : List ℕ → List ℕ → List ℕ → Option (List ℕ) → Option (List ℕ) → Option Nodes → Option Nodes → Type 0
@@ -20,18 +32,18 @@ MakesTwo root one other first second earlier later =
     (middle : Option Nodes) × MakesFree root one first earlier middle × MakesFree root other second middle later
 
 -- one file is finished at its path, and then another
-abbrev pub FinishesTwo : List ℕ → List ℕ → List ℕ → Option (List ℕ) → Option (List ℕ) → Option Nodes → Option Nodes → Type 0
-FinishesTwo root one other first second earlier later =
-    (middle : Option Nodes) × IsFinished (root ++ one) first earlier middle × IsFinished (root ++ other) second middle later
+abbrev pub FinishesTwo : List ℕ → List ℕ → Option (List ℕ) → Option (List ℕ) → Option Nodes → Option Nodes → Type 0
+FinishesTwo one other first second earlier later =
+    (middle : Option Nodes) × IsFinished one first earlier middle × IsFinished other second middle later
 
 -- one file is finished at its path, and then nothing but folders and what is at the path of another is changed
 abbrev pub FinishesFirst : List ℕ → List ℕ → List ℕ → Option (List ℕ) → Option Nodes → Option Nodes → Type 0
 FinishesFirst root one other first earlier later =
-    (middle : Option Nodes) × IsFinished (root ++ one) first earlier middle × ChangesOne root other middle later
+    (middle : Option Nodes) × IsFinished one first earlier middle × ChangesOne root other middle later
 
 -- what was closed of two files, if both were put, or the first one
 abbrev pub ClosesTwo : List ℕ → List ℕ → List ℕ → Option (List ℕ) → Option (List ℕ) → Option Nodes → Option Nodes → TwoPut → Type 0
-ClosesTwo root one other first second earlier later (Both x y) = FinishesTwo root one other first second earlier later
+ClosesTwo root one other first second earlier later (Both x y) = FinishesTwo one other first second earlier later
 ClosesTwo root one other first second earlier later (One x why) = FinishesFirst root one other first earlier later
 ClosesTwo root one other first second earlier later (Neither why) = ⊤
 
@@ -47,14 +59,14 @@ LeavesTwo root one other earlier later (One x why) = IsWholeAt (root ++ one.path
 LeavesTwo root one other earlier later (Neither why) = ⊤
 
 -- no file is at either path, or its removal was refused
-abbrev pub AreBothRemoved : (List ℕ → Type 0) → List ℕ → List ℕ → List ℕ → Option Nodes → Type 0
-AreBothRemoved refused root one other nodes = IsRemoved refused nodes (root ++ one) × IsRemoved refused nodes (root ++ other)
+abbrev pub AreBothRemoved : (List ℕ → Type 0) → List ℕ → List ℕ → Option Nodes → Type 0
+AreBothRemoved refused one other nodes = IsRemoved refused nodes one × IsRemoved refused nodes other
 
 -- so is what was not put of two files
-abbrev pub IsRestRemoved : (List ℕ → Type 0) → List ℕ → List ℕ → List ℕ → Option Nodes → TwoPut → Type 0
-IsRestRemoved refused root one other nodes (Both x y) = ⊤
-IsRestRemoved refused root one other nodes (One x why) = IsRemoved refused nodes (root ++ other)
-IsRestRemoved refused root one other nodes (Neither why) = AreBothRemoved refused root one other nodes
+abbrev pub IsRestRemoved : (List ℕ → Type 0) → List ℕ → List ℕ → Option Nodes → TwoPut → Type 0
+IsRestRemoved refused one other nodes (Both x y) = ⊤
+IsRestRemoved refused one other nodes (One x why) = IsRemoved refused nodes other
+IsRestRemoved refused one other nodes (Neither why) = AreBothRemoved refused one other nodes
 
 -- the bytes of the first of two files, if it was put
 abbrev pub first_of : TwoPut → Option (List ℕ)

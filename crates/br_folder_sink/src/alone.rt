@@ -9,7 +9,7 @@ ghost use Rattle.br_folder_sink.specs.Removed.{GivesUp};
 
 use crate::place::{path_of, text_of};
 use crate::remover::{Remover, take_back};
-use crate::way::{make_anew, make_way, write_made};
+use crate::way::{folder_below, make_anew, make_way, write_made};
 use br_files::FileMaker;
 use br_join::Item;
 use br_sink::SinkFault;
@@ -36,7 +36,7 @@ fn write_file<M: Remover>(
     match write_made(maker, whole, file, &item.bytes) {
         Ok(()) => Ok(()),
         Err(fault) => {
-            take_back(alloc, maker, root, item);
+            take_back(maker, root, whole);
             Err(fault)
         }
     }
@@ -54,7 +54,8 @@ fn write_folder<M: FileMaker>(
     ensures added { AddsFolders root.now (M.nodes maker.old) (M.nodes maker.new) }
 {
     let text = text_of(item)?;
-    make_way(alloc, maker, root, text)
+    let path = folder_below(alloc, root, text)?;
+    make_way(maker, root, path.as_str())
 }
 
 /// Puts the item on disk, as its type says.

@@ -64,7 +64,7 @@ fn write_file<M: Remover, P: Parts>(
     match write_parts(maker, whole, file, item, parts) {
         Ok(bytes) => Ok(bytes),
         Err(fault) => {
-            take_back(alloc, maker, root, item);
+            take_back(maker, root, whole);
             Err(fault)
         }
     }

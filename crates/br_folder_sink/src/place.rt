@@ -35,21 +35,6 @@ fn file_text_of(item: &Item) -> Result<&str, SinkFault>
     text_of(item)
 }
 
-/// Makes the folders on the way to the file of this path.
-fn make_way_to<M: FileMaker>(
-    alloc: Global,
-    maker: &mut M,
-    root: &str,
-    path: &str,
-) -> Result<(), SinkFault>
-    ensures added { AddsFolders root.now (M.nodes maker.old) (M.nodes maker.new) }
-{
-    match path.rsplit_once('/') {
-        None => Err(SinkFault::Fault),
-        Some((way, _)) => make_way(alloc, maker, root, way),
-    }
-}
-
 /// Returns the path of a file below the folder. It makes the folders on its way.
 #[tactic(auto, using(crate::proofs::BelowLaws::outside_added, crate::proofs::BelowLaws::adds_same))]
 pub(crate) fn path_of<M: FileMaker>(
@@ -66,8 +51,9 @@ pub(crate) fn path_of<M: FileMaker>(
     ensures outside { KeepsOutside root.now (M.nodes maker.old) (M.nodes maker.new) }
 {
     let text = file_text_of(item)?;
-    make_way_to(alloc, maker, root, text)?;
-    path_below(alloc, root, text)
+    let path = path_below(alloc, root, text)?;
+    make_way(maker, root, path.as_str())?;
+    Ok(path)
 }
 
 /// Returns the path below the folder of a file that was made there.

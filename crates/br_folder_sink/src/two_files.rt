@@ -1,20 +1,20 @@
 //! How two files are put side by side, of which the bytes are read again while both are written.
-ghost use Rattle.std.specs.Prelude.{◌≡◌, ◌++◌, true, false, ℕ, List, Option, IfOk, IfSome, IsSome, OnErr, OnOk};
+ghost use Rattle.std.specs.Prelude.{◌≡◌, ◌++◌, true, false, ℕ, List, Option, IfOk, IfSome, IsSome, OnErr, OnOk, string_bytes};
 ghost use Rattle.std.specs.Str.{IsUtf8};
 ghost use Rattle.br_model.specs.File.{has_bytes};
 ghost use Rattle.br_model.specs.Name.{is_directory};
-ghost use Rattle.br_files.specs.Making.{IsFinished, Nodes};
+ghost use Rattle.br_files.specs.Making.{IsBelow, IsFinished, Nodes};
 ghost use Rattle.br_sink.specs.TwoParts.{AreTwoAlike, AreTwoSame};
 ghost use Rattle.br_sink.specs.declared.two_parts.TwoPut.TheVariants as two;
 ghost use Rattle.br_folder_sink.specs.Below.{AddsFolders, KeepsOutside};
 ghost use Rattle.br_folder_sink.specs.FolderSink.{HasName, HasText};
 ghost use Rattle.br_folder_sink.specs.Removed.{ChangesOne, GivesUp, IsRemoved};
-ghost use Rattle.br_folder_sink.specs.TwoFiles.{AreBothRemoved, ClosesTwo, IsRestRemoved, LeavesTwo, MakesFree, MakesTwo, PutsAtMost};
+ghost use Rattle.br_folder_sink.specs.TwoFiles.{AreBothRemoved, ClosesTwo, HavePathsBelow, IsNewBelow, IsRestRemoved, LeavesTwo};
+ghost use Rattle.br_folder_sink.specs.TwoFiles.{MakesFree, MakesTwo, PutsAtMost};
 
 use crate::place::path_of;
 use crate::remover::{Remover, take_back};
-use crate::way::make_file;
-use crate::window::close_file;
+use crate::way::{finish, make_file};
 use br_files::FileMaker;
 use br_join::{FileBytes, Item};
 use br_sink::{PartsFault, SinkFault, TwoParts, TwoPut};
@@ -29,11 +29,19 @@ pub(crate) struct Pair<'i> {
     pub(crate) other: &'i Item,
 }
 
-/// The new files of a pair.
+/// A new file, and its path.
 #[derive(Drop)]
-struct NewFiles<W: Write + Drop> {
-    first: W,
-    second: W,
+struct NewFile<W: Write + Drop> {
+    file: W,
+    path: String,
+}
+
+/// A folder, and the paths of two files below it.
+#[derive(Drop)]
+struct Paths<'p> {
+    root: &'p str,
+    one: &'p str,
+    other: &'p str,
 }
 
 /// Returns whether the item is a file with bytes.
@@ -50,8 +58,10 @@ fn make_new<M: FileMaker>(
     maker: &mut M,
     root: &str,
     item: &Item,
-) -> Result<M::New, SinkFault>
-    ensures made { IfOk result (λ file. MakesFree root.now item.now.path (M.New.contents file) (M.nodes maker.old) (M.nodes maker.new)) }
+) -> Result<NewFile<M::New>, SinkFault>
+    ensures path { IfOk result (IsNewBelow root.now item.now.path) }
+    ensures made { IfOk result (λ new. MakesFree root.now (string_bytes new.path) (M.New.contents new.file) (M.nodes maker.old)
+        (M.nodes maker.new)) }
     ensures refused { OnErr result (AddsFolders root.now (M.nodes maker.old) (M.nodes maker.new)) }
     ensures text { OnOk result (IsUtf8 item.now.path) }
     ensures name { OnOk result (is_directory item.now.path ≡ false) }
@@ -59,31 +69,32 @@ fn make_new<M: FileMaker>(
 {
     let path = path_of(alloc, maker, root, item)?;
     let file = make_file(maker, path.as_str())?;
-    Ok(file)
+    Ok(NewFile { file, path })
 }
 
-/// Creates both files, if nothing has their names. If that fails, none of them is left, as far as that
-/// works.
-#[tactic(auto, using(crate::proofs::BelowLaws::outside_more, crate::proofs::RemovalLaws::gives_added, crate::proofs::TwoLaws::gives_taken, crate::proofs::TwoLaws::makes_two))]
-fn make_both<M: Remover>(
+/// Creates the second file, if nothing has its name. If that fails, the first is removed again, as far as
+/// that works.
+#[tactic(auto, using(crate::proofs::BelowLaws::outside_more))]
+fn make_second<M: Remover>(
     alloc: Global,
     maker: &mut M,
-    pair: &Pair<'_>,
-) -> Result<NewFiles<M::New>, SinkFault>
-    ensures made { IfOk result (λ files. MakesTwo pair.now.root.now pair.now.one.now.path pair.now.other.now.path
-        (M.New.contents files.first) (M.New.contents files.second) (M.nodes maker.old) (M.nodes maker.new)) }
-    ensures removed { OnErr result (GivesUp M.is_refused pair.now.root.now pair.now.one.now.path (M.nodes maker.old) (M.nodes maker.new)) }
-    ensures text { OnOk result (IsUtf8 pair.now.one.now.path) }
-    ensures other_text { OnOk result (IsUtf8 pair.now.other.now.path) }
-    ensures name { OnOk result (is_directory pair.now.one.now.path ≡ false) }
-    ensures other_name { OnOk result (is_directory pair.now.other.now.path ≡ false) }
-    ensures outside { KeepsOutside pair.now.root.now (M.nodes maker.old) (M.nodes maker.new) }
+    root: &str,
+    first: &str,
+    item: &Item,
+) -> Result<NewFile<M::New>, SinkFault>
+    requires below { IsBelow root.now first.now }
+    ensures path { IfOk result (IsNewBelow root.now item.now.path) }
+    ensures made { IfOk result (λ new. MakesFree root.now (string_bytes new.path) (M.New.contents new.file) (M.nodes maker.old)
+        (M.nodes maker.new)) }
+    ensures removed { OnErr result (IsRemoved M.is_refused (M.nodes maker.new) first.now) }
+    ensures text { OnOk result (IsUtf8 item.now.path) }
+    ensures name { OnOk result (is_directory item.now.path ≡ false) }
+    ensures outside { KeepsOutside root.now (M.nodes maker.old) (M.nodes maker.new) }
 {
-    let first = make_new(alloc, maker, pair.root, pair.one)?;
-    match make_new(alloc, maker, pair.root, pair.other) {
-        Ok(second) => Ok(NewFiles { first, second }),
+    match make_new(alloc, maker, root, item) {
+        Ok(new) => Ok(new),
         Err(fault) => {
-            take_back(alloc, maker, pair.root, pair.one);
+            take_back(maker, root, first);
             Err(fault)
         }
     }
@@ -91,55 +102,49 @@ fn make_both<M: Remover>(
 
 /// Removes both files again, as far as that works.
 #[tactic(auto, using(crate::proofs::BelowLaws::outside_more, crate::proofs::TwoLaws::both_removed))]
-fn take_both_back<M: Remover>(alloc: Global, maker: &mut M, pair: &Pair<'_>)
-    ensures removed { AreBothRemoved M.is_refused pair.now.root.now pair.now.one.now.path pair.now.other.now.path (M.nodes maker.new) }
-    ensures outside { KeepsOutside pair.now.root.now (M.nodes maker.old) (M.nodes maker.new) }
+fn take_both_back<M: Remover>(maker: &mut M, paths: &Paths<'_>)
+    requires below { HavePathsBelow paths.now }
+    ensures removed { AreBothRemoved M.is_refused paths.now.one.now paths.now.other.now (M.nodes maker.new) }
+    ensures outside { KeepsOutside paths.now.root.now (M.nodes maker.old) (M.nodes maker.new) }
 {
-    take_back(alloc, maker, pair.root, pair.one);
-    take_back(alloc, maker, pair.root, pair.other);
+    take_back(maker, paths.root, paths.one);
+    take_back(maker, paths.root, paths.other);
 }
 
 /// Closes the first file. If that fails, both are removed again, as far as that works.
-#[tactic(auto, using(crate::proofs::BelowLaws::outside_more))]
-fn close_first<M: Remover>(
-    alloc: Global,
-    maker: &mut M,
-    pair: &Pair<'_>,
-    file: M::New,
-) -> Result<(), PartsFault>
-    ensures finished { OnOk result (IsFinished (pair.now.root.now ++ pair.now.one.now.path) (M.New.contents file) (M.nodes maker.old)
-        (M.nodes maker.new)) }
-    ensures removed { OnErr result (AreBothRemoved M.is_refused pair.now.root.now pair.now.one.now.path pair.now.other.now.path
-        (M.nodes maker.new)) }
-    ensures outside { KeepsOutside pair.now.root.now (M.nodes maker.old) (M.nodes maker.new) }
+#[tactic(auto, using(crate::proofs::BelowLaws::outside_first, crate::proofs::BelowLaws::outside_set))]
+fn close_first<M: Remover>(maker: &mut M, paths: &Paths<'_>, file: M::New) -> Result<(), PartsFault>
+    requires below { HavePathsBelow paths.now }
+    ensures finished { OnOk result (IsFinished paths.now.one.now (M.New.contents file) (M.nodes maker.old) (M.nodes maker.new)) }
+    ensures removed { OnErr result (AreBothRemoved M.is_refused paths.now.one.now paths.now.other.now (M.nodes maker.new)) }
+    ensures outside { KeepsOutside paths.now.root.now (M.nodes maker.old) (M.nodes maker.new) }
 {
-    match close_file(alloc, maker, pair.root, pair.one, file) {
+    match finish(maker, paths.one, file) {
         Ok(()) => Ok(()),
         Err(fault) => {
-            take_both_back(alloc, maker, pair);
+            take_both_back(maker, paths);
             Err(PartsFault::from(fault))
         }
     }
 }
 
 /// Closes the second file. If that fails, it is removed again, as far as that works.
-#[tactic(auto, using(crate::proofs::BelowLaws::outside_more, crate::proofs::RemovalLaws::changes_kept, crate::proofs::RemovalLaws::changes_more))]
+#[tactic(auto, using(crate::proofs::BelowLaws::outside_first, crate::proofs::BelowLaws::outside_set, crate::proofs::RemovalLaws::changes_kept, crate::proofs::RemovalLaws::changes_more))]
 fn close_second<M: Remover>(
-    alloc: Global,
     maker: &mut M,
-    pair: &Pair<'_>,
+    paths: &Paths<'_>,
     file: M::New,
 ) -> Result<(), PartsFault>
-    ensures finished { OnOk result (IsFinished (pair.now.root.now ++ pair.now.other.now.path) (M.New.contents file) (M.nodes maker.old)
-        (M.nodes maker.new)) }
-    ensures removed { OnErr result (IsRemoved M.is_refused (M.nodes maker.new) (pair.now.root.now ++ pair.now.other.now.path)) }
-    ensures rest { ChangesOne pair.now.root.now pair.now.other.now.path (M.nodes maker.old) (M.nodes maker.new) }
-    ensures outside { KeepsOutside pair.now.root.now (M.nodes maker.old) (M.nodes maker.new) }
+    requires below { HavePathsBelow paths.now }
+    ensures finished { OnOk result (IsFinished paths.now.other.now (M.New.contents file) (M.nodes maker.old) (M.nodes maker.new)) }
+    ensures removed { OnErr result (IsRemoved M.is_refused (M.nodes maker.new) paths.now.other.now) }
+    ensures rest { ChangesOne paths.now.root.now paths.now.other.now (M.nodes maker.old) (M.nodes maker.new) }
+    ensures outside { KeepsOutside paths.now.root.now (M.nodes maker.old) (M.nodes maker.new) }
 {
-    match close_file(alloc, maker, pair.root, pair.other, file) {
+    match finish(maker, paths.other, file) {
         Ok(()) => Ok(()),
         Err(fault) => {
-            take_back(alloc, maker, pair.root, pair.other);
+            take_back(maker, paths.root, paths.other);
             Err(PartsFault::from(fault))
         }
     }
@@ -149,23 +154,24 @@ fn close_second<M: Remover>(
 /// works.
 #[tactic(auto, using(crate::proofs::BelowLaws::outside_more, crate::proofs::TwoLaws::finishes_two, crate::proofs::TwoLaws::finishes_first))]
 fn close_both<M: Remover>(
-    alloc: Global,
     maker: &mut M,
-    pair: &Pair<'_>,
-    files: NewFiles<M::New>,
+    paths: &Paths<'_>,
+    first: M::New,
+    second: M::New,
     one: FileBytes,
     other: FileBytes,
 ) -> TwoPut
+    requires below { HavePathsBelow paths.now }
     ensures put { PutsAtMost (two.Both one other) result }
-    ensures closed { ClosesTwo pair.now.root.now pair.now.one.now.path pair.now.other.now.path (M.New.contents files.first)
-        (M.New.contents files.second) (M.nodes maker.old) (M.nodes maker.new) result }
-    ensures removed { IsRestRemoved M.is_refused pair.now.root.now pair.now.one.now.path pair.now.other.now.path (M.nodes maker.new) result }
-    ensures outside { KeepsOutside pair.now.root.now (M.nodes maker.old) (M.nodes maker.new) }
+    ensures closed { ClosesTwo paths.now.root.now paths.now.one.now paths.now.other.now (M.New.contents first) (M.New.contents second)
+        (M.nodes maker.old) (M.nodes maker.new) result }
+    ensures removed { IsRestRemoved M.is_refused paths.now.one.now paths.now.other.now (M.nodes maker.new) result }
+    ensures outside { KeepsOutside paths.now.root.now (M.nodes maker.old) (M.nodes maker.new) }
 {
-    if let Err(why) = close_first(alloc, maker, pair, files.first) {
+    if let Err(why) = close_first(maker, paths, first) {
         return TwoPut::Neither { why };
     }
-    match close_second(alloc, maker, pair, files.second) {
+    match close_second(maker, paths, second) {
         Ok(()) => TwoPut::Both { one, other },
         Err(why) => TwoPut::One { one, why },
     }
@@ -175,77 +181,92 @@ fn close_both<M: Remover>(
 /// can't be closed, both are removed.
 #[tactic(auto, using(crate::proofs::BelowLaws::outside_more, crate::proofs::TwoLaws::finishes_first))]
 fn close_one<M: Remover>(
-    alloc: Global,
     maker: &mut M,
-    pair: &Pair<'_>,
+    paths: &Paths<'_>,
     file: M::New,
     one: FileBytes,
     why: PartsFault,
 ) -> TwoPut
+    requires below { HavePathsBelow paths.now }
     ensures put { PutsAtMost (two.One one why) result }
-    ensures closed { (second : Option (List ℕ)) → ClosesTwo pair.now.root.now pair.now.one.now.path pair.now.other.now.path
+    ensures closed { (second : Option (List ℕ)) → ClosesTwo paths.now.root.now paths.now.one.now paths.now.other.now
         (M.New.contents file) second (M.nodes maker.old) (M.nodes maker.new) result }
-    ensures removed { IsRestRemoved M.is_refused pair.now.root.now pair.now.one.now.path pair.now.other.now.path (M.nodes maker.new) result }
-    ensures outside { KeepsOutside pair.now.root.now (M.nodes maker.old) (M.nodes maker.new) }
+    ensures removed { IsRestRemoved M.is_refused paths.now.one.now paths.now.other.now (M.nodes maker.new) result }
+    ensures outside { KeepsOutside paths.now.root.now (M.nodes maker.old) (M.nodes maker.new) }
 {
-    if let Err(why) = close_first(alloc, maker, pair, file) {
+    if let Err(why) = close_first(maker, paths, file) {
         return TwoPut::Neither { why };
     }
-    take_back(alloc, maker, pair.root, pair.other);
+    take_back(maker, paths.root, paths.other);
     TwoPut::One { one, why }
 }
 
 /// Closes two files, as far as they were written. The others are removed again, as far as that works.
 fn close_pair<M: Remover>(
-    alloc: Global,
     maker: &mut M,
-    pair: &Pair<'_>,
-    files: NewFiles<M::New>,
+    paths: &Paths<'_>,
+    first: M::New,
+    second: M::New,
     written: TwoPut,
 ) -> TwoPut
+    requires below { HavePathsBelow paths.now }
     ensures put { PutsAtMost written result }
-    ensures closed { ClosesTwo pair.now.root.now pair.now.one.now.path pair.now.other.now.path (M.New.contents files.first)
-        (M.New.contents files.second) (M.nodes maker.old) (M.nodes maker.new) result }
-    ensures removed { IsRestRemoved M.is_refused pair.now.root.now pair.now.one.now.path pair.now.other.now.path (M.nodes maker.new) result }
-    ensures outside { KeepsOutside pair.now.root.now (M.nodes maker.old) (M.nodes maker.new) }
+    ensures closed { ClosesTwo paths.now.root.now paths.now.one.now paths.now.other.now (M.New.contents first) (M.New.contents second)
+        (M.nodes maker.old) (M.nodes maker.new) result }
+    ensures removed { IsRestRemoved M.is_refused paths.now.one.now paths.now.other.now (M.nodes maker.new) result }
+    ensures outside { KeepsOutside paths.now.root.now (M.nodes maker.old) (M.nodes maker.new) }
 {
     match written {
-        TwoPut::Both { one, other } => close_both(alloc, maker, pair, files, one, other),
-        TwoPut::One { one, why } => close_one(alloc, maker, pair, files.first, one, why),
+        TwoPut::Both { one, other } => close_both(maker, paths, first, second, one, other),
+        TwoPut::One { one, why } => close_one(maker, paths, first, one, why),
         TwoPut::Neither { why } => {
-            take_both_back(alloc, maker, pair);
+            take_both_back(maker, paths);
             TwoPut::Neither { why }
         }
     }
 }
 
 /// Writes two new files, and closes them. Those that were not put are removed again, as far as that works.
-#[tactic(auto, using(crate::proofs::TwoLaws::two_left, crate::proofs::TwoLaws::two_alike, crate::proofs::TwoLaws::two_same))]
+#[tactic(auto, using(crate::proofs::TwoLaws::paths_below, crate::proofs::TwoLaws::rest_removed, crate::proofs::TwoLaws::two_left, crate::proofs::TwoLaws::two_alike, crate::proofs::TwoLaws::two_same))]
 fn write_pair<M: Remover, P: TwoParts>(
-    alloc: Global,
     maker: &mut M,
     pair: &Pair<'_>,
-    files: NewFiles<M::New>,
+    first: NewFile<M::New>,
+    second: NewFile<M::New>,
     parts: &mut P,
 ) -> TwoPut
+    requires first { IsNewBelow pair.now.root.now pair.now.one.now.path first }
+    requires second { IsNewBelow pair.now.root.now pair.now.other.now.path second }
     ensures alike { AreTwoAlike pair.now.one.now pair.now.other.now result }
     ensures same { P.gives parts.old pair.now.one.now pair.now.other.now → AreTwoSame pair.now.one.now pair.now.other.now result }
     ensures left { has_bytes pair.now.one.now.kind ≡ true → has_bytes pair.now.other.now.kind ≡ true → (earlier : Option Nodes)
-        → MakesTwo pair.now.root.now pair.now.one.now.path pair.now.other.now.path (M.New.contents files.first)
-        (M.New.contents files.second) earlier (M.nodes maker.old)
+        → MakesTwo pair.now.root.now (string_bytes first.path) (string_bytes second.path) (M.New.contents first.file)
+        (M.New.contents second.file) earlier (M.nodes maker.old)
         → LeavesTwo pair.now.root.now pair.now.one.now pair.now.other.now earlier (M.nodes maker.new) result }
-    ensures removed { IsRestRemoved M.is_refused pair.now.root.now pair.now.one.now.path pair.now.other.now.path (M.nodes maker.new) result }
+    ensures removed { IsRestRemoved M.is_refused (pair.now.root.now ++ pair.now.one.now.path)
+        (pair.now.root.now ++ pair.now.other.now.path) (M.nodes maker.new) result }
     ensures outside { KeepsOutside pair.now.root.now (M.nodes maker.old) (M.nodes maker.new) }
     ensures on { P.goes_on parts.old parts.new }
 {
-    let mut files = files;
-    let written = parts.write_both(pair.one, pair.other, &mut files.first, &mut files.second);
-    close_pair(alloc, maker, pair, files, written)
+    let NewFile { file, path } = first;
+    let NewFile {
+        file: other_file,
+        path: other_path,
+    } = second;
+    let mut file = file;
+    let mut other_file = other_file;
+    let written = parts.write_both(pair.one, pair.other, &mut file, &mut other_file);
+    let paths = Paths {
+        root: pair.root,
+        one: path.as_str(),
+        other: other_path.as_str(),
+    };
+    close_pair(maker, &paths, file, other_file, written)
 }
 
 /// Puts two files on disk, with their bytes as they are read again. `None`, and none of them is left, if
 /// they are not two files with bytes that can be made where nothing is.
-#[tactic(auto, using(crate::proofs::BelowLaws::outside_more, crate::proofs::BelowLaws::outside_same, crate::proofs::RemovalLaws::gives_same))]
+#[tactic(auto, using(crate::proofs::BelowLaws::outside_more, crate::proofs::BelowLaws::outside_same, crate::proofs::RemovalLaws::gives_added, crate::proofs::RemovalLaws::gives_same))]
 pub(crate) fn put_pair<M: Remover, P: TwoParts>(
     alloc: Global,
     maker: &mut M,
@@ -256,8 +277,8 @@ pub(crate) fn put_pair<M: Remover, P: TwoParts>(
     ensures same { P.gives parts.old pair.now.one.now pair.now.other.now
         → IfSome result (AreTwoSame pair.now.one.now pair.now.other.now) }
     ensures left { IfSome result (LeavesTwo pair.now.root.now pair.now.one.now pair.now.other.now (M.nodes maker.old) (M.nodes maker.new)) }
-    ensures removed { IfSome result (IsRestRemoved M.is_refused pair.now.root.now pair.now.one.now.path pair.now.other.now.path
-        (M.nodes maker.new)) }
+    ensures removed { IfSome result (IsRestRemoved M.is_refused (pair.now.root.now ++ pair.now.one.now.path)
+        (pair.now.root.now ++ pair.now.other.now.path) (M.nodes maker.new)) }
     ensures given_up { result ≡ None → GivesUp M.is_refused pair.now.root.now pair.now.one.now.path (M.nodes maker.old)
         (M.nodes maker.new) }
     ensures text { IsSome result → HasText pair.now.one.now }
@@ -270,8 +291,11 @@ pub(crate) fn put_pair<M: Remover, P: TwoParts>(
     if !is_file(pair.one) || !is_file(pair.other) {
         return None;
     }
-    match make_both(alloc, maker, pair) {
-        Ok(files) => Some(write_pair(alloc, maker, pair, files, parts)),
-        Err(_) => None,
-    }
+    let Ok(first) = make_new(alloc, maker, pair.root, pair.one) else {
+        return None;
+    };
+    let Ok(second) = make_second(alloc, maker, pair.root, first.path.as_str(), pair.other) else {
+        return None;
+    };
+    Some(write_pair(maker, pair, first, second, parts))
 }

@@ -1,7 +1,7 @@
 //! Files below a folder, and the folders on their ways.
-ghost use Rattle.std.specs.Prelude.{◌≡◌, ℕ, List, ◌++◌, ◌∷◌, None, OnOk, OnErr, IfOk, string_bytes};
+ghost use Rattle.std.specs.Prelude.{◌≡◌, ℕ, ◌<◌, List, length, ◌++◌, None, OnOk, OnErr, IfOk, string_bytes};
 ghost use Rattle.br_files.specs.Making.{IsBelow, IsFileOrFree, IsFinished, IsFree, KeepsOthers, MakesFile, Sets};
-ghost use Rattle.br_folder_sink.specs.Below.{AddsFolders, IsOnWay, MakesNew, WritesNew};
+ghost use Rattle.br_folder_sink.specs.Below.{AddsFolders, MakesNew, WritesNew};
 ghost use Rattle.br_folder_sink.specs.Fault.{sink_fault};
 ghost use Rattle.br_folder_sink.specs.Removed.{HasNoFile, MakesNoFile, MakesNone};
 
@@ -43,40 +43,43 @@ fn make_folder<M: FileMaker>(maker: &mut M, path: &str) -> Result<(), SinkFault>
     }
 }
 
-/// Goes on from a folder to the one of this name in it.
-fn add_name(folder: &mut String, name: &str) -> Result<(), SinkFault>
-    ensures { OnOk result (string_bytes folder.new ≡ string_bytes folder.old ++ 47 ∷ name.now) }
-{
-    folder.push('/')?;
-    folder.push_str(name)?;
-    Ok(())
-}
-
-/// Makes the folder of this name in another one unless it exists, and goes on to it.
-#[tactic(auto, using(crate::proofs::BelowLaws::on_way_below, crate::proofs::BelowLaws::below_on_way, crate::proofs::BelowLaws::adds_same))]
-fn enter_next<M: FileMaker>(maker: &mut M, folder: &mut String, name: &str) -> Result<(), SinkFault>
-    ensures added { (top : List ℕ) → IsOnWay top (string_bytes folder.old) → AddsFolders top (M.nodes maker.old) (M.nodes maker.new) }
-    ensures below { (top : List ℕ) → IsOnWay top (string_bytes folder.old) → OnOk result (IsOnWay top (string_bytes folder.new)) }
-{
-    add_name(folder, name)?;
-    make_folder(maker, folder.as_str())?;
-    Ok(())
-}
-
-/// Makes the folders of this path that are missing below the folder.
-#[tactic(auto, using(crate::proofs::BelowLaws::adds_more, crate::proofs::BelowLaws::adds_same, crate::proofs::BelowLaws::root_on_way))]
-pub(crate) fn make_way<M: FileMaker>(
-    alloc: Global,
+/// Makes the folder at a front of the path.
+#[tactic(auto, using(crate::proofs::BelowLaws::front_below, crate::proofs::BelowLaws::adds_same))]
+fn make_front<M: FileMaker>(
     maker: &mut M,
     root: &str,
-    way: &str,
+    path: &str,
+    at: usize,
 ) -> Result<(), SinkFault>
+    requires below { IsBelow root.now path.now }
+    requires past { length root.now < at }
     ensures added { AddsFolders root.now (M.nodes maker.old) (M.nodes maker.new) }
 {
-    let mut folder = String::from_str(alloc, root)?;
-    for name in way.split('/') {
-        if !name.is_empty() {
-            enter_next(maker, &mut folder, name)?;
+    match path.get(..at) {
+        Some(front) => make_folder(maker, front),
+        None => Ok(()),
+    }
+}
+
+/// Returns whether a name ends before this place of the path.
+fn ends_name(path: &[u8], at: usize) -> bool
+    requires some { 0 < at }
+    requires within { at < length path.now }
+{
+    path[at] == b'/' && path[at - 1] != b'/'
+}
+
+/// Makes the folders that are missing on the way to a path below the folder. It builds no path, so that
+/// a file can be removed again if memory is out.
+#[tactic(auto, using(crate::proofs::BelowLaws::adds_more, crate::proofs::BelowLaws::adds_same))]
+pub(crate) fn make_way<M: FileMaker>(maker: &mut M, root: &str, path: &str) -> Result<(), SinkFault>
+    requires below { IsBelow root.now path.now }
+    ensures added { AddsFolders root.now (M.nodes maker.old) (M.nodes maker.new) }
+{
+    let bytes = path.as_bytes();
+    for at in root.len() + 1..bytes.len() {
+        if ends_name(bytes, at) {
+            make_front(maker, root, path, at)?;
         }
     }
     Ok(())
@@ -96,6 +99,20 @@ pub(crate) fn path_below(alloc: Global, root: &str, path: &str) -> Result<String
         }
         _ => Err(SinkFault::Fault),
     }
+}
+
+/// Returns the path of a folder below the folder, with a slash at its end.
+#[tactic(auto, using(crate::proofs::BelowLaws::below_longer, crate::proofs::BelowLaws::below_root))]
+pub(crate) fn folder_below(alloc: Global, root: &str, path: &str) -> Result<String, SinkFault>
+    ensures below { IfOk result (λ whole. IsBelow root.now (string_bytes whole)) }
+{
+    let mut whole = String::from_str(alloc, root)?;
+    if !path.starts_with('/') {
+        whole.push('/')?;
+    }
+    whole.push_str(path)?;
+    whole.push('/')?;
+    Ok(whole)
 }
 
 /// Makes a file. `Fault` if anything has its name.

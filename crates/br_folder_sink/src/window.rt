@@ -2,7 +2,7 @@
 ghost use Rattle.std.specs.Prelude.{◌≡◌, ℕ, ◌++◌, ◌∷◌, ◌<◌, ◌≤◌, [], true, false, length, vec_len, vec_capacity};
 ghost use Rattle.std.specs.Prelude.{Option, Ok, IfErr, IfOk, OnErr, OnOk};
 ghost use Rattle.std.specs.Thread.{IsSync};
-ghost use Rattle.br_files.specs.Making.{IsFinished, KeepsOthers};
+ghost use Rattle.br_files.specs.Making.{IsFinished};
 ghost use Rattle.br_sink.specs.Delivery.{IsStopBelow};
 ghost use Rattle.br_folder_sink.specs.Below.{KeepsOutside};
 ghost use Rattle.br_folder_sink.specs.Held.{AppendsSome, AreAnswered, FinishesHeld, FinishesOne};
@@ -12,7 +12,7 @@ ghost use Rattle.br_folder_sink.specs.Removed.{AreRemoved, AreRemovedFrom, IsRem
 ghost use Rattle.br_folder_sink.specs.Window.{AreBelow};
 
 use crate::place::known_path_of;
-use crate::remover::{Remover, take_back};
+use crate::remover::{Remover, take_item_back};
 use crate::way::{finish, write_fault};
 use br_files::{FileMaker, HostDisk, MemMaker, MemNew};
 use br_join::Item;
@@ -56,8 +56,8 @@ fn write_bytes<W: Write>(file: &mut Option<W>, item: &Item) -> Result<(), SinkFa
 }
 
 /// Closes the file of an item.
-#[tactic(auto, using(crate::proofs::BelowLaws::outside_set, crate::proofs::BelowLaws::outside_same, crate::proofs::BelowLaws::same_others))]
-pub(crate) fn close_file<M: FileMaker>(
+#[tactic(auto, using(crate::proofs::BelowLaws::outside_set, crate::proofs::BelowLaws::outside_same))]
+fn close_file<M: FileMaker>(
     alloc: Global,
     maker: &mut M,
     root: &str,
@@ -66,7 +66,6 @@ pub(crate) fn close_file<M: FileMaker>(
 ) -> Result<(), SinkFault>
     ensures finished { OnOk result (IsFinished (root.now ++ item.now.path) (M.New.contents file) (M.nodes maker.old)
         (M.nodes maker.new)) }
-    ensures others { KeepsOthers (root.now ++ item.now.path) (M.nodes maker.old) (M.nodes maker.new) }
     ensures outside { KeepsOutside root.now (M.nodes maker.old) (M.nodes maker.new) }
 {
     let path = known_path_of(alloc, root, item)?;
@@ -207,7 +206,7 @@ fn remove_one<W: Write + Drop, M: Remover<New = W>>(
     ensures outside { KeepsOutside root.now (M.nodes maker.old) (M.nodes maker.new) }
 {
     if place <= one.place {
-        take_back(alloc, maker, root, one.item);
+        take_item_back(alloc, maker, root, one.item);
     }
 }
 
