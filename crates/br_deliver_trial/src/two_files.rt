@@ -269,12 +269,48 @@ fn push_watched(case: &mut Case, gauge: &Gauge<'_>, room: u64, fields: [&str; 4]
     }
 }
 
-/// Puts two files into such a folder, and prints the log, too.
-fn watch(case: &mut Case, rt: &HostRuntime, room: u64, fields: [&str; 4]) -> io::Result<()> {
+/// Puts a file alone into a watched folder. Returns the number of the refusal, 0 if the file is put.
+fn put_watched_alone(
+    alloc: Global,
+    maker: MemMaker,
+    gauge: &Gauge<'_>,
+    item: &Item,
+) -> Option<u32> {
+    let sink = FolderSink::new(alloc, maker, "/into").ok()?;
+    let mut sink = WatchedSink::new(sink, gauge);
+    match sink.put(item) {
+        Ok(()) => Some(0),
+        Err(fault) => Some(fault.number()),
+    }
+}
+
+/// Puts a file alone into such a folder, and prints the number of the refusal, 0 if the file is put.
+fn push_watched_alone(case: &mut Case, gauge: &Gauge<'_>, room: u64, field: &str) {
+    let mut maker = maker_of(case);
+    maker.shorten(2, 1, room as usize);
+    if let Some(item) = item_of(case, field)
+        && let Some(number) = put_watched_alone(case.alloc(), maker, gauge, &item)
+    {
+        case.number(u64::from(number));
+        case.text(" ");
+    } else {
+        case.fail("there is no sink");
+    }
+}
+
+/// Puts a file or two into such a folder, and prints the log, too.
+fn watch(case: &mut Case, rt: &HostRuntime, room: &str, fields: &[&str]) -> io::Result<()> {
     let folder = new_folder(rt)?;
     let path = path_in(case, folder.as_str(), "x.log");
     let gauge = Gauge::new(rt, "", false).with_log(Some(Log::open(rt, path.as_str())?));
-    push_watched(case, &gauge, room, fields);
+    let room = case.u64_of(room);
+    match fields {
+        [alone] => push_watched_alone(case, &gauge, room, alone),
+        [one, given, other, other_given] => {
+            push_watched(case, &gauge, room, [*one, *given, *other, *other_given]);
+        }
+        _ => case.fail("there are one or two files"),
+    }
     gauge.tell_end()?;
     case.lines(&fs::read(rt, path.as_str())?);
     fs::remove_dir_all(rt, folder.as_str())
@@ -312,10 +348,7 @@ fn run_on_disk(case: &mut Case, rt: &HostRuntime, call: &[&str]) -> io::Result<(
         ["disk", one, given, other, other_given, names] => {
             put_on_disk(case, rt, [*one, *given, *other, *other_given], names)
         }
-        ["watched", room, one, given, other, other_given] => {
-            let room = case.u64_of(room);
-            watch(case, rt, room, [*one, *given, *other, *other_given])
-        }
+        ["watched", room, fields @ ..] => watch(case, rt, room, fields),
         _ => {
             case.fail("there is no such call");
             Ok(())

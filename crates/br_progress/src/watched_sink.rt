@@ -116,6 +116,7 @@ impl<'g, 'r, S: Sink> Sink for WatchedSink<'g, 'r, S> {
     ghost failures = { λ s. S.failures s.inner };
 
     fn put(&mut self, item: &Item) -> Result<(), SinkFault> {
+        self.gauge.begin_putting();
         let put = self.inner.put(item);
         match &put {
             Ok(()) => self.gauge.note_file_put(item),
