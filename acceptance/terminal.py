@@ -6,6 +6,7 @@ with the table of docs/RESTORING.md. Needs sqlite3.
 
     acceptance/terminal.py                    over crates/brestore/out/brestore
     acceptance/terminal.py --program FILE     over another program
+    acceptance/terminal.py --again            over one that may read files' bytes again, and tells so
 
 The status is 1 if something is not as expected.
 """
@@ -23,6 +24,7 @@ import sys
 import tempfile
 import termios
 import time
+from functools import partial
 from pathlib import Path
 
 # Nothing is left beside the script.
@@ -271,7 +273,12 @@ def spoilt(checks, folder):
     checks.check("once more with --quiet", (status, shown, printed), (1, outcome, manifest))
 
 
-def tells(checks, folder):
+def as_read_once(shown, again):
+    """Returns what was shown as a program shows it that reads nothing again, if this one may."""
+    return shown.replace("\rreading again,", "\r0.0 MiB of 0.0 MiB read,") if again else shown
+
+
+def tells(checks, folder, again):
     """The line that tells how far a restore is."""
     into = [os.path.join(folder, f"told{number}") for number in range(3)]
     for place in into:
@@ -284,6 +291,7 @@ def tells(checks, folder):
     checks.check("a restore that takes its time", (status, printed), (0, manifest))
     begun = f"\r0.0 MiB of 0.0 MiB read, 0 of {files} files put\x1b[K"
     ended = f"{CLEARED}{count(files, files)}\n"
+    shown = as_read_once(shown, again)
     checks.check("is told", (shown[:len(begun)], shown[-len(ended):]), (begun, ended))
     status, shown, printed = play_slowly(checks.program, [*extract, into[1], "--quiet"])
     checks.check("and not with --quiet", (status, shown, printed), (0, "", manifest))
@@ -291,7 +299,7 @@ def tells(checks, folder):
     checks.check("and not without a terminal", (status, shown, printed), (0, "", manifest))
 
 
-def tells_a_session(checks, folder):
+def tells_a_session(checks, folder, again):
     """The same line of a console session, which knows how much it reads once its bootstrap is printed."""
     db, into = os.path.join(folder, "told.db"), os.path.join(folder, "told3")
     with open(ORDER_SQL) as text:
@@ -308,7 +316,7 @@ def tells_a_session(checks, folder):
     status, shown, printed = play_slowly(checks.program, session, lines=lines, room=room)
     checks.check("a session that takes its time", (status, printed), (0, whole))
     told = f"\r0.0 MiB of 0.0 MiB read, 0 of {files} files put\x1b[K{CLEARED}{count(files, files)}\n"
-    checks.check("is told", shown[-len(told):], told)
+    checks.check("is told", as_read_once(shown, again)[-len(told):], told)
 
 
 def leaves_unsaid(checks, folder):
@@ -360,11 +368,13 @@ def waits(checks, folder):
 def main():
     parser = argparse.ArgumentParser(description="Plays an operator at a terminal who makes mistakes.")
     parser.add_argument("--program", default=PROGRAM, help="the program (default: %(default)s)")
+    parser.add_argument("--again", action="store_true", help="the program may read the files' bytes again")
     options = parser.parse_args()
     checks = Checks(os.path.abspath(options.program))
     folder = tempfile.mkdtemp(prefix="brestore-terminal-")
+    telling = (partial(tells, again=options.again), partial(tells_a_session, again=options.again))
     try:
-        for plays in (restores, asks_again, extracts, tells, tells_a_session, leaves_unsaid, looks, waits):
+        for plays in (restores, asks_again, extracts, *telling, leaves_unsaid, looks, waits):
             plays(checks, folder)
     finally:
         shutil.rmtree(folder)

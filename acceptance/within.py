@@ -24,9 +24,11 @@ sys.path.insert(0, os.path.join(os.path.dirname(HERE), "tools"))
 from common import PROGRAM
 
 # Those that restore, and have no runs with `--memory` of their own.
-SCRIPTS = ("catalogue.py", "commands.py", "hostile.py", "leaving.py", "serving.py", "stops.py", "tarred.py")
+SCRIPTS = ("catalogue.py", "commands.py", "hostile.py", "leaving.py", "serving.py", "stops.py", "tarred.py", "terminal.py")
 # These take the program without `--program`.
 PLAIN = ("tarred.py",)
+# This one is told that the program may read again, which a terminal shows.
+AGAIN = ("terminal.py",)
 WRAPPER = """#!/bin/sh
 for word; do
     case "$word" in --memory | --memory=*) exec {program} "$@" ;; esac
@@ -59,6 +61,7 @@ def write_wrapper(folder, program, size):
 def has_passed(script, program):
     """Runs a script over a program, and says whether all was as it expects."""
     words = [program] if script in PLAIN else ["--program", program]
+    words += ["--again"] if script in AGAIN else []
     ran = subprocess.run([sys.executable, os.path.join(HERE, script), *words], stdin=subprocess.DEVNULL)
     print(f"{script}: {'as expected' if ran.returncode == 0 else f'status {ran.returncode}'}", flush=True)
     return ran.returncode == 0
