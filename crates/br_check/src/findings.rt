@@ -85,9 +85,9 @@ pub(crate) fn push_named(
 fn push_stream(text: &mut Vec<u8>, fault: FileFault) -> Result<(), AllocError>
     ensures { OnOk result (text.new.items ≡ text.old.items ++ stream_text (file_fault fault)) }
 {
-    if fault.number() == 65 {
+    if let FileFault::Unsupported(stream) = fault {
         text.push(b' ')?;
-        push_number(text, u64::from(fault.stream()))?;
+        push_number(text, u64::from(stream))?;
     }
     Ok(())
 }

@@ -1,11 +1,10 @@
 //! The commands by their options.
 ghost use Rattle.br_options.specs.Options.{HasDrives};
 
-use crate::checking::check_files;
-use crate::console::restore_marked;
 use crate::explaining::{explain_all, explain_number};
-use crate::extract::extract_files;
 use crate::migrating::migrate_catalogue;
+use br_console_command::restore_marked;
+use br_extract_command::{check_files, extract_files};
 use br_listing::list;
 use br_options::Invocation;
 use br_serving::{serve_files, serve_memory};

@@ -4,9 +4,9 @@ ghost use Rattle.br_options.specs.Options.{AreFew};
 ghost use Rattle.br_pool.specs.Pool.{AreDrives};
 ghost use Rattle.br_setup.specs.Setup.{AreOver};
 ghost use Rattle.br_targets.specs.Asked.{folder_asked, stream_asked};
-ghost use Rattle.br_commands.specs.Ending.{done_status, extent, failed_paths, is_whole, run_refusal, run_status};
+ghost use Rattle.br_extract_command.specs.Ending.{done_status, extent, failed_paths, is_whole, run_refusal, run_status};
 ghost use Rattle.br_targets.specs.TarEnding.{IsShown};
-ghost use Rattle.br_commands.specs.Tasks.{ExtractsTask, StreamsTask};
+ghost use Rattle.br_extract_command.specs.Tasks.{ExtractsTask, StreamsTask};
 
 use br_advice::{Told, advise, say_volumes, tell_outcomes};
 use br_engine::{Budget, ExtractFault, Flush, Outputs, RestoreEnd, read_text};
@@ -581,7 +581,7 @@ fn extract_onto<T: Channel + Drop, W: Channel + Drop>(
 /// # Errors
 ///
 /// If memory ran out or standard error failed.
-pub(crate) fn extract_files(
+pub fn extract_files(
     rt: &HostRuntime,
     threads: &(impl Threads + Wait + Sync),
     given: &ExtractOptions<'_>,

@@ -2,9 +2,9 @@ use Rattle.std.proofs.Common.{List, ℕ, Option, ap, sym, subst, ◌∙◌}
 use Rattle.std.proofs.lemmas.Result.{err_from_is_err_and}
 use Rattle.br_model.specs.BootstrapText.{read_bootstrap}
 use Rattle.br_counts.specs.Counts as counted
-use Rattle.br_commands.specs.Checking.{ChecksFor}
-use Rattle.br_commands.proofs.FreeLaws.{free_is_refusal}
-use Rattle.br_commands.proofs.checking.check_over.Goals as goal
+use Rattle.br_extract_command.specs.Checking.{ChecksFor}
+use Rattle.br_extract_command.proofs.FreeLaws.{free_is_refusal}
+use Rattle.br_extract_command.proofs.checking.check_over.Goals as goal
 
 pub returns-in_err-show_checked-clause-checks : goal.returns-in_err-show_checked-clause-checks
 returns-in_err-show_checked-clause-checks g c =

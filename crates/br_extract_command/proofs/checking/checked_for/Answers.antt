@@ -1,8 +1,8 @@
 use Rattle.std.proofs.lemmas.Result.{IfOk-weaker}
 use Rattle.br_volume.proofs.ExtendLaws.{grows_more}
-use Rattle.br_commands.specs.Checking.{ChecksFor}
+use Rattle.br_extract_command.specs.Checking.{ChecksFor}
 use Rattle.br_options.specs.declared.options.Checksums.TheVariants.{Compared, Passed}
-use Rattle.br_commands.proofs.checking.checked_for.Goals as goal
+use Rattle.br_extract_command.proofs.checking.checked_for.Goals as goal
 
 pub returns-in-Passed-clause-checked : goal.returns-in-Passed-clause-checked
 returns-in-Passed-clause-checked g c = rw (c.in-Passed.is) c.in_ok-checked.ensures.checked

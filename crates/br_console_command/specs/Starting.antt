@@ -4,8 +4,8 @@ use Rattle.br_folder_sink.specs.Fault.{folder_fault_number}
 use Rattle.br_request.specs.Asking as request
 use Rattle.br_setup.specs.Setup.{catalogue_number}
 use Rattle.br_targets.specs.TarEnding.{tar_fault_number}
-use Rattle.br_commands.specs.declared.console.ConsoleStartFault.{ConsoleStartFault}
-use Rattle.br_commands.specs.declared.console.ConsoleStartFault.TheVariants.{Memory, Request, Folder, Tar, NoCatalogue, Catalogue}
+use Rattle.br_console_command.specs.declared.console.ConsoleStartFault.{ConsoleStartFault}
+use Rattle.br_console_command.specs.declared.console.ConsoleStartFault.TheVariants.{Memory, Request, Folder, Tar, NoCatalogue, Catalogue}
 
 -- the number of the refusal
 abbrev pub start_number : ConsoleStartFault → ℕ

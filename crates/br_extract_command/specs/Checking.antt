@@ -15,8 +15,8 @@ use Rattle.br_options.specs.declared.options.Checksums.{Checksums}
 use Rattle.br_options.specs.declared.options.Checksums.TheVariants.{Compared, Passed}
 use Rattle.br_engine.specs.Fault.{OfLine, cause, fault_text}
 use Rattle.br_engine.specs.declared.fault.ExtractFault.{ExtractFault}
-use Rattle.br_commands.specs.Ending.{fault_status}
-use Rattle.br_commands.specs.declared.checking.CheckTask.{CheckTask}
+use Rattle.br_extract_command.specs.Ending.{fault_status}
+use Rattle.br_extract_command.specs.declared.checking.CheckTask.{CheckTask}
 
 -- 0 if nothing was found, else 1
 abbrev pub checked_status : Checked → ℕ

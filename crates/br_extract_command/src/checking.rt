@@ -5,7 +5,7 @@ ghost use Rattle.br_check.specs.Check.{checked_text};
 ghost use Rattle.br_engine.specs.Fault.{IsFree};
 ghost use Rattle.br_volume.specs.Drive.{OnlyGrows};
 ghost use Rattle.br_model.specs.Meaning.{pieces_of};
-ghost use Rattle.br_commands.specs.Checking.{ChecksFor, ChecksTask, HasSums, checked_status, run_refusal, run_status};
+ghost use Rattle.br_extract_command.specs.Checking.{ChecksFor, ChecksTask, HasSums, checked_status, run_refusal, run_status};
 
 use crate::extract::{BootstrapFile, ExtractStartFault, refuse, report_stream};
 use br_bsr::{Bootstrap, read_bootstrap};
@@ -187,7 +187,7 @@ fn report(rt: &HostRuntime, run: Result<u8, ExtractFault>) -> io::Result<u8> {
 /// # Errors
 ///
 /// If memory ran out or standard error failed.
-pub(crate) fn check_files(rt: &HostRuntime, given: &CheckOptions<'_>) -> io::Result<u8> {
+pub fn check_files(rt: &HostRuntime, given: &CheckOptions<'_>) -> io::Result<u8> {
     let mut task = match set_up_check(rt, given) {
         Ok(task) => task,
         Err(fault) => return refuse(rt, given.bsr, fault),

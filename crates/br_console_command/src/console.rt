@@ -5,13 +5,13 @@ ghost use Rattle.br_options.specs.Options.{AreFew};
 ghost use Rattle.br_pool.specs.Pool.{AreDrives};
 ghost use Rattle.br_request.specs.Asking.{cause};
 ghost use Rattle.br_setup.specs.Setup.{AreJobs, AreOver};
-ghost use Rattle.br_commands.specs.Asked.{request_asked};
+ghost use Rattle.br_console_command.specs.Asked.{request_asked};
 ghost use Rattle.br_targets.specs.Asked.{folder_asked, stream_asked};
-ghost use Rattle.br_commands.specs.ConsoleEnding.{end_line, extent, extent_by, run_refusal, run_status, status_by};
-ghost use Rattle.br_commands.specs.Starting.{start_number};
+ghost use Rattle.br_console_command.specs.Ending.{end_line, extent, extent_by, run_refusal, run_status, status_by};
+ghost use Rattle.br_console_command.specs.Starting.{start_number};
 ghost use Rattle.br_targets.specs.TarEnding.{IsShown};
-ghost use Rattle.br_commands.specs.Tasks.{RunsTask, StreamsRun};
-ghost use Rattle.br_commands.specs.declared.console.ConsoleStartFault.TheVariants as start;
+ghost use Rattle.br_console_command.specs.Tasks.{RunsTask, StreamsRun};
+ghost use Rattle.br_console_command.specs.declared.console.ConsoleStartFault.TheVariants as start;
 
 use br_advice::{Told, say_volumes, tell_outcomes};
 use br_console::{ConsoleFault, ConsoleRun, End, JobSelection, Lines, run_console};
@@ -675,7 +675,7 @@ fn restore_told<C: Catalogue, R: BufRead + Drop>(
 }
 
 /// Restores by the lines of standard input, as `restore_by_lines`.
-pub(crate) fn restore_marked<C: Catalogue>(
+pub fn restore_marked<C: Catalogue>(
     rt: &HostRuntime,
     threads: &(impl Threads + Wait + Sync),
     catalogue: &C,

@@ -1,0 +1,4 @@
+pub mod Asked
+pub mod Ending
+pub mod Starting
+pub mod Tasks

@@ -1,0 +1,3 @@
+pub mod Ending
+pub mod Tasks
+pub mod Checking
