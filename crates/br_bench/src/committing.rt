@@ -1,14 +1,11 @@
 //! Commits by a keeper over memory, while sessions in threads of their own take snapshots.
-ghost use Rattle.std.specs.Prelude.{◌≡◌, [], IfOk, ⊤};
-ghost use Rattle.br_session.specs.Outcome.{ArePlaces};
+ghost use Rattle.std.specs.Prelude.{⊤};
 
 use crate::fault::BenchFault;
-use crate::making::{NUMBERS, Size, added_text, history_of, job_row};
-use br_attr::Stat;
+use crate::making::{NUMBERS, Size, history_of, path_text};
+use br_draft::{Draft, read_head};
 use br_history::{History, JobRows, SavedJob};
 use br_keeper::{JobStore, JobStoreFault, Keeper, Session};
-use br_session::{Place, SavedFile};
-use br_types::{Path, VolName};
 use br_volume::MemStore;
 use std::alloc::{AllocError, Global};
 use std::sync::Wait;
@@ -17,9 +14,6 @@ use std::time::{Duration, Instant};
 
 /// The number of sessions that take snapshots.
 const SESSIONS: u32 = 2;
-
-/// The longest block, in bytes.
-const LONGEST_BLOCK: u32 = 64_512;
 
 /// A catalogue of the jobs that are there at first. Those that are added are in the keeper's history alone.
 #[derive(Drop)]
@@ -63,16 +57,7 @@ fn watch<R: Wait>(rt: &R, session: Session, all: usize) -> u64 {
     count
 }
 
-/// Takes snapshots in a thread of its own, as `watch`.
-fn start<R: Threads + Wait + Copy + Send + 'static>(
-    rt: R,
-    session: Session,
-    all: usize,
-) -> Option<JoinHandle<u64>> {
-    spawn(&rt, move || watch(&rt, session, all)).ok()
-}
-
-/// Takes snapshots of each session in a thread of its own.
+/// Takes snapshots of each session in a thread of its own, as `watch`.
 fn start_all<R: Threads + Wait + Copy + Send + 'static>(
     rt: R,
     alloc: Global,
@@ -81,9 +66,8 @@ fn start_all<R: Threads + Wait + Copy + Send + 'static>(
 ) -> Result<Vec<Option<JoinHandle<u64>>>, AllocError> {
     let mut watchers = Vec::with_capacity(alloc, sessions.len())?;
     for session in sessions {
-        watchers
-            .push(start(rt, session, all))
-            .map_err(AllocError::from)?;
+        let watcher = spawn(&rt, move || watch(&rt, session, all)).ok();
+        watchers.push(watcher).map_err(AllocError::from)?;
     }
     Ok(watchers)
 }
@@ -99,69 +83,22 @@ fn snapshots_of<R: Threads>(rt: &R, watchers: Vec<Option<JoinHandle<u64>>>) -> u
     count
 }
 
-/// Returns the file with this number of a job. It has sixteen bytes.
-fn file_of(alloc: Global, job: u32, number: u32) -> Result<SavedFile, BenchFault> {
-    let path = added_text(alloc, number, job)?;
-    Ok(SavedFile::new(
-        Path::new(alloc, path.as_bytes())?,
-        3,
-        Stat::read(NUMBERS.as_bytes()).map_err(|_| BenchFault::History)?,
-        Vec::new(alloc),
-        Vec::from_slice(alloc, b"sixteen bytes, 1")?,
-        true,
-    )
-    .map_err(|_| BenchFault::History)?)
+/// Returns the line of a script that saves the file with this number of a job, which has sixteen bytes.
+fn file_line(alloc: Global, job: u32, number: u32) -> Result<String, AllocError> {
+    let path = path_text(alloc, number, job)?;
+    format!(in alloc; "putd 3 {path} 7369787465656e2062797465732c2031 - {NUMBERS}")
 }
 
-fn files_of(alloc: Global, job: u32, count: u32) -> Result<Vec<SavedFile>, BenchFault> {
-    let mut files = Vec::with_capacity(alloc, count as usize)?;
-    for number in 0..count {
-        files
-            .push(file_of(alloc, job, number)?)
-            .map_err(AllocError::from)?;
+/// Returns the Incremental with this number, of `count` new files, which all go to one volume.
+fn saved_job(alloc: Global, number: u32, count: u32) -> Option<SavedJob> {
+    let head = format!(in alloc; "{number} B I T {number} {number} {number} 64512 mars home").ok()?;
+    let mut draft = Draft::new(alloc, read_head(alloc, head.as_bytes()).ok()?);
+    for file in 0..count {
+        let line = file_line(alloc, number, file).ok()?;
+        draft.take(alloc, line.as_bytes()).ok()?;
     }
-    Ok(files)
-}
-
-/// Returns the one volume that all jobs go to.
-fn places(alloc: Global) -> Result<Vec<Place>, BenchFault>
-    ensures some { IfOk result (λ places. places.items ≡ [] → ⊥) }
-    ensures are { IfOk result (λ places. ArePlaces places.items) }
-{
-    let mut places = Vec::new(alloc);
-    places
-        .push(Place {
-            vol: VolName::new(alloc, b"New")?,
-            blocks: 0,
-        })
-        .map_err(AllocError::from)?;
-    Ok(places)
-}
-
-/// Returns the Incremental with this number, of `count` new files.
-fn saved_job(alloc: Global, number: u32, count: u32) -> Result<SavedJob, BenchFault> {
-    SavedJob::new(
-        job_row(alloc, number, b'I')?,
-        files_of(alloc, number, count)?,
-        Vec::new(alloc),
-        LONGEST_BLOCK,
-        places(alloc)?,
-    )
-    .map_err(|_| BenchFault::History)
-}
-
-/// Commits a job. Returns the time that it took.
-fn commit_one<R: Wait>(
-    clock: &HostRuntime,
-    rt: &R,
-    keeper: &mut BenchKeeper,
-    job: SavedJob,
-) -> Result<Duration, BenchFault> {
-    let start = Instant::now(clock)?;
-    match keeper.commit(rt, job) {
-        Ok(_) => Ok(start.elapsed(clock)?),
-        Err(_) => Err(BenchFault::Commit),
-    }
+    draft.take(alloc, b"place New 0").ok()?;
+    draft.end().ok()?
 }
 
 /// Commits the jobs with the numbers from 2 on. Returns the time that the commits took.
@@ -173,23 +110,14 @@ fn commit_each<R: Wait>(
 ) -> Result<Duration, BenchFault> {
     let mut spent = Duration::ZERO;
     for job in 0..size.jobs {
-        let job = saved_job(clock.alloc(), job.saturating_add(2), size.rows)?;
-        spent = spent.saturating_add(commit_one(clock, rt, keeper, job)?);
+        let job = saved_job(clock.alloc(), job.saturating_add(2), size.rows).ok_or(AllocError)?;
+        let start = Instant::now(clock)?;
+        if keeper.commit(rt, job).is_err() {
+            return Err(BenchFault::Commit);
+        }
+        spent = spent.saturating_add(start.elapsed(clock)?);
     }
     Ok(spent)
-}
-
-/// Commits the jobs, and then ends the keeper. Returns the time that the commits took.
-fn commit_and_close<R: Wait>(
-    clock: &HostRuntime,
-    rt: &R,
-    keeper: BenchKeeper,
-    size: Size,
-) -> Result<Duration, BenchFault> {
-    let mut keeper = keeper;
-    let spent = commit_each(clock, rt, &mut keeper, size);
-    let _ = keeper.close(rt);
-    spent
 }
 
 /// Makes a keeper of a Full and its sessions.
@@ -198,13 +126,16 @@ fn keeper_of<R: Wait>(
     rt: &R,
     size: Size,
 ) -> Result<(BenchKeeper, Vec<Session>), BenchFault> {
-    let first = history_of(alloc, Size { jobs: 0, ..size })?;
-    let jobs = FirstJobs {
-        history: Some(first),
-    };
-    match Keeper::new(rt, alloc, jobs, MemStore::new(alloc), SESSIONS) {
+    let history = history_of(alloc, Size { jobs: 0, ..size });
+    match Keeper::new(
+        rt,
+        alloc,
+        FirstJobs { history },
+        MemStore::new(alloc),
+        SESSIONS,
+    ) {
         Ok(made) => Ok(made),
-        Err(_) => Err(BenchFault::Commit),
+        Err(_) => Err(BenchFault::Memory(AllocError)),
     }
 }
 
@@ -215,11 +146,12 @@ pub(crate) fn measure_commits<R: Threads + Wait + Copy + Send + 'static>(
     rt: R,
     size: Size,
 ) -> Result<(), BenchFault> {
-    let (keeper, sessions) = keeper_of(clock.alloc(), &rt, size)?;
+    let (mut keeper, sessions) = keeper_of(clock.alloc(), &rt, size)?;
     let all = (size.jobs as usize).saturating_add(1);
     let watchers = start_all(rt, clock.alloc(), sessions, all);
     let start = Instant::now(clock);
-    let spent = commit_and_close(clock, &rt, keeper, size);
+    let spent = commit_each(clock, &rt, &mut keeper, size);
+    let _ = keeper.close(&rt);
     let whole = start?.elapsed(clock)?;
     let snapshots = snapshots_of(&rt, watchers?);
     eprintln!(clock; "commits {}", spent?.as_micros())?;

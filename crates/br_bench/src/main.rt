@@ -30,7 +30,7 @@ use br_plan::{Plan, Request};
 use br_tree::Tree;
 use br_types::Name;
 use br_view::View;
-use std::alloc::Global;
+use std::alloc::{AllocError, Global};
 use std::io;
 use std::process::ExitCode;
 use std::sync::Wait;
@@ -54,38 +54,39 @@ fn reply_to(alloc: Global, console: &mut Console<'_>, line: &str) -> Result<Stri
     }
 }
 
-/// Goes to a directory and lists its names.
-fn list(rt: &HostRuntime, console: &mut Console<'_>, directory: &str) -> Result<(), BenchFault>
+/// Goes to a directory and runs a line there. Reports the time of the line as that of a step, and returns its text.
+fn turn(
+    rt: &HostRuntime,
+    console: &mut Console<'_>,
+    directory: &str,
+    line: &str,
+    step: &str,
+) -> Result<String, BenchFault>
     ensures { console.new.view ≡ console.old.view }
 {
     let alloc = rt.alloc();
-    let line = format!(in alloc; "cd {directory}")?;
-    reply_to(alloc, console, line.as_str())?;
+    let change = format!(in alloc; "cd {directory}")?;
+    reply_to(alloc, console, change.as_str())?;
     let start = rt.process_cpu_time()?;
-    let names = reply_to(alloc, console, "ls")?;
-    report(rt, directory, start)?;
-    println!(rt; "ls {directory} {} names", names.as_str().lines().count())?;
-    Ok(())
+    let text = reply_to(alloc, console, line)?;
+    report(rt, step, start)?;
+    Ok(text)
 }
 
-/// Lists directories of different sizes.
-fn list_all(rt: &HostRuntime, console: &mut Console<'_>) -> Result<(), BenchFault>
+/// Lists the names of a directory.
+fn list(rt: &HostRuntime, console: &mut Console<'_>, directory: &str) -> Result<(), BenchFault>
     ensures { console.new.view ≡ console.old.view }
 {
-    list(rt, console, "/")?;
-    list(rt, console, "/home")?;
-    list(rt, console, "/home/user0/project1")
+    let names = turn(rt, console, directory, "ls", directory)?;
+    println!(rt; "ls {directory} {} names", names.as_str().lines().count())?;
+    Ok(())
 }
 
 /// Marks all paths.
 fn mark_all(rt: &HostRuntime, console: &mut Console<'_>) -> Result<(), BenchFault>
     ensures { console.new.view ≡ console.old.view }
 {
-    let alloc = rt.alloc();
-    reply_to(alloc, console, "cd /")?;
-    let start = rt.process_cpu_time()?;
-    let text = reply_to(alloc, console, "mark *")?;
-    report(rt, "mark", start)?;
+    let text = turn(rt, console, "/", "mark *", "mark")?;
     print!(rt; "{text}")?;
     Ok(())
 }
@@ -108,7 +109,7 @@ fn plan_marked(
     Ok(())
 }
 
-/// Lists directories while nothing is marked, marks all and plans its restore, up to the stage.
+/// Lists directories of different sizes while nothing is marked, marks all and plans its restore, up to the stage.
 fn run_dialogue(
     rt: &HostRuntime,
     stage: Stage,
@@ -118,7 +119,9 @@ fn run_dialogue(
 ) -> Result<(), BenchFault>
     requires { IsViewOfChosen history.now request.now console.old.view }
 {
-    list_all(rt, console)?;
+    list(rt, console, "/")?;
+    list(rt, console, "/home")?;
+    list(rt, console, "/home/user0/project1")?;
     if stage < Stage::Mark {
         return Ok(());
     }
@@ -129,19 +132,7 @@ fn run_dialogue(
     plan_marked(rt, history, request, console.tree())
 }
 
-/// Builds the tree of a view.
-fn tree_of<'h>(rt: &HostRuntime, view: View<'h>) -> Result<Tree<'h>, BenchFault>
-    ensures { IfOk result (λ tree. tree.view ≡ view.entry) }
-{
-    let start = rt.process_cpu_time()?;
-    let tree = Tree::build(rt.alloc(), view)?;
-    report(rt, "tree", start)?;
-    let (paths, marked) = tree.count();
-    println!(rt; "tree {paths} paths {marked} marked")?;
-    Ok(tree)
-}
-
-/// Goes on from the view of the chosen jobs, up to the stage.
+/// Builds the tree of the view of the chosen jobs, and goes on from it, up to the stage.
 fn walk<'h>(
     rt: &HostRuntime,
     stage: Stage,
@@ -151,7 +142,11 @@ fn walk<'h>(
 ) -> Result<(), BenchFault>
     requires { IsViewOfChosen history.now request.now view }
 {
-    let tree = tree_of(rt, view)?;
+    let start = rt.process_cpu_time()?;
+    let tree = Tree::build(rt.alloc(), view)?;
+    report(rt, "tree", start)?;
+    let (paths, marked) = tree.count();
+    println!(rt; "tree {paths} paths {marked} marked")?;
     if stage < Stage::List {
         return Ok(());
     }
@@ -183,10 +178,10 @@ fn view_of<'h>(
 }
 
 /// Returns the request for the state after the last job of the history.
-fn request_of(alloc: Global) -> Result<Request, BenchFault> {
-    Ok(Request {
-        client: Name::new(alloc, CLIENT)?,
-        fileset: Name::new(alloc, FILESET)?,
+fn request_of(alloc: Global) -> Option<Request> {
+    Some(Request {
+        client: Name::new(alloc, CLIENT).ok()?,
+        fileset: Name::new(alloc, FILESET).ok()?,
         moment: u64::MAX,
     })
 }
@@ -196,7 +191,7 @@ fn select(rt: &HostRuntime, stage: Stage, history: &History) -> Result<(), Bench
     if stage < Stage::View {
         return Ok(());
     }
-    let request = request_of(rt.alloc())?;
+    let request = request_of(rt.alloc()).ok_or(AllocError)?;
     let view = view_of(rt, history, &request)?;
     if stage < Stage::Tree {
         return Ok(());
@@ -207,7 +202,7 @@ fn select(rt: &HostRuntime, stage: Stage, history: &History) -> Result<(), Bench
 /// Makes a history and goes through the steps of a selection from it, up to the stage.
 fn measure(rt: &HostRuntime, stage: Stage, size: Size) -> Result<(), BenchFault> {
     let start = rt.process_cpu_time()?;
-    let history = history_of(rt.alloc(), size)?;
+    let history = history_of(rt.alloc(), size).ok_or(AllocError)?;
     report(rt, "history", start)?;
     println!(rt; "history {} jobs", history.len())?;
     select(rt, stage, &history)

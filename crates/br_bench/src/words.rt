@@ -3,7 +3,7 @@
 use crate::making::Size;
 
 /// Up to where the steps of a selection go.
-#[derive(Clone, Copy, Debug, PartialEq, Eq, PartialOrd, Ord)]
+#[derive(Clone, Copy, PartialEq, PartialOrd)]
 pub(crate) enum Stage {
     History,
     View,
@@ -13,20 +13,8 @@ pub(crate) enum Stage {
     Plan,
 }
 
-fn stage_of(word: &str) -> Option<Stage> {
-    match word {
-        "history" => Some(Stage::History),
-        "view" => Some(Stage::View),
-        "tree" => Some(Stage::Tree),
-        "list" => Some(Stage::List),
-        "mark" => Some(Stage::Mark),
-        "plan" => Some(Stage::Plan),
-        _ => None,
-    }
-}
-
 /// What is measured.
-#[derive(Clone, Copy, Debug, PartialEq, Eq)]
+#[derive(Clone, Copy)]
 pub(crate) enum Work {
     /// The steps of a selection, up to this one.
     Select(Stage),
@@ -36,8 +24,14 @@ pub(crate) enum Work {
 
 fn work_of(word: &str) -> Option<Work> {
     match word {
+        "history" => Some(Work::Select(Stage::History)),
+        "view" => Some(Work::Select(Stage::View)),
+        "tree" => Some(Work::Select(Stage::Tree)),
+        "list" => Some(Work::Select(Stage::List)),
+        "mark" => Some(Work::Select(Stage::Mark)),
+        "plan" => Some(Work::Select(Stage::Plan)),
         "commit" => Some(Work::Commit),
-        _ => Some(Work::Select(stage_of(word)?)),
+        _ => None,
     }
 }
 

@@ -1,94 +1,63 @@
-//! A catalogue in memory, of the job that wrote the volume.
-use br_history::{FileRow, History, JobRow, JobRows};
+//! A catalogue in memory, of the job that wrote the volume V.
+use br_draft::{Draft, read_head};
+use br_history::{History, JobRows, SavedJob};
 use br_keeper::{JobStore, JobStoreFault};
 use br_session::Span;
 use br_setup::{Catalogue, CatalogueFault};
-use br_types::{JobId, Letter, Name, Path, SessionKey, VolName};
+use br_types::VolName;
 use std::alloc::Global;
 
-/// The job began on 2106-02-07 at 06:28:17, which 32 bits can't hold.
-const START: u64 = 4_294_967_297;
+/// The job: number 1, a Full that ended well. It began on 2106-02-07 at 06:28:17, which 32 bits can't hold.
+const HEAD: &[u8] = b"1 B F T 4294967297 1 100 64512 mars home";
 
-fn letter(byte: u8) -> Option<Letter> {
-    Letter::new(byte)
+/// Its first file: `/a` with the bytes `hello`.
+const FIRST: &[u8] = b"put 3 /a 68656c6c6f - A A IGk B A A A F A A A A A A";
+
+/// Returns the job, whose second file has this path, escaped, and the bytes `world`.
+fn saved_job(alloc: Global, second: &str) -> Option<SavedJob> {
+    let mut draft = Draft::new(alloc, read_head(alloc, HEAD).ok()?);
+    let put = format!(in alloc; "put 3 {second} 776f726c64 - A A IGk B A A A F A A A A A A").ok()?;
+    for line in [FIRST, put.as_bytes(), b"place V 0"] {
+        draft.take(alloc, line).ok()?;
+    }
+    draft.end().ok()?
 }
 
-/// Returns the row of the Full that wrote the volume.
-fn job_row(alloc: Global) -> Option<JobRow> {
-    Some(JobRow {
-        id: JobId::new(1)?,
-        kind: letter(b'B')?,
-        level: letter(b'F')?,
-        status: letter(b'T')?,
-        start: START,
-        session: SessionKey { id: 1, time: 100 },
-        client: Name::new(alloc, b"mars").ok()?,
-        fileset: Name::new(alloc, b"home").ok()?,
-    })
+/// Returns the rows of the job. Its block is at the start of the volume V.
+fn rows_of(alloc: Global, job: &SavedJob) -> Option<JobRows> {
+    let span = Span {
+        vol: VolName::new(alloc, b"V").ok()?,
+        first: 1,
+        last: 2,
+        start: 0,
+        end: 159,
+        vol_index: 1,
+    };
+    job.rows(alloc, &[span]).ok()
 }
 
-fn file_row(alloc: Global, path: &[u8], index: u32) -> Option<FileRow> {
-    Some(FileRow {
-        path: Path::new(alloc, path).ok()?,
-        index,
-        lstat: String::from_str(alloc, "A A IGk B A A A F A A A A A A").ok()?,
-        md5: None,
-    })
-}
-
-fn file_rows(alloc: Global, second: &[u8]) -> Option<Vec<FileRow>> {
-    let mut files = Vec::new(alloc);
-    files.push(file_row(alloc, b"/a", 1)?).ok()?;
-    files.push(file_row(alloc, second, 2)?).ok()?;
-    Some(files)
-}
-
-fn spans(alloc: Global) -> Option<Vec<Span>> {
-    let mut spans = Vec::new(alloc);
-    spans
-        .push(Span {
-            vol: VolName::new(alloc, b"V").ok()?,
-            first: 1,
-            last: 2,
-            start: 0,
-            end: 159,
-            vol_index: 1,
-        })
-        .ok()?;
-    Some(spans)
-}
-
-/// Returns the job that wrote the volume.
-fn rows(alloc: Global, second: &[u8]) -> Option<JobRows> {
-    JobRows::new(job_row(alloc)?, file_rows(alloc, second)?, spans(alloc)?).ok()
-}
-
-fn history_of(alloc: Global, second: &[u8]) -> Option<History> {
+/// Returns the history of the job alone.
+fn history_of(alloc: Global, second: &str) -> Option<History> {
+    let job = saved_job(alloc, second)?;
     let mut history = History::new(alloc);
-    history.push(rows(alloc, second)?).ok()?;
+    history.push(rows_of(alloc, &job)?).ok()?;
     Some(history)
 }
 
-/// Catalogues of which one has the job.
-#[derive(Drop)]
+/// The path at which the catalogue can be opened.
+const DB: &str = "c.db";
+
+/// A catalogue with the job. It keeps no job that is added to it.
+#[derive(Clone, Copy)]
 pub(crate) struct OneCatalogue<'c> {
     pub(crate) alloc: Global,
-    /// The path of the catalogue.
-    pub(crate) db: &'c str,
-    /// The path of the second file of the job.
-    pub(crate) second: &'c [u8],
-    /// What closing the catalogue returns.
+    /// The path of the second file of the job, escaped. If it is no path, the rows of the catalogue are no jobs.
+    pub(crate) second: &'c str,
+    /// What closing it returns.
     pub(crate) closing: Result<(), CatalogueFault>,
 }
 
-/// The catalogue with the job, open. It keeps no job that is added to it.
-#[derive(Drop)]
-pub(crate) struct OneJob<'c> {
-    alloc: Global,
-    second: &'c [u8],
-}
-
-impl JobStore for OneJob<'_> {
+impl JobStore for OneCatalogue<'_> {
     ghost use Rattle.std.specs.Prelude.{⊤};
 
     ghost inserts = { λ _ _ _. ⊤ };
@@ -109,7 +78,7 @@ impl JobStore for OneJob<'_> {
 impl<'c> Catalogue for OneCatalogue<'c> {
     ghost use Rattle.std.specs.Prelude.{None, ⊤};
 
-    type Jobs = OneJob<'c>;
+    type Jobs = OneCatalogue<'c>;
 
     ghost jobs_at = { λ _ _. None };
 
@@ -119,31 +88,22 @@ impl<'c> Catalogue for OneCatalogue<'c> {
 
     ghost migrates = { λ _ _ _. ⊤ };
 
-    fn open(&self, db: &str) -> Result<OneJob<'c>, CatalogueFault> {
-        if db != self.db {
+    fn open(&self, db: &str) -> Result<OneCatalogue<'c>, CatalogueFault> {
+        if db != DB {
             return Err(CatalogueFault::Unreadable);
         }
-        Ok(OneJob {
-            alloc: self.alloc,
-            second: self.second,
-        })
+        Ok(*self)
     }
 
-    fn close(&self, _jobs: OneJob<'c>) -> Result<(), CatalogueFault> {
+    fn close(&self, _jobs: OneCatalogue<'c>) -> Result<(), CatalogueFault> {
         self.closing
     }
 
-    fn load(&self, db: &str) -> Result<History, CatalogueFault> {
-        if db != self.db {
-            return Err(CatalogueFault::Unreadable);
-        }
+    fn load(&self, _db: &str) -> Result<History, CatalogueFault> {
         history_of(self.alloc, self.second).ok_or(CatalogueFault::BadCatalogue)
     }
 
-    fn migrate(&self, db: &str) -> Result<u64, CatalogueFault> {
-        if db != self.db {
-            return Err(CatalogueFault::Unreadable);
-        }
-        Ok(1)
+    fn migrate(&self, _db: &str) -> Result<u64, CatalogueFault> {
+        Err(CatalogueFault::Unreadable)
     }
 }

@@ -1,43 +1,48 @@
-//! What a refusal means, in words.
+//! What a refusal means, which lines `help` and `dir` are, and the line of a name.
+use crate::files;
+use br_dir::{Named, asked_of, push_name};
+use br_trial_rows::Case;
 use br_words::{push_with_words, push_words, refused_number};
-use std::test::Fail;
+use std::io::Write;
 
-/// What the refusal 14 means, as docs/RESTORING.md has it.
-const WORDS_OF_14: &str = "  UnknownVolume: The volume is not in the folder of volumes.
-  Next: Copy the volume into the folder under exactly the printed name, or correct `--volumes`.
-";
-
-#[test]
-fn words_of_a_number_are_those_of_the_table(rt: HostRuntime) -> Result<(), Fail> {
-    let mut text = Vec::new(rt.alloc());
-    push_words(&mut text, 14)?;
-    push_words(&mut text, 4)?;
-    assert_eq!(rt; text.as_slice(), WORDS_OF_14.as_bytes());
-    Ok(())
-}
-
-#[test]
-fn words_follow_each_line_of_a_refusal(rt: HostRuntime) -> Result<(), Fail> {
-    let mut text = Vec::new(rt.alloc());
-    push_with_words(&mut text, b"left 1 /a\nrefused 14 Vol-0001\nrefused 4\n")?;
-    let wanted = format!(in rt.alloc();
-        "left 1 /a\nrefused 14 Vol-0001\n{WORDS_OF_14}refused 4\n"
-    )?;
-    assert_eq!(rt; text.as_slice(), wanted.as_bytes());
-    Ok(())
-}
-
-#[test]
-fn the_number_of_a_refused_line_is_found(rt: HostRuntime) -> Result<(), Fail> {
-    for (line, number) in [
-        ("refused 55", Some(55)),
-        ("refused 14 Vol-0001", Some(14)),
-        ("refused", None),
-        ("refused x", None),
-        ("refused 4294967296", None),
-        (" refused 55", None),
-    ] {
-        assert_eq!(rt; refused_number(line.as_bytes()), number);
+/// Reads a number, if there is one.
+pub(crate) fn number_of(case: &mut Case, field: &str) -> Option<u64> {
+    if field == "-" {
+        return None;
     }
-    Ok(())
+    Some(case.u64_of(field))
+}
+
+/// Runs a step. Of one that gives words it prints them.
+pub(crate) fn run(case: &mut Case, rt: &HostRuntime, step: &[&str]) {
+    let mut text = Vec::new(case.alloc());
+    let is_made = match step {
+        ["words", number] => push_words(&mut text, case.u32_of(number)).is_ok(),
+        ["with_words", lines] => {
+            let lines = case.text_of(lines);
+            push_with_words(&mut text, &lines).is_ok()
+        }
+        ["number", line] => {
+            let line = case.text_of(line);
+            write!(text, "{:?}", refused_number(&line)).is_ok()
+        }
+        ["asked", line] => {
+            let line = case.text_of(line);
+            write!(text, "{:?}", asked_of(&line)).is_ok()
+        }
+        ["name", name, size, moment] => {
+            let name = case.text_of(name);
+            let named = Named {
+                name: &name,
+                size: number_of(case, size),
+                moment: number_of(case, moment),
+            };
+            push_name(case.alloc(), &mut text, &named).is_ok()
+        }
+        _ => return files::run(case, rt, step),
+    };
+    if !is_made {
+        case.fail("out of memory");
+    }
+    case.lines(&text);
 }

@@ -3,16 +3,17 @@
 //! that gave something else than wanted.
 #![tactic(auto)]
 
-mod folders;
+mod disks;
+mod given;
+mod items;
 mod joins;
-mod leaving;
-mod makers;
+mod manifests;
 mod matches;
-mod parts;
+mod printed;
 mod sinks;
+mod steps;
 mod texts;
-mod two_files;
-mod windows;
+mod trap;
 
 use br_trial_rows::{Case, Rows, fields_of};
 use std::io::{self, BufRead, BufReader};
@@ -20,16 +21,26 @@ use std::thread::Threads;
 
 /// Does what a call says and prints what it gave.
 fn run(case: &mut Case, rt: &HostRuntime, threads: &(impl Threads + Sync), fields: &[&str]) {
-    match fields {
-        ["match", call @ ..] => matches::run(case, call),
-        ["join", call @ ..] => joins::run(case, threads, call),
-        ["sink", call @ ..] => sinks::run(case, threads, call),
-        ["folder", call @ ..] => folders::run(case, rt, threads, call),
-        ["leave", call @ ..] => leaving::run(case, rt, threads, call),
-        ["window", call @ ..] => windows::run(case, rt, threads, call),
-        ["small", call @ ..] => makers::run(case, threads, call),
-        ["parts", call @ ..] => parts::run(case, call),
-        ["two", call @ ..] => two_files::run(case, rt, call),
+    let Some((name, call)) = fields.split_first() else {
+        return case.fail("there is no call");
+    };
+    match *name {
+        "match" | "failing" => matches::found(case, name, call),
+        "bare" => matches::bare(case, call),
+        "walk" => matches::walk(case, call),
+        "join" => joins::run(case, threads, call),
+        "manifest" | "length" => manifests::run(case, name, call),
+        "apart" => manifests::apart(case, call),
+        "memory" => sinks::memory(case, rt, threads, call),
+        "folder" => sinks::folder(case, rt, threads, call),
+        "resume" => sinks::resume(case, rt, threads, call),
+        "leave" => sinks::leave(case, rt, threads, call),
+        "tar" => sinks::tar(case, rt, threads, call),
+        "watch" | "disk" => {
+            if disks::run(case, rt, threads, name, call).is_err() {
+                case.fail("a folder fails");
+            }
+        }
         _ => case.fail("there is no such call"),
     }
 }

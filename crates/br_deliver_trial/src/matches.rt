@@ -1,7 +1,7 @@
 //! Which records of a volume the pieces of a bootstrap find, and how a walk over it goes.
 
 use crate::joins::push_held;
-use crate::texts::{copy_of, text_of};
+use crate::texts::text_of;
 use br_bsr::read_bootstrap;
 use br_match::{Hit, PieceFault, Walk, match_piece};
 use br_piece::{Piece, split};
@@ -12,35 +12,30 @@ use std::alloc::AllocError;
 use std::io::Write;
 
 /// Appends a volume.
-fn push_volume(case: &mut Case, volumes: &mut Vec<(VolName, Vec<u8>)>, name: &str, bytes: Vec<u8>) {
+fn push_volume(case: &mut Case, volumes: &mut Vec<(VolName, Vec<u8>)>, name: &str, bytes: &str) {
+    let bytes = text_of(case, bytes);
     if let Some(vol) = case.vol_of(name) {
         case.done(volumes.push((vol, bytes)).map_err(AllocError::from));
     }
 }
 
-/// Makes a volume V1 with these bytes, and one E without bytes.
-fn volumes_with(case: &mut Case, bytes: Vec<u8>) -> Vec<(VolName, Vec<u8>)> {
+/// Makes a drive over a volume V1 with these bytes, and one E without bytes. It fails from its `k`-th call on; `-` is
+/// one that never does.
+fn drive_of(case: &mut Case, k: &str, bytes: &str) -> MemDrive {
     let mut volumes = Vec::new(case.alloc());
     push_volume(case, &mut volumes, "V1", bytes);
-    let none = Vec::new(case.alloc());
-    push_volume(case, &mut volumes, "E", none);
-    volumes
+    push_volume(case, &mut volumes, "E", "-");
+    if k == "-" {
+        MemDrive::new(volumes)
+    } else {
+        MemDrive::failing_from(volumes, case.u64_of(k))
+    }
 }
 
-/// Makes a drive over such volumes.
-fn drive_with(case: &mut Case, bytes: Vec<u8>) -> MemDrive {
-    MemDrive::new(volumes_with(case, bytes))
-}
-
-/// Makes a drive over such volumes of a field.
-fn drive_of(case: &mut Case, bytes: &str) -> MemDrive {
-    let bytes = text_of(case, bytes);
-    drive_with(case, bytes)
-}
-
-/// Makes the pieces of a bootstrap.
-fn pieces_with(case: &mut Case, text: &[u8]) -> Vec<Piece> {
-    let Ok(bootstrap) = read_bootstrap(case.alloc(), text) else {
+/// Reads the pieces of a bootstrap.
+pub(crate) fn pieces_of(case: &mut Case, text: &str) -> Vec<Piece> {
+    let text = text_of(case, text);
+    let Ok(bootstrap) = read_bootstrap(case.alloc(), &text) else {
         case.fail("a field is no bootstrap");
         return Vec::new(case.alloc());
     };
@@ -51,83 +46,56 @@ fn pieces_with(case: &mut Case, text: &[u8]) -> Vec<Piece> {
     pieces.unwrap_or(Vec::new(case.alloc()))
 }
 
-/// Reads the pieces of a bootstrap.
-fn pieces_of(case: &mut Case, text: &str) -> Vec<Piece> {
-    let text = text_of(case, text);
-    pieces_with(case, &text)
-}
-
-/// Prints the number, the volume and the address of a refusal.
-fn push_fault(case: &mut Case, fault: &PieceFault) {
-    case.refused(fault.number());
-    match fault.vol() {
-        Some(vol) => {
-            case.text(" ");
-            case.bytes(vol.bytes());
+/// Prints the number, the volume and the address of a refusal, or what is wrong in words.
+fn push_fault(case: &mut Case, shown: &str, fault: &PieceFault) {
+    if shown == "words" {
+        if write!(case.out(), "{fault}; ").is_err() {
+            case.fail("out of memory");
         }
-        None => case.text(" none"),
+        return;
+    }
+    case.refused(fault.number());
+    case.text(" ");
+    if let Some(vol) = fault.vol() {
+        case.bytes(vol.bytes());
     }
     case.text(" ");
     case.number_or_none(fault.addr());
     case.text(" ");
 }
 
-/// Prints group, address and ordinal of a hit.
-fn push_spot(case: &mut Case, hit: &Hit) {
-    let spot = hit.spot;
-    if write!(case.out(), "{}:{}:{} ", spot.group, spot.addr, spot.ordinal).is_err() {
-        case.fail("out of memory");
-    }
-}
-
-/// Prints session, index, stream, size and bytes of a hit.
-fn push_record(case: &mut Case, hit: &Hit) {
-    case.numbers(&[
-        i64::from(hit.key.session.id),
-        i64::from(hit.key.session.time),
-        i64::from(hit.key.index.get()),
-        i64::from(hit.stream),
-        i64::from(hit.size),
-    ]);
-    push_held(case, hit);
-}
-
-/// Prints the index of a hit, which is the record of that number.
-fn push_index(case: &mut Case, hit: &Hit) {
-    let index = u64::from(hit.key.index.get());
-    if u64::from(hit.spot.ordinal).saturating_add(1) != index {
-        case.fail("a hit is another record");
-    }
-    case.number(index);
-    case.text(" ");
-}
-
-/// What is printed of hits.
-#[derive(Clone, Copy)]
-enum Shown {
-    Spots,
-    Records,
-    Indexes,
-}
-
-/// Prints a hit.
-fn push_hit(case: &mut Case, shown: Shown, hit: &Hit) {
+/// Prints of a hit its `spots`, group, address and ordinal; its `records`, session, index, stream, size and bytes; or
+/// its `indexes`, of a hit that is the record of that number.
+fn push_hit(case: &mut Case, shown: &str, hit: &Hit) {
+    let (spot, key) = (hit.spot, hit.key);
+    let index = i64::from(key.index.get());
     match shown {
-        Shown::Spots => push_spot(case, hit),
-        Shown::Records => push_record(case, hit),
-        Shown::Indexes => push_index(case, hit),
-    }
-}
-
-/// Prints hits.
-fn push_hits(case: &mut Case, shown: Shown, hits: &[Hit]) {
-    for hit in hits {
-        push_hit(case, shown, hit);
+        "spots" => {
+            if write!(case.out(), "{}:{}:{} ", spot.group, spot.addr, spot.ordinal).is_err() {
+                case.fail("out of memory");
+            }
+        }
+        "records" => {
+            case.numbers(&[
+                i64::from(key.session.id),
+                i64::from(key.session.time),
+                index,
+            ]);
+            case.numbers(&[i64::from(hit.stream), i64::from(hit.size)]);
+            push_held(case, hit);
+        }
+        "indexes" => {
+            if i64::from(spot.ordinal).saturating_add(1) != index {
+                case.fail("a hit is another record");
+            }
+            case.numbers(&[index]);
+        }
+        _ => {}
     }
 }
 
 /// Prints the number of a piece and what it finds.
-fn push_piece(case: &mut Case, shown: Shown, drive: &mut MemDrive, piece: &Piece) {
+fn push_piece(case: &mut Case, shown: &str, drive: &mut MemDrive, piece: &Piece) {
     match match_piece(case.alloc(), piece, drive) {
         Ok(found) => {
             if found.piece != piece.number {
@@ -135,29 +103,37 @@ fn push_piece(case: &mut Case, shown: Shown, drive: &mut MemDrive, piece: &Piece
             }
             case.number(u64::from(found.piece));
             case.text(": ");
-            push_hits(case, shown, &found.hits);
+            for hit in &found.hits {
+                push_hit(case, shown, hit);
+            }
         }
-        Err(fault) => push_fault(case, &fault),
+        Err(fault) => push_fault(case, shown, &fault),
     }
 }
 
-/// Prints what pieces find on one drive.
-fn push_pieces(case: &mut Case, shown: Shown, drive: &mut MemDrive, pieces: &[Piece]) {
-    for piece in pieces {
-        push_piece(case, shown, drive, piece);
+/// Prints what the pieces of a bootstrap find; of `bytes` the number that a drive gives, and of `failing K` the spots
+/// on one that fails.
+pub(crate) fn found(case: &mut Case, name: &str, call: &[&str]) {
+    let [first, bytes, text] = call else {
+        return case.fail("a call has another number of fields");
+    };
+    let k = if name == "failing" { *first } else { "-" };
+    let shown = if name == "failing" { "spots" } else { *first };
+    let mut drive = drive_of(case, k, bytes);
+    for piece in &pieces_of(case, text) {
+        push_piece(case, shown, &mut drive, piece);
     }
-}
-
-/// Prints what the pieces of a bootstrap find.
-fn found(case: &mut Case, shown: Shown, bytes: &str, text: &str) {
-    let mut drive = drive_of(case, bytes);
-    let pieces = pieces_of(case, text);
-    push_pieces(case, shown, &mut drive, &pieces);
+    if shown == "bytes" {
+        case.number(drive.bytes_read());
+    }
 }
 
 /// Prints what a piece 3 of V1 without groups finds.
-fn bare(case: &mut Case, bytes: &str) {
-    let mut drive = drive_of(case, bytes);
+pub(crate) fn bare(case: &mut Case, call: &[&str]) {
+    let [bytes] = call else {
+        return case.fail("a call has another number of fields");
+    };
+    let mut drive = drive_of(case, "-", bytes);
     if let Some(vol) = case.vol_of("V1") {
         let groups = Vec::new(case.alloc());
         let piece = Piece {
@@ -165,72 +141,7 @@ fn bare(case: &mut Case, bytes: &str) {
             vol,
             groups,
         };
-        push_piece(case, Shown::Spots, &mut drive, &piece);
-    }
-}
-
-/// Returns whether a piece is refused since the first block of V1 is cut off.
-fn is_cut_off(case: &mut Case, piece: &Piece, bytes: &[u8]) -> bool {
-    let bytes = copy_of(case, bytes);
-    let mut drive = drive_with(case, bytes);
-    match match_piece(case.alloc(), piece, &mut drive) {
-        Ok(_found) => false,
-        Err(fault) => is_truncated(&fault),
-    }
-}
-
-/// Returns whether a fault is that the block at address 0 of V1 is cut off.
-fn is_truncated(fault: &PieceFault) -> bool {
-    match fault.vol() {
-        Some(vol) => {
-            fault.number() == 12 && fault.addr() == Some(0) && vol.bytes() == b"V1".as_slice()
-        }
-        None => false,
-    }
-}
-
-/// Returns how many of the volumes that bytes begin with, themselves and none left out, a piece
-/// refuses as cut off.
-fn cuts_of(case: &mut Case, piece: &Piece, bytes: &[u8]) -> u64 {
-    let mut count = 0u64;
-    for len in 1..bytes.len() {
-        if is_cut_off(case, piece, &bytes[..len]) {
-            count = count.saturating_add(1);
-        }
-    }
-    count
-}
-
-/// Returns whether a drive that fails from its `k`-th call on matches a piece.
-fn is_matched(case: &mut Case, piece: &Piece, bytes: &[u8], k: u64) -> bool {
-    let bytes = copy_of(case, bytes);
-    let mut drive = MemDrive::failing_from(volumes_with(case, bytes), k);
-    match_piece(case.alloc(), piece, &mut drive).is_ok()
-}
-
-/// Returns the number of calls of the drive that a piece takes, if it is not refused.
-fn calls_of(case: &mut Case, piece: &Piece, bytes: &[u8]) -> Option<u64> {
-    for calls in 0..20 {
-        if is_matched(case, piece, bytes, calls + 1) {
-            return Some(calls);
-        }
-    }
-    None
-}
-
-/// Runs a walk from an address on. Prints of five calls the number of hits, and the address after
-/// each.
-fn push_steps(case: &mut Case, piece: &Piece, bytes: &[u8], addr: u64) {
-    let bytes = copy_of(case, bytes);
-    let mut drive = drive_with(case, bytes);
-    match Walk::resume(case.alloc(), piece, addr) {
-        Ok(walk) => {
-            let mut walk = walk;
-            for _ in 0..5 {
-                push_step(case, &mut walk, &mut drive);
-            }
-        }
-        Err(_fault) => case.fail("out of memory"),
+        push_piece(case, "spots", &mut drive, &piece);
     }
 }
 
@@ -247,118 +158,36 @@ fn push_step(case: &mut Case, walk: &mut Walk<'_>, drive: &mut MemDrive) {
     case.text(" ");
 }
 
-/// Prints the address at which a new walk begins.
-fn push_begin(case: &mut Case, piece: &Piece) {
-    match Walk::new(case.alloc(), piece) {
-        Ok(walk) => case.number(walk.addr()),
+/// Runs a walk from an address on, or a new one. Prints of five calls the number of hits, and the address before the
+/// first and after each.
+fn push_walk(case: &mut Case, from: &str, drive: &mut MemDrive, piece: &Piece) {
+    let walk = match from {
+        "new" => Walk::new(case.alloc(), piece),
+        addr => Walk::resume(case.alloc(), piece, case.u64_of(addr)),
+    };
+    match walk {
+        Ok(walk) => {
+            let mut walk = walk;
+            case.text("@");
+            case.number(walk.addr());
+            case.text(" ");
+            for _ in 0..5 {
+                push_step(case, &mut walk, drive);
+            }
+        }
         Err(_fault) => case.fail("out of memory"),
     }
 }
 
-/// Does with the first piece of a bootstrap, over V1 with these bytes, what a call says.
-fn push_first(case: &mut Case, call: &str, piece: &Piece, bytes: &[u8]) {
-    match call {
-        "cuts" => {
-            let count = cuts_of(case, piece, bytes);
-            case.number(count);
-        }
-        "calls" => {
-            let calls = calls_of(case, piece, bytes);
-            case.number_or_none(calls);
-        }
-        "begin" => push_begin(case, piece),
-        _ => {
-            let addr = case.u64_of(call);
-            push_steps(case, piece, bytes, addr);
-        }
-    }
-}
-
-/// Does with the first piece of a bootstrap what a call says.
-fn first(case: &mut Case, call: &str, bytes: &str, text: &str) {
-    let bytes = text_of(case, bytes);
+/// Runs a walk by the first piece of a bootstrap.
+pub(crate) fn walk(case: &mut Case, call: &[&str]) {
+    let [from, bytes, text] = call else {
+        return case.fail("a call has another number of fields");
+    };
+    let mut drive = drive_of(case, "-", bytes);
     let pieces = pieces_of(case, text);
     match pieces.first() {
-        Some(piece) => push_first(case, call, piece, &bytes),
+        Some(piece) => push_walk(case, from, &mut drive, piece),
         None => case.fail("there is no piece"),
-    }
-}
-
-/// Prints how many bytes a drive gives for the pieces of a bootstrap, of which one may be refused.
-fn count_bytes(case: &mut Case, bytes: &str, text: &str) {
-    let mut drive = drive_of(case, bytes);
-    for piece in &pieces_of(case, text) {
-        let _found = match_piece(case.alloc(), piece, &mut drive);
-    }
-    case.number(drive.bytes_read());
-}
-
-/// Prints what the pieces of a bootstrap find on a drive that fails from its `k`-th call on.
-fn failing(case: &mut Case, k: &str, bytes: &str, text: &str) {
-    let k = case.u64_of(k);
-    let bytes = text_of(case, bytes);
-    let mut drive = MemDrive::failing_from(volumes_with(case, bytes), k);
-    let pieces = pieces_of(case, text);
-    push_pieces(case, Shown::Spots, &mut drive, &pieces);
-}
-
-/// Makes a block of session 1, 100 with 100 records of stream 2 without data, of the files 1 to 100.
-fn block_of_100(case: &mut Case) -> Vec<u8> {
-    let mut bytes = text_of(case, "#00000000000004c8+$rest");
-    for index in 1..101u8 {
-        case.done(bytes.extend_from_slice(&[0, 0, 0, index, 0, 0, 0, 2, 0, 0, 0, 0]));
-    }
-    bytes
-}
-
-/// Makes a bootstrap of V1 with the files 6000, 5997 and on to 3.
-fn thirds(case: &mut Case) -> Vec<u8> {
-    let mut text = text_of(case, "Volume=V1|");
-    for n in 0..2000u32 {
-        if write!(text, "FileIndex={}\n", 6000 - 3 * n).is_err() {
-            case.fail("out of memory");
-        }
-    }
-    text
-}
-
-/// Prints the indexes that a bootstrap finds in the block of 100 records.
-fn hundred(case: &mut Case, text: &str) {
-    let bytes = block_of_100(case);
-    let mut drive = drive_with(case, bytes);
-    let text = if text == "thirds" {
-        thirds(case)
-    } else {
-        text_of(case, text)
-    };
-    let pieces = pieces_with(case, &text);
-    push_pieces(case, Shown::Indexes, &mut drive, &pieces);
-}
-
-/// Prints the messages of the refusals of a bootstrap's pieces.
-fn messages(case: &mut Case, bytes: &str, text: &str) {
-    let mut drive = drive_of(case, bytes);
-    for piece in &pieces_of(case, text) {
-        if let Err(fault) = match_piece(case.alloc(), piece, &mut drive)
-            && write!(case.out(), "{fault}; ").is_err()
-        {
-            case.fail("out of memory");
-        }
-    }
-}
-
-/// Runs a call.
-pub(crate) fn run(case: &mut Case, call: &[&str]) {
-    match call {
-        ["spots", bytes, text] => found(case, Shown::Spots, bytes, text),
-        ["records", bytes, text] => found(case, Shown::Records, bytes, text),
-        ["bare", bytes] => bare(case, bytes),
-        ["first", call, bytes, text] => first(case, call, bytes, text),
-        ["bytes", bytes, text] => count_bytes(case, bytes, text),
-        ["failing", k, bytes, text] => failing(case, k, bytes, text),
-        ["hundred", text] => hundred(case, text),
-        ["messages", bytes, text] => messages(case, bytes, text),
-        ["memory"] => push_fault(case, &PieceFault::Memory),
-        _ => case.fail("there is no such call"),
     }
 }

@@ -1,4 +1,5 @@
-//! Fields that are texts of lines, in which a part `$NAME` is the bytes of that name.
+//! Fields that are texts of lines, in which a part `$NAME` is the bytes of that name, and those of a part `#DIGITS` are
+//! not changed.
 
 use br_trial_rows::Case;
 
@@ -22,6 +23,9 @@ static SECOND: &[u8] = b"2 3 /b\0A A IGk B A A A O A A A A A A\0\0";
 /// The attributes of a directory /d/, as file 1.
 static DIRECTORY: &[u8] = b"1 5 /d/\0A A IGk B A A A F A A A A A A\0\0";
 
+/// The attributes of a file of size 14, after its path.
+static REMAINDER: &[u8] = b"\0A A IGk B A A A O A A A A A A\0\0";
+
 /// Returns the bytes of a name.
 fn named(case: &mut Case, name: &str) -> &'static [u8] {
     match name {
@@ -31,6 +35,7 @@ fn named(case: &mut Case, name: &str) -> &'static [u8] {
         "first" => FIRST,
         "second" => SECOND,
         "directory" => DIRECTORY,
+        "remainder" => REMAINDER,
         _ => {
             case.fail("a field has no name of bytes");
             b""
@@ -40,9 +45,12 @@ fn named(case: &mut Case, name: &str) -> &'static [u8] {
 
 /// Appends a part of a text.
 fn push_part(case: &mut Case, text: &mut Vec<u8>, part: &str) {
-    let done = match part.strip_prefix('$') {
-        Some(name) => text.extend_from_slice(named(case, name)),
-        None => text.extend_from_slice(&case.text_of(part)),
+    let done = if let Some(name) = part.strip_prefix('$') {
+        text.extend_from_slice(named(case, name))
+    } else if part.starts_with('#') {
+        text.extend_from_slice(&case.bytes_of(part))
+    } else {
+        text.extend_from_slice(&case.text_of(part))
     };
     case.done(done);
 }
@@ -54,11 +62,4 @@ pub(crate) fn text_of(case: &mut Case, field: &str) -> Vec<u8> {
         push_part(case, &mut text, part);
     }
     text
-}
-
-/// Copies bytes.
-pub(crate) fn copy_of(case: &mut Case, bytes: &[u8]) -> Vec<u8> {
-    let mut copy = Vec::new(case.alloc());
-    case.done(copy.extend_from_slice(bytes));
-    copy
 }

@@ -1,6 +1,7 @@
 //! Which numbers seats draw, in turn and in threads.
 ghost use Rattle.std.specs.Prelude.{◌≡◌, true};
 
+use crate::streams::shown;
 use br_claim::{ClaimFault, ClaimSeat, Claims};
 use br_trial_rows::Case;
 use std::alloc::{AllocError, Global};
@@ -15,27 +16,6 @@ fn draw(case: &mut Case, claims: &Claims, seat: &mut ClaimSeat)
     let drawn = claims.draw(seat);
     case.number_or_none(drawn.map(|number| u64::from(number)));
     case.text(" ");
-}
-
-/// Prints the number of lists, and the numbers of each.
-fn push_lists(case: &mut Case, lists: &[Vec<u32>]) {
-    case.number(lists.len() as u64);
-    case.text(" lists ");
-    for list in lists {
-        case.text("| ");
-        for number in list {
-            case.number(u64::from(*number));
-            case.text(" ");
-        }
-    }
-}
-
-/// Prints the numbers that seats drew, or why they are not gathered.
-fn push_gathered(case: &mut Case, gathered: Result<Vec<Vec<u32>>, ClaimFault>) {
-    match gathered {
-        Ok(lists) => push_lists(case, &lists),
-        Err(fault) => case.refused(fault.number()),
-    }
 }
 
 /// Returns the numbers that two seats drew.
@@ -63,33 +43,20 @@ fn in_turn(case: &mut Case, n: u32) -> Result<(), AllocError> {
     draw(case, &claims, &mut s);
     draw(case, &claims, &mut t);
     draw(case, &claims, &mut s);
-    push_gathered(case, gathered(case.alloc(), claims, s, t));
+    let gathered = gathered(case.alloc(), claims, s, t).map_err(|fault| fault.number());
+    shown(case, &gathered);
     Ok(())
 }
 
-/// Prints why claims of `n` numbers are refused of which a seat is missing.
+/// Prints by which number claims of `n` numbers are refused of which a seat is missing.
 fn missing(case: &mut Case, n: u32) -> Result<(), AllocError> {
     let mut claims = Claims::new(case.alloc(), n)?;
     let s = claims.seat()?;
     let t = claims.seat()?;
     drop(t);
     let seats = Vec::from_array(case.alloc(), [s])?;
-    push_gathered(case, claims.gather(seats));
-    Ok(())
-}
-
-/// Prints what the first draw of `n` numbers gives.
-fn first(case: &mut Case, n: u32) -> Result<(), AllocError> {
-    let mut claims = Claims::new(case.alloc(), n)?;
-    let mut seat = claims.seat()?;
-    draw(case, &claims, &mut seat);
-    Ok(())
-}
-
-/// Prints what claims of `n` numbers give without a seat.
-fn no_seat(case: &mut Case, n: u32) -> Result<(), AllocError> {
-    let claims = Claims::new(case.alloc(), n)?;
-    push_gathered(case, claims.gather(Vec::new(case.alloc())));
+    let gathered = claims.gather(seats).map_err(|fault| fault.number());
+    shown(case, &gathered);
     Ok(())
 }
 
@@ -131,43 +98,30 @@ fn are_all_below(n: u32, numbers: &[u32]) -> bool {
     numbers.len() == n as usize && (0..n).all(|x| numbers.get(x as usize).copied() == Some(x))
 }
 
-/// Prints whether these lists have each number below `n` once.
-fn push_merged(case: &mut Case, n: u32, lists: &[Vec<u32>]) {
-    match merged(case.alloc(), lists) {
-        Ok(all) => case.test(are_all_below(n, &all)),
-        Err(_fault) => case.fail("out of memory"),
-    }
-}
-
 /// Prints whether two threads draw each number below `n` once.
-fn in_threads(case: &mut Case, threads: &(impl Threads + Wait + Sync), n: u32) {
-    match shared_out(threads, case.alloc(), n) {
-        Ok(Ok(lists)) => push_merged(case, n, &lists),
-        _ => case.fail("out of memory"),
+fn in_threads(
+    case: &mut Case,
+    threads: &(impl Threads + Wait + Sync),
+    n: u32,
+) -> Result<(), AllocError> {
+    if let Ok(lists) = shared_out(threads, case.alloc(), n)? {
+        let all = merged(case.alloc(), &lists)?;
+        case.test(are_all_below(n, &all));
     }
-}
-
-/// Runs a call without threads.
-fn run_alone(case: &mut Case, call: &str, n: u32) {
-    let done = match call {
-        "turns" => in_turn(case, n),
-        "missing" => missing(case, n),
-        "first" => first(case, n),
-        _ => no_seat(case, n),
-    };
-    case.done(done);
+    Ok(())
 }
 
 /// Runs a call of this number of numbers.
 pub(crate) fn run(case: &mut Case, threads: &(impl Threads + Wait + Sync), call: &[&str]) {
     match call {
-        ["threads", n] => {
-            let n = case.u32_of(n);
-            in_threads(case, threads, n);
-        }
         [call, n] => {
             let n = case.u32_of(n);
-            run_alone(case, call, n);
+            let done = match *call {
+                "turns" => in_turn(case, n),
+                "missing" => missing(case, n),
+                _ => in_threads(case, threads, n),
+            };
+            case.done(done);
         }
         _ => case.fail("there is no such call"),
     }

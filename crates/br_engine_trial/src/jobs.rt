@@ -1,54 +1,48 @@
-//! Jobs of a client `mars` and a file set `home`, as fields.
+//! The jobs of a client `mars` and a file set `home`, as a field, and what a console is asked over
+//! them.
 //!
-//! The files of a job are `PATH,INDEX` with `;` between them; `-` is none. Each has three bytes.
+//! Jobs have `+` between them: a Full, and Incrementals after it. The files of a job are
+//! `PATH,INDEX` with `;` between them; `-` is none. Each has three bytes. All of them are on a volume
+//! V.
 
-use br_history::{FileRow, JobRow, JobRows};
+use crate::restores::drives_of;
+use br_history::{FileRow, History, JobRow, JobRows};
+use br_plan::Request;
 use br_session::Span;
 use br_trial_rows::Case;
 use br_types::{JobId, Letter, Name, Path, SessionKey};
+use br_volume::MemDrive;
 use std::alloc::AllocError;
 
-/// Reads a name.
-pub(crate) fn name_of(case: &mut Case, field: &str) -> Option<Name> {
-    let name = Name::new(case.alloc(), field.as_bytes()).ok();
-    if name.is_none() {
-        case.fail("a field is no name");
-    }
-    name
+/// What a console is asked: the jobs, which of them to choose, and the drives.
+#[derive(Drop)]
+pub(crate) struct Asked {
+    pub(crate) history: History,
+    pub(crate) request: Request,
+    pub(crate) drives: Vec<MemDrive>,
 }
 
-/// Reads a path.
-pub(crate) fn path_of(case: &mut Case, field: &str) -> Option<Path> {
-    let path = Path::new(case.alloc(), field.as_bytes()).ok();
-    if path.is_none() {
-        case.fail("a field is no path");
-    }
-    path
-}
-
-/// Returns the row of a good backup of this number, level and start.
-pub(crate) fn row_of(case: &mut Case, id: u32, level: u8, start: u64) -> Option<JobRow> {
+/// Makes the row of a good backup of this number: of a Full, or of an Incremental above 1.
+fn row_of(case: &mut Case, id: u32) -> Option<JobRow> {
     Some(JobRow {
         id: JobId::new(id)?,
         kind: Letter::new(b'B')?,
-        level: Letter::new(level)?,
+        level: Letter::new(if id == 1 { b'F' } else { b'I' })?,
         status: Letter::new(b'T')?,
-        start,
+        start: 100 * u64::from(id),
         session: SessionKey { id, time: 7 },
-        client: name_of(case, "mars")?,
-        fileset: name_of(case, "home")?,
+        client: Name::new(case.alloc(), b"mars").ok()?,
+        fileset: Name::new(case.alloc(), b"home").ok()?,
     })
 }
 
 /// Reads the row of a file.
 fn file_of(case: &mut Case, field: &str) -> Option<FileRow> {
     let (path, index) = case.split(field, ',');
-    let index = case.u32_of(index);
-    let lstat = String::from_str(case.alloc(), "A A IGk B A A A D A A A A A A").ok()?;
     Some(FileRow {
-        path: path_of(case, path)?,
-        index,
-        lstat,
+        index: case.u32_of(index),
+        path: Path::new(case.alloc(), path.as_bytes()).ok()?,
+        lstat: String::from_str(case.alloc(), "A A IGk B A A A D A A A A A A").ok()?,
         md5: None,
     })
 }
@@ -60,31 +54,66 @@ fn files_of(case: &mut Case, field: &str) -> Vec<FileRow> {
         return files;
     }
     for part in field.split(';') {
-        if let Some(file) = file_of(case, part) {
-            case.done(files.push(file).map_err(AllocError::from));
+        match file_of(case, part) {
+            Some(file) => case.done(files.push(file).map_err(AllocError::from)),
+            None => case.fail("a field is no file"),
         }
     }
     files
 }
 
-/// Makes the job of a row with these files and spans.
-pub(crate) fn job_with(
-    case: &mut Case,
-    row: JobRow,
-    files: &str,
-    spans: Vec<Span>,
-) -> Option<JobRows> {
-    let job = JobRows::new(row, files_of(case, files), spans).ok();
-    if job.is_none() {
-        case.fail("the rows of a job are refused");
-    }
-    job
+/// Makes the span of four files in the first bytes of the volume V, up to the byte `end`.
+fn spans_of(case: &mut Case, end: u64) -> Option<Vec<Span>> {
+    let span = Span {
+        vol: case.vol_of("V")?,
+        first: 1,
+        last: 4,
+        start: 0,
+        end,
+        vol_index: 1,
+    };
+    Vec::from_array(case.alloc(), [span]).ok()
 }
 
-/// Makes a Full with these files, or an Incremental if the number is above 1.
-pub(crate) fn job_of(case: &mut Case, id: u32, files: &str) -> Option<JobRows> {
-    let level = if id == 1 { b'F' } else { b'I' };
-    let row = row_of(case, id, level, 100 * u64::from(id))?;
-    let spans = Vec::new(case.alloc());
-    job_with(case, row, files, spans)
+/// Makes a job of these files.
+fn job_of(case: &mut Case, id: u32, files: &str, end: u64) -> Option<JobRows> {
+    let row = row_of(case, id)?;
+    let spans = spans_of(case, end)?;
+    JobRows::new(row, files_of(case, files), spans).ok()
+}
+
+/// Makes the history of jobs.
+fn history_of(case: &mut Case, jobs: &str, end: u64) -> History {
+    let mut history = History::new(case.alloc());
+    let mut id = 0u32;
+    for files in jobs.split('+') {
+        id = id.saturating_add(1);
+        let is_pushed = match job_of(case, id, files, end) {
+            Some(job) => history.push(job).is_ok(),
+            None => false,
+        };
+        if !is_pushed {
+            case.fail("a job is refused");
+        }
+    }
+    history
+}
+
+/// Makes the request for jobs of `mars` and `home` before the moment 1000.
+fn request_of(case: &mut Case) -> Option<Request> {
+    Some(Request {
+        client: Name::new(case.alloc(), b"mars").ok()?,
+        fileset: Name::new(case.alloc(), b"home").ok()?,
+        moment: 1000,
+    })
+}
+
+/// Makes what a console is asked over jobs, and drives that show this block.
+pub(crate) fn asked_of(case: &mut Case, jobs: &str, drives: &str, block: &[u8]) -> Option<Asked> {
+    let end = (block.len() as u64).saturating_sub(1);
+    Some(Asked {
+        history: history_of(case, jobs, end),
+        request: request_of(case)?,
+        drives: drives_of(case, drives, block),
+    })
 }

@@ -6,35 +6,22 @@
 mod claims;
 mod consoles;
 mod jobs;
-mod orders;
 mod restores;
 mod scripts;
-mod sessions;
 mod streams;
-mod texts;
-mod whole;
 
 use br_trial_rows::{Case, Rows, fields_of};
-use std::fs::File;
-use std::io::{self, BufRead, BufReader, BufWriter, Read, Write};
-use std::rt::Files;
+use std::io::{self, BufReader, Read, Write};
 use std::sync::Wait;
 use std::thread::Threads;
 
 /// Does what a call says and prints what it gave.
-fn run(
-    case: &mut Case,
-    rt: &HostRuntime,
-    threads: &(impl Files<File = File> + AllocGlobal + Threads + Wait + Sync),
-    fields: &[&str],
-) {
+fn run(case: &mut Case, threads: &(impl Threads + Wait + Sync), fields: &[&str]) {
     match fields {
         ["script", call @ ..] => scripts::run(case, threads, call),
-        ["session", call @ ..] => sessions::run(case, call),
         ["restore", call @ ..] => restores::run(case, threads, call),
         ["console", call @ ..] => consoles::run(case, threads, call),
         ["claims", call @ ..] => claims::run(case, threads, call),
-        ["saved", call @ ..] => orders::run(case, rt, threads, call),
         _ => case.fail("there is no such call"),
     }
 }
@@ -42,7 +29,7 @@ fn run(
 /// Runs the row of a line, if it has one.
 fn run_line(
     rt: &HostRuntime,
-    threads: &(impl Files<File = File> + AllocGlobal + Threads + Wait + Sync),
+    threads: &(impl Threads + Wait + Sync),
     rows: &mut Rows,
     line: &str,
 ) -> io::Result<()> {
@@ -51,7 +38,7 @@ fn run_line(
     };
     let mut case = Case::new(rt.alloc());
     match fields_of(rt.alloc(), row.call) {
-        Ok(fields) => run(&mut case, rt, threads, &fields),
+        Ok(fields) => run(&mut case, threads, &fields),
         Err(_fault) => case.fail("out of memory"),
     }
     rows.compare(rt, row, &case)
@@ -60,37 +47,40 @@ fn run_line(
 /// Runs the rows of a text, and prints those that do not hold.
 fn run_rows(
     rt: &HostRuntime,
-    threads: &(impl Files<File = File> + AllocGlobal + Threads + Wait + Sync),
-    text: &[u8],
+    threads: &(impl Threads + Wait + Sync),
+    text: &str,
 ) -> io::Result<()> {
     let mut rows = Rows::new(rt.alloc());
-    for line in text.lines(rt.alloc()) {
-        run_line(rt, threads, &mut rows, line?.as_str())?;
+    for line in text.lines() {
+        run_line(rt, threads, &mut rows, line)?;
     }
     rows.end(rt)
 }
 
-/// Runs the scripts of a text, in as many threads as `threads` starts.
-fn run_scripts(
+/// Runs a script that follows its name, and prints what it gives.
+fn run_script(
     rt: &HostRuntime,
     threads: &(impl Threads + Wait + Sync),
-    text: &[u8],
+    part: &str,
 ) -> io::Result<()> {
-    let mut writer = BufWriter::new(rt.alloc(), io::writer(rt))?;
-    whole::run_all(threads, rt.alloc(), text, &mut writer)?;
-    writer.flush()
-}
-
-/// Reads standard input to its end.
-fn input_of(rt: &HostRuntime) -> io::Result<Vec<u8>> {
-    let mut text = Vec::new(rt.alloc());
-    BufReader::new(rt.alloc(), rt.reader())?.read_to_end(&mut text)?;
-    Ok(text)
+    let mut case = Case::new(rt.alloc());
+    scripts::run_whole(&mut case, threads, part);
+    io::writer(rt).write_all(case.gave())?;
+    match case.fault() {
+        Some(fault) => println!(rt; "failed: {fault}"),
+        None => Ok(()),
+    }
 }
 
 fn main(rt: HostRuntime) -> io::Result<()> {
-    let text = input_of(&rt)?;
-    let (rows, scripts) = whole::parts_of(&text);
-    run_rows(&rt, &rt, rows)?;
-    run_scripts(&rt, &rt, scripts)
+    let mut text = String::new(rt.alloc());
+    BufReader::new(rt.alloc(), rt.reader())?.read_to_string(&mut text)?;
+    let mut parts = text.as_str().split('@');
+    if let Some(rows) = parts.next() {
+        run_rows(&rt, &rt, rows)?;
+    }
+    for part in parts {
+        run_script(&rt, &rt, part)?;
+    }
+    Ok(())
 }

@@ -1,72 +1,129 @@
-//! Streams that fail, and the kinds of their errors.
+//! Streams that give a text slowly or fail after it, streams that fail to take one, and how what a
+//! call returned is printed.
 
 use br_trial_rows::Case;
-use std::io::{self, Error, ErrorKind, Read, Write};
+use std::fmt::Debug;
+use std::io::{self, BufReader, Error, ErrorKind, Read, Write};
 
-/// A stream that can be neither read nor written, with the kind of its errors.
+/// A stream that gives a text, at most `step` bytes at a time. After it, reading fails if there is a
+/// kind of error.
 #[derive(Drop)]
-pub(crate) struct Broken(pub(crate) ErrorKind);
+pub(crate) struct Source<'t> {
+    pub(crate) left: &'t [u8],
+    step: usize,
+    fault: Option<ErrorKind>,
+}
 
-impl Read for Broken {
-    fn read(&mut self, _buf: &mut [u8]) -> io::Result<usize> {
-        Err(Error::new(self.0, "broken"))
+impl Read for Source<'_> {
+    fn read(&mut self, buf: &mut [u8]) -> io::Result<usize> {
+        match self.fault {
+            Some(kind) if self.left.is_empty() => Err(Error::new(kind, "broken")),
+            _ => {
+                let count = buf.len().min(self.step);
+                self.left.read(&mut buf[..count])
+            }
+        }
     }
 }
 
-impl Write for Broken {
-    fn write(&mut self, _buf: &[u8]) -> io::Result<usize> {
-        Err(Error::new(self.0, "broken"))
-    }
-
-    fn flush(&mut self) -> io::Result<()> {
-        Ok(())
-    }
+/// A stream that takes a text. A write fails if there is a kind of error. It can be flushed
+/// `flushes` times, and its first `shown` bytes were flushed.
+#[derive(Drop)]
+pub(crate) struct Target {
+    pub(crate) text: Vec<u8>,
+    shown: usize,
+    flushes: u32,
+    fault: Option<ErrorKind>,
 }
 
-/// A stream that takes bytes and can be flushed this number of times.
-#[derive(Drop)]
-pub(crate) struct Clogging(pub(crate) u32);
-
-impl Write for Clogging {
+impl Write for Target {
     fn write(&mut self, buf: &[u8]) -> io::Result<usize> {
-        Ok(buf.len())
+        match self.fault {
+            Some(kind) => Err(Error::new(kind, "broken")),
+            None => self.text.write(buf),
+        }
     }
 
     fn flush(&mut self) -> io::Result<()> {
-        if self.0 == 0 {
+        if self.flushes == 0 {
             return Err(Error::new(ErrorKind::BrokenPipe, "clogged"));
         }
-        self.0 -= 1;
+        self.flushes -= 1;
+        self.shown = self.text.len();
         Ok(())
-    }
-}
-
-/// A stream that gives one byte at a time.
-#[derive(Drop)]
-pub(crate) struct Drip<'t> {
-    pub(crate) left: &'t [u8],
-}
-
-impl Read for Drip<'_> {
-    fn read(&mut self, buf: &mut [u8]) -> io::Result<usize> {
-        let count = buf.len().min(1);
-        self.left.read(&mut buf[..count])
     }
 }
 
 /// Returns the kind of error that a word names.
-pub(crate) fn kind_of(word: &str) -> ErrorKind {
+fn kind_of(case: &mut Case, word: &str) -> ErrorKind {
     match word {
+        "pipe" => ErrorKind::BrokenPipe,
         "memory" => ErrorKind::OutOfMemory,
-        _ => ErrorKind::BrokenPipe,
+        _ => {
+            case.fail("a field names no error");
+            ErrorKind::Other
+        }
     }
 }
 
-/// Prints the kind of an error.
-pub(crate) fn push_kind(case: &mut Case, kind: ErrorKind) {
-    case.text(match kind {
-        ErrorKind::BrokenPipe => "BrokenPipe",
-        ErrorKind::OutOfMemory => "OutOfMemory",
-        _ => "another error",
-    });
+/// Returns a stream that gives a text: `whole`, or `slow`, a byte at a time, or one that fails after
+/// it with the error of this name.
+pub(crate) fn source_of<'t>(case: &mut Case, way: &str, text: &'t [u8]) -> Source<'t> {
+    let (step, fault) = match way {
+        "whole" => (usize::MAX, None),
+        "slow" => (1, None),
+        _ => (usize::MAX, Some(kind_of(case, way))),
+    };
+    Source {
+        left: text,
+        step,
+        fault,
+    }
+}
+
+/// Makes the reader of such a stream.
+pub(crate) fn reader_of<'t>(
+    case: &mut Case,
+    way: &str,
+    text: &'t [u8],
+) -> Option<BufReader<Source<'t>>> {
+    let source = source_of(case, way, text);
+    let reader = BufReader::new(case.alloc(), source).ok();
+    if reader.is_none() {
+        case.fail("out of memory");
+    }
+    reader
+}
+
+/// Makes a stream that holds a text. After `!` in the field comes the error with which it fails, or
+/// how often it can be flushed.
+pub(crate) fn target_of(case: &mut Case, field: &str) -> Target {
+    let (text, fault) = field.split_once('!').unwrap_or((field, ""));
+    let text = case.text_of(text);
+    let (flushes, fault) = match fault {
+        "" => (u32::MAX, None),
+        "pipe" | "memory" => (u32::MAX, Some(kind_of(case, fault))),
+        _ => (case.u32_of(fault), None),
+    };
+    Target {
+        shown: text.len(),
+        text,
+        flushes,
+        fault,
+    }
+}
+
+/// Prints what was flushed of a text, or its length if that is above 4,096.
+pub(crate) fn push_target(case: &mut Case, target: &Target) {
+    match target.text.get(..target.shown) {
+        Some(text) if text.len() <= 4096 => case.lines(text),
+        _ => shown(case, &target.shown),
+    }
+}
+
+/// Prints a value as it is shown for debugging.
+pub(crate) fn shown<T: Debug>(case: &mut Case, value: &T) {
+    if write!(case.out(), "{value:?} ").is_err() {
+        case.fail("out of memory");
+    }
 }

@@ -6,29 +6,12 @@ use std::alloc::Global;
 /// Jobs in memory. Nothing is said of them.
 #[derive(Drop)]
 pub(crate) struct MemJobs {
-    alloc: Global,
+    pub(crate) alloc: Global,
     pub(crate) history: History,
     /// Whether each insertion fails.
-    fails: bool,
+    pub(crate) fails: bool,
     /// Why the jobs cannot be loaded.
-    fault: Option<JobStoreFault>,
-}
-
-impl MemJobs {
-    /// Returns a catalogue of these jobs.
-    pub(crate) fn new(
-        alloc: Global,
-        history: History,
-        fails: bool,
-        fault: Option<JobStoreFault>,
-    ) -> MemJobs {
-        MemJobs {
-            alloc,
-            history,
-            fails,
-            fault,
-        }
-    }
+    pub(crate) fault: Option<JobStoreFault>,
 }
 
 impl JobStore for MemJobs {

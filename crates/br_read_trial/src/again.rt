@@ -2,43 +2,12 @@
 ghost use Rattle.std.specs.Prelude.{Some};
 ghost use Rattle.br_again.specs.Known.{IsKnown};
 
-use br_again::{Again, AgainFault, Data, Place};
+use crate::printing::shown;
+use crate::volumes::drive_of;
+use br_again::{Again, Data, Place};
 use br_trial_rows::Case;
-use br_types::VolName;
 use br_volume::MemDrive;
-use std::alloc::AllocError;
 use std::sync::ArcSlice;
-
-type Volumes = Vec<(VolName, Vec<u8>)>;
-
-/// Appends the volume with these bytes of `NAME:BYTES`.
-fn push_volume(case: &mut Case, volumes: &mut Volumes, field: &str) {
-    let (name, bytes) = case.split(field, ':');
-    let bytes = case.bytes_of(bytes);
-    if let Some(name) = case.vol_of(name) {
-        case.done(volumes.push((name, bytes)).map_err(AllocError::from));
-    }
-}
-
-/// Makes volumes from a text as `V:BYTES,W:BYTES`; `-` is none.
-fn volumes_of(case: &mut Case, field: &str) -> Volumes {
-    let mut volumes = Vec::new(case.alloc());
-    if field != "-" {
-        for part in field.split(',') {
-            push_volume(case, &mut volumes, part);
-        }
-    }
-    volumes
-}
-
-/// Makes the drive of a kind: one that grows by tails, or one that fails from its k-th call on.
-pub(crate) fn drive_of(case: &mut Case, kind: &str, volumes: &str, tails: &str) -> MemDrive {
-    let (volumes, tails) = (volumes_of(case, volumes), volumes_of(case, tails));
-    match kind {
-        "growing" => MemDrive::growing(volumes, tails),
-        k => MemDrive::failing_from(volumes, case.u64_of(k)),
-    }
-}
 
 /// Makes the data of these bytes. They are let go unless the word is `held`.
 fn data_of(case: &mut Case, word: &str, bytes: &str) -> Option<Data> {
@@ -58,16 +27,7 @@ fn data_of(case: &mut Case, word: &str, bytes: &str) -> Option<Data> {
     }
 }
 
-/// Prints why bytes were not read.
-fn push_fault(case: &mut Case, fault: AgainFault) {
-    case.text(match fault {
-        AgainFault::Memory => "memory",
-        AgainFault::Failed => "failed",
-        AgainFault::Changed => "changed",
-    });
-}
-
-/// Prints the bytes of the data.
+/// Prints the bytes of the data, or why they were not read.
 fn push_data(
     case: &mut Case,
     again: &mut Again,
@@ -79,12 +39,15 @@ fn push_data(
     ensures known { IsKnown (Some drive.new.volumes) again.new }
 {
     if let Err(fault) = again.prepare(drive, place, data) {
-        push_fault(case, fault);
+        shown(case, &fault);
         return;
     }
     match again.bytes_of(place.ordinal, data) {
-        Ok(bytes) => case.bytes(bytes),
-        Err(fault) => push_fault(case, fault),
+        Ok(bytes) => {
+            case.bytes(bytes);
+            case.text(" ");
+        }
+        Err(fault) => shown(case, &fault),
     }
 }
 
@@ -103,12 +66,11 @@ fn read(case: &mut Case, again: &mut Again, drive: &mut MemDrive, field: &str)
     if let (Some(vol), Some(data)) = (&vol, &data) {
         let place = Place { vol, addr, ordinal };
         push_data(case, again, drive, &place, data);
-        case.text(" ");
     }
 }
 
 /// Prints the bytes that were found at some places, and the number of bytes that the drive gave.
-fn read_all(case: &mut Case, kind: &str, volumes: &str, tails: &str, places: &[&str]) {
+pub(crate) fn read_all(case: &mut Case, kind: &str, volumes: &str, tails: &str, places: &[&str]) {
     let mut drive = drive_of(case, kind, volumes, tails);
     let mut again = Again::new(case.alloc());
     for place in places {
@@ -116,12 +78,4 @@ fn read_all(case: &mut Case, kind: &str, volumes: &str, tails: &str, places: &[&
     }
     case.text("gave ");
     case.number(drive.bytes_read());
-}
-
-/// Runs a call.
-pub(crate) fn run(case: &mut Case, call: &[&str]) {
-    match call {
-        ["read", kind, volumes, tails, places @ ..] => read_all(case, kind, volumes, tails, places),
-        _ => case.fail("there is no such call"),
-    }
 }

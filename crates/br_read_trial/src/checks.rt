@@ -1,9 +1,9 @@
 //! Checks of bootstraps over volumes in memory.
 
-use crate::again::drive_of;
-use crate::counted::counts_in;
+use crate::volumes::drive_of;
 use br_bsr::{Bootstrap, read_bootstrap};
 use br_check::check;
+use br_counts::counts_of;
 use br_trial_rows::Case;
 use br_volume::MemDrive;
 
@@ -41,9 +41,13 @@ pub(crate) fn run(case: &mut Case, call: &[&str]) {
     };
     let mut drive = drive_of(case, kind, volumes, tails);
     let text = case.text_of(text);
-    let counts = counts_in(case, &text);
-    match read_bootstrap(case.alloc(), &text) {
-        Ok(bootstrap) => push_checked(case, &bootstrap, &counts, memory, &mut drive),
-        Err(_fault) => case.fail("the bootstrap is refused"),
+    match (
+        counts_of(case.alloc(), &text),
+        read_bootstrap(case.alloc(), &text),
+    ) {
+        (Ok(counts), Ok(bootstrap)) => {
+            push_checked(case, &bootstrap, &counts, memory, &mut drive);
+        }
+        _ => case.fail("the bootstrap is refused"),
     }
 }

@@ -8,9 +8,9 @@ mod attributes;
 mod blocks;
 mod bootstraps;
 mod checks;
-mod counted;
-mod lacking;
 mod names;
+mod packing;
+mod printing;
 mod sessions;
 mod volumes;
 
@@ -23,13 +23,14 @@ fn run(case: &mut Case, fields: &[&str]) {
         ["types", call @ ..] => names::run(case, call),
         ["attributes", call @ ..] => attributes::run(case, call),
         ["block", call @ ..] => blocks::run(case, call),
-        ["bootstrap", call @ ..] => bootstraps::run(case, call),
-        ["missing", call @ ..] => lacking::run(case, call),
-        ["counts", call @ ..] => counted::run(case, call),
+        ["bootstrap", call, text, rest @ ..] => bootstraps::run(case, call, text, rest),
         ["check", call @ ..] => checks::run(case, call),
         ["volume", call @ ..] => volumes::run(case, call),
-        ["again", call @ ..] => again::run(case, call),
+        ["again", kind, volumes, tails, places @ ..] => {
+            again::read_all(case, kind, volumes, tails, places);
+        }
         ["session", call @ ..] => sessions::run(case, call),
+        ["pack", head, first, second] => packing::run(case, head, first, second),
         _ => case.fail("there is no such call"),
     }
 }

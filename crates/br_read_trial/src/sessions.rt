@@ -1,43 +1,23 @@
-//! Which files can be saved, the blocks and spans that a session is written as, and which records
-//! are packed into which blocks.
-ghost use Rattle.std.specs.Prelude.{◌≡◌, ◌≤◌, ◌<◌, ◌^◌, true, [], length, IfOk};
+//! Which files can be saved, and the blocks and spans that a session is written as.
+ghost use Rattle.std.specs.Prelude.{◌≡◌, true, []};
 ghost use Rattle.br_block.specs.Building.{IsBlockLimit};
 ghost use Rattle.br_session.specs.Outcome.{ArePlaces};
 
+use crate::printing::shown;
 use br_attr::Stat;
-use br_session::{Place, Record, SavedFile, SessionFault, Written, pack, write_session};
+use br_session::{Place, SavedFile, SessionFault, Written, write_session};
 use br_trial_rows::Case;
-use br_types::{FileIndex, Path, SessionKey, VolName};
-use std::alloc::{AllocError, Global};
-
-/// Reads a path.
-fn path_of(case: &mut Case, field: &str) -> Option<Path> {
-    let text = case.bytes_of(field);
-    let path = Path::new(case.alloc(), &text).ok();
-    if path.is_none() {
-        case.fail("a field is no path");
-    }
-    path
-}
-
-/// Reads the numbers of a file.
-fn stat_of(case: &mut Case, field: &str) -> Option<Stat> {
-    let text = case.bytes_of(field);
-    let stat = Stat::read(&text).ok();
-    if stat.is_none() {
-        case.fail("a field has no numbers of a file");
-    }
-    stat
-}
+use br_types::{Path, SessionKey, VolName};
+use std::alloc::AllocError;
 
 /// Makes the file of the fields `PATH,TYPE,NUMBERS,LINK,BYTES,DIGEST`, if it can be saved.
 fn made(case: &mut Case, fields: &[&str]) -> Option<Result<SavedFile, SessionFault>> {
     let [path, kind, numbers, link, bytes, digest] = fields else {
-        case.fail("a file has six fields");
         return None;
     };
-    let (kind, stat) = (case.u32_of(kind), stat_of(case, numbers)?);
-    let path = path_of(case, path)?;
+    let numbers = case.bytes_of(numbers);
+    let (kind, stat) = (case.u32_of(kind), Stat::read(&numbers).ok()?);
+    let path = Path::new(case.alloc(), path.as_bytes()).ok()?;
     let (link, bytes) = (case.bytes_of(link), case.bytes_of(bytes));
     let has_digest = *digest == "digest";
     Some(SavedFile::new(path, kind, stat, link, bytes, has_digest))
@@ -46,13 +26,14 @@ fn made(case: &mut Case, fields: &[&str]) -> Option<Result<SavedFile, SessionFau
 /// Makes the file of a field, if it can be saved.
 fn file_of(case: &mut Case, field: &str) -> Option<Result<SavedFile, SessionFault>> {
     let fields: Result<Vec<&str>, AllocError> = field.split(',').collect(case.alloc());
-    match fields {
+    let file = match fields {
         Ok(fields) => made(case, &fields),
-        Err(_fault) => {
-            case.fail("out of memory");
-            None
-        }
+        Err(_fault) => None,
+    };
+    if file.is_none() {
+        case.fail("a field is no file");
     }
+    file
 }
 
 /// Prints the parts of a file: path, type, size, bytes, link, and whether it has a digest.
@@ -108,22 +89,12 @@ fn starts_of(case: &mut Case, field: &str) -> Vec<(VolName, u64)> {
     starts
 }
 
-/// Appends the place of `VOL:BLOCKS`.
-fn push_place(case: &mut Case, places: &mut Vec<Place>, field: &str) {
-    let (name, blocks) = case.split(field, ':');
-    let blocks = case.u32_of(blocks);
-    if let Some(vol) = case.vol_of(name) {
-        case.done(places.push(Place { vol, blocks }).map_err(AllocError::from));
-    }
-}
-
-/// Makes the places of `VOL:BLOCKS,..`; `-` is none.
+/// Makes the places of `VOL:BLOCKS,..`.
 fn places_of(case: &mut Case, field: &str) -> Vec<Place> {
     let mut places = Vec::new(case.alloc());
-    if field != "-" {
-        for part in field.split(',') {
-            push_place(case, &mut places, part);
-        }
+    for (vol, blocks) in starts_of(case, field) {
+        let blocks = u32::try_from(blocks).unwrap_or(u32::MAX);
+        case.done(places.push(Place { vol, blocks }).map_err(AllocError::from));
     }
     places
 }
@@ -152,9 +123,9 @@ fn push_long(case: &mut Case, bytes: &[u8]) {
     }
 }
 
-/// Prints the volume, the length and the bytes of each block.
-fn push_blocks(case: &mut Case, blocks: &[(VolName, Vec<u8>)]) {
-    for (vol, bytes) in blocks {
+/// Prints the volume, the length and the bytes of each block of a session, and its spans.
+fn push_written(case: &mut Case, written: &Written) {
+    for (vol, bytes) in &written.blocks {
         case.bytes(vol.bytes());
         case.text(":");
         case.number(bytes.len() as u64);
@@ -162,45 +133,14 @@ fn push_blocks(case: &mut Case, blocks: &[(VolName, Vec<u8>)]) {
         push_long(case, bytes);
         case.text(" ");
     }
-}
-
-/// Prints two numbers with a `-` between them, and a blank.
-fn push_range(case: &mut Case, from: u64, to: u64) {
-    case.number(from);
-    case.text("-");
-    case.number(to);
-    case.text(" ");
-}
-
-/// Prints the spans of a session: volume, first and last file, first and last byte, and number.
-fn push_spans(case: &mut Case, written: &Written) {
-    for span in &written.spans {
-        case.text("| ");
-        case.bytes(span.vol.bytes());
-        case.text(" ");
-        push_range(case, u64::from(span.first), u64::from(span.last));
-        push_range(case, span.start, span.end);
-        case.number(u64::from(span.vol_index));
-        case.text(" ");
-    }
-}
-
-/// Prints the blocks and spans of a session, or why it is refused.
-fn push_written(case: &mut Case, written: Result<Written, SessionFault>) {
-    match written {
-        Ok(written) => {
-            push_blocks(case, &written.blocks);
-            push_spans(case, &written);
-        }
-        Err(fault) => case.refused(fault.number()),
-    }
+    shown(case, &written.spans);
 }
 
 /// What a session is written with: its number and time, and the greatest length of its blocks.
 #[derive(Drop)]
-struct Head {
-    session: SessionKey,
-    limit: u32,
+pub(crate) struct Head {
+    pub(crate) session: SessionKey,
+    pub(crate) limit: u32,
     ghost bounds: { IsBlockLimit limit },
 }
 
@@ -214,7 +154,7 @@ fn head_with(session: SessionKey, limit: u32) -> Option<Head> {
 }
 
 /// Reads such a head as `ID:TIME:LIMIT`.
-fn head_of(case: &mut Case, field: &str) -> Option<Head> {
+pub(crate) fn head_of(case: &mut Case, field: &str) -> Option<Head> {
     let (id, rest) = case.split(field, ':');
     let (time, limit) = case.split(rest, ':');
     let session = SessionKey {
@@ -238,10 +178,10 @@ fn push_session(
 ) {
     if are_places(places) {
         let alloc = case.alloc();
-        push_written(
-            case,
-            write_session(alloc, files, head.session, head.limit, places, starts),
-        );
+        match write_session(alloc, files, head.session, head.limit, places, starts) {
+            Ok(written) => push_written(case, &written),
+            Err(fault) => case.refused(fault.number()),
+        }
     } else {
         case.fail("there are no places");
     }
@@ -257,138 +197,11 @@ fn session(case: &mut Case, head: &str, places: &str, starts: &str, files: &[&st
     push_session(case, &head, &places, &starts, &files);
 }
 
-/// Writes a session of no files to no place.
-fn nothing(case: &mut Case) {
-    let session = SessionKey { id: 1, time: 100 };
-    let alloc = case.alloc();
-    push_written(case, write_session(alloc, &[], session, 64, &[], &[]));
-}
-
-/// Makes a record of file 1.
-fn record(alloc: Global, stream: u32, bytes: &[u8]) -> Result<Record, AllocError>
-    ensures stream { IfOk result (λ made. made.stream ≡ stream) }
-    ensures bytes { IfOk result (λ made. made.bytes ≡ bytes.now) }
-{
-    let index = FileIndex::new(1).ok_or(AllocError)?;
-    let bytes = Vec::from_slice(alloc, bytes)?;
-    Ok(Record {
-        index,
-        stream,
-        bytes,
-    })
-}
-
-/// Packs two records: of this stream and of the next.
-fn packed_two(
-    alloc: Global,
-    head: &Head,
-    stream: u32,
-    first: &[u8],
-    second: &[u8],
-) -> Result<Vec<Vec<u8>>, AllocError>
-    requires stream_from { 1 ≤ stream }
-    requires stream_to { stream < 1000 }
-    requires first { length first.now < 2 ^ 32 }
-    requires second { length second.now < 2 ^ 32 }
-{
-    let records = [
-        record(alloc, stream, first)?,
-        record(alloc, stream + 1, second)?,
-    ];
-    pack(alloc, &records, head.session, head.limit)
-}
-
-/// Packs one record.
-fn packed_one(
-    alloc: Global,
-    head: &Head,
-    stream: u32,
-    bytes: &[u8],
-) -> Result<Vec<Vec<u8>>, AllocError>
-    requires stream_from { 1 ≤ stream }
-    requires stream_to { stream < 1000 }
-    requires bytes { length bytes.now < 2 ^ 32 }
-{
-    let records = [record(alloc, stream, bytes)?];
-    pack(alloc, &records, head.session, head.limit)
-}
-
-/// Prints blocks.
-fn push_packed(case: &mut Case, blocks: &[Vec<u8>]) {
-    for block in blocks {
-        case.bytes(block);
-        case.text(" ");
-    }
-}
-
-/// Reads the bytes of a record, at most 1000.
-fn short_of(case: &mut Case, text: &str) -> Vec<u8>
-    ensures { length result.items < 2 ^ 32 }
-{
-    let bytes = case.bytes_of(text);
-    if 1000 < bytes.len() {
-        case.fail("a record is too long");
-        return Vec::new(case.alloc());
-    }
-    bytes
-}
-
-/// Reads the number of a stream, which is below 1000.
-fn stream_of(case: &mut Case, field: &str) -> u32
-    ensures from { 1 ≤ result }
-    ensures to { result < 1000 }
-{
-    let stream = case.u32_of(field);
-    if 1 <= stream && stream < 1000 {
-        return stream;
-    }
-    case.fail("a field is no stream");
-    1
-}
-
-/// Packs a record of this stream, or two of it and of the next.
-fn packed(
-    case: &mut Case,
-    head: &Head,
-    stream: u32,
-    texts: &[&str],
-) -> Result<Vec<Vec<u8>>, AllocError>
-    requires stream_from { 1 ≤ stream }
-    requires stream_to { stream < 1000 }
-{
-    match texts {
-        [text] => {
-            let text = short_of(case, text);
-            packed_one(case.alloc(), head, stream, &text)
-        }
-        [first, second] => {
-            let first = short_of(case, first);
-            let second = short_of(case, second);
-            packed_two(case.alloc(), head, stream, &first, &second)
-        }
-        _ => pack(case.alloc(), &[], head.session, head.limit),
-    }
-}
-
-/// Packs records, and prints their blocks.
-fn pack_of(case: &mut Case, head: &str, stream: &str, texts: &[&str]) {
-    let Some(head) = head_of(case, head) else {
-        return;
-    };
-    let stream = stream_of(case, stream);
-    match packed(case, &head, stream, texts) {
-        Ok(blocks) => push_packed(case, &blocks),
-        Err(_fault) => case.fail("out of memory"),
-    }
-}
-
 /// Runs a call.
 pub(crate) fn run(case: &mut Case, call: &[&str]) {
     match call {
         ["file", field] => file(case, field),
         ["write", head, places, starts, files @ ..] => session(case, head, places, starts, files),
-        ["write_nothing"] => nothing(case),
-        ["pack", head, stream, texts @ ..] => pack_of(case, head, stream, texts),
         _ => case.fail("there is no such call"),
     }
 }

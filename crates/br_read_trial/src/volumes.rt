@@ -1,34 +1,23 @@
 //! Drives and stores over memory.
 
+use crate::printing::shown;
 use br_trial_rows::Case;
 use br_types::VolName;
-use br_volume::{
-    BorrowedDrive, Drive, DriveFault, Got, MemDrive, MemStore, VolumeFault, VolumeStore,
-};
+use br_volume::{BorrowedDrive, Drive, MemDrive, MemStore, VolumeStore};
 use std::alloc::AllocError;
 
 type Volumes = Vec<(VolName, Vec<u8>)>;
 
-/// Makes as many bytes: 0, 1, 2 and on.
-fn rising(case: &mut Case, len: u8) -> Vec<u8> {
-    let mut bytes = Vec::new(case.alloc());
-    for byte in 0..len {
-        case.done(bytes.push(byte).map_err(AllocError::from));
-    }
-    bytes
-}
-
-/// Appends the volume of `LEN` bytes 0, 1, 2 and on of `NAME:LEN`.
+/// Appends the volume with these bytes of `NAME:BYTES`.
 fn push_volume(case: &mut Case, volumes: &mut Volumes, field: &str) {
-    let (name, len) = case.split(field, ':');
-    let len = case.u8_of(len);
-    let bytes = rising(case, len);
+    let (name, bytes) = case.split(field, ':');
+    let bytes = case.bytes_of(bytes);
     if let Some(name) = case.vol_of(name) {
         case.done(volumes.push((name, bytes)).map_err(AllocError::from));
     }
 }
 
-/// Makes volumes from a text as `V:3,E:0`; `-` is none.
+/// Makes volumes from a text as `V:BYTES,W:BYTES`; `-` is none.
 fn volumes_of(case: &mut Case, field: &str) -> Volumes {
     let mut volumes = Vec::new(case.alloc());
     if field != "-" {
@@ -39,18 +28,19 @@ fn volumes_of(case: &mut Case, field: &str) -> Volumes {
     volumes
 }
 
-/// Prints the name and the length of each volume.
-fn push_volumes(case: &mut Case, volumes: &[(VolName, Vec<u8>)]) {
-    for (name, bytes) in volumes {
-        case.bytes(name.bytes());
-        case.text(":");
-        case.number(bytes.len() as u64);
-        case.text(" ");
+/// Makes the drive of a kind over volumes: one that is whole, one that grows by tails, or one that
+/// fails from its k-th call on.
+pub(crate) fn drive_of(case: &mut Case, kind: &str, volumes: &str, tails: &str) -> MemDrive {
+    let (volumes, tails) = (volumes_of(case, volumes), volumes_of(case, tails));
+    match kind {
+        "whole" => MemDrive::new(volumes),
+        "growing" => MemDrive::growing(volumes, tails),
+        k => MemDrive::failing_from(volumes, case.u64_of(k)),
     }
 }
 
 /// Prints the name and the bytes of each volume.
-fn push_contents(case: &mut Case, volumes: &[(VolName, Vec<u8>)]) {
+fn push_volumes(case: &mut Case, volumes: &[(VolName, Vec<u8>)]) {
     for (name, bytes) in volumes {
         case.bytes(name.bytes());
         case.text(":");
@@ -59,51 +49,20 @@ fn push_contents(case: &mut Case, volumes: &[(VolName, Vec<u8>)]) {
     }
 }
 
-/// Returns whether each byte is one more than the byte before it.
-fn are_rising(bytes: &[u8]) -> bool {
-    let mut next = bytes.first().copied().unwrap_or(0);
-    for byte in bytes {
-        if *byte != next {
-            return false;
-        }
-        next = next.wrapping_add(1);
-    }
-    true
-}
-
-/// Prints a block that was read: the number of bytes, those in the buffer, the first and the last
-/// one, with `-` between them if each is one more than the one before it.
-fn push_block(case: &mut Case, len: u64, buf: &[u8]) {
-    case.number(len);
-    case.text("/");
-    case.number(buf.len() as u64);
-    case.text(":");
-    case.number(u64::from(buf.first().copied().unwrap_or(0)));
-    case.text(if are_rising(buf) { "-" } else { ".." });
-    case.number(u64::from(buf.last().copied().unwrap_or(0)));
-}
-
-/// Prints what a read gave.
-fn push_got(case: &mut Case, got: Result<Got, DriveFault>, buf: &[u8]) {
-    match got {
-        Ok(Got::Block(len)) => push_block(case, u64::from(len), buf),
-        Ok(Got::End) => {
-            case.text("end/");
-            case.number(buf.len() as u64);
-        }
-        Err(fault) => case.refused(fault.number()),
-    }
-    case.text(" ");
-}
-
-/// Reads by the trait alone as `NAME:ADDR:SIZE` says, and prints what that gave.
+/// Reads by the trait alone as `NAME:ADDR:SIZE` says, and prints what that gave, and the buffer.
 fn read(case: &mut Case, drive: &mut impl Drive, buf: &mut Vec<u8>, field: &str) {
     let (name, rest) = case.split(field, ':');
     let (addr, size) = case.split(rest, ':');
     let (addr, size) = (case.u64_of(addr), case.u32_of(size));
     if let Some(vol) = case.vol_of(name) {
-        let got = drive.block_at(&vol, addr, size, buf);
-        push_got(case, got, buf);
+        match drive.block_at(&vol, addr, size, buf) {
+            Ok(got) => {
+                shown(case, &got);
+                case.bytes(buf);
+            }
+            Err(fault) => case.refused(fault.number()),
+        }
+        case.text(" ");
     }
 }
 
@@ -145,97 +104,43 @@ fn append(case: &mut Case, store: &mut impl VolumeStore, field: &str) {
     }
 }
 
-/// Prints the length of a volume by the trait alone.
-fn push_length(case: &mut Case, store: &mut impl VolumeStore, name: &str) {
-    if let Some(vol) = case.vol_of(name) {
-        case.text(name);
-        case.text(":");
-        match store.length(&vol) {
-            Ok(length) => case.number(length),
-            Err(fault) => case.refused(fault.number()),
-        }
-        case.text(" ");
-    }
-}
-
-/// Prints the lengths of the volumes V, E, W and v.
+/// Prints the lengths of the volumes V, E, W and v by the trait alone.
 fn push_lengths(case: &mut Case, store: &mut impl VolumeStore) {
     for name in ["V", "E", "W", "v"] {
-        push_length(case, store, name);
+        if let Some(vol) = case.vol_of(name) {
+            case.text(name);
+            case.text(" ");
+            shown(case, &store.length(&vol));
+        }
     }
 }
 
-/// Appends to a new store what each field says.
-fn filled(case: &mut Case, fields: &[&str]) -> MemStore {
+/// Appends to a new store what each field says and copies it, and appends `f` to V of the store.
+/// Prints the volumes of the store and their lengths, and those of the copy.
+fn store(case: &mut Case, fields: &[&str]) {
     let mut store = MemStore::new(case.alloc());
     for field in fields {
         append(case, &mut store, field);
     }
-    store
-}
-
-/// Appends `f` to V, and prints the volumes and their lengths.
-fn push_appended(case: &mut Case, store: &mut MemStore) {
-    append(case, store, "V:f");
-    push_contents(case, store.volumes());
-    push_lengths(case, store);
-}
-
-/// Fills a store and copies it, and appends `f` to V of the store. Prints the volumes of the copy,
-/// those of the store and their lengths.
-fn store(case: &mut Case, fields: &[&str]) {
-    let mut store = filled(case, fields);
-    match store.copy(case.alloc()) {
-        Ok(copy) => {
-            push_appended(case, &mut store);
-            push_contents(case, copy.volumes());
-        }
+    let copy = store.copy(case.alloc());
+    append(case, &mut store, "V:f");
+    push_volumes(case, store.volumes());
+    push_lengths(case, &mut store);
+    match copy {
+        Ok(copy) => push_volumes(case, copy.volumes()),
         Err(_fault) => case.fail("out of memory"),
     }
-}
-
-/// Makes the drive over memory of this kind.
-fn drive_of(case: &mut Case, kind: &str, volumes: Volumes, tails: Volumes) -> MemDrive {
-    match kind {
-        "whole" => MemDrive::new(volumes),
-        "growing" => MemDrive::growing(volumes, tails),
-        k => MemDrive::failing_from(volumes, case.u64_of(k)),
-    }
-}
-
-/// Prints the numbers of all faults.
-fn numbers(case: &mut Case) {
-    case.numbers(&[
-        i64::from(DriveFault::Memory.number()),
-        i64::from(DriveFault::Fault.number()),
-        i64::from(DriveFault::UnknownVolume.number()),
-        i64::from(VolumeFault::Failed.number()),
-    ]);
-}
-
-/// Reads from a drive of a kind over volumes, which may grow by tails.
-fn read_drive(case: &mut Case, kind: &str, volumes: &str, tails: &str, reads: &[&str]) {
-    let (volumes, tails) = (volumes_of(case, volumes), volumes_of(case, tails));
-    let drive = drive_of(case, kind, volumes, tails);
-    read_owned(case, drive, reads);
-}
-
-/// Reads from a drive over the volumes of a store that is filled.
-fn read_store(case: &mut Case, read: &str, fields: &[&str]) {
-    let drive = MemDrive::new(filled(case, fields).into_volumes());
-    read_owned(case, drive, &[read]);
 }
 
 /// Runs a call.
 pub(crate) fn run(case: &mut Case, call: &[&str]) {
     match call {
         ["drive", kind, volumes, tails, reads @ ..] => {
-            read_drive(case, kind, volumes, tails, reads)
+            let drive = drive_of(case, kind, volumes, tails);
+            read_owned(case, drive, reads);
         }
         ["borrowed", volumes, reads @ ..] => read_borrowed(case, volumes, reads),
         ["store", fields @ ..] => store(case, fields),
-        ["store_drive", read, fields @ ..] => read_store(case, read, fields),
-        ["numbers"] => numbers(case),
         _ => case.fail("there is no such call"),
     }
 }

@@ -1,117 +1,134 @@
-//! Jobs of a client `web`, each with a file that was saved and a folder that was deleted. Job 1 goes over two
-//! volumes, and each other job over one.
-use br_history::{FileRow, JobRow, JobRows};
+//! Two jobs that a keeper commits, and what is left of them.
+
+use crate::steps::shown;
+use br_draft::{Draft, read_head};
+use br_history::{JobRows, SavedJob};
+use br_keeper::Keeper;
+use br_kept::StoredJobs;
 use br_session::Span;
-use br_store::Store;
-use br_types::{JobId, Letter, Name, Path, SessionKey, VolName};
-use sqlite::MemStore;
+use br_trial_rows::Case;
+use br_types::VolName;
+use br_volume::MemStore;
+use md5::{Digest, Md5};
+use sqlite::Alter;
 use std::alloc::Global;
-use std::test::Fail;
+use std::io::Write;
+use std::sync::Wait;
 
-const LSTAT: &str = "1 2 33188 1 0 0 0 5 4096 1 3 4 5";
+/// A job: what its first line says after `job`, and its other lines.
+type Job = (&'static str, &'static [&'static str]);
 
-fn letter(byte: u8) -> Result<Letter, Fail> {
-    Ok(Letter::new(byte).ok_or("a letter")?)
-}
+type Volume = (VolName, Vec<u8>);
 
-fn job_row(alloc: Global, id: u32, session: u32) -> Result<JobRow, Fail> {
-    Ok(JobRow {
-        id: JobId::new(id).ok_or("a number")?,
-        kind: letter(b'B')?,
-        level: letter(b'F')?,
-        status: letter(b'T')?,
-        start: 5_000_000_000 - u64::from(id),
-        session: SessionKey {
-            id: session,
-            time: 9,
-        },
-        client: Name::new(alloc, b"web")?,
-        fileset: Name::new(alloc, b"all")?,
-    })
-}
+// Each job saves one file, `message digest`, in blocks of 64, 64 and 44 bytes. They go to two
+// volumes: the first block of the first job to A, that of the second to B.
 
-/// Makes the row of a file that was saved.
-fn saved(alloc: Global, path: &[u8]) -> Result<FileRow, Fail> {
-    let path = Path::new(alloc, path)?;
-    Ok(FileRow {
-        path,
-        index: 1,
-        lstat: String::from_str(alloc, LSTAT)?,
-        md5: Some([0xabu8; 16]),
-    })
-}
+const FIRST: Job = (
+    "1 B F T 100 1 100 64 c f",
+    &[
+        "put 3 /a 6d65737361676520646967657374 - A A IGk B A A A O A A A A A A",
+        "place A 1",
+        "place B 0",
+    ],
+);
 
-/// Makes the row of a directory that was deleted.
-fn deleted(alloc: Global) -> Result<FileRow, Fail> {
-    Ok(FileRow {
-        path: Path::new(alloc, b"/a/gone/")?,
-        index: 0,
-        lstat: String::new(alloc),
-        md5: None,
-    })
-}
+const SECOND: Job = (
+    "2 B I T 200 2 200 64 c f",
+    &[
+        "put 3 /b 6d65737361676520646967657374 - A A IGk B A A A O A A A A A A",
+        "place B 1",
+        "place A 0",
+    ],
+);
 
-fn files(alloc: Global, path: &[u8]) -> Result<Vec<FileRow>, Fail> {
-    let mut files = Vec::new(alloc);
-    files.push(saved(alloc, path)?)?;
-    files.push(deleted(alloc)?)?;
-    Ok(files)
-}
-
-fn span(alloc: Global, vol: &[u8], vol_index: u32) -> Result<Span, Fail> {
-    Ok(Span {
-        vol: VolName::new(alloc, vol)?,
-        first: 1,
-        last: 1,
-        start: 4_294_967_297,
-        end: 8_589_934_599,
-        vol_index,
-    })
-}
-
-/// Makes the spans of the job with this number.
-fn spans(alloc: Global, id: u32) -> Result<Vec<Span>, Fail> {
-    let mut spans = Vec::new(alloc);
-    spans.push(span(alloc, b"V1", 1)?)?;
-    if id == 1 {
-        spans.push(span(alloc, b"V2", 2)?)?;
+/// Makes the job that these lines give, if they give one.
+fn saved_job(alloc: Global, job: Job) -> Option<SavedJob> {
+    let mut draft = Draft::new(alloc, read_head(alloc, job.0.as_bytes()).ok()?);
+    for line in job.1 {
+        draft.take(alloc, line.as_bytes()).ok()?;
     }
-    Ok(spans)
+    draft.end().ok()?
 }
 
-fn job_of(
+/// Commits a job. Returns whether that is acknowledged.
+fn is_committed<R: Wait, S: Alter>(
+    rt: &R,
     alloc: Global,
-    row: JobRow,
-    files: Vec<FileRow>,
-    spans: Vec<Span>,
-) -> Result<JobRows, Fail> {
-    Ok(JobRows::new(row, files, spans)?)
+    keeper: &mut Keeper<StoredJobs<S>, MemStore>,
+    job: Job,
+) -> bool {
+    match saved_job(alloc, job) {
+        Some(job) => keeper.commit(rt, job).is_ok(),
+        None => false,
+    }
 }
 
-/// Makes the job of a number and a session that saved this path.
-pub(crate) fn job(alloc: Global, id: u32, session: u32, path: &[u8]) -> Result<JobRows, Fail> {
-    job_of(
-        alloc,
-        job_row(alloc, id, session)?,
-        files(alloc, path)?,
-        spans(alloc, id)?,
-    )
+/// Commits both jobs. Returns the number of the last one whose commit is acknowledged.
+fn commit_both<R: Wait, S: Alter>(
+    rt: &R,
+    alloc: Global,
+    keeper: &mut Keeper<StoredJobs<S>, MemStore>,
+) -> u64 {
+    let is_first_told = is_committed(rt, alloc, keeper, FIRST);
+    let is_second_told = is_committed(rt, alloc, keeper, SECOND);
+    if is_second_told {
+        2
+    } else if is_first_told {
+        1
+    } else {
+        0
+    }
 }
 
-/// Shows all of some jobs.
-fn shown(alloc: Global, jobs: &[JobRows]) -> Result<String, Fail> {
-    Ok(format!(in alloc; "{jobs:?}")?)
+/// Commits both jobs by a keeper over this catalogue. Returns the number of the last one whose commit is
+/// acknowledged, and the catalogue and the volumes as the keeper leaves them; none if there is no keeper.
+pub(crate) fn committed<R: Wait, S: Alter + Drop>(
+    rt: &R,
+    alloc: Global,
+    jobs: StoredJobs<S>,
+) -> Option<(u64, StoredJobs<S>, MemStore)> {
+    match Keeper::new(rt, alloc, jobs, MemStore::new(alloc), 1) {
+        Ok((mut keeper, _sessions)) => {
+            let told = commit_both(rt, alloc, &mut keeper);
+            let (jobs, volumes) = keeper.close(rt);
+            Some((told, jobs, volumes))
+        }
+        Err(_) => None,
+    }
 }
 
-/// Shows the jobs that a store loads.
-pub(crate) fn loaded(alloc: Global, store: &mut Store<MemStore>) -> Result<String, Fail> {
-    shown(alloc, store.load_history()?.jobs())
+/// Returns the bytes of a span, or none if no volume has them all.
+fn bytes_of<'v>(volumes: &'v [Volume], span: &Span) -> Option<&'v [u8]> {
+    for volume in volumes {
+        if volume.0.bytes() == span.vol.bytes() {
+            let (start, end) = (span.start as usize, span.end as usize);
+            return volume.1.get(start..end.saturating_add(1));
+        }
+    }
+    None
 }
 
-/// Shows the jobs 1 and 2, which saved `/a/one` in the session 2 and `/a/two` in the session 1.
-pub(crate) fn both_shown(alloc: Global) -> Result<String, Fail> {
-    let mut jobs = Vec::new(alloc);
-    jobs.push(job(alloc, 1, 2, b"/a/one")?)?;
-    jobs.push(job(alloc, 2, 1, b"/a/two")?)?;
-    shown(alloc, &jobs)
+/// Prints the digest of the bytes of a span, if a volume has them all.
+fn push_digest(case: &mut Case, volumes: &[Volume], span: &Span) {
+    if let Some(bytes) = bytes_of(volumes, span) {
+        let digest = u128::from_be_bytes(Md5::digest(bytes));
+        if write!(case.out(), "{digest:032x} ").is_err() {
+            case.fail("out of memory");
+        }
+    }
+}
+
+/// Prints a job, and the digests of the bytes of its spans.
+fn push_job(case: &mut Case, volumes: &[Volume], rows: &JobRows) {
+    shown(case, rows);
+    for span in rows.spans() {
+        push_digest(case, volumes, span);
+    }
+}
+
+/// Prints jobs, each with the digests of the bytes that it has on the volumes.
+pub(crate) fn push_jobs(case: &mut Case, volumes: &[Volume], jobs: &[JobRows]) {
+    for rows in jobs {
+        push_job(case, volumes, rows);
+    }
 }

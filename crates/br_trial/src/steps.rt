@@ -1,0 +1,205 @@
+//! Steps that a row takes one after another on a database.
+
+use crate::disk::{Disk, catalogue, migrated, opened_on};
+use crate::jobs::{committed, push_jobs};
+use crate::looking::folded;
+use crate::texts::text_by;
+use br_history::{History, JobRows};
+use br_kept::StoredJobs;
+use br_store::Store;
+use br_trial_rows::Case;
+use br_volume::MemStore;
+use sqlite::{Alter, Connection};
+use std::alloc::Global;
+use std::fmt::Debug;
+use std::io::Write;
+use std::sync::Wait;
+
+/// What a row has as it goes on.
+#[derive(Drop)]
+pub(crate) struct World {
+    /// The database, until a step loses it: the steps after that do nothing.
+    pub(crate) conn: Option<Connection<Disk>>,
+    /// The jobs that were loaded last.
+    pub(crate) jobs: History,
+    pub(crate) volumes: MemStore,
+    /// The number of jobs that were acknowledged.
+    pub(crate) told: u64,
+}
+
+/// Makes a world with this database.
+pub(crate) fn world_of(alloc: Global, conn: Option<Connection<Disk>>) -> World {
+    World {
+        conn,
+        jobs: History::new(alloc),
+        volumes: MemStore::new(alloc),
+        told: 0,
+    }
+}
+
+/// Prints a value as `{:?}` does, and a blank.
+pub(crate) fn shown<T: Debug>(case: &mut Case, value: &T) {
+    if write!(case.out(), "{value:?} ").is_err() {
+        case.fail("out of memory");
+    }
+}
+
+/// Prints a refusal with this number, and a blank.
+fn refused(case: &mut Case, number: u32) {
+    case.refused(number);
+    case.text(" ");
+}
+
+/// Prints the number of rows that a query shows.
+pub(crate) fn queried<S: Alter>(case: &mut Case, conn: &mut Connection<S>, query: &str) {
+    match conn.query_all(query, &[]) {
+        Ok(rows) => shown(case, &rows.len()),
+        Err(_) => case.fail("a query is refused"),
+    }
+}
+
+/// Runs statements. Returns none if one is refused.
+fn changed(mut conn: Connection<Disk>, sql: &str) -> Option<Connection<Disk>> {
+    match conn.execute_batch(sql) {
+        Ok(()) => Some(conn),
+        Err(_) => None,
+    }
+}
+
+/// Migrates a database. Prints the number of its jobs, or the refusal.
+fn moved(case: &mut Case, told: &mut u64, conn: Connection<Disk>) -> Option<Connection<Disk>> {
+    let Some((end, conn)) = migrated(case.alloc(), conn) else {
+        case.fail("the database was not opened again");
+        return None;
+    };
+    match end {
+        Ok(jobs) => {
+            *told = jobs;
+            shown(case, &jobs);
+        }
+        Err(number) => refused(case, number),
+    }
+    Some(conn)
+}
+
+/// Loads the jobs of a catalogue. Prints the refusal if it is refused.
+fn load(case: &mut Case, jobs: &mut History, store: &mut Store<Disk>) {
+    match store.load_history() {
+        Ok(history) => *jobs = history,
+        Err(fault) => refused(case, fault.number()),
+    }
+}
+
+/// Inserts a job. Prints the refusal if it is refused.
+fn put(case: &mut Case, store: &mut Store<Disk>, job: &JobRows) {
+    match store.insert_job(job) {
+        Ok(()) => {}
+        Err(fault) => refused(case, fault.number()),
+    }
+}
+
+/// Inserts the job with this place among these, counted from 1, or all of them if no place is given.
+fn insert(case: &mut Case, jobs: &[JobRows], store: &mut Store<Disk>, place: &str) {
+    if place.is_empty() {
+        for job in jobs {
+            put(case, store, job);
+        }
+        return;
+    }
+    match jobs.get((case.u32_of(place) as usize).wrapping_sub(1)) {
+        Some(job) => put(case, store, job),
+        None => case.fail("there is no such job"),
+    }
+}
+
+/// Commits two jobs to a catalogue and to volumes.
+fn commit(
+    rt: &impl Wait,
+    alloc: Global,
+    world: &mut World,
+    conn: Connection<Disk>,
+) -> Option<Connection<Disk>> {
+    let store = catalogue(alloc, conn).ok()?;
+    let (told, jobs, volumes) = committed(rt, alloc, StoredJobs::new(store))?;
+    world.told = told;
+    world.volumes = volumes;
+    Some(jobs.into_store().into_connection())
+}
+
+/// Does a step on a catalogue.
+fn on_store(case: &mut Case, world: &mut World, store: &mut Store<Disk>, word: &str, text: &str) {
+    match word {
+        "load" => load(case, &mut world.jobs, store),
+        "insert" => insert(case, world.jobs.jobs(), store, text),
+        _ => case.fail("there is no such step"),
+    }
+}
+
+/// Opens the catalogue in a database, and does a step on it. Prints the refusal if it is not opened.
+fn on_catalogue(
+    case: &mut Case,
+    world: &mut World,
+    conn: Connection<Disk>,
+    word: &str,
+    text: &str,
+) -> Option<Connection<Disk>> {
+    match catalogue(case.alloc(), conn) {
+        Ok(mut store) => {
+            on_store(case, world, &mut store, word, text);
+            Some(store.into_connection())
+        }
+        Err(fault) => {
+            refused(case, fault.number());
+            None
+        }
+    }
+}
+
+/// Does a step.
+fn do_step(case: &mut Case, rt: &impl Wait, world: &mut World, step: &str) {
+    let (word, text) = step.split_once(' ').unwrap_or((step, ""));
+    let Some(mut conn) = world.conn.take() else {
+        return;
+    };
+    let next = match word {
+        "new" => {
+            drop(conn);
+            opened_on(case.alloc(), u64::MAX, u64::MAX)
+        }
+        "sql" => changed(conn, text_by(text)),
+        "rows" => {
+            queried(case, &mut conn, text);
+            Some(conn)
+        }
+        "count" => {
+            shown(case, &world.jobs.len());
+            Some(conn)
+        }
+        "jobs" => {
+            push_jobs(case, world.volumes.volumes(), world.jobs.jobs());
+            Some(conn)
+        }
+        "migrate" => moved(case, &mut world.told, conn),
+        "fold" => {
+            folded(case, conn, text);
+            None
+        }
+        "commit" => commit(rt, case.alloc(), world, conn),
+        _ => on_catalogue(case, world, conn, word, text),
+    };
+    world.conn = next;
+}
+
+/// Does steps with `|` between them.
+pub(crate) fn do_steps(case: &mut Case, rt: &impl Wait, world: &mut World, steps: &str) {
+    for step in steps.split('|') {
+        do_step(case, rt, world, step.trim_ascii());
+    }
+}
+
+/// Does steps on an empty database.
+pub(crate) fn run(case: &mut Case, rt: &impl Wait, steps: &str) {
+    let alloc = case.alloc();
+    let mut world = world_of(alloc, opened_on(alloc, u64::MAX, u64::MAX));
+    do_steps(case, rt, &mut world, steps);
+}
