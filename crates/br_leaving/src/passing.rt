@@ -4,6 +4,7 @@ ghost use Rattle.std.specs.Thread.{IsSync};
 ghost use Rattle.br_options.specs.declared.options.Stops.TheVariants.{AtFirst};
 ghost use Rattle.br_sink.specs.Delivery.{IsStopBelow, items_in, items_put};
 ghost use Rattle.br_sink.specs.declared.fault.SinkFault.TheVariants.{Fault};
+ghost use Rattle.br_sink.specs.Fault.{cause_number};
 ghost use Rattle.br_sink.specs.FileParts.{AreAlike, with_bytes};
 ghost use Rattle.br_sink.specs.TwoParts.{AreTwoAlike, AreTwoSame, FailsTwo, two_put};
 ghost use Rattle.br_sink.specs.declared.file_parts.PartsFault.TheVariants as why;
@@ -19,15 +20,15 @@ use br_types::FileKey;
 use std::alloc::Global;
 use std::thread::Threads;
 
-/// Returns if a delivery goes on after a fault with this number.
-fn goes_on(stops: Stops, number: u32) -> bool
-    ensures on { result ≡ true → number ≡ 80 }
-    ensures stop { result ≡ false → number ≡ 80 → stops ≡ AtFirst }
+/// Returns if a delivery goes on after a stop for this reason.
+fn goes_on(stops: Stops, cause: StopCause) -> bool
+    ensures on { result ≡ true → cause_number cause ≡ 80 }
+    ensures stop { result ≡ false → cause_number cause ≡ 80 → stops ≡ AtFirst }
     ensures first { stops ≡ AtFirst → result ≡ false }
 {
     match stops {
         Stops::AtFirst => false,
-        Stops::Never => number == 80,
+        Stops::Never => matches!(cause, StopCause::Fault),
     }
 }
 
@@ -39,11 +40,16 @@ fn leave_at(stops: Stops, noted: &mut Noted, item: &Item, fault: SinkFault) -> R
     ensures fault { result ≡ Err Fault → (fault ≡ Fault) × (stops ≡ AtFirst) }
     ensures kept { stops ≡ AtFirst → noted.new.left.items ≡ noted.old.left.items }
 {
-    if !goes_on(stops, fault.number()) {
-        return Err(fault);
+    match fault {
+        SinkFault::Memory => Err(SinkFault::Memory),
+        SinkFault::Fault => {
+            if !goes_on(stops, StopCause::Fault) {
+                return Err(SinkFault::Fault);
+            }
+            noted.leave(item)?;
+            Ok(())
+        }
     }
-    noted.leave(item)?;
-    Ok(())
 }
 
 /// Puts a file into a sink, or leaves it out.
@@ -179,7 +185,7 @@ fn pass(
         return Err(stop);
     };
     noted.take(&outcomes[..place]);
-    if !goes_on(stops, stop.number()) {
+    if !goes_on(stops, stop.cause()) {
         return Err(stop);
     }
     if let Err(_) = noted.leave(item) {

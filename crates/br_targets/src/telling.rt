@@ -7,6 +7,7 @@ use br_others::{others_in, push_others};
 use br_progress::Gauge;
 use br_reason::{Matter, Reason, reason_of_file, reason_of_folder, reason_of_new_file};
 use br_setup::refuse_start;
+use br_sink::StopCause;
 use br_types::{FileKey, Path, push_escaped};
 use std::fmt;
 use std::io::{self, ErrorKind};
@@ -132,10 +133,12 @@ pub fn say_stop(
     path: Option<&Path>,
 ) -> io::Result<()> {
     match (end, path) {
-        (RestoreEnd::Stopped(stop), Some(path)) if gauge.is_watching() => match stop.number() {
-            80 => say_failure(rt, gauge, target, path),
-            81 => say_conflict(rt, gauge, path, "`extract --keep-going` leaves it out."),
-            _ => Ok(()),
+        (RestoreEnd::Stopped(stop), Some(path)) if gauge.is_watching() => match stop.cause() {
+            StopCause::Fault => say_failure(rt, gauge, target, path),
+            StopCause::Conflict => {
+                say_conflict(rt, gauge, path, "`extract --keep-going` leaves it out.")
+            }
+            StopCause::Memory | StopCause::NoDriveLeft => Ok(()),
         },
         _ => Ok(()),
     }

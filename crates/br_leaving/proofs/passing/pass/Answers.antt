@@ -19,6 +19,6 @@ pub returns-clause-noted : goal.returns-clause-noted
 returns-clause-noted c =
     let os = c.args.outcomes.now in
     let found = subst (λ (n : ℕ). IsFileAt os n c.in-Some.place c.in-Some.item.now) c.done.ensures c.in-Some.ensures.at_it in
-    let eighty : c.args.stop.number ≡ 80 = sym c.number.ensures ∙ c.goes_on.ensures.on c.if-not-goes_on.false in
+    let eighty : c.args.stop.number ≡ 80 = sym c.cause.ensures ∙ c.goes_on.ensures.on c.if-not-goes_on.false in
     stop_left os c.args.stop c.args.noted.now c.take.new.self c.leave.new.self c.in-Some.place c.in-Some.item.now found c.take.ensures
     c.in_default-leave.ensures.left eighty
