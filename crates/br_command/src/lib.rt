@@ -1,7 +1,6 @@
-//! The command line of the program, read by clap: its commands and options, and what the words of a command line ask for.
+//! What the words of a command line ask for, read by clap.
 #![tactic(auto)]
 
-mod options;
 mod size;
 mod words;
 
