@@ -188,8 +188,8 @@ fn say_volume(
     }
 }
 
-/// Says of the volumes in a folder that the bootstrap names why they can't be read, of the first of those that can't, if
-/// a restore was refused since a volume is not there (14) or no drive is left (70).
+/// Says of the volumes in a folder that the bootstrap names why they can't be read, of the first of those that can't,
+/// after a restore that stopped for want of one.
 ///
 /// # Errors
 ///
@@ -199,9 +199,8 @@ pub fn say_volumes(
     gauge: &Gauge<'_>,
     volumes: &str,
     told: &Told<'_>,
-    refusal: Option<u32>,
 ) -> io::Result<()> {
-    if !gauge.is_watching() || (refusal != Some(14) && refusal != Some(70)) {
+    if !gauge.is_watching() {
         return Ok(());
     }
     let Ok(bootstrap) = read_bootstrap(rt.alloc(), told.bootstrap) else {

@@ -29,8 +29,8 @@ use br_sink::Sink;
 use br_tar::TarSink;
 use br_targets::{
     BAD_STREAM, Channel, Ending, Extent, HostSink, TarEnd, TarFault, add_tar_end, end_stream,
-    folder_of, gauge_of, log_fault, refuse_log, refuse_place, say_nowhere, say_stop, sink_over,
-    tar_into, tar_onto, watched_drives, watched_sink, watched_writer,
+    folder_of, gauge_of, lacks_volumes, log_fault, refuse_log, refuse_place, say_nowhere, say_stop,
+    sink_over, tar_into, tar_onto, watched_drives, watched_sink, watched_writer,
 };
 use br_types::Path;
 use br_volume::Drive;
@@ -162,7 +162,10 @@ fn report(
     let status = ending.print(rt)?;
     match run {
         Ok(run) => say_end(rt, gauge, given.target, &run.end, failed)?,
-        Err(fault) => say_volumes(rt, gauge, given.volumes, told, fault.number())?,
+        Err(ConsoleFault::Piece(fault)) if lacks_volumes(fault) => {
+            say_volumes(rt, gauge, given.volumes, told)?
+        }
+        Err(_) => {}
     }
     tell_outcomes(rt, gauge, given.volumes, told)?;
     gauge.tell_end()?;

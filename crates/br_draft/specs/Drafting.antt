@@ -13,6 +13,8 @@ use Rattle.br_draft.specs.Fault.{cause}
 use Rattle.br_draft.specs.Head.{Begun}
 use Rattle.br_draft.specs.Line.{Asked, line_said}
 use Rattle.br_draft.specs.Line.Asked.{Save, Delete, Give, End}
+use Rattle.br_draft.specs.declared.draft.Taken.{Taken}
+use Rattle.br_draft.specs.declared.draft.Taken.TheVariants as taken
 use Rattle.br_draft.specs.declared.fault.JobLineFault.{JobLineFault}
 
 -- A job whose lines are read. It is closed once its last place takes all blocks that are left, and
@@ -60,14 +62,16 @@ Drafts asked old new result =
 abbrev pub drafted_by : List ℕ → Drafting → Result Drafting ℕ
 drafted_by line d = line_said line >>= (λ a. drafted a d)
 
--- the line asks for the end
-abbrev pub is_end : Asked → Bool
-is_end End = true
-is_end _ = false
+-- what is asked for is the job's end, or a line after which it goes on
+abbrev pub taken_of : Asked → Taken
+taken_of End = taken.End
+taken_of (Save _) = taken.Line
+taken_of (Delete _) = taken.Line
+taken_of (Give _) = taken.Line
 
--- what reading a line makes of the job, and whether the line ends it
-abbrev pub ReadsLine : List ℕ → Drafting → Drafting → Result Bool JobLineFault → Type 0
-ReadsLine line old new (Ok ends) = (a : Asked) × (line_said line ≡ Ok a) × (drafted a old ≡ Ok new) × (ends ≡ is_end a)
+-- what reading a line makes of the job, and what it is to the job
+abbrev pub ReadsLine : List ℕ → Drafting → Drafting → Result Taken JobLineFault → Type 0
+ReadsLine line old new (Ok what) = (a : Asked) × (line_said line ≡ Ok a) × (drafted a old ≡ Ok new) × (what ≡ taken_of a)
 ReadsLine line old new (Err why) = (new ≡ old) × IsRefusal (cause why) (drafted_by line old)
 
 -- the line begins with one of the words of a job's own lines
@@ -83,9 +87,9 @@ given_up d = record d { given_up = true }
 abbrev pub gives_up : List ℕ → Drafting → Drafting
 gives_up line d = if is_of_job line then given_up d else d
 
--- what a line makes of the job, and whether it ends it
-abbrev pub TakesLine : List ℕ → Drafting → Drafting → Result Bool JobLineFault → Type 0
-TakesLine line old new (Ok ends) = (a : Asked) × (line_said line ≡ Ok a) × (drafted a old ≡ Ok new) × (ends ≡ is_end a)
+-- what a line makes of the job, and what it is to the job
+abbrev pub TakesLine : List ℕ → Drafting → Drafting → Result Taken JobLineFault → Type 0
+TakesLine line old new (Ok what) = (a : Asked) × (line_said line ≡ Ok a) × (drafted a old ≡ Ok new) × (what ≡ taken_of a)
 TakesLine line old new (Err why) = (new ≡ gives_up line old) × IsRefusal (cause why) (drafted_by line old)
 
 -- a job with files has a last place that takes all blocks that are left

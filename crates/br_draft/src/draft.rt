@@ -5,7 +5,7 @@ ghost use Rattle.br_session.specs.Outcome.{ArePlaces};
 ghost use Rattle.br_model.specs.Answer.{AnswersAlways};
 ghost use Rattle.br_history.specs.Saving.{checked_job};
 ghost use Rattle.br_draft.specs.Drafting.{Drafts, ReadsLine, TakesBlock, TakesLine, begins, ended};
-ghost use Rattle.br_draft.specs.Drafting.{given_up, gives_up, has_places, is_of_job, to_commit};
+ghost use Rattle.br_draft.specs.Drafting.{given_up, gives_up, has_places, is_of_job, taken_of, to_commit};
 ghost use Rattle.br_draft.specs.Fault.{end_number};
 ghost use Rattle.br_draft.specs.Line.{asked};
 ghost use Rattle.br_draft.specs.Line.Asked.{Give};
@@ -41,6 +41,15 @@ impl EndFault {
             EndFault::Job(fault) => fault.number(),
         }
     }
+}
+
+/// What a job took.
+#[derive(Clone, Copy, Debug, PartialEq, Eq)]
+pub enum Taken {
+    /// A line after which the job goes on.
+    Line,
+    /// The line that ends it.
+    End,
 }
 
 /// A job of which the lines up to now were read.
@@ -85,6 +94,16 @@ fn is_job_line(line: &[u8]) -> bool
         || word == b"putd".as_slice()
         || word == b"del".as_slice()
         || word == b"place".as_slice()
+}
+
+/// Returns what a line is to its job.
+fn taken_of(line: &JobLine) -> Taken
+    ensures { result ≡ taken_of (asked line.now) }
+{
+    match line {
+        JobLine::End => Taken::End,
+        JobLine::Save(_) | JobLine::Delete(_) | JobLine::Place(_) => Taken::Line,
+    }
 }
 
 /// Appends a place to places that each take a block. Returns whether it takes all blocks that are
@@ -160,27 +179,27 @@ impl Draft {
         }
     }
 
-    /// Reads a line and adds what it asks for. Returns whether the line ends the job.
-    fn read(&mut self, alloc: Global, line: &[u8]) -> Result<bool, JobLineFault>
+    /// Reads a line and adds what it asks for.
+    fn read(&mut self, alloc: Global, line: &[u8]) -> Result<Taken, JobLineFault>
         ensures { ReadsLine line.now self.old self.new result }
     {
         let asked = read_job_line(alloc, line)?;
-        let ends = matches!(asked, JobLine::End);
+        let taken = taken_of(&asked);
         self.add(asked)?;
-        Ok(ends)
+        Ok(taken)
     }
 
-    /// Takes the next line, as `read_job_line` reads it. Returns whether the line ends the job.
+    /// Takes the next line, as `read_job_line` reads it.
     ///
     /// # Errors
     ///
     /// Those of `read_job_line`, and `BadScript` for a place after the last one. If it is one of a
     /// job's own lines, `put`, `putd`, `del` or `place`, the job is given up.
-    pub fn take(&mut self, alloc: Global, line: &[u8]) -> Result<bool, JobLineFault>
+    pub fn take(&mut self, alloc: Global, line: &[u8]) -> Result<Taken, JobLineFault>
         ensures { TakesLine line.now self.old self.new result }
     {
         match self.read(alloc, line) {
-            Ok(ends) => Ok(ends),
+            Ok(taken) => Ok(taken),
             Err(fault) => {
                 self.refuse(line);
                 Err(fault)

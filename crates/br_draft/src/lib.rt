@@ -12,7 +12,7 @@ mod file;
 mod head;
 mod line;
 
-pub use draft::{Draft, EndFault};
+pub use draft::{Draft, EndFault, Taken};
 pub use fault::JobLineFault;
 pub use fields::{name_of, next};
 pub use head::{Head, read_head};

@@ -20,9 +20,9 @@ use br_sink::Sink;
 use br_tar::TarSink;
 use br_targets::{
     BAD_STREAM, Channel, Ending, Extent, LeavingSink, TarEnd, TarFault, add_tar_end, end_stream,
-    folder_of, gauge_of, leaving_over, log_fault, refuse_log, refuse_place, say_conflicts,
-    say_files, say_nowhere, say_stop, tar_into, tar_onto, tell_others, watched_drives,
-    watched_sink, watched_writer,
+    folder_of, gauge_of, lacks_volumes, leaving_over, log_fault, refuse_log, refuse_place,
+    say_conflicts, say_files, say_nowhere, say_stop, tar_into, tar_onto, tell_others,
+    watched_drives, watched_sink, watched_writer,
 };
 use br_types::Path;
 use br_volume::Drive;
@@ -139,7 +139,10 @@ fn report(
     let status = ending.print(rt)?;
     match run {
         Ok(done) => say_done(rt, gauge, given.target, done, failed)?,
-        Err(fault) => say_volumes(rt, gauge, given.volumes, told, fault.number())?,
+        Err(ExtractFault::Piece(fault)) if lacks_volumes(fault) => {
+            say_volumes(rt, gauge, given.volumes, told)?
+        }
+        Err(_) => {}
     }
     tell_outcomes(rt, gauge, given.volumes, told)?;
     if let Ok(done) = run {

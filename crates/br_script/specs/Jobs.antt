@@ -1,5 +1,5 @@
 -- What the lines of a job do.
-use Rattle.std.specs.Prelude.{◌≡◌, ℕ, ◌⊎◌, Bool, true, false, List, Option, Some, None, MatchOption, Result, Ok, Err, OnOk}
+use Rattle.std.specs.Prelude.{◌≡◌, ℕ, ◌⊎◌, List, Option, Some, None, MatchOption, Result, Ok, Err, OnOk}
 use Rattle.std.specs.Io.KnownBytes.{Appends, Keeps}
 use Rattle.br_model.specs.Answer.{IsRefusal}
 use Rattle.br_model.specs.Job.{JobRows}
@@ -11,6 +11,8 @@ use Rattle.br_keeper.specs.Writing.{Shelf}
 use Rattle.br_draft.specs.Drafting.{Drafting, TakesLine, begins, ended, given_up}
 use Rattle.br_draft.specs.Fault.{cause, fault_number}
 use Rattle.br_draft.specs.Head.{Begun, head_said}
+use Rattle.br_draft.specs.declared.draft.Taken.{Taken}
+use Rattle.br_draft.specs.declared.draft.Taken.TheVariants.{Line, End}
 use Rattle.br_draft.specs.declared.fault.JobLineFault.{JobLineFault}
 use Rattle.br_script.specs.Answering.{refusal_at}
 use Rattle.br_script.specs.Desk.{AnswersCommit, EndsJob}
@@ -30,10 +32,10 @@ GivesUp before after = MatchOption before (after ≡ None) (λ d. after ≡ Some
 -- refused, its refusal is written. No line but the end does anything else than to change the job.
 abbrev pub GoesOn : {C W E : Type 0} → (JobRows → C → C → Type 0) → (JobRows → C → C → Type 0) → (Keeping C W → Shelf) → ℕ
     → Keeping C W → Keeping C W → Option Known → Option (List ℕ) → Option (List ℕ) → Result (Unit {0}) E
-    → Drafting → Option Drafting → Result Bool JobLineFault → Type 0
-GoesOn inserts refuses shelf place old new session before after result taken left (Ok true) =
+    → Drafting → Option Drafting → Result Taken JobLineFault → Type 0
+GoesOn inserts refuses shelf place old new session before after result taken left (Ok End) =
     (left ≡ None) × EndsJob inserts refuses shelf place old new session before after result (ended taken)
-GoesOn inserts refuses shelf place old new session before after result taken left (Ok false) = (left ≡ Some taken) × (new ≡ old) × Keeps before after
+GoesOn inserts refuses shelf place old new session before after result taken left (Ok Line) = (left ≡ Some taken) × (new ≡ old) × Keeps before after
 GoesOn inserts refuses shelf place old new session before after result taken left (Err why) =
     (left ≡ Some taken) × (new ≡ old) × OnOk result (Appends before after (refusal_at (fault_number why) place))
 
@@ -42,7 +44,7 @@ abbrev pub TakesIn : {C W E : Type 0} → (JobRows → C → C → Type 0) → (
     → Keeping C W → Keeping C W → Option Known → Option (List ℕ) → Option (List ℕ) → Result (Unit {0}) E
     → List ℕ → Drafting → Option Drafting → Type 0
 TakesIn inserts refuses shelf place old new session before after result line draft left =
-    (taken : Drafting) × (r : Result Bool JobLineFault) × TakesLine line draft taken r
+    (taken : Drafting) × (r : Result Taken JobLineFault) × TakesLine line draft taken r
     × GoesOn inserts refuses shelf place old new session before after result taken left r
 
 -- ---- as a script states it, over what its catalogue, its volumes and its writer show

@@ -12,7 +12,7 @@ use crate::input::Lines;
 use crate::line::is_restore;
 use crate::script::Script;
 use crate::text::skip_dialogue;
-use br_draft::{Draft, read_head};
+use br_draft::{Draft, Taken, read_head};
 use br_history::SavedJob;
 use br_keeper::JobStore;
 use br_volume::VolumeStore;
@@ -122,8 +122,8 @@ impl<C: JobStore, V: VolumeStore> Script<C, V> {
             lines.old.number result line.now draft }
     {
         match draft.take(self.alloc, line) {
-            Ok(true) => Ok(self.end_job(rt, draft, lines.number(), writer)?),
-            Ok(false) => {
+            Ok(Taken::End) => Ok(self.end_job(rt, draft, lines.number(), writer)?),
+            Ok(Taken::Line) => {
                 self.draft = Some(draft);
                 Ok(())
             }

@@ -12,7 +12,7 @@ pub use folders::{HostSink, LeavingSink, ResumingSink, folder_of, leaving_over, 
 pub use status::{BAD_STREAM, Ending};
 pub use tar::{Channel, Extent, TarEnd, TarFault, add_tar_end, end_stream, tar_into, tar_onto};
 pub use telling::{
-    log_fault, refuse_place, say_conflicts, say_files, say_nowhere, say_place, say_stop,
-    tell_others,
+    lacks_volumes, log_fault, refuse_place, say_conflicts, say_files, say_nowhere, say_place,
+    say_stop, tell_others,
 };
 pub use watching::{gauge_of, refuse_log, watched_drives, watched_sink, watched_writer};

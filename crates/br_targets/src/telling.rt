@@ -1,9 +1,13 @@
 //! What is told in words, at a terminal and in a log, beside what the commands print.
+ghost use Rattle.std.specs.Prelude.{◌≡◌, ◌||◌, ◌==◌};
+ghost use Rattle.br_pool.specs.Fault.{fault_number};
 
 use br_engine::RestoreEnd;
 use br_join::Outcome;
+use br_match::{PieceCause, PieceFault};
 use br_options::Target;
 use br_others::{others_in, push_others};
+use br_pool::PoolFault;
 use br_progress::Gauge;
 use br_reason::{Matter, Reason, reason_of_file, reason_of_folder, reason_of_new_file};
 use br_setup::refuse_start;
@@ -51,6 +55,17 @@ pub fn tell_others(
     eprint!(rt; "{text}")?;
     gauge.log_refusals(&lines);
     Ok(())
+}
+
+/// Returns whether a restore was given up for want of a volume: one is not there, or no drive is left.
+pub fn lacks_volumes(fault: &PoolFault) -> bool
+    ensures { result ≡ (fault_number fault.now == 14 || fault_number fault.now == 70) }
+{
+    match fault {
+        PoolFault::NoDriveLeft => true,
+        PoolFault::Piece(PieceFault::Block { cause, .. }) => *cause == PieceCause::UnknownVolume,
+        PoolFault::Piece(PieceFault::Memory) | PoolFault::Memory => false,
+    }
 }
 
 /// Says the reason of a refusal.
