@@ -1,4 +1,7 @@
 //! Databases on a disk of which a file may stop.
+//!
+//! Steps are generic over the disk. A function over the type of a whole database is proved in half a minute,
+//! and one over its bounds in a second or two.
 ghost use Rattle.std.specs.Prelude.{IsTrue, IfSome};
 ghost use Rattle.sqlite.specs.Steps.{IsFresh};
 ghost use Rattle.sqlite_trees.specs.View.{IsClean};

@@ -1,10 +1,11 @@
 //! Files in memory that are looked at.
 
-use crate::disk::Disk;
-use crate::steps::{queried, shown};
+use crate::disk::{Disk, opened_on};
+use crate::steps::{left_by, queried, shown};
 use br_look::{Beside, MemSight, fold, look};
 use br_trial_rows::Case;
 use sqlite::Connection;
+use std::sync::Wait;
 
 /// Returns what lies beside a file.
 fn beside_of(word: &str) -> Beside {
@@ -32,8 +33,8 @@ fn looked(case: &mut Case, bytes: Vec<u8>, fields: &str) {
     shown(case, &sight.waited());
 }
 
-/// Folds a database. Prints how many bytes its log has then, and looks at its file.
-pub(crate) fn folded(case: &mut Case, conn: Connection<Disk>, fields: &str) {
+/// Puts all of a database into its file. Prints how many bytes its log has then, and looks at the file.
+fn folded(case: &mut Case, conn: Connection<Disk>, fields: &str) {
     match fold(conn) {
         Ok(files) => {
             shown(case, &files.log.inner().bytes().len());
@@ -43,6 +44,17 @@ pub(crate) fn folded(case: &mut Case, conn: Connection<Disk>, fields: &str) {
             looked(case, bytes, fields);
         }
         Err(fault) => shown(case, &fault),
+    }
+}
+
+/// Does steps on an empty database, folds it, and looks at its file as the fields after `:` say.
+pub(crate) fn run_fold(case: &mut Case, rt: &impl Wait, call: &str) {
+    let (steps, fields) = case.split(call, ':');
+    let alloc = case.alloc();
+    let conn = opened_on(alloc, u64::MAX, u64::MAX);
+    match left_by(case, rt, conn, None, steps) {
+        Some(conn) => folded(case, conn, fields.trim_ascii()),
+        None => case.fail("the database was lost"),
     }
 }
 

@@ -20,6 +20,7 @@ fn run(case: &mut Case, rt: &impl Wait, call: &str) {
         "on" => steps::run(case, rt, text),
         "stops" => stops::run(case, rt, text),
         "look" => looking::run(case, text),
+        "fold" => looking::run_fold(case, rt, text),
         _ => case.fail("there is no such call"),
     }
 }

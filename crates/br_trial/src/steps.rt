@@ -1,8 +1,7 @@
 //! Steps that a row takes one after another on a database.
 
-use crate::disk::{Disk, catalogue, migrated, opened_on};
+use crate::disk::{catalogue, migrated, opened_on};
 use crate::jobs::{committed, push_jobs};
-use crate::looking::folded;
 use crate::texts::text_by;
 use br_history::{History, JobRows};
 use br_kept::StoredJobs;
@@ -10,6 +9,7 @@ use br_store::Store;
 use br_trial_rows::Case;
 use br_volume::MemStore;
 use sqlite::{Alter, Connection};
+use sqlite_trees::store::Reopen;
 use std::alloc::Global;
 use std::fmt::Debug;
 use std::io::Write;
@@ -17,9 +17,11 @@ use std::sync::Wait;
 
 /// What a row has as it goes on.
 #[derive(Drop)]
-pub(crate) struct World {
+pub(crate) struct World<S: Alter> {
     /// The database, until a step loses it: the steps after that do nothing.
-    pub(crate) conn: Option<Connection<Disk>>,
+    pub(crate) conn: Option<Connection<S>>,
+    /// Another one without tables, until a step takes it.
+    other: Option<Connection<S>>,
     /// The jobs that were loaded last.
     pub(crate) jobs: History,
     pub(crate) volumes: MemStore,
@@ -27,10 +29,15 @@ pub(crate) struct World {
     pub(crate) told: u64,
 }
 
-/// Makes a world with this database.
-pub(crate) fn world_of(alloc: Global, conn: Option<Connection<Disk>>) -> World {
+/// Makes a world with this database, and another one.
+pub(crate) fn world_of<S: Alter>(
+    alloc: Global,
+    conn: Option<Connection<S>>,
+    other: Option<Connection<S>>,
+) -> World<S> {
     World {
         conn,
+        other,
         jobs: History::new(alloc),
         volumes: MemStore::new(alloc),
         told: 0,
@@ -59,7 +66,7 @@ pub(crate) fn queried<S: Alter>(case: &mut Case, conn: &mut Connection<S>, query
 }
 
 /// Runs statements. Returns none if one is refused.
-fn changed(mut conn: Connection<Disk>, sql: &str) -> Option<Connection<Disk>> {
+fn changed<S: Alter + Drop>(mut conn: Connection<S>, sql: &str) -> Option<Connection<S>> {
     match conn.execute_batch(sql) {
         Ok(()) => Some(conn),
         Err(_) => None,
@@ -67,7 +74,11 @@ fn changed(mut conn: Connection<Disk>, sql: &str) -> Option<Connection<Disk>> {
 }
 
 /// Migrates a database. Prints the number of its jobs, or the refusal.
-fn moved(case: &mut Case, told: &mut u64, conn: Connection<Disk>) -> Option<Connection<Disk>> {
+fn moved<S: Alter + Reopen + Drop>(
+    case: &mut Case,
+    told: &mut u64,
+    conn: Connection<S>,
+) -> Option<Connection<S>> {
     let Some((end, conn)) = migrated(case.alloc(), conn) else {
         case.fail("the database was not opened again");
         return None;
@@ -83,7 +94,7 @@ fn moved(case: &mut Case, told: &mut u64, conn: Connection<Disk>) -> Option<Conn
 }
 
 /// Loads the jobs of a catalogue. Prints the refusal if it is refused.
-fn load(case: &mut Case, jobs: &mut History, store: &mut Store<Disk>) {
+fn load<S: Alter>(case: &mut Case, jobs: &mut History, store: &mut Store<S>) {
     match store.load_history() {
         Ok(history) => *jobs = history,
         Err(fault) => refused(case, fault.number()),
@@ -91,7 +102,7 @@ fn load(case: &mut Case, jobs: &mut History, store: &mut Store<Disk>) {
 }
 
 /// Inserts a job. Prints the refusal if it is refused.
-fn put(case: &mut Case, store: &mut Store<Disk>, job: &JobRows) {
+fn put<S: Alter>(case: &mut Case, store: &mut Store<S>, job: &JobRows) {
     match store.insert_job(job) {
         Ok(()) => {}
         Err(fault) => refused(case, fault.number()),
@@ -99,7 +110,7 @@ fn put(case: &mut Case, store: &mut Store<Disk>, job: &JobRows) {
 }
 
 /// Inserts the job with this place among these, counted from 1, or all of them if no place is given.
-fn insert(case: &mut Case, jobs: &[JobRows], store: &mut Store<Disk>, place: &str) {
+fn insert<S: Alter>(case: &mut Case, jobs: &[JobRows], store: &mut Store<S>, place: &str) {
     if place.is_empty() {
         for job in jobs {
             put(case, store, job);
@@ -113,12 +124,12 @@ fn insert(case: &mut Case, jobs: &[JobRows], store: &mut Store<Disk>, place: &st
 }
 
 /// Commits two jobs to a catalogue and to volumes.
-fn commit(
+fn commit<S: Alter + Drop>(
     rt: &impl Wait,
     alloc: Global,
-    world: &mut World,
-    conn: Connection<Disk>,
-) -> Option<Connection<Disk>> {
+    world: &mut World<S>,
+    conn: Connection<S>,
+) -> Option<Connection<S>> {
     let store = catalogue(alloc, conn).ok()?;
     let (told, jobs, volumes) = committed(rt, alloc, StoredJobs::new(store))?;
     world.told = told;
@@ -127,7 +138,13 @@ fn commit(
 }
 
 /// Does a step on a catalogue.
-fn on_store(case: &mut Case, world: &mut World, store: &mut Store<Disk>, word: &str, text: &str) {
+fn on_store<S: Alter>(
+    case: &mut Case,
+    world: &mut World<S>,
+    store: &mut Store<S>,
+    word: &str,
+    text: &str,
+) {
     match word {
         "load" => load(case, &mut world.jobs, store),
         "insert" => insert(case, world.jobs.jobs(), store, text),
@@ -136,13 +153,13 @@ fn on_store(case: &mut Case, world: &mut World, store: &mut Store<Disk>, word: &
 }
 
 /// Opens the catalogue in a database, and does a step on it. Prints the refusal if it is not opened.
-fn on_catalogue(
+fn on_catalogue<S: Alter + Drop>(
     case: &mut Case,
-    world: &mut World,
-    conn: Connection<Disk>,
+    world: &mut World<S>,
+    conn: Connection<S>,
     word: &str,
     text: &str,
-) -> Option<Connection<Disk>> {
+) -> Option<Connection<S>> {
     match catalogue(case.alloc(), conn) {
         Ok(mut store) => {
             on_store(case, world, &mut store, word, text);
@@ -156,7 +173,12 @@ fn on_catalogue(
 }
 
 /// Does a step.
-fn do_step(case: &mut Case, rt: &impl Wait, world: &mut World, step: &str) {
+fn do_step<S: Alter + Reopen + Drop>(
+    case: &mut Case,
+    rt: &impl Wait,
+    world: &mut World<S>,
+    step: &str,
+) {
     let (word, text) = step.split_once(' ').unwrap_or((step, ""));
     let Some(mut conn) = world.conn.take() else {
         return;
@@ -164,7 +186,7 @@ fn do_step(case: &mut Case, rt: &impl Wait, world: &mut World, step: &str) {
     let next = match word {
         "new" => {
             drop(conn);
-            opened_on(case.alloc(), u64::MAX, u64::MAX)
+            world.other.take()
         }
         "sql" => changed(conn, text_by(text)),
         "rows" => {
@@ -180,10 +202,6 @@ fn do_step(case: &mut Case, rt: &impl Wait, world: &mut World, step: &str) {
             Some(conn)
         }
         "migrate" => moved(case, &mut world.told, conn),
-        "fold" => {
-            folded(case, conn, text);
-            None
-        }
         "commit" => commit(rt, case.alloc(), world, conn),
         _ => on_catalogue(case, world, conn, word, text),
     };
@@ -191,15 +209,45 @@ fn do_step(case: &mut Case, rt: &impl Wait, world: &mut World, step: &str) {
 }
 
 /// Does steps with `|` between them.
-pub(crate) fn do_steps(case: &mut Case, rt: &impl Wait, world: &mut World, steps: &str) {
+pub(crate) fn do_steps<S: Alter + Reopen + Drop>(
+    case: &mut Case,
+    rt: &impl Wait,
+    world: &mut World<S>,
+    steps: &str,
+) {
     for step in steps.split('|') {
         do_step(case, rt, world, step.trim_ascii());
     }
 }
 
-/// Does steps on an empty database.
+/// Does steps on a database, with another one beside it. Returns the database, unless a step lost it.
+pub(crate) fn left_by<S: Alter + Reopen + Drop>(
+    case: &mut Case,
+    rt: &impl Wait,
+    conn: Option<Connection<S>>,
+    other: Option<Connection<S>>,
+    steps: &str,
+) -> Option<Connection<S>> {
+    let mut world = world_of(case.alloc(), conn, other);
+    do_steps(case, rt, &mut world, steps);
+    world.conn.take()
+}
+
+/// Does steps on a database, with another one beside it.
+fn run_on<S: Alter + Reopen + Drop>(
+    case: &mut Case,
+    rt: &impl Wait,
+    conn: Option<Connection<S>>,
+    other: Option<Connection<S>>,
+    steps: &str,
+) {
+    let _left = left_by(case, rt, conn, other, steps);
+}
+
+/// Does steps on an empty database, with another one beside it.
 pub(crate) fn run(case: &mut Case, rt: &impl Wait, steps: &str) {
     let alloc = case.alloc();
-    let mut world = world_of(alloc, opened_on(alloc, u64::MAX, u64::MAX));
-    do_steps(case, rt, &mut world, steps);
+    let conn = opened_on(alloc, u64::MAX, u64::MAX);
+    let other = opened_on(alloc, u64::MAX, u64::MAX);
+    run_on(case, rt, conn, other, steps);
 }

@@ -1,9 +1,10 @@
 //! Steps on a disk that stops at each call in turn.
 
-use crate::disk::{Disk, opened_on, reopened};
+use crate::disk::{opened_on, reopened};
 use crate::steps::{World, do_steps, world_of};
 use br_trial_rows::Case;
-use sqlite::Connection;
+use sqlite::{Alter, Connection};
+use sqlite_trees::store::Reopen;
 use std::sync::Wait;
 
 /// More calls than any run makes of a file.
@@ -13,7 +14,7 @@ const MANY: u64 = 2000;
 const JOBS: u64 = 2;
 
 /// Stops the machine and starts it again. A database that was lost before stays lost.
-fn restart(case: &mut Case, world: &mut World) {
+fn restart<S: Alter + Reopen + Drop>(case: &mut Case, world: &mut World<S>) {
     let Some(conn) = world.conn.take() else {
         return;
     };
@@ -26,15 +27,15 @@ fn restart(case: &mut Case, world: &mut World) {
 
 /// Does steps on a database whose disk may stop, restarts the machine, and does other steps. Prints what
 /// these give. Returns the number of jobs that the first ones acknowledged.
-fn stopped(
+fn stopped<S: Alter + Reopen + Drop>(
     case: &mut Case,
     rt: &impl Wait,
-    conn: Option<Connection<Disk>>,
+    conn: Option<Connection<S>>,
     before: &str,
     after: &str,
 ) -> u64 {
     let mut tried = Case::new(case.alloc());
-    let mut world = world_of(case.alloc(), conn);
+    let mut world = world_of(case.alloc(), conn, None);
     do_steps(&mut tried, rt, &mut world, before);
     if let Some(fault) = tried.fault() {
         case.fail(fault);
