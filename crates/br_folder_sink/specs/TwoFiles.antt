@@ -1,6 +1,6 @@
 -- Two files that are made, written and finished side by side.
-use Rattle.std.specs.Prelude.{◌≡◌, ℕ, List, [], ◌∷◌, ◌++◌, Option, Some, None, ⊤, string_bytes}
-use Rattle.br_model.specs.File.{Item}
+use Rattle.std.specs.Prelude.{◌≡◌, ℕ, List, [], ◌∷◌, ◌++◌, Option, Some, None, ⊤, string_bytes, true}
+use Rattle.br_model.specs.File.{Item, has_bytes}
 use Rattle.br_files.specs.Making.{Nodes, Bytes, IsBelow, IsFinished, IsFree, MakesFile, node_at}
 use Rattle.br_sink.specs.FileParts.{with_bytes}
 use Rattle.br_sink.specs.declared.two_parts.TwoPut.{TwoPut}
@@ -9,6 +9,7 @@ use Rattle.br_folder_sink.specs.Below.{AddsFolders}
 use Rattle.br_folder_sink.specs.Held.{LeavesFiles}
 use Rattle.br_folder_sink.specs.Removed.{ChangesOne, IsRemoved}
 use Rattle.br_folder_sink.specs.declared.two_files.NewFile.{NewFile}
+use Rattle.br_folder_sink.specs.declared.two_files.Pair.{Pair}
 use Rattle.br_folder_sink.specs.declared.two_files.Paths.{Paths}
 
 -- a new file's own path is that of an item below the folder
@@ -47,6 +48,11 @@ ClosesTwo root one other first second earlier later (Both x y) = FinishesTwo one
 ClosesTwo root one other first second earlier later (One x why) = FinishesFirst root one other first earlier later
 ClosesTwo root one other first second earlier later (Neither why) = ⊤
 
+-- what was closed of the files at these paths
+abbrev pub ClosesPaths : Paths → Option (List ℕ) → Option (List ℕ) → Option Nodes → Option Nodes → TwoPut → Type 0
+ClosesPaths paths first second earlier later result =
+    ClosesTwo paths.root.now paths.one.now paths.other.now first second earlier later result
+
 -- If the nodes are told, the path has a file of these bytes.
 abbrev pub IsWholeAt : List ℕ → List ℕ → Option Nodes → Type 0
 IsWholeAt path bytes None = ⊤
@@ -58,6 +64,13 @@ LeavesTwo root one other earlier later (Both x y) = LeavesFiles root (with_bytes
 LeavesTwo root one other earlier later (One x why) = IsWholeAt (root ++ one.path) x later
 LeavesTwo root one other earlier later (Neither why) = ⊤
 
+-- what is left of two new files of this pair, if both have bytes, whatever was there before they were made
+abbrev pub LeavesNew : {W : Type 0} → (W → Option (List ℕ)) → Pair → NewFile W → NewFile W → Option Nodes → Option Nodes → TwoPut → Type 0
+LeavesNew contents pair first second made later result =
+    has_bytes pair.one.now.kind ≡ true → has_bytes pair.other.now.kind ≡ true → (earlier : Option Nodes)
+    → MakesTwo pair.root.now (string_bytes first.path) (string_bytes second.path) (contents first.file) (contents second.file) earlier made
+    → LeavesTwo pair.root.now pair.one.now pair.other.now earlier later result
+
 -- no file is at either path, or its removal was refused
 abbrev pub AreBothRemoved : (List ℕ → Type 0) → List ℕ → List ℕ → Option Nodes → Type 0
 AreBothRemoved refused one other nodes = IsRemoved refused nodes one × IsRemoved refused nodes other
@@ -67,6 +80,11 @@ abbrev pub IsRestRemoved : (List ℕ → Type 0) → List ℕ → List ℕ → O
 IsRestRemoved refused one other nodes (Both x y) = ⊤
 IsRestRemoved refused one other nodes (One x why) = IsRemoved refused nodes other
 IsRestRemoved refused one other nodes (Neither why) = AreBothRemoved refused one other nodes
+
+-- so is what was not put of this pair
+abbrev pub IsPairRemoved : (List ℕ → Type 0) → Pair → Option Nodes → TwoPut → Type 0
+IsPairRemoved refused pair nodes result =
+    IsRestRemoved refused (pair.root.now ++ pair.one.now.path) (pair.root.now ++ pair.other.now.path) nodes result
 
 -- the bytes of the first of two files, if it was put
 abbrev pub first_of : TwoPut → Option (List ℕ)

@@ -9,8 +9,8 @@ ghost use Rattle.br_sink.specs.declared.two_parts.TwoPut.TheVariants as two;
 ghost use Rattle.br_folder_sink.specs.Below.{AddsFolders, KeepsOutside};
 ghost use Rattle.br_folder_sink.specs.FolderSink.{HasName, HasText};
 ghost use Rattle.br_folder_sink.specs.Removed.{ChangesOne, GivesUp, IsRemoved};
-ghost use Rattle.br_folder_sink.specs.TwoFiles.{AreBothRemoved, ClosesTwo, HavePathsBelow, IsNewBelow, IsRestRemoved, LeavesTwo};
-ghost use Rattle.br_folder_sink.specs.TwoFiles.{MakesFree, MakesTwo, PutsAtMost};
+ghost use Rattle.br_folder_sink.specs.TwoFiles.{AreBothRemoved, ClosesPaths, HavePathsBelow, IsNewBelow, IsPairRemoved, IsRestRemoved};
+ghost use Rattle.br_folder_sink.specs.TwoFiles.{LeavesNew, LeavesTwo, MakesFree, PutsAtMost};
 
 use crate::place::path_of;
 use crate::remover::{Remover, take_back};
@@ -163,8 +163,7 @@ fn close_both<M: Remover>(
 ) -> TwoPut
     requires below { HavePathsBelow paths.now }
     ensures put { PutsAtMost (two.Both one other) result }
-    ensures closed { ClosesTwo paths.now.root.now paths.now.one.now paths.now.other.now (M.New.contents first) (M.New.contents second)
-        (M.nodes maker.old) (M.nodes maker.new) result }
+    ensures closed { ClosesPaths paths.now (M.New.contents first) (M.New.contents second) (M.nodes maker.old) (M.nodes maker.new) result }
     ensures removed { IsRestRemoved M.is_refused paths.now.one.now paths.now.other.now (M.nodes maker.new) result }
     ensures outside { KeepsOutside paths.now.root.now (M.nodes maker.old) (M.nodes maker.new) }
 {
@@ -189,8 +188,7 @@ fn close_one<M: Remover>(
 ) -> TwoPut
     requires below { HavePathsBelow paths.now }
     ensures put { PutsAtMost (two.One one why) result }
-    ensures closed { (second : Option (List ℕ)) → ClosesTwo paths.now.root.now paths.now.one.now paths.now.other.now
-        (M.New.contents file) second (M.nodes maker.old) (M.nodes maker.new) result }
+    ensures closed { (second : Option (List ℕ)) → ClosesPaths paths.now (M.New.contents file) second (M.nodes maker.old) (M.nodes maker.new) result }
     ensures removed { IsRestRemoved M.is_refused paths.now.one.now paths.now.other.now (M.nodes maker.new) result }
     ensures outside { KeepsOutside paths.now.root.now (M.nodes maker.old) (M.nodes maker.new) }
 {
@@ -211,8 +209,7 @@ fn close_pair<M: Remover>(
 ) -> TwoPut
     requires below { HavePathsBelow paths.now }
     ensures put { PutsAtMost written result }
-    ensures closed { ClosesTwo paths.now.root.now paths.now.one.now paths.now.other.now (M.New.contents first) (M.New.contents second)
-        (M.nodes maker.old) (M.nodes maker.new) result }
+    ensures closed { ClosesPaths paths.now (M.New.contents first) (M.New.contents second) (M.nodes maker.old) (M.nodes maker.new) result }
     ensures removed { IsRestRemoved M.is_refused paths.now.one.now paths.now.other.now (M.nodes maker.new) result }
     ensures outside { KeepsOutside paths.now.root.now (M.nodes maker.old) (M.nodes maker.new) }
 {
@@ -239,12 +236,8 @@ fn write_pair<M: Remover, P: TwoParts>(
     requires second { IsNewBelow pair.now.root.now pair.now.other.now.path second }
     ensures alike { AreTwoAlike pair.now.one.now pair.now.other.now result }
     ensures same { P.gives parts.old pair.now.one.now pair.now.other.now → AreTwoSame pair.now.one.now pair.now.other.now result }
-    ensures left { has_bytes pair.now.one.now.kind ≡ true → has_bytes pair.now.other.now.kind ≡ true → (earlier : Option Nodes)
-        → MakesTwo pair.now.root.now (string_bytes first.path) (string_bytes second.path) (M.New.contents first.file)
-        (M.New.contents second.file) earlier (M.nodes maker.old)
-        → LeavesTwo pair.now.root.now pair.now.one.now pair.now.other.now earlier (M.nodes maker.new) result }
-    ensures removed { IsRestRemoved M.is_refused (pair.now.root.now ++ pair.now.one.now.path)
-        (pair.now.root.now ++ pair.now.other.now.path) (M.nodes maker.new) result }
+    ensures left { LeavesNew M.New.contents pair.now first second (M.nodes maker.old) (M.nodes maker.new) result }
+    ensures removed { IsPairRemoved M.is_refused pair.now (M.nodes maker.new) result }
     ensures outside { KeepsOutside pair.now.root.now (M.nodes maker.old) (M.nodes maker.new) }
     ensures on { P.goes_on parts.old parts.new }
 {
@@ -277,8 +270,7 @@ pub(crate) fn put_pair<M: Remover, P: TwoParts>(
     ensures same { P.gives parts.old pair.now.one.now pair.now.other.now
         → IfSome result (AreTwoSame pair.now.one.now pair.now.other.now) }
     ensures left { IfSome result (LeavesTwo pair.now.root.now pair.now.one.now pair.now.other.now (M.nodes maker.old) (M.nodes maker.new)) }
-    ensures removed { IfSome result (IsRestRemoved M.is_refused (pair.now.root.now ++ pair.now.one.now.path)
-        (pair.now.root.now ++ pair.now.other.now.path) (M.nodes maker.new)) }
+    ensures removed { IfSome result (IsPairRemoved M.is_refused pair.now (M.nodes maker.new)) }
     ensures given_up { result ≡ None → GivesUp M.is_refused pair.now.root.now pair.now.one.now.path (M.nodes maker.old)
         (M.nodes maker.new) }
     ensures text { IsSome result → HasText pair.now.one.now }

@@ -11,6 +11,7 @@ use Rattle.br_sink.specs.declared.two_parts.TwoPut.{TwoPut}
 use Rattle.br_sink.specs.declared.two_parts.TwoPut.TheVariants as put
 use Rattle.br_parts.specs.FileParts.{PutsAlike}
 use Rattle.br_gather.specs.FileParts.{GivesItem}
+use Rattle.br_gather.specs.declared.two_files.KeyedItem.{KeyedItem}
 use Rattle.br_gather.specs.declared.two_files.TwoDone.{TwoDone}
 use Rattle.br_gather.specs.declared.two_files.TwoDone.TheVariants.{Both, One, Neither}
 
@@ -53,3 +54,7 @@ FailsAny None = ⊥
 -- the hits are read again as they were found, and those with the two keys make the two files
 abbrev pub GivesBoth : RereadingMany → List Hit → FileKey → FileKey → Item → Item → Type 0
 GivesBoth many hits key later one other = GivesItem many hits key one × GivesItem many hits later other
+
+-- so are those of these two, by their keys
+abbrev pub GivesKeyed : RereadingMany → List Hit → KeyedItem → KeyedItem → Type 0
+GivesKeyed many hits one other = GivesBoth many hits one.key other.key one.item.now other.item.now

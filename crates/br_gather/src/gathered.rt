@@ -12,7 +12,7 @@ ghost use Rattle.br_sink.specs.declared.file_parts.PartsFault.TheVariants.{Fault
 ghost use Rattle.br_parts.specs.FileParts.{PutsAlike};
 ghost use Rattle.br_gather.specs.FileParts.{GivesItem};
 ghost use Rattle.br_parts.specs.Given.{GivesHits};
-ghost use Rattle.br_gather.specs.TwoFiles.{FailsAny, FailsEither, GivesBoth, PutsAny, PutsTwo};
+ghost use Rattle.br_gather.specs.TwoFiles.{FailsAny, FailsEither, GivesKeyed, PutsAny, PutsTwo};
 
 use crate::again::made_once_more;
 use crate::light::lightened;
@@ -175,8 +175,7 @@ impl Gathered {
         other: &KeyedItem<'_>,
         sink: &mut S,
     ) -> Option<TwoDone>
-        ensures put { PutsAny result (GivesBoth many.old self.now.hits one.now.key other.now.key one.now.item.now other.now.item.now)
-            one.now.item.now other.now.item.now (S.has sink.old) (S.has sink.new) }
+        ensures put { PutsAny result (GivesKeyed many.old self.now.hits one.now other.now) one.now.item.now other.now.item.now (S.has sink.old) (S.has sink.new) }
         ensures counted { S.failures sink.old ≤ S.failures sink.new }
         ensures failed { FailsAny result → S.failures sink.old < S.failures sink.new }
         ensures on { GoOn many.old many.new }
@@ -209,8 +208,7 @@ impl Gathered {
         other: &KeyedItem<'_>,
         sink: &mut S,
     ) -> TwoDone
-        ensures put { PutsTwo result (GivesBoth many.old self.now.hits one.now.key other.now.key one.now.item.now other.now.item.now)
-            one.now.item.now other.now.item.now (S.has sink.old) (S.has sink.new) }
+        ensures put { PutsTwo result (GivesKeyed many.old self.now.hits one.now other.now) one.now.item.now other.now.item.now (S.has sink.old) (S.has sink.new) }
         ensures counted { S.failures sink.old ≤ S.failures sink.new }
         ensures failed { FailsEither result → S.failures sink.old < S.failures sink.new }
         ensures on { GoOn many.old many.new }
@@ -241,8 +239,7 @@ impl Gathered {
         other: &KeyedItem<'_>,
         sink: &mut S,
     ) -> TwoDone
-        ensures put { PutsTwo result (GivesBoth many.old self.now.hits one.now.key other.now.key one.now.item.now other.now.item.now)
-            one.now.item.now other.now.item.now (S.has sink.old) (S.has sink.new) }
+        ensures put { PutsTwo result (GivesKeyed many.old self.now.hits one.now other.now) one.now.item.now other.now.item.now (S.has sink.old) (S.has sink.new) }
         ensures counted { S.failures sink.old ≤ S.failures sink.new }
         ensures failed { FailsEither result → S.failures sink.old < S.failures sink.new }
         ensures on { GoOn many.old many.new }

@@ -3,7 +3,7 @@ ghost use Rattle.std.specs.Prelude.{◌≡◌, ◌<◌, ◌≤◌, IfSome, optio
 ghost use Rattle.br_records.specs.Runs.{AreListed};
 ghost use Rattle.br_reread.specs.Many.{GoOn, RereadingMany};
 ghost use Rattle.br_parts.specs.FileParts.{GivesFile};
-ghost use Rattle.br_parts.specs.TwoParts.{GivesTwo};
+ghost use Rattle.br_parts.specs.TwoParts.{GivesPlain};
 ghost use Rattle.br_gather.specs.FileParts.{GivesItem};
 ghost use Rattle.br_gather.specs.TwoFiles.{FailsAny, PutsAny, done_as};
 
@@ -80,8 +80,7 @@ pub(crate) fn put_two<D: Drive, S: Sink>(
     other: &PlainFile<'_, '_>,
     sink: &mut S,
 ) -> Option<TwoDone>
-    ensures put { PutsAny result (GivesTwo many.old one.now.hits.now other.now.hits.now one.now.item.now other.now.item.now)
-        one.now.item.now other.now.item.now (S.has sink.old) (S.has sink.new) }
+    ensures put { PutsAny result (GivesPlain many.old one.now other.now) one.now.item.now other.now.item.now (S.has sink.old) (S.has sink.new) }
     ensures counted { S.failures sink.old ≤ S.failures sink.new }
     ensures failed { FailsAny result → S.failures sink.old < S.failures sink.new }
     ensures on { GoOn many.old many.new }

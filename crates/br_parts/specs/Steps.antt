@@ -36,6 +36,15 @@ pub record PutsOn (many : RereadingMany) (before after : Option (List ℕ)) (old
   pub given : (later : RereadingMany) → GivesHits later old.rest → GivesHits later new.rest
   pub same : GivesHits many old.rest → bytes ++ (new.next ++ plain_bytes (fragments new.rest)) ≡ old.next ++ plain_bytes (fragments old.rest)
 
+-- the same of a writer, from the data that came next on to those that come next now
+abbrev pub PutsTo : {W : Type 0} → (W → Option (List ℕ)) → RereadingMany → W → W → List ℕ → Ahead → List ℕ → Ahead → Type 0
+PutsTo contents many before after read old now new = PutsOn many (contents before) (contents after) (step_of read old) (step_of now new)
+
+-- the same to the end of the file
+abbrev pub PutsRest : {W : Type 0} → (W → Option (List ℕ)) → RereadingMany → W → W → List ℕ → Ahead → List ℕ → Ahead → Type 0
+PutsRest contents many before after read old now new =
+    PutsOn many (contents before) (contents after) (step_of read old) (end_of now new.left)
+
 -- the data that came next were written, and those after them read
 pub record WritesOn (many : RereadingMany) (before after : Option (List ℕ)) (old new : Ahead) : Type 0 where
   pub puts : (read : List ℕ) → PutsOn many before after (step_of read old) (step_of (read ++ data_bytes old.window.items) new)

@@ -8,10 +8,15 @@ use Rattle.br_sink.specs.declared.file_parts.PartsFault.{PartsFault}
 use Rattle.br_sink.specs.declared.two_parts.TwoPut.{TwoPut}
 use Rattle.br_sink.specs.declared.two_parts.TwoPut.TheVariants.{Both, One, Neither}
 use Rattle.br_parts.specs.FileParts.{GivesFile}
+use Rattle.br_parts.specs.declared.both.PlainFile.{PlainFile}
 
 -- the hits of both files are read again as they were found, and their plain data are the bytes of the files
 abbrev pub GivesTwo : RereadingMany → List Hit → List Hit → Item → Item → Type 0
 GivesTwo many hits more one other = GivesFile many hits one × GivesFile many more other
+
+-- so are those of these two
+abbrev pub GivesPlain : RereadingMany → PlainFile → PlainFile → Type 0
+GivesPlain many one other = GivesTwo many one.hits.now other.hits.now one.item.now other.item.now
 
 -- these are the bytes that were read, as many as the item has, with the same digest
 abbrev pub AreRead : List ℕ → List ℕ → Item → Type 0

@@ -3,7 +3,7 @@ ghost use Rattle.std.specs.Prelude.{◌≡◌, ◌++◌, IfOk, OnOk};
 ghost use Rattle.br_reread.specs.Many.{GoOn};
 ghost use Rattle.br_sink.specs.FileParts.{AreAlike};
 ghost use Rattle.br_parts.specs.FileParts.{WritesFew};
-ghost use Rattle.br_parts.specs.Steps.{EndsOn, OpensFile, PutsOn, WritesOn, end_of, step_of};
+ghost use Rattle.br_parts.specs.Steps.{EndsOn, OpensFile, PutsOn, PutsRest, WritesOn, end_of, step_of};
 ghost use Rattle.br_parts.specs.Windows.{data_bytes};
 
 use crate::file_parts::{read_window, write_and_read, write_window};
@@ -141,8 +141,7 @@ pub(crate) fn put_rest<D: Drive, W: Write>(
     ahead: &mut Ahead<'_>,
     writer: &mut W,
 ) -> Result<(), PartsFault>
-    ensures put { OnOk result (PutsOn many.old (W.contents writer.old) (W.contents writer.new)
-        (step_of reading.old ahead.old) (end_of reading.new ahead.new.left)) }
+    ensures put { OnOk result (PutsRest W.contents many.old writer.old writer.new reading.old ahead.old reading.new ahead.new) }
     ensures front { WritesFew ahead.old.left (W.contents writer.old) (W.contents writer.new) }
     ensures on { GoOn many.old many.new }
 {

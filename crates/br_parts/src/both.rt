@@ -3,7 +3,7 @@
 ghost use Rattle.std.specs.Prelude.{◌≡◌, ◌++◌, IfOk};
 ghost use Rattle.br_reread.specs.Many.{GoOn};
 ghost use Rattle.br_parts.specs.FileParts.{WritesFew};
-ghost use Rattle.br_parts.specs.Steps.{IfBoth, IfPut, OpensFile, PutsOn, WritesOn, end_of, step_of};
+ghost use Rattle.br_parts.specs.Steps.{IfBoth, IfPut, OpensFile, PutsOn, PutsRest, PutsTo, WritesOn, end_of, step_of};
 ghost use Rattle.br_parts.specs.Windows.{data_bytes};
 
 use crate::ahead::{Ahead, open_file, put_rest, write_ahead};
@@ -174,10 +174,8 @@ fn put_while_both<D: Drive, W: Write>(
     first: &mut W,
     second: &mut W,
 ) -> Result<Option<PartsFault>, PartsFault>
-    ensures one { IfOk result (λ _. PutsOn many.old (W.contents first.old) (W.contents first.new)
-        (step_of read.old.one next.old.one) (step_of read.new.one next.new.one)) }
-    ensures other { IfBoth result (PutsOn many.old (W.contents second.old) (W.contents second.new)
-        (step_of read.old.other next.old.other) (step_of read.new.other next.new.other)) }
+    ensures one { IfOk result (λ _. PutsTo W.contents many.old first.old first.new read.old.one next.old.one read.new.one next.new.one) }
+    ensures other { IfBoth result (PutsTo W.contents many.old second.old second.new read.old.other next.old.other read.new.other next.new.other) }
     ensures front_one { WritesFew next.old.one.left (W.contents first.old) (W.contents first.new) }
     ensures front_other { WritesFew next.old.other.left (W.contents second.old) (W.contents second.new) }
     ensures on { GoOn many.old many.new }
@@ -199,8 +197,7 @@ fn put_other_rest<D: Drive, W: Write>(
     ahead: &mut Ahead<'_>,
     second: &mut W,
 ) -> Option<PartsFault>
-    ensures other { IfPut result (PutsOn many.old (W.contents second.old) (W.contents second.new)
-        (step_of reading.old ahead.old) (end_of reading.new ahead.new.left)) }
+    ensures other { IfPut result (PutsRest W.contents many.old second.old second.new reading.old ahead.old reading.new ahead.new) }
     ensures front { WritesFew ahead.old.left (W.contents second.old) (W.contents second.new) }
     ensures on { GoOn many.old many.new }
 {
@@ -225,10 +222,8 @@ pub(crate) fn put_both<D: Drive, W: Write>(
     first: &mut W,
     second: &mut W,
 ) -> Result<Option<PartsFault>, PartsFault>
-    ensures one { IfOk result (λ _. PutsOn many.old (W.contents first.old) (W.contents first.new)
-        (step_of read.old.one next.old.one) (end_of read.new.one next.new.one.left)) }
-    ensures other { IfBoth result (PutsOn many.old (W.contents second.old) (W.contents second.new)
-        (step_of read.old.other next.old.other) (end_of read.new.other next.new.other.left)) }
+    ensures one { IfOk result (λ _. PutsRest W.contents many.old first.old first.new read.old.one next.old.one read.new.one next.new.one) }
+    ensures other { IfBoth result (PutsRest W.contents many.old second.old second.new read.old.other next.old.other read.new.other next.new.other) }
     ensures front_one { WritesFew next.old.one.left (W.contents first.old) (W.contents first.new) }
     ensures front_other { WritesFew next.old.other.left (W.contents second.old) (W.contents second.new) }
     ensures on { GoOn many.old many.new }

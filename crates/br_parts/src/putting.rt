@@ -5,7 +5,7 @@ ghost use Rattle.br_sink.specs.Sink.{HasMore};
 ghost use Rattle.br_sink.specs.TwoParts.{AreTwoAlike, AreTwoSame, FailsTwo, two_put};
 ghost use Rattle.br_sink.specs.declared.file_parts.PartsFault.TheVariants.{Fault};
 ghost use Rattle.br_parts.specs.FileParts.{GivesFile, PutsAlike};
-ghost use Rattle.br_parts.specs.TwoParts.{GivesTwo};
+ghost use Rattle.br_parts.specs.TwoParts.{GivesPlain};
 
 use crate::both::PlainFile;
 use crate::file_parts::FileParts;
@@ -65,8 +65,7 @@ pub fn put_two_plain<D: Drive, S: Sink>(
 ) -> Option<TwoPut>
     ensures put { HasMore (two_put one.now.item.now other.now.item.now result) (S.has sink.old) (S.has sink.new) }
     ensures alike { IfSome result (AreTwoAlike one.now.item.now other.now.item.now) }
-    ensures same { GivesTwo many.old one.now.hits.now other.now.hits.now one.now.item.now other.now.item.now
-        → IfSome result (AreTwoSame one.now.item.now other.now.item.now) }
+    ensures same { GivesPlain many.old one.now other.now → IfSome result (AreTwoSame one.now.item.now other.now.item.now) }
     ensures counted { S.failures sink.old ≤ S.failures sink.new }
     ensures failed { FailsTwo result → S.failures sink.old < S.failures sink.new }
     ensures on { GoOn many.old many.new }
