@@ -188,7 +188,8 @@ fn close_one<M: Remover>(
 ) -> TwoPut
     requires below { HavePathsBelow paths.now }
     ensures put { PutsAtMost (two.One one why) result }
-    ensures closed { (second : Option (List ℕ)) → ClosesPaths paths.now (M.New.contents file) second (M.nodes maker.old) (M.nodes maker.new) result }
+    ensures closed { (second : Option (List ℕ)) → ClosesPaths paths.now (M.New.contents file) second (M.nodes maker.old)
+        (M.nodes maker.new) result }
     ensures removed { IsRestRemoved M.is_refused paths.now.one.now paths.now.other.now (M.nodes maker.new) result }
     ensures outside { KeepsOutside paths.now.root.now (M.nodes maker.old) (M.nodes maker.new) }
 {

@@ -175,7 +175,8 @@ impl Gathered {
         other: &KeyedItem<'_>,
         sink: &mut S,
     ) -> Option<TwoDone>
-        ensures put { PutsAny result (GivesKeyed many.old self.now.hits one.now other.now) one.now.item.now other.now.item.now (S.has sink.old) (S.has sink.new) }
+        ensures put { PutsAny result (GivesKeyed many.old self.now.hits one.now other.now) one.now.item.now other.now.item.now
+            (S.has sink.old) (S.has sink.new) }
         ensures counted { S.failures sink.old ≤ S.failures sink.new }
         ensures failed { FailsAny result → S.failures sink.old < S.failures sink.new }
         ensures on { GoOn many.old many.new }
@@ -208,7 +209,8 @@ impl Gathered {
         other: &KeyedItem<'_>,
         sink: &mut S,
     ) -> TwoDone
-        ensures put { PutsTwo result (GivesKeyed many.old self.now.hits one.now other.now) one.now.item.now other.now.item.now (S.has sink.old) (S.has sink.new) }
+        ensures put { PutsTwo result (GivesKeyed many.old self.now.hits one.now other.now) one.now.item.now other.now.item.now
+            (S.has sink.old) (S.has sink.new) }
         ensures counted { S.failures sink.old ≤ S.failures sink.new }
         ensures failed { FailsEither result → S.failures sink.old < S.failures sink.new }
         ensures on { GoOn many.old many.new }
@@ -239,7 +241,8 @@ impl Gathered {
         other: &KeyedItem<'_>,
         sink: &mut S,
     ) -> TwoDone
-        ensures put { PutsTwo result (GivesKeyed many.old self.now.hits one.now other.now) one.now.item.now other.now.item.now (S.has sink.old) (S.has sink.new) }
+        ensures put { PutsTwo result (GivesKeyed many.old self.now.hits one.now other.now) one.now.item.now other.now.item.now
+            (S.has sink.old) (S.has sink.new) }
         ensures counted { S.failures sink.old ≤ S.failures sink.new }
         ensures failed { FailsEither result → S.failures sink.old < S.failures sink.new }
         ensures on { GoOn many.old many.new }

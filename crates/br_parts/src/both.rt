@@ -175,7 +175,8 @@ fn put_while_both<D: Drive, W: Write>(
     second: &mut W,
 ) -> Result<Option<PartsFault>, PartsFault>
     ensures one { IfOk result (λ _. PutsTo W.contents many.old first.old first.new read.old.one next.old.one read.new.one next.new.one) }
-    ensures other { IfBoth result (PutsTo W.contents many.old second.old second.new read.old.other next.old.other read.new.other next.new.other) }
+    ensures other { IfBoth result (PutsTo W.contents many.old second.old second.new read.old.other next.old.other
+        read.new.other next.new.other) }
     ensures front_one { WritesFew next.old.one.left (W.contents first.old) (W.contents first.new) }
     ensures front_other { WritesFew next.old.other.left (W.contents second.old) (W.contents second.new) }
     ensures on { GoOn many.old many.new }
@@ -223,7 +224,8 @@ pub(crate) fn put_both<D: Drive, W: Write>(
     second: &mut W,
 ) -> Result<Option<PartsFault>, PartsFault>
     ensures one { IfOk result (λ _. PutsRest W.contents many.old first.old first.new read.old.one next.old.one read.new.one next.new.one) }
-    ensures other { IfBoth result (PutsRest W.contents many.old second.old second.new read.old.other next.old.other read.new.other next.new.other) }
+    ensures other { IfBoth result (PutsRest W.contents many.old second.old second.new read.old.other next.old.other
+        read.new.other next.new.other) }
     ensures front_one { WritesFew next.old.one.left (W.contents first.old) (W.contents first.new) }
     ensures front_other { WritesFew next.old.other.left (W.contents second.old) (W.contents second.new) }
     ensures on { GoOn many.old many.new }
