@@ -3,7 +3,7 @@
 
     acceptance/cases.py [EXECUTABLE] [CASE..]
 
-Without an executable it is crates/brestore/out/brestore, which tools/prove_all makes. Each case is run once for its
+Without an executable it is the proved program, or else the one that tools/build makes. Each case is run once for its
 manifest alone, once by sixteen drives, and once with `--into` and a new folder. The folder is then compared with the expected
 manifest: each file's length and digest, and each folder. A run into the same folder has to be refused and to change nothing. All but
 the last is done again with `--memory 0` and `--memory 64K`, so that data are read again, and must give the same.

@@ -3,19 +3,23 @@
 
     acceptance/explain.py [EXECUTABLE]
 
-Without an executable it is crates/brestore/out/brestore, which tools/prove_all makes. The table is printed whole, and
+Without an executable it is the proved program, or else the one that tools/build makes. The table is printed whole, and
 each number alone. A number that the table lacks has to be refused with status 1, a word that is no number with status 2, and
 `--help` has to name the command. The status is 0 if all is as expected, else 1.
 """
+import os
 import re
 import subprocess
 import sys
 import textwrap
 from pathlib import Path
 
-TOP = Path(__file__).resolve().parent.parent
-PROGRAM = TOP / "crates" / "brestore" / "out" / "brestore"
-PAGE = TOP / "docs" / "RESTORING.md"
+# Nothing is left beside the script.
+sys.dont_write_bytecode = True
+sys.path.insert(0, os.path.join(os.path.dirname(os.path.dirname(os.path.abspath(__file__))), "tools"))
+from common import PROGRAM, ROOT
+
+PAGE = Path(ROOT) / "docs" / "RESTORING.md"
 ROW = re.compile(r"\| (\d+) \| (.+?) \| (.+?) \| (.+?) \|")
 
 

@@ -4,7 +4,7 @@
 Standard input and standard error are a pseudo terminal; standard output is a file, which must have no word of what was asked. Needs
 sqlite3.
 
-    acceptance/helping.py                    over crates/brestore/out/brestore
+    acceptance/helping.py                    over the program that is there
     acceptance/helping.py --program FILE     over another program
 
 The status is 1 if something is not as expected.

@@ -3,7 +3,7 @@
 
     acceptance/keeping.py [--program FILE] [--step N]
 
-The program is `br_commit_trial`. It commits jobs by a keeper over a catalogue and volumes in memory, publishes what waits, appends a byte
+The program is `br_test_commits`. It commits jobs by a keeper over a catalogue and volumes in memory, publishes what waits, appends a byte
 to a volume, and lets a session learn a receipt. After each call it prints what that returned, the lengths of the volumes and those that
 the keeper vouches for, and how many jobs a snapshot shows; at the end the jobs of the catalogue, and the digests of the volumes. Another
 keeper then goes on from what is left.

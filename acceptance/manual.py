@@ -4,7 +4,7 @@
 `tools/manual` writes them; here it is asked what it would write. `man` has to show the page without a warning, with each command and
 each number of `explain`, and bash has to complete the lines below. Needs bash, and man if the page is to be shown.
 
-    acceptance/manual.py                  over crates/brestore/out/brestore
+    acceptance/manual.py                  over the program that is there
     acceptance/manual.py --program FILE   over another program
 """
 

@@ -1,9 +1,9 @@
 #!/usr/bin/env python3
-"""Compares what the scripts of br_engine_trial have to write with what a second reading of the script works out.
+"""Compares what the scripts of br_test_commands have to write with what a second reading of the script works out.
 
     acceptance/scripts.py
 
-The scripts are in crates/br_engine_trial/stdin after its rows, and what they have to write is in the file stdout there: the gate
+The scripts are in crates/br_test_commands/stdin after its rows, and what they have to write is in the file stdout there: the gate
 compares it with what the program writes. This script needs no program. It prints the name of each script of which scripting.py works out something
 else, and a line with both counts. The status is 1 if there is one.
 """
@@ -18,7 +18,7 @@ sys.path.insert(0, os.path.join(os.path.dirname(os.path.dirname(os.path.abspath(
 from common import ROOT
 from scripting import served
 
-FOLDER = Path(ROOT) / "crates" / "br_engine_trial"
+FOLDER = Path(ROOT) / "crates" / "br_test_commands"
 ENDS = "clean", "refused"
 
 

@@ -3,7 +3,7 @@
 
     acceptance/tarred.py [EXECUTABLE] [CASE..]
 
-Without an executable it is crates/brestore/out/brestore, which tools/prove_all makes. Each case is run with `--tar FILE` and a new
+Without an executable it is the proved program, or else the one that tools/build makes. Each case is run with `--tar FILE` and a new
 file, and with `--tar -`. Both streams have to be the same, and everything else that is printed as README.md says. From the expected
 manifest the script works out what entries the stream must have. Python's `tarfile` has to read just these; GNU tar has to list and
 to unpack them without a word, and so has bsdtar if there is one. What both unpacked is compared path by path: type, mode, time,

@@ -4,7 +4,7 @@
 Standard input and standard error are a pseudo terminal, without echo; standard output is a file. What a refusal means is compared
 with the table of docs/RESTORING.md. Needs sqlite3.
 
-    acceptance/terminal.py                    over crates/brestore/out/brestore
+    acceptance/terminal.py                    over the program that is there
     acceptance/terminal.py --program FILE     over another program
     acceptance/terminal.py --again            over one that may read files' bytes again, and tells so
 

@@ -6,7 +6,7 @@ Each script gets a shell script in place of the program. That adds `--memory SIZ
 
     acceptance/within.py 0                         all of those below
     acceptance/within.py 64K leaving.py tarred.py  these only
-    acceptance/within.py 0 --program FILE          another program than crates/brestore/out/brestore
+    acceptance/within.py 0 --program FILE          over another program
 
 The status is 1 if one of the scripts failed.
 """

@@ -3,8 +3,7 @@ ghost use Rattle.std.specs.Prelude.{⊤};
 
 use crate::fault::BenchFault;
 use crate::making::{NUMBERS, Size, history_of, path_text};
-use br_draft::{Draft, read_head};
-use br_history::{History, JobRows, SavedJob};
+use br_history::{Draft, History, JobRows, SavedJob, read_head};
 use br_keeper::{JobStore, JobStoreFault, Keeper, Session};
 use br_volume::MemStore;
 use std::alloc::{AllocError, Global};

@@ -6,9 +6,9 @@
 //! console: the view of the chosen jobs, its tree, lines of a dialogue, and the plan for the marks
 //! of the tree.
 //!
-//! `br_bench commit PATHS JOBS ROWS` commits JOBS jobs of ROWS files each, by a keeper over memory, to a
-//! history of PATHS file rows, while two sessions take snapshots. It prints on standard error the
-//! microseconds of the commits and of all, and the number of snapshots.
+//! `br_bench commit PATHS JOBS ROWS` commits JOBS jobs of ROWS files each, by a keeper over memory,
+//! to a history of PATHS file rows, while two sessions take snapshots. It prints on standard error
+//! the microseconds of the commits and of all, and the number of snapshots.
 #![tactic(auto)]
 
 ghost use Rattle.std.specs.Prelude.{◌≡◌, IfOk};

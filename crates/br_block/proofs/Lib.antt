@@ -1,3 +1,5 @@
 mod HeaderLaws
 mod FragmentLaws
 mod BuildingLaws
+pub mod ShiftLaws
+mod CrcExamples

@@ -11,7 +11,7 @@ use br_model::fragments_are_exact;
 use std::marker::Model;
 
 /// A whole block: its header and the records that follow it, in the bytes from which it was read.
-#[derive(Clone, Debug, Drop)]
+#[derive(Clone, Drop)]
 pub struct Block<'a> {
     head: BlockHead,
     bytes: &'a [u8],

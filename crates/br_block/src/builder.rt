@@ -13,7 +13,7 @@ use std::marker::Model;
 
 /// A block of the level BB02 under construction: fragments of records are added one after another, and closing it
 /// writes its header before them.
-#[derive(Debug, Drop)]
+#[derive(Drop)]
 pub struct BlockBuilder {
     session: SessionKey,
     limit: u32,

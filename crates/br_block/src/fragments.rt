@@ -17,7 +17,7 @@ const SESSION_LEN: usize = 8;
 /// A record in a block, or the part of it that the block contains. The record's header is
 /// FileIndex, Stream and DataSize, four bytes each, and its data follows. In a block of the level
 /// BB01 VolSessionId and VolSessionTime precede these.
-#[derive(Clone, Debug, Drop)]
+#[derive(Clone, Drop)]
 pub struct Fragment<'a> {
     /// The session of the block, or of the record alone in a block of the level BB01.
     pub session: SessionKey,
@@ -40,7 +40,7 @@ impl<'a> Model for Fragment<'a> {
 }
 
 /// The fragments of a block that are left.
-#[derive(Clone, Debug, Drop)]
+#[derive(Clone, Drop)]
 pub struct Fragments<'a> {
     /// The session of the block; none if each record has its own.
     session: Option<SessionKey>,

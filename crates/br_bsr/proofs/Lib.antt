@@ -4,3 +4,5 @@ pub mod KeywordLaws
 pub mod VolumeLaws
 pub mod LineLaws
 pub mod ValidLaws
+mod CountLaws
+mod GroupLaws

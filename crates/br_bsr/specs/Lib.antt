@@ -3,3 +3,4 @@ pub mod Statement
 pub mod Keyword
 pub mod Line
 pub mod Scan
+pub mod Counts

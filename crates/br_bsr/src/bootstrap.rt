@@ -10,7 +10,7 @@ pub const MAX_GROUPS: usize = 4_294_967_295;
 
 /// A selection of the records to restore: those that one of its groups hits. It has fewer than 2^32
 /// groups, and a text can state each of them.
-#[derive(Debug, Drop)]
+#[derive(Drop)]
 pub struct Bootstrap {
     groups: Vec<Group>,
 }

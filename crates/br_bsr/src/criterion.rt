@@ -6,7 +6,7 @@ ghost use Rattle.br_bsr.specs.Statement.{criterion_of, range_between};
 use crate::range::Range;
 
 /// A number of a record or its block that a group may select by.
-#[derive(Clone, Copy, Debug)]
+#[derive(Clone, Copy)]
 pub enum Criterion {
     SessionId,
     SessionTime,

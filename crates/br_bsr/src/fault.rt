@@ -64,7 +64,7 @@ impl From<AllocError> for BsrFault {
 }
 
 /// Why a line was refused.
-#[derive(Clone, Copy, Debug)]
+#[derive(Clone, Copy)]
 pub enum Refusal {
     Memory,
     VolumeFirst,

@@ -7,7 +7,7 @@ ghost use Rattle.br_bsr.specs.Keyword.{keyword_view, criterion_named, passed_ove
 use crate::criterion::Criterion;
 
 /// A keyword by its kind: one that names a volume, gives ranges, is ignored, or is not supported.
-#[derive(Clone, Copy, Debug)]
+#[derive(Clone, Copy)]
 pub enum Keyword {
     Volume,
     Asks(Criterion),

@@ -2,13 +2,16 @@
 //! writes them.
 //!
 //! A `Bootstrap` is read from its text and written as its canonical text, and its groups say which
-//! records they select.
-//! `first_line`, `without_comment`, `cut` and `trimmed_of` take a text apart as the reader does.
+//! records they select. `counts_of` reads the `Count` of each group, the number of files that the
+//! group asks for, which reading the bootstrap passes over. `first_line`, `without_comment`, `cut`
+//! and `trimmed_of` take a text apart as the reader does.
 //!
 //! Any call that returns a `Result` may also fail because memory ran out.
 #![tactic(auto)]
 
 mod bootstrap;
+mod count_laws;
+mod counts;
 mod criterion;
 mod fault;
 mod group;
@@ -22,6 +25,8 @@ mod statement;
 mod write;
 
 pub use bootstrap::Bootstrap;
+pub use count_laws::each_group_has_one;
+pub use counts::counts_of;
 pub use fault::BsrFault;
 pub use group::Group;
 pub use range::Range;

@@ -20,7 +20,7 @@ const MAX_LINE: usize = 4096;
 
 /// The statement of a line: nothing that selects, the volume of a new group, or ranges of a
 /// criterion.
-#[derive(Debug, Drop)]
+#[derive(Drop)]
 pub enum Statement {
     Nothing,
     OnVolume(VolName),

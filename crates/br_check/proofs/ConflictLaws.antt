@@ -4,12 +4,12 @@ use Rattle.std.specs.List.{list_any}
 use Rattle.std.proofs.lemmas.List.{take_more}
 use Rattle.br_model.specs.Delivery.{in_the_way}
 use Rattle.br_model.specs.Name.{FileKey}
-use Rattle.br_newest.specs.Newest.{Copy}
+use Rattle.br_types.specs.Newest.{Copy}
 use Rattle.br_records.specs.Outline.{Outlined}
-use Rattle.br_records.specs.Shown.{outlined}
+use Rattle.br_records.specs.ShownRecords.{outlined}
 use Rattle.br_records.specs.declared.outline.Sketch.{Sketch}
-use Rattle.br_ways.specs.Ways.{IsFreeIn, Noted, Notes}
-use Rattle.br_ways.specs.declared.ways.Ways.{Ways}
+use Rattle.br_types.specs.Conflicts.{IsFreeIn, Noted, Notes}
+use Rattle.br_types.specs.declared.conflicts.Ways.{Ways}
 use Rattle.br_check.specs.Conflicts.{TellsMore, Told, conflict_lines, conflicts_beside, lines_beside}
 use Rattle.br_check.specs.Findings.{copies_at, copies_of, named_line}
 

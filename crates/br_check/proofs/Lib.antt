@@ -5,3 +5,8 @@ mod CheckLaws
 mod NameLaws
 mod ConflictLaws
 mod StopLaws
+pub mod ReadLaws
+pub mod BlockLaws
+pub mod LaterLaws
+pub mod StepLaws
+pub mod PieceLaws

@@ -7,7 +7,7 @@ use Rattle.br_model.specs.Delivery.{Stop, delivery, in_the_way, item_of, put_beh
 use Rattle.br_model.specs.File.{Item, Outcome}
 use Rattle.br_model.specs.Manifest.{totals_of}
 use Rattle.br_model.specs.Restored.{Restored}
-use Rattle.br_newest.specs.Newest.{Copy}
+use Rattle.br_types.specs.Newest.{Copy}
 use Rattle.br_records.specs.Outline.{Foreseen, Outlined}
 use Rattle.br_check.specs.Conflicts.{AreForeseen, ConflictsStop, IsForeseen, StopsAt, conflicts, conflicts_beside}
 use Rattle.br_check.specs.Findings.{copies_of}

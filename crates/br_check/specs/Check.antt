@@ -6,7 +6,7 @@ use Rattle.br_model.specs.Meaning.{Hit, hits_of, pieces_of}
 use Rattle.br_model.specs.Name.{FileKey}
 use Rattle.br_model.specs.Text.{line}
 use Rattle.br_model.specs.Volume.{Volume}
-use Rattle.br_missing.specs.Lines.{report}
+use Rattle.br_piece.specs.MissingLines.{report}
 use Rattle.br_records.specs.Outline.{Outlined, outlines_found}
 use Rattle.br_check.specs.Conflicts.{conflict_lines}
 use Rattle.br_check.specs.Findings.{bytes_in, copy_lines, file_line, files_in, long_line, memory_for, name_line, volume_line}

@@ -5,10 +5,10 @@ use Rattle.br_model.specs.Delivery.{Stop, delivery, in_the_way}
 use Rattle.br_model.specs.File.{Outcome}
 use Rattle.br_model.specs.Manifest.{Totals, totals_of}
 use Rattle.br_model.specs.Restored.{Restored}
-use Rattle.br_newest.specs.Newest.{Copy}
+use Rattle.br_types.specs.Newest.{Copy}
 use Rattle.br_records.specs.Outline.{Foreseen, IsOutlineOf, Outlined}
-use Rattle.br_ways.specs.Ways.{Noted}
-use Rattle.br_ways.specs.declared.ways.Ways.{Ways}
+use Rattle.br_types.specs.Conflicts.{Noted}
+use Rattle.br_types.specs.declared.conflicts.Ways.{Ways}
 use Rattle.br_check.specs.Findings.{copies_of, named_line}
 
 -- the copies whose paths conflict with one of these, or with that of a copy before them that does not conflict itself

@@ -8,7 +8,7 @@ use Rattle.br_model.specs.Text.{line, escaped}
 use Rattle.br_match.specs.Fault.{cause_number}
 use Rattle.br_match.specs.declared.fault.PieceFault.{PieceFault}
 use Rattle.br_match.specs.declared.fault.PieceFault.TheVariants.{Memory, Block}
-use Rattle.br_newest.specs.Newest.{Copy, is_of, is_outdated}
+use Rattle.br_types.specs.Newest.{Copy, is_of, is_outdated}
 use Rattle.br_records.specs.Outline.{Foreseen, Outline, Outlined}
 use Rattle.br_check.specs.Search.{Searched}
 

@@ -4,3 +4,7 @@ pub mod Copies
 pub mod Conflicts
 pub mod Label
 pub mod Check
+pub mod ChecksumBlocks
+pub mod ChecksumWalk
+pub mod AskedBlocks
+pub mod ChecksumPieces

@@ -1,13 +1,12 @@
 //! The lines of files whose paths conflict.
 ghost use Rattle.std.specs.Prelude.{◌≡◌, ◌++◌, ◌∷◌, [], map, OnOk};
-ghost use Rattle.br_records.specs.Shown.{outlined};
+ghost use Rattle.br_records.specs.ShownRecords.{outlined};
 ghost use Rattle.br_check.specs.Conflicts.{TellsMore, conflict_lines};
 ghost use Rattle.br_check.specs.Findings.{copies_at};
 
 use crate::findings::push_named;
 use br_records::Sketch;
-use br_types::FileKey;
-use br_ways::{Ways, is_next};
+use br_types::{FileKey, Ways, is_next};
 use std::alloc::{AllocError, Global};
 
 /// Notes the path of a file. If it conflicts with one noted before, appends its line in place of that.

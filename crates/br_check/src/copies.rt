@@ -1,20 +1,23 @@
 //! The lines of files whose paths come more than once.
 ghost use Rattle.std.specs.Prelude.{◌≡◌, ◌++◌, IfOk, map, OnOk};
 ghost use Rattle.std.specs.List.{list_any};
-ghost use Rattle.br_newest.specs.Newest.{AreNoted, is_of, is_outdated};
-ghost use Rattle.br_records.specs.Shown.{outlined};
+ghost use Rattle.br_types.specs.Newest.{AreNoted, is_of, is_outdated};
+ghost use Rattle.br_records.specs.ShownRecords.{outlined};
 ghost use Rattle.br_check.specs.Copies.{NotesFirst, outdated_at};
 ghost use Rattle.br_check.specs.Findings.{copies_at, copies_of, copy_line, lines_at, line_by, outdated};
 ghost use Rattle.br_check.specs.Findings as model;
 
 use crate::findings::push_named;
-use br_newest::Copies;
 use br_records::Sketch;
-use br_types::FileKey;
+use br_types::{FileKey, NewestCopies};
 use std::alloc::{AllocError, Global};
 
 /// Adds a file to copies of paths, if it has an outline.
-fn note<'s>(copies: &mut Copies<'s>, key: FileKey, sketch: &'s Sketch) -> Result<(), AllocError>
+fn note<'s>(
+    copies: &mut NewestCopies<'s>,
+    key: FileKey,
+    sketch: &'s Sketch,
+) -> Result<(), AllocError>
     ensures { OnOk result (NotesFirst copies.old copies.new (copies_at (outlined (key, sketch.now)))) }
 {
     match sketch {
@@ -24,10 +27,13 @@ fn note<'s>(copies: &mut Copies<'s>, key: FileKey, sketch: &'s Sketch) -> Result
 }
 
 /// Returns the files that have outlines as copies of their paths.
-fn noted<'s>(alloc: Global, sketches: &'s [(FileKey, Sketch)]) -> Result<Copies<'s>, AllocError>
+fn noted<'s>(
+    alloc: Global,
+    sketches: &'s [(FileKey, Sketch)],
+) -> Result<NewestCopies<'s>, AllocError>
     ensures { IfOk result (λ copies. AreNoted copies (copies_of (map outlined sketches.now))) }
 {
-    let mut copies = Copies::new(alloc);
+    let mut copies = NewestCopies::new(alloc);
     for sketch in sketches.iter().rev() {
         note(&mut copies, sketch.0, &sketch.1)?;
     }
@@ -35,7 +41,7 @@ fn noted<'s>(alloc: Global, sketches: &'s [(FileKey, Sketch)]) -> Result<Copies<
 }
 
 /// Returns if there is a newer copy of the path of a file among all.
-fn is_old(copies: &Copies<'_>, all: &[(FileKey, Sketch)], key: FileKey, path: &[u8]) -> bool
+fn is_old(copies: &NewestCopies<'_>, all: &[(FileKey, Sketch)], key: FileKey, path: &[u8]) -> bool
     requires { AreNoted copies.now (copies_of (map outlined all.now)) }
     ensures { result ≡ is_outdated (copies_of (map outlined all.now)) (record { key = key; path = path.now }) }
 {
@@ -44,8 +50,8 @@ fn is_old(copies: &Copies<'_>, all: &[(FileKey, Sketch)], key: FileKey, path: &[
 
 /// Adds a file to those of which there are newer copies, if it is one of them.
 fn note_old<'s>(
-    old: &mut Copies<'s>,
-    copies: &Copies<'_>,
+    old: &mut NewestCopies<'s>,
+    copies: &NewestCopies<'_>,
     all: &[(FileKey, Sketch)],
     key: FileKey,
     sketch: &'s Sketch,
@@ -67,13 +73,13 @@ fn note_old<'s>(
 /// Returns the files of whose paths there are newer copies.
 fn outdated_of<'s>(
     alloc: Global,
-    copies: &Copies<'_>,
+    copies: &NewestCopies<'_>,
     all: &'s [(FileKey, Sketch)],
-) -> Result<Copies<'s>, AllocError>
+) -> Result<NewestCopies<'s>, AllocError>
     requires { AreNoted copies.now (copies_of (map outlined all.now)) }
     ensures { IfOk result (λ old. AreNoted old (outdated (copies_of (map outlined all.now)))) }
 {
-    let mut old = Copies::new(alloc);
+    let mut old = NewestCopies::new(alloc);
     for sketch in all.iter().rev() {
         note_old(&mut old, copies, all, sketch.0, &sketch.1)?;
     }
@@ -81,7 +87,7 @@ fn outdated_of<'s>(
 }
 
 /// Returns if there is an older copy of the path of a file.
-fn has_old(old: &Copies<'_>, all: &[(FileKey, Sketch)], path: &[u8]) -> bool
+fn has_old(old: &NewestCopies<'_>, all: &[(FileKey, Sketch)], path: &[u8]) -> bool
     requires { AreNoted old.now (outdated (copies_of (map outlined all.now))) }
     ensures { result ≡ list_any (is_of path.now) (outdated (copies_of (map outlined all.now))) }
 {
@@ -111,8 +117,8 @@ fn push_by(
 #[derive(Clone, Copy)]
 struct Known<'k, 's> {
     all: &'k [(FileKey, Sketch)],
-    copies: &'k Copies<'s>,
-    old: &'k Copies<'s>,
+    copies: &'k NewestCopies<'s>,
+    old: &'k NewestCopies<'s>,
 }
 
 impl Known<'_, '_> {

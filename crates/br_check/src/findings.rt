@@ -1,7 +1,7 @@
 //! The lines of what was found.
 ghost use Rattle.std.specs.Prelude.{◌≡◌, ◌++◌, flat_map, map, OnOk};
 ghost use Rattle.br_records.specs.Making.{file_fault};
-ghost use Rattle.br_records.specs.Shown.{outlined};
+ghost use Rattle.br_records.specs.ShownRecords.{outlined};
 ghost use Rattle.br_check.specs.Findings.{fault_line, file_line, key_text, named_line, refused_line, stream_text, volume_line};
 
 use br_match::{Found, PieceFault};

@@ -1,12 +1,17 @@
-//! A check of a bootstrap over its volumes: what a restore would meet, without the bytes of its files.
+//! A check of a bootstrap over its volumes: what a restore would meet, without the bytes of its
+//! files.
 //!
-//! `check` reads each block that the bootstrap asks for, and keeps record headers and attributes alone.
-//! It returns a line for each finding, the number of the files and of their bytes, and the memory that a
-//! restore asks for.
+//! `check` reads each block that the bootstrap asks for, and keeps record headers and attributes
+//! alone. It returns a line for each finding, the number of the files and of their bytes, and the
+//! memory that a restore asks for. `push_checksums` appends a line for each block whose checksum is
+//! not that of its bytes.
 //!
 //! Any call that returns a `Result` may also fail because memory ran out.
 #![tactic(auto)]
 
+mod checksum_lines;
+mod checksum_pieces;
+mod checksum_walk;
 mod conflicts;
 mod copies;
 mod findings;
@@ -19,5 +24,6 @@ mod names;
 mod run;
 mod search;
 
+pub use checksum_pieces::push_checksums;
 pub use laws::conflicts_stop;
 pub use run::{Checked, check};

@@ -2,7 +2,7 @@
 ghost use Rattle.std.specs.Prelude.{◌≡◌, ◌++◌, flat_map, map, OnOk};
 ghost use Rattle.std.specs.List.{list_any, slice_split};
 ghost use Rattle.br_model.specs.Name.{is_slash};
-ghost use Rattle.br_records.specs.Shown.{outlined};
+ghost use Rattle.br_records.specs.ShownRecords.{outlined};
 ghost use Rattle.br_check.specs.Findings as model;
 ghost use Rattle.br_check.specs.Findings.{bare_length, is_long_name, long_by, long_line};
 

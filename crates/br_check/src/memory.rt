@@ -1,6 +1,6 @@
 //! The memory that a restore asks for.
 ghost use Rattle.std.specs.Prelude.{◌≡◌, ◌≤◌, ◌^◌, map};
-ghost use Rattle.br_records.specs.Shown.{outlined};
+ghost use Rattle.br_records.specs.ShownRecords.{outlined};
 ghost use Rattle.br_check.specs.Findings.{held_beside, held_of};
 
 use br_records::Sketch;

@@ -2,7 +2,7 @@
 ghost use Rattle.std.specs.Prelude.{◌≡◌, ◌++◌, flat_map, map, OnOk};
 ghost use Rattle.std.specs.Str.{is_utf8};
 ghost use Rattle.br_model.specs.File as model;
-ghost use Rattle.br_records.specs.Shown.{outlined};
+ghost use Rattle.br_records.specs.ShownRecords.{outlined};
 ghost use Rattle.br_check.specs.Findings.{is_no_name, is_on_disk, name_by, name_line, no_name_line};
 
 use crate::findings::push_key;

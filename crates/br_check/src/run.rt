@@ -3,7 +3,7 @@ ghost use Rattle.std.specs.Prelude.{◌≡◌, ◌++◌, ◌∷◌, ◌≤◌, �
 ghost use Rattle.br_check.specs.Check.{ChecksOver, IsChecked, checked_text, folder_lines, keys_of, lines_of, outlines_in};
 ghost use Rattle.br_check.specs.Findings.{bytes_in, bytes_of, files_at, files_in, memory_for};
 ghost use Rattle.br_check.specs.Search.{all_found, found_in};
-ghost use Rattle.br_records.specs.Shown.{outlined};
+ghost use Rattle.br_records.specs.ShownRecords.{outlined};
 ghost use Rattle.br_model.specs.Text.{is_empty, line};
 ghost use Rattle.br_volume.specs.Drive.{OnlyGrows};
 
@@ -17,15 +17,14 @@ use crate::names::push_names;
 use crate::search::search;
 use br_bsr::{Bootstrap, Group};
 use br_match::{Found, Hit, PieceFault};
-use br_missing::report;
-use br_piece::split;
+use br_piece::{report, split};
 use br_records::{Sketch, settle, sketches_of};
 use br_types::{FileKey, push_number, push_wide};
 use br_volume::Drive;
 use std::alloc::{AllocError, Global};
 
 /// What a check found.
-#[derive(Debug, Drop)]
+#[derive(Drop)]
 pub struct Checked {
     /// A line for each finding.
     pub findings: Vec<u8>,
@@ -235,7 +234,7 @@ fn checked_of(
 /// the copies of paths that come more than once. The memory is that of a restore which holds at most `budget`
 /// bytes of data.
 ///
-/// The counts are those of the bootstrap's groups, in the same order, as `counts_of` of br_counts returns them.
+/// The counts are those of the bootstrap's groups, in the same order, as `counts_of` of br_bsr returns them.
 ///
 /// What was found on a volume that can't be searched to its end does not count. The digests of files are
 /// not compared.

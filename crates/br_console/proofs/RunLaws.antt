@@ -33,8 +33,8 @@ use Rattle.br_engine.specs.declared.outputs.RestoreEnd.{RestoreEnd}
 use Rattle.br_engine.specs.declared.outputs.RestoreEnd.TheVariants as restore
 use Rattle.br_engine.specs.declared.fault.ExtractFault.{ExtractFault}
 use Rattle.br_engine.specs.declared.fault.ExtractFault.TheVariants as extract
-use Rattle.br_console.specs.Fault.{Refusal, OfPlan, OfPiece, EndlessAfterAll, IsBrokenOff, IsNoPiece, cause, fault_number}
-use Rattle.br_console.specs.Ending.{EndIs, are_accepted, is_done}
+use Rattle.br_console.specs.ConsoleFault.{Refusal, OfPlan, OfPiece, EndlessAfterAll, IsBrokenOff, IsNoPiece, cause, fault_number}
+use Rattle.br_console.specs.ConsoleEnding.{EndIs, are_accepted, is_done}
 use Rattle.br_console.specs.Talking.{are_answered, SessionOver, LeavesOver}
 use Rattle.br_console.specs.Running.{opening, begun, with_files, run_from, console_run, Answer, BecomesFault, Begins, BeginsOver, OverPlan, RefusesRun, RestoresOver, RestoresPlan, RunsOver, StopsAt, TellsOver, WritesPlan}
 use Rattle.br_console.specs.declared.console_fault.ConsoleFault.{ConsoleFault}

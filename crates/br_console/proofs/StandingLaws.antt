@@ -26,7 +26,7 @@ use Rattle.br_volume.proofs.ExtendLaws.{extends_itself}
 use Rattle.br_mark.specs.Seen.{Situation}
 use Rattle.br_pool.specs.Pool.{StandsTold}
 use Rattle.br_engine.specs.Restoring.{Told, AllStand}
-use Rattle.br_console.specs.Fault.{Refusal, cause}
+use Rattle.br_console.specs.ConsoleFault.{Refusal, cause}
 use Rattle.br_console.specs.Running.{Run, Answer, RefusesRun, Runs, Shows, opening, begun, with_console, with_marks, with_plan, console_run}
 use Rattle.br_console.specs.Selecting.{AllHold, DrivesStandForPlans, RestoresAll, ReturnsAllOrFails, RunsMeanSelection, RunsRestoreSelection, ShowsMore}
 use Rattle.br_console.specs.declared.console_fault.ConsoleFault.{ConsoleFault}

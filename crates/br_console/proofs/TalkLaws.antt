@@ -14,7 +14,7 @@ use Rattle.br_model.specs.Console.{apply, read_command, resolve, is_directory_of
 use Rattle.br_model.proofs.AnswerLaws.{bind_ok, refuse_ok, ok_is}
 use Rattle.br_mark.specs.Seen.{Situation}
 use Rattle.br_console.specs.Talking.{are_answered, console_after, lines_said, behind_lines, left_unsaid, SessionOver, marks_told, LeavesOver, ReadsLine}
-use Rattle.br_console.specs.Ending.{are_accepted, is_done}
+use Rattle.br_console.specs.ConsoleEnding.{are_accepted, is_done}
 use Rattle.br_console.specs.declared.ending.Session.{Session}
 
 -- ---- the first line of a text

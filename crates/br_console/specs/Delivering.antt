@@ -13,7 +13,7 @@ use Rattle.br_engine.specs.Restoring.{Told}
 use Rattle.br_engine.specs.Outputs.{InSink, StopsByFailure}
 use Rattle.br_engine.specs.Delivering.{in_sink, sink_failures}
 use Rattle.br_engine.specs.declared.outputs.Outputs.{Outputs}
-use Rattle.br_console.specs.Ending.{LeavesSink, are_accepted}
+use Rattle.br_console.specs.ConsoleEnding.{LeavesSink, are_accepted}
 use Rattle.br_console.specs.Running.{BeginsOver, RestoresOver, RunsOver, TellsOver}
 use Rattle.br_console.specs.declared.ending.Lines.{Lines}
 use Rattle.br_console.specs.declared.ending.End.{End}

@@ -22,8 +22,8 @@ use Rattle.br_engine.specs.Delivering.{EndsWith}
 use Rattle.br_engine.specs.declared.outputs.RestoreEnd.{RestoreEnd}
 use Rattle.br_engine.specs.declared.fault.ExtractFault.{ExtractFault}
 use Rattle.br_engine.specs.declared.fault.ExtractFault.TheVariants as extract
-use Rattle.br_console.specs.Fault.{IsFree, Refusal, OfPlan, OfPiece, cause, fault_number}
-use Rattle.br_console.specs.Ending.{EndIs, are_accepted}
+use Rattle.br_console.specs.ConsoleFault.{IsFree, Refusal, OfPlan, OfPiece, cause, fault_number}
+use Rattle.br_console.specs.ConsoleEnding.{EndIs, are_accepted}
 use Rattle.br_console.specs.Talking.{are_answered}
 use Rattle.br_console.specs.declared.console_fault.ConsoleFault.{ConsoleFault}
 use Rattle.br_console.specs.declared.console_fault.ConsoleFault.TheVariants as fault

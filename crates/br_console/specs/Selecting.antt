@@ -16,7 +16,7 @@ use Rattle.br_model.specs.PlanMeaning.{IsCopy, by_key, rows_of_jobs}
 use Rattle.br_model.specs.Stored.{Holds}
 use Rattle.br_volume.specs.Drive.{OnlyGrows}
 use Rattle.br_engine.specs.Restoring.{Told}
-use Rattle.br_console.specs.Fault.{cause}
+use Rattle.br_console.specs.ConsoleFault.{cause}
 use Rattle.br_console.specs.Running.{Run, Shows, RunsOver, AllStandForPlan, begun, console_run}
 use Rattle.br_console.specs.declared.console_fault.ConsoleFault.{ConsoleFault}
 use Rattle.br_console.specs.declared.ending.ConsoleRun.{ConsoleRun}

@@ -10,7 +10,7 @@ use Rattle.br_mark.specs.Seen.{Situation}
 use Rattle.br_console.specs.declared.console_fault.ConsoleFault.{ConsoleFault}
 use Rattle.br_console.specs.declared.reply.Reply.{Reply}
 use Rattle.br_console.specs.declared.reply.Reply.TheVariants.{Text, Refused, Done, Quit}
-use Rattle.br_console.specs.Ending.{are_accepted, is_done}
+use Rattle.br_console.specs.ConsoleEnding.{are_accepted, is_done}
 use Rattle.br_console.specs.declared.ending.Session.{Session}
 
 -- ---- what the lines come to

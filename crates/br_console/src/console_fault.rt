@@ -1,6 +1,6 @@
 ghost use Rattle.std.specs.Prelude.{◌≡◌, ◌++◌, OnOk};
 ghost use Rattle.std.specs.IoError.{error_kind};
-ghost use Rattle.br_console.specs.Fault.{fault_number, fault_text, IsStreamFault};
+ghost use Rattle.br_console.specs.ConsoleFault.{fault_number, fault_text, IsStreamFault};
 ghost use Rattle.br_console.specs.declared.console_fault.ConsoleFault.TheVariants.{Memory, Plan, Piece, Io};
 ghost use Rattle.br_console.specs.declared.console_fault.ConsoleFault.TheVariants as of;
 

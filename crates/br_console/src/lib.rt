@@ -1,16 +1,44 @@
-//! The restore console: from the history of some jobs and a dialogue to a bootstrap, the files that it
-//! gives and their manifest, and into a sink if there is one.
+//! The restore console and scripts.
+//!
+//! The console leads from the history of some jobs and a dialogue to a bootstrap, the files that it
+//! gives and their manifest, and into a sink if there is one: `prepare`, `converse` and
+//! `run_console`.
+//!
+//! A script fills volumes, commits jobs, and restores by bootstraps and by dialogues with the
+//! console, line by line. `run_script` works over memory, and `run_script_over` over any catalogue
+//! and any store of volumes that has drives. Such a `DrivenStore` restores by a `DriveCount` of
+//! drives, each of which shows all of its volumes, while jobs may be appended to them. A store over
+//! memory is one.
 #![tactic(auto)]
 
 mod console_fault;
+mod drive_count;
+mod driven_store;
 mod ending;
+mod forgetful;
 mod reply;
+mod restore_line;
 mod running;
+mod script;
+mod script_fault;
+mod script_input;
+mod script_jobs;
+mod script_keeper;
+mod script_line;
+mod script_restores;
+mod script_run;
+mod script_text;
 mod selecting;
 mod talking;
 
 pub use console_fault::ConsoleFault;
+pub use drive_count::{DriveCount, drives_over};
+pub use driven_store::{DrivenStore, NamedBootstrap};
 pub use ending::{ConsoleRun, End, Lines, Session, SessionEnd};
+pub use forgetful::Forgetful;
 pub use running::{JobSelection, prepare, run_console};
+pub use script::ScriptEnd;
+pub use script_fault::ScriptFault;
+pub use script_run::{run_script, run_script_over};
 pub use selecting::{drives_stand_for_plans, runs_mean_selection, runs_restore_selection};
 pub use talking::converse;

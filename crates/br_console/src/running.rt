@@ -4,7 +4,7 @@ ghost use Rattle.br_plan.specs.Fault.{cause};
 ghost use Rattle.br_pool.specs.Pool.{AreDrives, OnlyIfAllFail, StayInPlace};
 ghost use Rattle.br_engine.specs.Fault.{IsNoLine};
 ghost use Rattle.br_engine.specs.Delivering.{CountsFailures};
-ghost use Rattle.br_console.specs.Fault.{EndlessAfterAll, IsNoPiece};
+ghost use Rattle.br_console.specs.ConsoleFault.{EndlessAfterAll, IsNoPiece};
 ghost use Rattle.br_console.specs.Running.{BecomesFault, IsNoDriveLeft, WritesPlan, opening};
 ghost use Rattle.br_console.specs.Delivering.{BeginsInto, DeliversInto, RunStopIsCounted, RunsInto, TellsInto};
 ghost use Rattle.br_console.specs.Delivering.{IfUnchosen, IsViewOfAsked, plan_for};

@@ -1,7 +1,7 @@
 ghost use Rattle.std.specs.Prelude.{◌≡◌, ◌+◌, ◌^◌, ◌<◌, IfOk, IfErr, OnOk};
 ghost use Rattle.std.specs.Io.BufRead.{strip_last};
-ghost use Rattle.br_console.specs.Fault.{EndlessAfterAll, IsBrokenOff};
-ghost use Rattle.br_console.specs.Ending.{are_accepted, is_done};
+ghost use Rattle.br_console.specs.ConsoleFault.{EndlessAfterAll, IsBrokenOff};
+ghost use Rattle.br_console.specs.ConsoleEnding.{are_accepted, is_done};
 ghost use Rattle.br_console.specs.Talking.{Converses, LeavesOver, ReadsLine};
 
 use crate::console_fault::ConsoleFault;

@@ -5,7 +5,7 @@ use br_plan::Request;
 use br_types::FileKey;
 
 /// What can happen. All events but commits and plans are of the restore with the number `plan`.
-#[derive(Debug, Drop)]
+#[derive(Drop)]
 pub enum Event {
     /// A job is committed: its session is written to the volumes.
     Commit(SavedJob),
@@ -27,7 +27,7 @@ pub enum Event {
 }
 
 /// What comes of an event.
-#[derive(Debug, Drop)]
+#[derive(Drop)]
 pub enum Reply {
     Done,
     /// The number of the restore that was planned.

@@ -31,7 +31,7 @@ pub(crate) struct Restore {
 }
 
 /// A move of a restore. Reads and ends of walks are over these volumes.
-#[derive(Clone, Copy, Debug)]
+#[derive(Clone, Copy)]
 pub(crate) enum Move<'v> {
     Claim(u32),
     Read(u32, &'v [(VolName, Vec<u8>)]),

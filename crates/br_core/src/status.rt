@@ -7,7 +7,7 @@ use br_piece::Piece;
 use std::alloc::{AllocError, Global};
 
 /// The status of a piece.
-#[derive(Clone, Copy, Debug, PartialEq, Eq)]
+#[derive(Clone, Copy, PartialEq, Eq)]
 pub(crate) enum Status {
     /// Nobody reads it.
     Waiting,

@@ -14,9 +14,9 @@ use Rattle.br_model.proofs.ListLaws.{all_weaker}
 use Rattle.br_model.proofs.MeaningLaws.{meaning_has_hits_lem}
 use Rattle.br_volume.specs.Drive.{OnlyGrows}
 use Rattle.br_volume.proofs.ExtendLaws.{extends_more, grows_more}
-use Rattle.br_again.specs.declared.fault.AgainFault.{AgainFault}
-use Rattle.br_again.specs.declared.fault.AgainFault.TheVariants as again
-use Rattle.br_again.specs.Stands.{HitsStand, StandingStays}
+use Rattle.br_data.specs.declared.reread_fault.AgainFault.{AgainFault}
+use Rattle.br_data.specs.declared.reread_fault.AgainFault.TheVariants as again
+use Rattle.br_data.specs.StandingHits.{HitsStand, StandingStays}
 use Rattle.br_join.specs.Joining.{Joining}
 use Rattle.br_join.specs.Outcome.{restored}
 use Rattle.br_join.specs.declared.item.Outcome.{Outcome}
@@ -25,14 +25,14 @@ use Rattle.br_join.specs.Runs.{files_of}
 use Rattle.br_records.proofs.SortLaws.{listed_is}
 use Rattle.br_pool.specs.Pool.{OnlyIfAllFail, StandsTold}
 use Rattle.br_pool.proofs.ListLaws.{zip_trans}
-use Rattle.br_reread.specs.Many.{Driven, GoOn, GoesOn, HaveFailed, RereadingMany, driven_by}
-use Rattle.br_reread.proofs.GoOnLaws.{given_on}
-use Rattle.br_gather.specs.Again.{IsMadeOf}
-use Rattle.br_gather.specs.Gathered.{Gathered}
-use Rattle.br_parts.specs.Given.{GivesHit, GivesHits}
-use Rattle.br_gather.proofs.AgainLaws.{all_made}
-use Rattle.br_gather.proofs.MeantLaws.{ShowsThem, meant_given}
-use Rattle.br_engine.specs.Again.{CanGive, CanMake, CanReread, EndsLike, GivesAgain, MadeOver, MakesOver}
+use Rattle.br_data.specs.ManyDrives.{Driven, GoOn, GoesOn, HaveFailed, RereadingMany, driven_by}
+use Rattle.br_data.proofs.GoOnLaws.{given_on}
+use Rattle.br_reread_files.specs.Again.{IsMadeOf}
+use Rattle.br_reread_files.specs.Gathered.{Gathered}
+use Rattle.br_reread_parts.specs.Given.{GivesHit, GivesHits}
+use Rattle.br_reread_files.proofs.AgainLaws.{all_made}
+use Rattle.br_reread_files.proofs.MeantLaws.{ShowsThem, meant_given}
+use Rattle.br_engine.specs.DeliveredAgain.{CanGive, CanMake, CanReread, EndsLike, GivesAgain, MadeOver, MakesOver}
 use Rattle.br_engine.specs.Delivering.{Delivers}
 use Rattle.br_engine.specs.Extracting.{GivesOver, OverVolumes, WritesNothing}
 use Rattle.br_engine.specs.Fault.{IsNoDriveLeft, IsUnmade, OfAgain, fault_number}

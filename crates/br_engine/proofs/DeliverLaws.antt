@@ -14,7 +14,7 @@ use Rattle.br_bsr.specs.Fault as bootstrap
 use Rattle.br_bsr.specs.declared.fault.BsrFault.{BsrFault}
 use Rattle.br_join.specs.Outcome.{restored}
 use Rattle.br_engine.specs.Fault.{EndlessAfterAll, IsNoDriveLeft, IsFree, IsNoLine, IsUnread}
-use Rattle.br_engine.specs.Reading.{ReadsAs}
+use Rattle.br_engine.specs.BootstrapText.{ReadsAs}
 use Rattle.br_engine.specs.Restoring.{Told, Outcomes}
 use Rattle.br_engine.specs.Outputs.{InSink, are_files, end_of_files}
 use Rattle.br_engine.specs.Extracting.{GivesOver, OverText, OverVolumes, Extracts, Said, WritesNothing, extracted}

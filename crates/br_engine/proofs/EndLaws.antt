@@ -5,10 +5,10 @@ use Rattle.br_model.specs.Answer.{IsRefusal}
 use Rattle.br_model.specs.Delivery.{Stop}
 use Rattle.br_model.specs.File.{Item}
 use Rattle.br_model.specs.Restored.{Restored}
-use Rattle.br_gather.specs.Again.{IsLike}
+use Rattle.br_reread_files.specs.Again.{IsLike}
 use Rattle.br_sink.specs.Delivery.{IsStopIn, stop_cause}
 use Rattle.br_sink.specs.Sink.{HasMore}
-use Rattle.br_engine.specs.Again.{DeliversAll, EndsLike, PutsLike}
+use Rattle.br_engine.specs.DeliveredAgain.{DeliversAll, EndsLike, PutsLike}
 use Rattle.br_engine.specs.Delivering.{EndsWith, items_of}
 use Rattle.br_engine.specs.Outputs.{InSink, end_of_files}
 use Rattle.br_engine.specs.declared.outputs.RestoreEnd.{RestoreEnd}

@@ -6,3 +6,8 @@ pub mod LikeLaws
 pub mod EndLaws
 pub mod AgainLaws
 pub mod StopLaws
+mod FlagLaws
+mod BackLaws
+pub mod WantedLaws
+pub mod KeptLaws
+pub mod OlderLaws

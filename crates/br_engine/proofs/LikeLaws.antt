@@ -10,9 +10,9 @@ use Rattle.br_model.specs.Manifest.{file_line, item_fields, key_fields, manifest
 use Rattle.br_model.specs.Name.{FileKey}
 use Rattle.br_model.specs.Restored.{Restored}
 use Rattle.br_model.specs.Text.{escaped, hexadecimal, line, signed_decimal}
-use Rattle.br_gather.specs.Again.{IsLike}
+use Rattle.br_reread_files.specs.Again.{IsLike}
 use Rattle.br_sink.specs.Delivery.{IsStopIn}
-use Rattle.br_engine.specs.Again.{IsFileLike, IsOutcomeLike}
+use Rattle.br_engine.specs.DeliveredAgain.{IsFileLike, IsOutcomeLike}
 use Rattle.br_engine.specs.Delivering.{items_of}
 use Rattle.br_engine.specs.Outputs.{are_files}
 

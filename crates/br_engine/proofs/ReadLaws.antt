@@ -12,7 +12,7 @@ use Rattle.br_model.specs.Answer.{◌>>=◌, refused_as}
 use Rattle.br_model.specs.Text.{is_empty}
 use Rattle.br_model.specs.Bootstrap.{Group}
 use Rattle.br_model.specs.BootstrapText.{Statement, with_statement, read_line, read_lines, read_bootstrap}
-use Rattle.br_engine.specs.Reading.{is_line_end, has_long_end, IsSettled, ReadsAs}
+use Rattle.br_engine.specs.BootstrapText.{is_line_end, has_long_end, IsSettled, ReadsAs}
 
 -- ---- the first line of a text
 

@@ -14,22 +14,22 @@ use Rattle.br_model.specs.Restored.{Restored}
 use Rattle.br_join.specs.Outcome.{restored}
 use Rattle.br_join.specs.declared.item.Outcome.{Outcome}
 use Rattle.br_join.specs.declared.item.Outcome.TheVariants.{File}
-use Rattle.br_reread.specs.Many.{RereadingMany}
-use Rattle.br_gather.specs.Again.{IsLike}
-use Rattle.br_parts.specs.FileParts.{PutsAlike}
-use Rattle.br_gather.specs.FileParts.{GivesItem}
-use Rattle.br_gather.specs.Gathered.{Gathered}
-use Rattle.br_gather.specs.TwoFiles.{GivesBoth, PutsBoth}
-use Rattle.br_gather.specs.declared.two_files.KeyedItem.{KeyedItem}
+use Rattle.br_data.specs.ManyDrives.{RereadingMany}
+use Rattle.br_reread_files.specs.Again.{IsLike}
+use Rattle.br_reread_parts.specs.FileParts.{PutsAlike}
+use Rattle.br_reread_files.specs.FileParts.{GivesItem}
+use Rattle.br_reread_files.specs.Gathered.{Gathered}
+use Rattle.br_reread_files.specs.TwoFiles.{GivesBoth, PutsBoth}
+use Rattle.br_reread_files.specs.declared.two_files.KeyedItem.{KeyedItem}
 use Rattle.br_sink.specs.Delivery.{AreApart, IsStopBelow, IsStopIn, StandApart, items_in, items_put, stop_cause}
 use Rattle.br_sink.specs.FileParts.{AreAlike, parts_number, with_bytes}
 use Rattle.br_sink.specs.Sink.{HasMore}
 use Rattle.br_sink.specs.declared.file_parts.PartsFault.{PartsFault}
 use Rattle.br_sink.specs.declared.file_parts.PartsFault.TheVariants as parts
 use Rattle.br_sink.proofs.DeliveryLaws.{apart_taken, fewer_items, items_of_both, more_behind, none_more, taken_items}
-use Rattle.br_again.specs.declared.fault.AgainFault.{AgainFault}
-use Rattle.br_again.specs.declared.fault.AgainFault.TheVariants as again
-use Rattle.br_engine.specs.Again.{CanMake, IsStopAgain, PutsLike, PutsTwoAgain, again_number, keyed}
+use Rattle.br_data.specs.declared.reread_fault.AgainFault.{AgainFault}
+use Rattle.br_data.specs.declared.reread_fault.AgainFault.TheVariants as again
+use Rattle.br_engine.specs.DeliveredAgain.{CanMake, IsStopAgain, PutsLike, PutsTwoAgain, again_number, keyed}
 use Rattle.br_engine.specs.Delivering.{items_of}
 use Rattle.br_engine.proofs.LikeLaws.{items_fault, items_file, like_length, like_take}
 

@@ -4,8 +4,8 @@ use Rattle.br_model.specs.Text.{refused_line}
 use Rattle.br_model.specs.BootstrapText.{LineFault}
 use Rattle.br_model.specs.Meaning as model
 use Rattle.br_model.specs.Refusal.{line_fault, piece_fault}
-use Rattle.br_again.specs.declared.fault.AgainFault.{AgainFault}
-use Rattle.br_again.specs.declared.fault.AgainFault.TheVariants as again
+use Rattle.br_data.specs.declared.reread_fault.AgainFault.{AgainFault}
+use Rattle.br_data.specs.declared.reread_fault.AgainFault.TheVariants as again
 use Rattle.br_bsr.specs.Fault as bootstrap
 use Rattle.br_match.specs.Fault as piece
 use Rattle.br_match.specs.declared.fault.PieceFault.{PieceFault}

@@ -1,7 +1,11 @@
 pub mod Restoring
 pub mod Fault
 pub mod Outputs
-pub mod Reading
+pub mod BootstrapText
 pub mod Extracting
 pub mod Delivering
-pub mod Again
+pub mod DeliveredAgain
+pub mod WantedOutcomes
+pub mod WantedRestore
+pub mod NewestFlags
+pub mod OlderCounts

@@ -6,13 +6,13 @@ ghost use Rattle.br_engine.specs.Outputs.{SinkCounts, StopsByFailure, end_of_fil
 ghost use Rattle.br_engine.specs.Delivering.{DeliversOver, DeliversText, EndsWith, ExtractsOver, RunsOver, WritesOver};
 ghost use Rattle.br_engine.specs.Delivering.{CountsFailures, RefusalWritesNothing, StopIsCounted};
 
+use crate::bootstrap_text::read_text;
 use crate::budget::Budget;
 use crate::extracting::{all_files, write_manifest};
 use crate::fault::ExtractFault;
 use crate::flushing::Flush;
 use crate::made::{deliver_made, restore_within};
 use crate::outputs::{Outputs, RestoreEnd};
-use crate::reading::read_text;
 use br_bsr::{Bootstrap, read_bootstrap};
 use br_join::Outcome;
 use br_sink::{Sink, deliver};

@@ -7,8 +7,8 @@ ghost use Rattle.br_engine.specs.declared.fault.ExtractFault.TheVariants as of;
 ghost use Rattle.br_engine.specs.Fault.{OfAgain, fault_number, fault_text, bootstrap_text, piece_text, pool_text};
 
 use crate::turns::NoEnd;
-use br_again::AgainFault;
 use br_bsr::BsrFault;
+use br_data::AgainFault;
 use br_match::PieceFault;
 use br_pool::PoolFault;
 use br_types::{push_escaped, push_number};

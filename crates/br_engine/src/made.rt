@@ -1,21 +1,20 @@
 //! The files of a restore, made within a budget of memory.
 ghost use Rattle.std.specs.Prelude.{◌≡◌, option_map, Some, IfErr, IfOk};
 ghost use Rattle.br_pool.specs.Pool.{AreDrives, OnlyIfAllFail, StayInPlace};
-ghost use Rattle.br_engine.specs.Again.{CanReread, EndsBy, EndsMade, GivesAgain, GivesIfReread, MadeOver, MakesOver};
+ghost use Rattle.br_engine.specs.DeliveredAgain.{CanReread, EndsBy, EndsMade, GivesAgain, GivesIfReread, MadeOver, MakesOver};
 ghost use Rattle.br_engine.specs.Fault.{IsNoDriveLeft, IsNoLine, IsUnmade};
 ghost use Rattle.br_engine.specs.Outputs.{SinkCounts, StopsByFailure};
 
-use crate::again::{Source, deliver_again, len_of};
 use crate::budget::Budget;
+use crate::delivered_again::{Source, deliver_again, len_of};
 use crate::delivering::{deliver_files, end_of};
 use crate::fault::ExtractFault;
 use crate::outputs::RestoreEnd;
 use crate::restoring::{files_of, join_all};
-use br_again::{hits_stand, standing_stays};
 use br_bsr::{Bootstrap, Group};
-use br_gather::Gathered;
+use br_data::{OverMany, hits_stand, standing_stays};
 use br_join::{Joiner, Outcome};
-use br_reread::OverMany;
+use br_reread_files::Gathered;
 use br_sink::Sink;
 use br_types::{FileKey, Names};
 use br_volume::Drive;

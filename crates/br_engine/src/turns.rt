@@ -26,7 +26,7 @@ impl Model for NoEnd {
 }
 
 /// The number of turns of reading that were made of an input.
-#[derive(Clone, Copy, Debug, Drop, PartialEq, Eq)]
+#[derive(Clone, Copy, Drop, PartialEq, Eq)]
 pub struct Turns {
     made: u64,
 }

@@ -10,3 +10,4 @@ pub mod WholeVisitLaws
 pub mod StayWholeLaws
 pub mod SpanFitLaws
 pub mod RowFitLaws
+pub mod PlaceLaws

@@ -3,3 +3,9 @@ pub mod Seen
 pub mod Taken
 pub mod Saving
 pub mod Committing
+pub mod JobLineFault
+pub mod JobFields
+pub mod FileLine
+pub mod JobHead
+pub mod JobLine
+pub mod Drafting

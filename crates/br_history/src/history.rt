@@ -37,7 +37,7 @@ fn insert_both(
 }
 
 /// The jobs that were committed, in the order of their commits, no two of them with one number or one session.
-#[derive(Debug, Drop)]
+#[derive(Drop)]
 pub struct History {
     jobs: Vec<JobRows>,
     ids: BTreeSet<JobId>,

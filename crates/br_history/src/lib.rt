@@ -1,23 +1,36 @@
-//! Jobs as the catalogue has them, and histories of jobs: all that a restore knows of the backups before it.
+//! Jobs as the catalogue has them, and histories of jobs: all that a restore knows of the backups
+//! before it.
 //!
-//! A `SavedJob` is a job with the files that it saves, before it is committed.
+//! A `SavedJob` is a job with the files that it saves, before it is committed. A `Draft` is one of
+//! which some lines of a script were read, from `job` to `end`. It knows neither a catalogue nor a
+//! volume.
 //!
-//! Contracts see a job's row, a file's row and a job's rows as the records of the model, and a `History` as the list of the
-//! rows of its jobs. The columns are those of Bacula's Developer's Guide, "Catalog Services".
+//! Contracts see a job's row, a file's row and a job's rows as the records of the model, and a
+//! `History` as the list of the rows of its jobs. The columns are those of Bacula's Developer's
+//! Guide, "Catalog Services".
 #![tactic(auto)]
 
-mod facts;
+mod draft;
 mod fault;
+mod file_line;
 mod history;
+mod job_fields;
+mod job_head;
+mod job_line;
+mod job_line_fault;
+mod laws;
 mod row;
 mod rows;
 mod saved_job;
 
-pub use facts::{
-    pushed_is_admitted, volumes_stay_whole, whole_volumes_are_ready, written_rows_fit,
-};
+pub use draft::{Draft, EndFault, Taken};
 pub use fault::{HistoryFault, SavedJobFault};
 pub use history::History;
+pub use job_fields::{name_of, next};
+pub use job_head::{JobHead, read_head};
+pub use job_line::{JobLine, read_job_line};
+pub use job_line_fault::JobLineFault;
+pub use laws::{pushed_is_admitted, volumes_stay_whole, whole_volumes_are_ready, written_rows_fit};
 pub use row::{FileRow, JobRow};
 pub use rows::JobRows;
 pub use saved_job::SavedJob;

@@ -126,7 +126,7 @@ fn check_files(files: &[SavedFile]) -> Result<(), SavedJobFault>
 
 /// A job that is to be committed: its row, the files that it saves, in order of index, the paths
 /// that it notes as deleted, the greatest size of its blocks, and the places for them.
-#[derive(Debug, Drop)]
+#[derive(Drop)]
 pub struct SavedJob {
     row: JobRow,
     files: Vec<SavedFile>,

@@ -6,9 +6,9 @@ use Rattle.std.proofs.lemmas.List.{take_more}
 use Rattle.std.proofs.lemmas.List.Elements.{filter-append}
 use Rattle.std.proofs.lemmas.Grind.{flat_map-append}
 use Rattle.br_model.specs.Job.{JobRows}
-use Rattle.br_jobs.specs.Line.{is_chosen}
-use Rattle.br_jobs.specs.Local.{AppendsLineIn, AreLinesIn, IsLineIn}
-use Rattle.br_jobs.specs.declared.zones.Zones.{Zones}
+use Rattle.br_jobs.specs.ListingLine.{is_chosen}
+use Rattle.br_jobs.specs.LocalTime.{AppendsLineIn, AreLinesIn, IsLineIn}
+use Rattle.br_jobs.specs.declared.time_zones.Zones.{Zones}
 
 abbrev IsLineOf : Zones → List (Bor JobRows) → JobRows → List ℕ → Type 0
 IsLineOf zones chosen j line = IsLineIn zones (is_chosen chosen j) j line

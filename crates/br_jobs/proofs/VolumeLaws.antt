@@ -2,7 +2,7 @@
 use Rattle.std.proofs.Common.{◌≡◌, ℕ, ◌+◌, ◌<◌, ◌≤◌, length, get_or, drop, List, ◌∷◌, ◌++◌, sym, ap, ◌∙◌, append_assoc, append-nil}
 use Rattle.std.proofs.lemmas.List.{at_drop_more, at_drop_all}
 use Rattle.br_model.specs.Job.{Span}
-use Rattle.br_jobs.specs.Line.{later_text, next_text}
+use Rattle.br_jobs.specs.ListingLine.{later_text, next_text}
 
 -- one span more
 pub later_more : (spans : List Span) (i : ℕ) (s : Span) (last name next before after all : List ℕ) → i < length spans → s ≡ get_or spans i s → name ≡ s.volume → next ≡ s.volume

@@ -1,5 +1,5 @@
-pub mod Fault
-pub mod Filter
-pub mod Line
-pub mod Local
-pub mod Marking
+pub mod ListingFault
+pub mod JobFilter
+pub mod ListingLine
+pub mod LocalTime
+pub mod JobMarks

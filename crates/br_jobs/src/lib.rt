@@ -1,22 +1,22 @@
-//! What `brestore jobs` prints: the jobs of a history, a line for each, with those marked that `console`
-//! would choose.
+//! What `brestore jobs` prints: the jobs of a history, a line for each, with those marked that
+//! `console` would choose.
 //!
 //! Any call that returns a `Result` may also fail because memory ran out.
 #![tactic(auto)]
 
-mod fault;
-mod filter;
-mod line;
-mod listing;
-mod local;
-mod marking;
-mod moment;
-mod saved;
-mod volumes;
-mod zones;
+mod job_filter;
+mod job_listing;
+mod job_marks;
+mod job_volumes;
+mod listing_fault;
+mod listing_line;
+mod local_time;
+mod saved_sums;
+mod time_zones;
+mod utc_moment;
 
-pub use fault::MarkFault;
-pub use filter::Filter;
-pub use marking::{marked_lines, marked_lines_in, unmarked_lines, unmarked_lines_in};
-pub use moment::moment_text;
-pub use zones::Zones;
+pub use job_filter::Filter;
+pub use job_marks::{marked_lines, marked_lines_in, unmarked_lines, unmarked_lines_in};
+pub use listing_fault::ListingFault;
+pub use time_zones::Zones;
+pub use utc_moment::moment_text;

@@ -6,12 +6,12 @@ ghost use Rattle.br_join.specs.Data.{laid_from};
 ghost use Rattle.br_join.specs.Plain.{bytes_of};
 ghost use Rattle.br_join.specs.Source.{bytes_by};
 
-use br_body::FileBytes;
+use br_data::FileBytes;
 use br_records::{FileFault, FileRecord, GREATEST_LEN, MakingFault, has_bytes};
 use std::alloc::Global;
 
 /// What gives the bytes of a file.
-#[derive(Debug, Drop)]
+#[derive(Drop)]
 pub(crate) enum Source {
     /// The data of its records, which are in memory.
     Records,

@@ -25,7 +25,7 @@ impl JoinFault {
 }
 
 /// A value that a joiner did not take and returns, with the reason.
-#[derive(Debug, Drop)]
+#[derive(Drop)]
 pub struct Refused<T> {
     pub value: T,
     pub fault: JoinFault,

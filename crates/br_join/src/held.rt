@@ -18,7 +18,7 @@ const FIRST_LEN: usize = 4096;
 /// Hits are listed as they come, and sorted as they are moved out: a list takes a third of the memory of a tree. Hits
 /// that come again, as after a drive failed, make it longer. So it is also sorted each time that it is twice as long
 /// as after the sort before, and of hits at one place the first is kept.
-#[derive(Debug, Drop)]
+#[derive(Drop)]
 pub(crate) struct Held {
     hits: Vec<Hit>,
     /// The number of hits from which on the list is sorted before more are taken.

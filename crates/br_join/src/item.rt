@@ -1,10 +1,10 @@
 use br_attr::Stat;
-use br_body::FileBytes;
+use br_data::FileBytes;
 use br_types::Path;
 use std::marker::Model;
 
 /// A restored file.
-#[derive(Debug, Drop)]
+#[derive(Drop)]
 pub struct Item {
     /// The path under which the file was saved.
     pub path: Path,
@@ -30,7 +30,7 @@ impl Model for Item {
 }
 
 /// The result of a restore for one file.
-#[derive(Debug, Drop)]
+#[derive(Drop)]
 pub enum Outcome {
     /// The file.
     File(Item),

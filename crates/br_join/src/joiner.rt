@@ -31,7 +31,7 @@ use std::thread::Threads;
 /// As soon as data come for which there is no room, all data are let go, except attributes and digests:
 /// the files are then made of data that are read again, and memory is free for what else is to come. The
 /// hits are the same for contracts, which see their bytes whether they are in memory or not.
-#[derive(Debug, Drop)]
+#[derive(Drop)]
 pub struct Joiner {
     /// The number of each piece, and whether the piece is closed.
     pieces: BTreeMap<u32, bool>,

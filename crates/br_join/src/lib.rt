@@ -1,8 +1,8 @@
 //! Joining: from the fragments that were found to the files that they make.
 //!
-//! `Joiner` gathers what drives find of the pieces of a bootstrap, piece by piece or block by block,
-//! and makes an `Outcome` of each file. If it let data go, it gives its hits, of which the crates
-//! above make files with data that are read again.
+//! `Joiner` gathers what drives find of the pieces of a bootstrap, piece by piece or block by
+//! block, and makes an `Outcome` of each file. If it let data go, it returns its hits: br_reread_files
+//! makes the files of them, with data that are read again.
 #![tactic(auto)]
 
 mod data;
@@ -14,7 +14,7 @@ mod making;
 mod room;
 mod runs;
 
-pub use br_body::FileBytes;
+pub use br_data::FileBytes;
 pub use fault::{JoinFault, Refused};
 pub use item::{Item, Outcome};
 pub use joiner::Joiner;

@@ -11,7 +11,7 @@ ghost use Rattle.br_join.specs.Source.{content_by};
 
 use crate::data::Source;
 use crate::item::{Item, Outcome};
-use br_body::FileBytes;
+use br_data::FileBytes;
 use br_match::Hit;
 use br_records::{
     DIGEST, FileFault, FileRecord, MakingFault, attributes_of, checks_digest, count_in, first_in,

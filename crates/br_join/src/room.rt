@@ -5,7 +5,7 @@ use br_match::Hit;
 use br_records::{ATTRIBUTES, DIGEST};
 
 /// The number of bytes of data that may be held. Attributes and digests are held beside them.
-#[derive(Clone, Copy, Debug)]
+#[derive(Clone, Copy)]
 pub(crate) struct Room {
     all: u64,
     left: u64,

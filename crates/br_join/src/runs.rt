@@ -19,7 +19,7 @@ use std::thread::Threads;
 
 /// The hits of one file, in order of place, and the path under which the file was planned, if it
 /// was.
-#[derive(Debug, Drop)]
+#[derive(Drop)]
 struct Run<'h> {
     key: FileKey,
     path: Option<&'h Path>,

@@ -12,8 +12,8 @@ use Rattle.br_model.specs.Session.{Place, Written, length_of}
 use Rattle.br_model.specs.SessionHolds.{IsReady}
 use Rattle.br_history.specs.Saving.{ToCommit}
 use Rattle.br_volume.proofs.AppendLaws.{appends_add_up_lem}
-use Rattle.br_publish.specs.Fronts.{Beginning}
-use Rattle.br_keeper.specs.declared.vouch.Vouch.{Vouch}
+use Rattle.br_keeper.specs.Beginnings.{Beginning}
+use Rattle.br_keeper.specs.declared.vouched_lengths.Vouch.{Vouch}
 use Rattle.br_keeper.specs.declared.fault.KeeperFault.{KeeperFault}
 use Rattle.br_keeper.specs.declared.fault.KeeperFault.TheVariants.{Memory, DuplicateJob, DuplicateSession, BadRow, RetiredVolume, Volume as VolumeFails, Store, StoredNotPublished, BadCatalogue}
 use Rattle.br_keeper.specs.Preparing.{IsJobWritten, job_rows}

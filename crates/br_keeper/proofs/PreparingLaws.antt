@@ -16,7 +16,7 @@ use Rattle.br_history.specs.Taken.{admitted}
 use Rattle.br_history.specs.declared.fault.HistoryFault.{HistoryFault}
 use Rattle.br_history.specs.declared.fault.HistoryFault.TheVariants.{Memory, DuplicateJob, DuplicateSession, BadRow}
 use Rattle.br_history.proofs.RowFitLaws.{written_rows_fit_lem}
-use Rattle.br_keeper.specs.declared.vouch.Vouch.{Vouch}
+use Rattle.br_keeper.specs.declared.vouched_lengths.Vouch.{Vouch}
 use Rattle.br_keeper.specs.Vouching.{starts_of}
 use Rattle.br_keeper.specs.Preparing.{HasSession, IsInRange, IsJobWritten, MakesSession, Prepares, job_rows}
 

@@ -7,7 +7,7 @@ use Rattle.std.specs.List.{AllByRecursion}
 use Rattle.br_model.specs.Volume.{Volume}
 use Rattle.br_model.proofs.ListLaws.{all_append}
 use Rattle.br_volume.specs.Store.{AppendsTo, AppendsInPartTo, AreAppendedInTurn, IsAppended}
-use Rattle.br_keeper.specs.declared.vouch.Vouch.{Vouch}
+use Rattle.br_keeper.specs.declared.vouched_lengths.Vouch.{Vouch}
 use Rattle.br_keeper.specs.declared.fault.KeeperFault.{KeeperFault}
 use Rattle.br_keeper.specs.Preparing.{seen}
 use Rattle.br_keeper.specs.Vouching.{changed, is_retired, longer, new_entries, retired}

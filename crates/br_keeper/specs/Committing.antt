@@ -4,8 +4,8 @@ use Rattle.br_model.specs.Job.{JobRows}
 use Rattle.br_model.specs.Session.{Written}
 use Rattle.br_history.specs.Saving.{ToCommit}
 use Rattle.br_history.specs.Taken.{admitted}
-use Rattle.br_publish.specs.Fronts.{Beginning, beginning}
-use Rattle.br_publish.specs.Publishing.{all_published, with_added}
+use Rattle.br_keeper.specs.Beginnings.{Beginning, beginning}
+use Rattle.br_keeper.specs.Publishing.{all_published, with_added}
 use Rattle.br_keeper.specs.declared.job_store.JobStoreFault.{JobStoreFault}
 use Rattle.br_keeper.specs.declared.fault.KeeperFault.{KeeperFault}
 use Rattle.br_keeper.specs.declared.fault.KeeperFault.TheVariants.{Memory, DuplicateJob, DuplicateSession, BadRow, RetiredVolume, Volume as VolumeFails, Store, StoredNotPublished, BadCatalogue}

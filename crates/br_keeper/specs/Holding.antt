@@ -7,8 +7,8 @@ use Rattle.br_model.specs.Stored.{Holds}
 use Rattle.br_model.specs.Session.{ToSave, Place}
 use Rattle.br_model.specs.SessionHolds.{bytes_of_volume}
 use Rattle.br_history.specs.Saving.{ToCommit}
-use Rattle.br_publish.specs.Fronts.{Beginning}
-use Rattle.br_publish.specs.Publishing.{all_published, with_added}
+use Rattle.br_keeper.specs.Beginnings.{Beginning}
+use Rattle.br_keeper.specs.Publishing.{all_published, with_added}
 use Rattle.br_keeper.specs.declared.fault.KeeperFault.{KeeperFault}
 use Rattle.br_keeper.specs.declared.fault.KeeperFault.TheVariants.{Store, StoredNotPublished}
 use Rattle.br_keeper.specs.Writing.{Shelf}

@@ -3,10 +3,10 @@ use Rattle.std.specs.Prelude.{◌≡◌, ℕ, List, ◌++◌, Option, MatchOptio
 use Rattle.std.specs.Coded.{Coded, code_by, coded×, coded_list}
 use Rattle.br_model.specs.Volume.{Volume}
 use Rattle.br_model.specs.Job.{JobRows}
-use Rattle.br_publish.specs.Fronts.{Beginning, beginning}
-use Rattle.br_publish.specs.Publishing.{Publishing, all_published}
-use Rattle.br_keeper.specs.declared.vouch.Vouch.{Vouch}
-use Rattle.br_keeper.specs.contracts.vouch.Vouch as vouch
+use Rattle.br_keeper.specs.Beginnings.{Beginning, beginning}
+use Rattle.br_keeper.specs.Publishing.{Publishing, all_published}
+use Rattle.br_keeper.specs.declared.vouched_lengths.Vouch.{Vouch}
+use Rattle.br_keeper.specs.contracts.vouched_lengths.Vouch as vouch
 use Rattle.br_keeper.specs.Writing.{Shelf, shelf_in}
 
 -- its catalogue and its volumes; the lengths that it vouches for; and the list: the jobs that the

@@ -6,3 +6,12 @@ pub mod Listing
 pub mod Keeping
 pub mod Committing
 pub mod Holding
+pub mod Beginnings
+pub mod Keeps
+pub mod PublisherFields
+pub mod Publishing
+pub mod SessionFields
+pub mod Sessions
+pub mod Writers
+pub mod Channel
+pub mod Catalogue

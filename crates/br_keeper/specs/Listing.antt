@@ -1,10 +1,10 @@
 -- A list of stored jobs, the last of which may wait for its publishing.
 use Rattle.std.specs.Prelude.{◌≡◌, List, [], ◌∷◌, ◌++◌, Option, MatchOption}
 use Rattle.br_model.specs.Job.{JobRows}
-use Rattle.br_publish.specs.Fronts.{Beginning, beginning}
-use Rattle.br_publish.specs.Publishing.{Publishing, all_published, publishing, with_added}
-use Rattle.br_keeper.specs.declared.listing.Waiting.{Waiting}
-use Rattle.br_keeper.specs.declared.listing.Waiting.TheVariants.{Nothing, Stored, Taken}
+use Rattle.br_keeper.specs.Beginnings.{Beginning, beginning}
+use Rattle.br_keeper.specs.Publishing.{Publishing, all_published, publishing, with_added}
+use Rattle.br_keeper.specs.declared.stored_jobs.Waiting.{Waiting}
+use Rattle.br_keeper.specs.declared.stored_jobs.Waiting.TheVariants.{Nothing, Stored, Taken}
 
 -- the jobs, and the one that the publisher has not taken
 abbrev pub and_waiting : Waiting → List JobRows → List JobRows

@@ -8,8 +8,8 @@ use Rattle.br_history.specs.Saving.{ToCommit, IsToCommit}
 use Rattle.br_history.specs.Taken.{admitted}
 use Rattle.br_history.specs.declared.fault.HistoryFault.{HistoryFault}
 use Rattle.br_history.specs.declared.fault.HistoryFault.TheVariants.{Memory, DuplicateJob, DuplicateSession, BadRow}
-use Rattle.br_keeper.specs.declared.vouch.Vouch.{Vouch}
-use Rattle.br_keeper.specs.declared.preparing.Prepared.{Prepared}
+use Rattle.br_keeper.specs.declared.vouched_lengths.Vouch.{Vouch}
+use Rattle.br_keeper.specs.declared.prepared.Prepared.{Prepared}
 use Rattle.br_keeper.specs.Vouching.{starts_of}
 
 -- the rows of the job in the catalogue, if its spans are these

@@ -3,7 +3,7 @@ use Rattle.std.specs.Prelude.{ℕ, ◌+◌, ◌-◌, ◌^◌, Bool, true, false,
 use Rattle.std.specs.Option.{option_map_or}
 use Rattle.br_model.specs.Job.{JobRows, Span}
 use Rattle.br_model.specs.Session.{Place}
-use Rattle.br_keeper.specs.declared.vouch.Vouch.{Vouch}
+use Rattle.br_keeper.specs.declared.vouched_lengths.Vouch.{Vouch}
 
 -- the entry of a volume that a commit has begun to write to
 abbrev pub entry_of : List Vouch → List ℕ → Option Vouch

@@ -1,21 +1,21 @@
 //! The keeper.
 ghost use Rattle.std.specs.Prelude.{◌≡◌, ◌<◌, [], length, IfErr, IfOk, Ok, OnErr, OnOk, MatchResult};
 ghost use Rattle.br_volume.specs.Store.{AppendsInPartTo, AppendsTo};
-ghost use Rattle.br_publish.specs.Publishing.{publishing};
-ghost use Rattle.br_publish.specs.Sessions.{AllKnow};
+ghost use Rattle.br_keeper.specs.Publishing.{publishing};
+ghost use Rattle.br_keeper.specs.Sessions.{AllKnow};
 ghost use Rattle.br_keeper.specs.Vouching.{vouched};
 ghost use Rattle.br_keeper.specs.Keeping.{RepublishesKept, jobs_of, shelf_of};
 ghost use Rattle.br_keeper.specs.Committing.{Commits, IsNotMade, Stores};
 ghost use Rattle.br_keeper.specs.Holding.{HoldsJob};
 
+use crate::appending::write_blocks;
 use crate::fault::KeeperFault;
 use crate::job_store::JobStore;
-use crate::listing::Listing;
-use crate::preparing::{Prepared, prepare};
-use crate::vouch::{Vouch, vouched};
-use crate::writing::write_blocks;
+use crate::prepared::{Prepared, prepare};
+use crate::sessions::{Receipt, Session};
+use crate::stored_jobs::Listing;
+use crate::vouched_lengths::{Vouch, vouched};
 use br_history::{JobRows, SavedJob};
-use br_publish::{Receipt, Session};
 use br_types::VolName;
 use br_volume::{VolumeFault, VolumeStore};
 use std::alloc::Global;

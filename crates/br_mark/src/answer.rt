@@ -1,5 +1,5 @@
 /// What a console gives for a command.
-#[derive(Debug, Drop)]
+#[derive(Drop)]
 pub enum Answer {
     /// Lines to be printed, each with its end.
     Text(Vec<u8>),

@@ -20,7 +20,7 @@ const MAX_LEN: usize = 4096;
 const BLANKS: &[u8] = b" \t";
 
 /// What may be asked of a console. A pattern is matched with names, a way is a path of directories.
-#[derive(Debug, Drop)]
+#[derive(Drop)]
 pub enum Command {
     /// Goes to a directory.
     Cd(Vec<u8>),
@@ -76,7 +76,7 @@ fn without_end(text: &[u8]) -> &[u8]
 
 /// Returns the text without the blanks at its ends.
 #[tactic(auto, unfolding(br_model::specs::Text::trim_by))]
-fn trimmed(text: &[u8]) -> &[u8]
+pub fn trimmed(text: &[u8]) -> &[u8]
     ensures { result.now ≡ trim_by is_blank text.now }
 {
     without_end(without_front(text))

@@ -7,9 +7,9 @@ ghost use Rattle.br_mark.specs.Said.{said};
 
 use crate::answer::Answer;
 use crate::command::Command;
+use crate::console_lines::cwd_line;
 use crate::fault::MarkFault;
-use crate::line::cwd_line;
-use crate::way::resolve;
+use crate::working_folder::resolve;
 use crate::{marks, shows};
 use br_tree::Tree;
 use br_types::Path;
@@ -37,7 +37,7 @@ fn go(
 }
 
 /// A directory of a view, and the marks on its paths: what commands walk through and change.
-#[derive(Debug, Drop)]
+#[derive(Drop)]
 pub struct Console<'h> {
     tree: Tree<'h>,
     directory: Vec<u8>,

@@ -7,8 +7,8 @@ ghost use Rattle.br_mark.specs.Said.{text_of};
 ghost use Rattle.br_mark.specs.Seen.{answer_said, count_answer};
 
 use crate::answer::Answer;
+use crate::console_lines::{COUNT_LINE_LEN, push_count};
 use crate::fault::MarkFault;
-use crate::line::{COUNT_LINE_LEN, push_count};
 use br_tree::Tree;
 use std::alloc::Global;
 

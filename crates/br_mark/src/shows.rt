@@ -5,8 +5,8 @@ ghost use Rattle.br_tree.specs.Seen.{seen_path};
 ghost use Rattle.br_mark.specs.Applied.{Goes, Says, child_lines as lines_of, count_shown, estimate_shown, lines_within, matching_children};
 ghost use Rattle.br_mark.specs.Seen.{flagged_line, flag_sign};
 
+use crate::console_lines::{push_path, push_signed, totals_line};
 use crate::fault::MarkFault;
-use crate::line::{push_path, push_signed, totals_line};
 use br_tree::{Child, Tree, bare_name, matches};
 use br_types::{Path, is_directory_path};
 use br_view::Entry;

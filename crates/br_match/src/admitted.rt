@@ -8,7 +8,7 @@ use std::alloc::{AllocError, Global};
 use std::marker::Model;
 
 /// The numbers that a criterion admits, prepared for many look-ups.
-#[derive(Debug, Drop)]
+#[derive(Drop)]
 pub(crate) struct Admitted {
     /// In order of their low ends. The high end of each is the greatest so far.
     ranges: Vec<Range>,

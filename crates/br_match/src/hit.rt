@@ -1,9 +1,9 @@
-use br_again::{Data, Spot};
+use br_data::{Data, Spot};
 use br_types::FileKey;
 use std::marker::Model;
 
 /// A fragment of a file that a bootstrap asks for.
-#[derive(Debug, Drop)]
+#[derive(Drop)]
 pub struct Hit {
     /// The file.
     pub key: FileKey,
@@ -32,14 +32,14 @@ impl Model for Hit {
 }
 
 /// The hits in one block of a piece's volume.
-#[derive(Debug, Drop)]
+#[derive(Drop)]
 pub struct Batch {
     /// The hits, in order of place in the block.
     pub hits: Vec<Hit>,
 }
 
 /// What was found of a piece.
-#[derive(Debug, Drop)]
+#[derive(Drop)]
 pub struct Found {
     /// The number of the piece.
     pub piece: u32,

@@ -15,7 +15,7 @@ mod walk;
 
 ghost use Rattle.br_match.specs.Come.{ComeIsMeant, ComeIsReached};
 
-pub use br_again::Spot;
+pub use br_data::Spot;
 pub use fault::{PieceCause, PieceFault};
 pub use hit::{Batch, Found, Hit};
 pub use matching::match_piece;

@@ -121,7 +121,7 @@ fn bound_for(groups: &[(u32, Group)]) -> Option<u64>
 }
 
 /// The result of a step of a walk.
-#[derive(Clone, Copy, Debug)]
+#[derive(Clone, Copy)]
 enum Step {
     /// The walk passed a block.
     Passed,

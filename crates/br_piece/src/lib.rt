@@ -1,11 +1,22 @@
-//! Splits a bootstrap into pieces, one for each volume that it names.
+//! A bootstrap taken apart, and what the volumes lack of it.
 //!
-//! A piece has the groups on its volume with their numbers in the bootstrap, so that each volume
-//! can be read alone.
+//! `split` makes pieces of it, one for each volume that it names. A piece has the groups on its
+//! volume with their numbers in the bootstrap, so that each volume can be read alone.
+//!
+//! `missing` finds the files that a bootstrap asks for by their indexes and that are not there,
+//! `got_of` how many of those that it counts are there, and `report` writes both as lines.
 #![tactic(auto)]
 
+mod file_counts;
+mod gaps;
+mod lacking;
+mod missing_lines;
+mod near_ranges;
 mod piece;
 mod splitting;
 
+pub use file_counts::got_of;
+pub use lacking::{Gap, missing};
+pub use missing_lines::report;
 pub use piece::Piece;
 pub use splitting::split;

@@ -3,3 +3,4 @@ pub mod Selected
 pub mod Parts
 pub mod Means
 pub mod Moment
+pub mod RequestWords

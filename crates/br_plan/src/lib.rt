@@ -1,6 +1,8 @@
-//! From marked paths to a bootstrap: which records of which volumes give the files that were marked, and under which names.
+//! From marked paths to a bootstrap: which records of which volumes give the files that were
+//! marked, and under which names.
 //!
-//! Contracts see a `Request` and a `Plan` as the records of the model.
+//! A `Request` names a client, a file set and a moment. `read_request` reads it from the words of
+//! the command line. Contracts see a `Request` and a `Plan` as the records of the model.
 #![tactic(auto)]
 
 mod fault;
@@ -11,9 +13,11 @@ mod part;
 mod plan;
 mod ranges;
 mod request;
+mod request_words;
 mod select;
 
 pub use fault::PlanFault;
 pub use moment::{BadMoment, read_moment};
 pub use plan::Plan;
 pub use request::Request;
+pub use request_words::{RequestFault, read_request};

@@ -27,7 +27,7 @@ const MAX_GROUPS: usize = 4_294_967_295;
 
 /// How selected files are restored: what of which volumes is read, and under which path each file is expected. It owns all that
 /// it names.
-#[derive(Debug, Drop)]
+#[derive(Drop)]
 pub struct Plan {
     bootstrap: Bootstrap,
     names: Names,

@@ -6,7 +6,7 @@ use lib.ListN.{get_elem?}
 use Rattle.crossbeam_queue.specs.Fifo.{Pushes, Pops, Forks, Merges, Learns}
 use Rattle.crossbeam_queue.proofs.Lists.{at_set, at_snoc, set_here, set_else}
 use Rattle.br_match.specs.declared.hit.Batch.{Batch}
-use Rattle.br_pool.specs.declared.line.Crew.{Crew}
+use Rattle.br_pool.specs.declared.batch_queue.Crew.{Crew}
 use Rattle.br_pool.specs.Crew.{crew, Has, HasAll, FitsCrew, IsKept, TellsAll, parts_of, pushed_of}
 
 -- ---- batches in lists

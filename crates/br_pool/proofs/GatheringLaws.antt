@@ -5,7 +5,7 @@ use Rattle.br_model.specs.Meaning.{Hit}
 use Rattle.br_match.specs.declared.hit.Batch.{Batch}
 use Rattle.br_join.specs.Joining.{Joining, with_batch}
 use Rattle.br_join.proofs.TakingLaws.{batch_none, batch_more}
-use Rattle.br_pool.specs.declared.line.Crew.{Crew}
+use Rattle.br_pool.specs.declared.batch_queue.Crew.{Crew}
 use Rattle.br_pool.specs.Crew.{Has, HasAll, crew}
 use Rattle.br_pool.specs.Gathering.{IsStill, Pushes, Takes, hits_of_batches, with_pushed}
 use Rattle.br_pool.proofs.CrewLaws.{has_left, has_right, has_split}

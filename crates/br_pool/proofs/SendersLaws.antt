@@ -10,7 +10,7 @@ use Rattle.br_match.specs.Come.{AllComeTo}
 use Rattle.br_match.specs.declared.hit.Batch.{Batch}
 use Rattle.br_join.specs.Joining.{Joining, with_batch}
 use Rattle.br_join.proofs.TakingLaws.{batch_more}
-use Rattle.br_pool.specs.declared.line.Crew.{Crew}
+use Rattle.br_pool.specs.declared.batch_queue.Crew.{Crew}
 use Rattle.br_pool.specs.declared.sender.Sender.{Sender}
 use Rattle.br_pool.specs.declared.worker.Worker.{Worker}
 use Rattle.br_pool.specs.Crew.{Has, HasAll, crew, hired}

@@ -19,7 +19,7 @@ use Rattle.br_match.specs.Come.{IsCome, AllComeTo}
 use Rattle.br_pool.specs.Pool.{StandsTold}
 use Rattle.br_pool.specs.Gathering.{hits_of_batches}
 use Rattle.br_pool.specs.Sending.{AreIn, HasSent, IsSent, SaysSent, SendsOver}
-use Rattle.br_pool.specs.declared.line.Crew.{Crew}
+use Rattle.br_pool.specs.declared.batch_queue.Crew.{Crew}
 use Rattle.br_pool.specs.Workers.{Answer, EachHolds, HoldsAt, is_failure, number_at, numbers_of}
 use Rattle.br_pool.proofs.GatheringLaws.{sent_now}
 use Rattle.br_pool.proofs.AnswerLaws.{each_so, holds_at, told_so_far}

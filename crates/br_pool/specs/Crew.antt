@@ -3,7 +3,7 @@ use Rattle.std.specs.Prelude.{◌≡◌, ℕ, ◌+◌, ◌-◌, Bool, true, fals
 use mathlib.Core.Option.{some}
 use lib.ListN.{get_elem?}
 use Rattle.br_match.specs.declared.hit.Batch.{Batch}
-use Rattle.br_pool.specs.declared.line.Crew.{Crew}
+use Rattle.br_pool.specs.declared.batch_queue.Crew.{Crew}
 
 abbrev pub crew : Bool → ℕ → List Batch → List Batch → Crew
 crew gathers parts pushed popped = record { gathers = gathers; parts = parts; pushed = pushed; popped = popped }

@@ -4,7 +4,7 @@ use Rattle.br_model.specs.Meaning.{Hit}
 use Rattle.br_match.specs.declared.hit.Batch.{Batch}
 use Rattle.br_join.specs.Joining.{Joining, with_batch}
 use Rattle.br_pool.specs.Crew.{HasAll, crew}
-use Rattle.br_pool.specs.declared.line.Crew.{Crew}
+use Rattle.br_pool.specs.declared.batch_queue.Crew.{Crew}
 
 -- the hits of batches, one batch after the other
 abbrev pub hits_of_batches : List Batch → List Hit

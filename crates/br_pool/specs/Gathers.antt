@@ -11,7 +11,7 @@ use Rattle.br_join.specs.Joining.{Joining, with_batch}
 use Rattle.br_pool.specs.Pool.{StandsTold}
 use Rattle.br_pool.specs.Sending.{AreIn, IsSent}
 use Rattle.br_pool.specs.Workers.{Answer, HasWorkedBy}
-use Rattle.br_pool.specs.declared.line.Crew.{Crew}
+use Rattle.br_pool.specs.declared.batch_queue.Crew.{Crew}
 use Rattle.br_pool.specs.declared.sender.SendRound.{SendRound}
 use Rattle.br_pool.specs.declared.sender.Sender.{Sender}
 use Rattle.br_pool.specs.declared.worker.Worker.{Worker}

@@ -15,7 +15,7 @@ use Rattle.br_pool.specs.Pool.{StandsTold}
 use Rattle.br_pool.specs.Workers.{Answer, EachAt, HasWorkedBy, IsSetUp, is_failure}
 use Rattle.br_claim.specs.Claims.{Seated}
 use Rattle.br_match.specs.declared.hit.Batch.{Batch}
-use Rattle.br_pool.specs.declared.line.Crew.{Crew}
+use Rattle.br_pool.specs.declared.batch_queue.Crew.{Crew}
 use Rattle.br_pool.specs.declared.sender.SendRound.{SendRound}
 use Rattle.br_pool.specs.declared.sender.Sender.{Sender}
 use Rattle.br_pool.specs.declared.worker.Reader.{Reader}

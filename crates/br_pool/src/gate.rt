@@ -8,7 +8,7 @@ pub trait Gate {
 }
 
 /// A gate that lets everything through.
-#[derive(Clone, Copy, Debug)]
+#[derive(Clone, Copy)]
 pub struct OpenGate;
 
 impl Gate for OpenGate {

@@ -5,13 +5,13 @@ ghost use Rattle.br_pool.specs.Crew.{HasAll};
 ghost use Rattle.br_pool.specs.Gathering.{IsStill, Takes};
 ghost use Rattle.br_pool.specs.declared.gathering.Look.TheVariants.{Empty, Lost};
 
-use crate::course::Course;
-use crate::line::{CrewPass, Line, next_batch};
+use crate::batch_queue::{CrewPass, Line, next_batch};
+use crate::round_course::Course;
 use br_join::Joiner;
 use std::sync::Wait;
 
 /// What became of one look at the queue.
-#[derive(Clone, Copy, Debug, PartialEq, Eq)]
+#[derive(Clone, Copy, PartialEq, Eq)]
 pub(crate) enum Look {
     /// The joiner took a batch.
     Taken,

@@ -7,19 +7,19 @@
 //! as long as one is left.
 #![tactic(auto)]
 
-mod course;
+mod batch_queue;
 mod fault;
 mod gate;
 mod gathering;
-mod line;
 mod pool;
 mod readers;
+mod round_course;
 mod rounds;
 mod sender;
 mod senders;
 mod slots;
 mod streaming;
-mod supply;
+mod thread_memory;
 mod worker;
 mod workers;
 

@@ -9,10 +9,10 @@ ghost use Rattle.br_pool.specs.Crew.{hired};
 ghost use Rattle.br_pool.specs.Sending.{HasRunIn, HasSentIn, IsSetUpIn, SendsOver};
 ghost use Rattle.br_pool.specs.Workers.{EachAt, EachPairAt, IsReady, is_failure, number_at};
 
-use crate::course::Course;
+use crate::batch_queue::{CrewPass, Line, send};
 use crate::gate::Gate;
-use crate::line::{CrewPass, Line, send};
-use crate::supply::Supply;
+use crate::round_course::Course;
+use crate::thread_memory::Supply;
 use crate::worker::{Answer, Reader, Round, Worker, is_failure, number_at};
 use br_claim::ClaimSeat;
 use br_match::{Batch, Found, PieceFault, Walk};

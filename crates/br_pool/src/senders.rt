@@ -10,9 +10,9 @@ ghost use Rattle.br_pool.specs.Gathers.{HasHired, HasTakenIn, HaveSentIn, sent_o
 ghost use Rattle.br_pool.specs.Sending.{AreSetUpIn, HasRunIn, IsPassAt, IsSetUpIn};
 ghost use Rattle.br_pool.specs.Workers.{EachAt, EachPairAt, IsSetUp};
 
+use crate::batch_queue::{CrewPass, Line, pass_for_worker, take_in};
 use crate::gate::Gate;
 use crate::gathering::{gather, gather_sent};
-use crate::line::{CrewPass, Line, pass_for_worker, take_in};
 use crate::sender::{SendRound, Sender, run_senders};
 use crate::worker::Worker;
 use br_join::Joiner;

@@ -10,11 +10,11 @@ ghost use Rattle.br_pool.specs.Slots.{is_empty, rounds_left};
 ghost use Rattle.br_pool.specs.Streaming.{AddsTo, FilledTo, ReadsRoundTo, StreamsOver};
 ghost use Rattle.br_pool.specs.Workers.{HaveServed, IsReady, count_in, outs};
 
-use crate::course::Course;
+use crate::batch_queue::open_line;
 use crate::fault::PoolFault;
 use crate::gate::Gate;
-use crate::line::open_line;
 use crate::readers::{into_readers, out_of_readers};
+use crate::round_course::Course;
 use crate::rounds::goes_on;
 use crate::sender::SendRound;
 use crate::senders::{lists_for, send_all};

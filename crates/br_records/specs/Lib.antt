@@ -4,4 +4,4 @@ pub mod Records
 pub mod Runs
 pub mod Data
 pub mod Outline
-pub mod Shown
+pub mod ShownRecords

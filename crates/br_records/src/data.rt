@@ -2,7 +2,7 @@ ghost use Rattle.std.specs.Prelude.{◌≡◌, ◌+◌, ◌-◌, ◌≤◌, leng
 ghost use Rattle.std.specs.Int.{w64, from_be_bytes};
 ghost use Rattle.br_model.specs.Answer.{Answers, refused_as};
 ghost use Rattle.br_model.specs.File as model;
-ghost use Rattle.br_body.specs.Parts.{joined};
+ghost use Rattle.br_data.specs.BodyParts.{joined};
 ghost use Rattle.br_records.specs.Data.{fitting, laid, shown_extent};
 ghost use Rattle.br_records.specs.Making.{cause};
 ghost use Rattle.br_records.specs.Outline as outline;
@@ -10,7 +10,7 @@ ghost use Rattle.br_records.specs.Outline as outline;
 use crate::making_fault::{FileFault, MakingFault};
 use crate::records::FileRecord;
 use crate::streams::{DATA, has_bytes};
-use br_body::{Part, push_gap};
+use br_data::{Part, push_gap};
 use std::alloc::AllocError;
 
 /// The greatest length of a file in bytes.
@@ -21,7 +21,7 @@ const ADDRESS_LEN: usize = 8;
 
 /// The place of a record's data in its file: the bytes without the first `skip`, from `start` to
 /// before `end`.
-#[derive(Clone, Copy, Debug)]
+#[derive(Clone, Copy)]
 struct Extent {
     start: usize,
     skip: usize,

@@ -1,12 +1,11 @@
-//! The records of a file, as the fragments that make them, and the outline of a file: what it is without
-//! its bytes.
+//! Makes records of fragments, and the outline of a file: what it is without its bytes.
 //!
-//! `settle` puts fragments in order, and `around` finds those of one file. `records_of` joins them to
-//! records. A file has the attributes that `attributes_of` returns, and the bytes that `push_data`
-//! appends record by record; it copies none.
+//! `settle` puts fragments in order, and `around` finds those of one file. `records_of` joins them
+//! to records. A file has the attributes that `attributes_of` returns, and the bytes that
+//! `push_data` appends record by record; it copies none.
 //!
-//! `sketches_of` needs the headers of records and the attributes alone. It finds each fault that a restore
-//! finds, but for a digest that differs.
+//! `sketches_of` needs the headers of records and the attributes alone. It finds each fault that a
+//! restore finds, but for a digest that differs.
 #![tactic(auto)]
 
 mod attributes;

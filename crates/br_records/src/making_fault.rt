@@ -5,7 +5,7 @@ ghost use Rattle.br_records.specs.declared.making_fault.MakingFault.TheVariants.
 use std::alloc::AllocError;
 
 /// The reason why the fragments of a file make no file.
-#[derive(Clone, Copy, Debug)]
+#[derive(Clone, Copy)]
 pub enum FileFault {
     /// A fragment continues a record, but no record is open.
     Orphan,
@@ -60,7 +60,7 @@ impl FileFault {
 }
 
 /// The reason why no file was made.
-#[derive(Clone, Copy, Debug)]
+#[derive(Clone, Copy)]
 pub enum MakingFault {
     /// Memory ran out, or data that are needed were let go.
     Memory,

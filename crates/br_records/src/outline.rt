@@ -5,7 +5,7 @@ ghost use Rattle.br_records.specs.Making.{cause};
 ghost use Rattle.br_records.specs.Outline as model;
 ghost use Rattle.br_records.specs.Records.{fragments};
 ghost use Rattle.br_records.specs.Runs.{AreListed, listed};
-ghost use Rattle.br_records.specs.Shown.{outlined, shown};
+ghost use Rattle.br_records.specs.ShownRecords.{outlined, shown};
 
 use crate::attributes::attributes_of;
 use crate::data::size_of;
@@ -19,7 +19,7 @@ use std::alloc::{AllocError, Global};
 use std::marker::Model;
 
 /// A file without its bytes.
-#[derive(Debug, Drop)]
+#[derive(Drop)]
 pub struct Outline {
     /// The path under which the file was saved.
     pub path: Path,
@@ -38,7 +38,7 @@ impl Model for Outline {
 }
 
 /// What is known of a file without its bytes: its outline, or why there is no file.
-#[derive(Debug, Drop)]
+#[derive(Drop)]
 pub enum Sketch {
     File(Outline),
     Fault(FileFault),

@@ -1,8 +1,8 @@
 ghost use Rattle.std.specs.Prelude.{◌≡◌, ◌++◌, ◌-◌, ◌^◌, drop, length, min, bytes_eq, slice_index, IfOk, OnOk};
-ghost use Rattle.br_body.specs.Parts.{joined};
+ghost use Rattle.br_data.specs.BodyParts.{joined};
 ghost use Rattle.br_records.specs.Records.{bytes_in};
 
-use br_body::{Part, push_found};
+use br_data::{Part, push_found};
 use br_match::Hit;
 use std::alloc::AllocError;
 

@@ -4,21 +4,21 @@ ghost use Rattle.br_model.specs.File.{fault};
 ghost use Rattle.br_model.specs.File as model;
 ghost use Rattle.br_model.specs.Meaning as meaning;
 ghost use Rattle.br_model.specs.Record.{join};
-ghost use Rattle.br_body.specs.Parts.{joined};
+ghost use Rattle.br_data.specs.BodyParts.{joined};
 ghost use Rattle.br_records.specs.Making.{cause};
 ghost use Rattle.br_records.specs.Opening.{IsOpenAfter};
 ghost use Rattle.br_records.specs.Records.{fragments};
 
 use crate::making_fault::{FileFault, MakingFault};
 use crate::parts::{are_bytes, byte_at, length_of, push_bytes, share_bytes};
-use br_body::Part;
+use br_data::Part;
 use br_match::Hit;
 use br_types::FileIndex;
 use std::alloc::{AllocError, Global};
 use std::marker::Model;
 
 /// A record of a file, as the fragments that make it.
-#[derive(Debug, Drop)]
+#[derive(Drop)]
 pub struct FileRecord<'h> {
     index: FileIndex,
     stream: u32,
@@ -96,7 +96,7 @@ impl<'h> FileRecord<'h> {
 }
 
 /// An open record: its stream, and the number of bytes that are still to come.
-#[derive(Clone, Copy, Debug)]
+#[derive(Clone, Copy)]
 struct Open {
     stream: u32,
     left: u64,

@@ -18,7 +18,7 @@ const BLOCK_HEADER_LEN: u32 = 24;
 const RECORD_HEADER_LEN: u32 = 12;
 
 /// A record of a file, as a session contains it.
-#[derive(Debug, Drop)]
+#[derive(Drop)]
 pub struct Record {
     /// The number of the file in its session.
     pub index: FileIndex,

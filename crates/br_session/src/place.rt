@@ -2,7 +2,7 @@ use br_types::VolName;
 use std::marker::Model;
 
 /// A share of the blocks of a session, which goes to one volume.
-#[derive(Debug, Drop)]
+#[derive(Drop)]
 pub struct Place {
     /// The volume.
     pub vol: VolName,

@@ -43,7 +43,7 @@ fn can_be_saved_of(kind: u32, path: &Path, link: &[u8], bytes: &[u8]) -> bool
 ///
 /// Types are Bacula's: 1 a hard link to a file saved earlier in the session, 2 an empty file, 3 a
 /// file, 4 a symbolic link, 5 a directory.
-#[derive(Debug, Drop)]
+#[derive(Drop)]
 pub struct SavedFile {
     path: Path,
     kind: u32,

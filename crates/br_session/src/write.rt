@@ -17,7 +17,7 @@ use std::alloc::Global;
 use std::marker::Model;
 
 /// The result of writing a session.
-#[derive(Debug, Drop)]
+#[derive(Drop)]
 pub struct Written {
     /// The blocks in order, each with the volume to which it is appended.
     pub blocks: Vec<(VolName, Vec<u8>)>,

@@ -5,7 +5,7 @@ use Rattle.std.proofs.lemmas.Grind.{flat_map-append}
 use Rattle.std.proofs.lemmas.List.{append-nil, map-append, take_more}
 use Rattle.std.proofs.KnownBytes.{Appends-nil, Appends-trans}
 use Rattle.std.specs.Io.KnownBytes.{Appends}
-use Rattle.br_sink.specs.Parts.{WritesPart}
+use Rattle.br_sink.specs.ManifestParts.{WritesPart}
 
 -- nothing is written yet
 pub all_left : (a : Option (List ℕ)) (text : List ℕ) → WritesPart a a text text

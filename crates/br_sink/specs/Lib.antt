@@ -3,5 +3,8 @@ pub mod Sink
 pub mod FileParts
 pub mod MemSink
 pub mod Delivery
-pub mod Parts
+pub mod ManifestParts
 pub mod TwoParts
+pub mod ConflictsApart
+pub mod KeepGoing
+pub mod LeftOutLines

@@ -9,8 +9,7 @@ use crate::fault::{SinkStop, StopCause};
 use crate::report::{Report, totals};
 use crate::sink::Sink;
 use br_join::Outcome;
-use br_types::FileKey;
-use br_ways::{Ways, is_next};
+use br_types::{FileKey, Ways, is_next};
 use std::alloc::{AllocError, Global};
 use std::thread::Threads;
 

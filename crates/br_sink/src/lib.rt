@@ -1,29 +1,45 @@
 //! What a restore gives: its files, put into a sink, the manifest of them, and their totals.
 //!
-//! `Sink` is the trait of what takes files, and `MemSink` a sink over memory.
-//! `deliver` puts the files of a restore into a sink in their order, and stops at the first path that
-//! conflicts with one already put.
+//! `Sink` is the trait of what takes files, and `MemSink` a sink over memory. `deliver` puts the
+//! files of a restore into a sink in their order, and stops at the first path that conflicts with
+//! one already put.
+//!
+//! A delivery may leave out files. `keep_apart` finds before it which ones are left out since their
+//! paths conflict. `Leaving` is a sink around a sink: it goes on after a file at which that one
+//! fails.
 #![tactic(auto)]
 
+mod apart_laws;
+mod conflicts_apart;
+mod delivered_files;
 mod delivery;
 mod fault;
 mod file_parts;
-mod line;
+mod keep_going;
+mod keep_going_delivery;
+mod left_out;
+mod left_out_lines;
+mod manifest_line;
+mod manifest_parts;
+mod manifest_text;
+mod manifest_whole;
 mod mem_sink;
-mod parts;
 mod report;
 mod sink;
-mod text;
 mod two_parts;
-mod writing;
 
+pub use apart_laws::{apart_stay_whole, kept_are_apart};
 pub use br_join::Item;
+pub use conflicts_apart::{Apart, keep_apart};
 pub use delivery::{deliver, stand_apart};
 pub use fault::{SinkFault, SinkStop, StopCause};
 pub use file_parts::{Parts, PartsFault};
+pub use keep_going::Leaving;
+pub use left_out::file_at;
+pub use left_out_lines::push_left;
+pub use manifest_parts::{manifest_room, write_manifest};
+pub use manifest_whole::manifest;
 pub use mem_sink::{MemSink, copy_of};
-pub use parts::{manifest_room, write_manifest};
 pub use report::{Report, totals};
 pub use sink::Sink;
 pub use two_parts::{TwoParts, TwoPut};
-pub use writing::manifest;

@@ -11,7 +11,7 @@ use std::alloc::{AllocError, Global};
 use std::marker::Model;
 
 /// A sink over memory. It keeps a copy of each file, which shares the file's bytes.
-#[derive(Debug, Drop)]
+#[derive(Drop)]
 pub struct MemSink {
     alloc: Global,
     items: Vec<Item>,

@@ -7,7 +7,7 @@ use br_types::FileKey;
 use std::marker::Model;
 
 /// How a restore ended.
-#[derive(Clone, Copy, Debug, PartialEq, Eq)]
+#[derive(Clone, Copy, PartialEq, Eq)]
 pub struct Report {
     /// The number of files.
     pub files: u64,

@@ -8,7 +8,7 @@ use br_join::{FileBytes, Item};
 use std::io::Write;
 
 /// What became of two files that were put side by side.
-#[derive(Debug, Drop)]
+#[derive(Drop)]
 pub enum TwoPut {
     /// Both were put; these are their bytes, which are not in memory.
     Both { one: FileBytes, other: FileBytes },

@@ -30,3 +30,7 @@ pub mod Creates
 pub mod Opens
 pub mod Loads
 pub mod Opened
+pub mod CrashLaws
+pub mod LookCopies
+pub mod LookFolds
+pub mod LookParts

@@ -14,8 +14,8 @@ use Rattle.sqlite_value.proofs.OrderLemmas.{value_cmp_total}
 use Rattle.sqlite_sql.proofs.QueryLemmas.{key_cmp_total}
 use Rattle.sqlite_keyed.proofs.SortLemmas.{sorted_unique}
 use Rattle.sqlite_rules.proofs.ListLemmas.{all_has, all_from}
-use Rattle.br_schema.specs.Places.{Layout}
-use Rattle.br_rows.specs.Rows.{Rows}
+use Rattle.br_catalog_rows.specs.TreePlaces.{Layout}
+use Rattle.br_catalog_rows.specs.Rows.{Rows}
 use Rattle.br_store.specs.Held.{HasTables, is_named, named, layout_in, rows_at, rows_in, job_shown, span_shown, file_shown}
 use Rattle.br_store.proofs.Values.{tied}
 use Rattle.br_store.proofs.Joined.{Knows, are_known}

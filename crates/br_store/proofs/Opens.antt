@@ -10,9 +10,9 @@ use Rattle.sqlite_trees.specs.Objects.{catalog_tree, IsListed}
 use Rattle.sqlite_trees.specs.declared.store.Shape.TheVariants.{Table}
 use Rattle.sqlite_catalog.specs.Listing.{AreListed, IsTableRow, is_table_row}
 use Rattle.sqlite_catalog.proofs.LayoutLemmas.{laid_out, objects_rise}
-use Rattle.br_schema.specs.Places.{Layout}
-use Rattle.br_schema.specs.Tables.{no_schema, tables_at}
-use Rattle.br_schema.specs.Stands.{IsStoreSchema}
+use Rattle.br_catalog_rows.specs.TreePlaces.{Layout}
+use Rattle.br_catalog_rows.specs.Tables.{no_schema, tables_at}
+use Rattle.br_catalog_rows.specs.KnownSchemas.{IsStoreSchema}
 use Rattle.br_store.specs.Held.{HasTables}
 use Rattle.br_store.specs.Made.{Finds, IsMade}
 use Rattle.br_store.specs.Calls.{AreRising}

@@ -16,13 +16,13 @@ use Rattle.sqlite_trees.proofs.TreeLemmas.{IsShaped-put_row}
 use Rattle.sqlite.specs.State.{State, KeepsCommit, IsUnchanged}
 use Rattle.br_store.specs.declared.names.Dictionary.{Dictionary}
 use Rattle.br_store.specs.declared.names.Dictionary.TheVariants.{Client, FileSet, Media, Path}
-use Rattle.br_schema.specs.Places.{Layout}
-use Rattle.br_schema.specs.Tables.{tables_at}
-use Rattle.br_schema.specs.Stands.{HasAll, Owns, Stands}
+use Rattle.br_catalog_rows.specs.TreePlaces.{Layout}
+use Rattle.br_catalog_rows.specs.Tables.{tables_at}
+use Rattle.br_catalog_rows.specs.KnownSchemas.{HasAll, Owns, Stands}
 use Rattle.br_store.specs.Names.{tree_of, word, name_row}
-use Rattle.br_rows.specs.Decode.{job_row, span_row, file_row, digest_text, front, rest, high, low}
+use Rattle.br_catalog_rows.specs.Decode.{job_row, span_row, file_row, digest_text, front, rest, high, low}
 use Rattle.br_model.specs.Job.{JobRow, FileRow, Span, JobRows}
-use Rattle.br_rows.specs.Rows.{Rows, with_job, with_spans, with_files, with_rows, with_file_row}
+use Rattle.br_catalog_rows.specs.Rows.{Rows, with_job, with_spans, with_files, with_rows, with_file_row}
 use Rattle.br_store.specs.Held.{name_at, Added, HasTables, Wrote, GoesOn, IsNameAt, IsName, layout_in, rows_at, rows_in, job_shown, span_shown, file_shown}
 use Rattle.br_store.proofs.Joined.{HasGrown, AreKnown, are_known, grown_has, find_row, put-map, same_jobs, same_spans, same_files}
 use Rattle.br_store.proofs.Appends.{map-append, put_next}

@@ -12,7 +12,7 @@ use Rattle.sqlite.specs.State.{State, HasCleanDisk, Opens, Survives}
 use Rattle.sqlite_trees.specs.declared.store.Shape.TheVariants.{Table as Shaped}
 use Rattle.sqlite_trees.specs.declared.store.Store.{Ghosts}
 use Rattle.br_model.specs.Job.{JobRows}
-use Rattle.br_rows.specs.Inserted.{Adds}
+use Rattle.br_catalog_rows.specs.Inserted.{Adds}
 use Rattle.br_store.specs.Held.{HasTables, rows_in}
 use Rattle.br_store.specs.Made.{HasEmptied}
 

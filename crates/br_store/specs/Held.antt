@@ -18,21 +18,21 @@ use Rattle.sqlite.specs.State.{State, IsUnchanged, Shows, HasCleanDisk}
 use Rattle.sqlite.specs.Held.{Held, state}
 use Rattle.sqlite_trees.specs.declared.store.Store.{Ghosts}
 use Rattle.br_model.specs.Job.{JobRow, Span}
-use Rattle.br_rows.specs.Inserted.{IsNewIn}
+use Rattle.br_catalog_rows.specs.Inserted.{IsNewIn}
 use Rattle.br_store.specs.declared.names.Dictionary.{Dictionary}
 use Rattle.br_store.specs.declared.names.Dictionary.TheVariants.{Client, FileSet, Media, Path}
 use Rattle.br_store.specs.declared.write.Parts.{Parts}
 use Rattle.br_store.specs.Names.{tree_of, word}
-use Rattle.br_rows.specs.Rows.{Rows, with_file_row, with_job, with_spans}
+use Rattle.br_catalog_rows.specs.Rows.{Rows, with_file_row, with_job, with_spans}
 use Rattle.sqlite_trees.specs.Objects.{catalog_tree, number_in}
 use Rattle.sqlite_catalog.specs.Listing.{is_table_row}
-use Rattle.br_schema.specs.Places.{Layout, row_number, version_id, name_column}
-use Rattle.br_schema.specs.Places.{job_type, job_level, job_client, job_status, job_start_time, job_fileset}
-use Rattle.br_schema.specs.Places.{job_session_id, job_session_time, span_job, span_media, span_first_index, span_last_index}
-use Rattle.br_schema.specs.Places.{span_start_file, span_end_file, span_start_block, span_end_block, span_vol_index}
-use Rattle.br_schema.specs.Places.{file_index, file_job, file_path, file_filename, file_lstat, file_md5}
-use Rattle.br_schema.specs.Tables.{tables_at}
-use Rattle.br_schema.specs.Stands.{HasAll, Owns}
+use Rattle.br_catalog_rows.specs.TreePlaces.{Layout, row_number, version_id, name_column}
+use Rattle.br_catalog_rows.specs.TreePlaces.{job_type, job_level, job_client, job_status, job_start_time, job_fileset}
+use Rattle.br_catalog_rows.specs.TreePlaces.{job_session_id, job_session_time, span_job, span_media, span_first_index, span_last_index}
+use Rattle.br_catalog_rows.specs.TreePlaces.{span_start_file, span_end_file, span_start_block, span_end_block, span_vol_index}
+use Rattle.br_catalog_rows.specs.TreePlaces.{file_index, file_job, file_path, file_filename, file_lstat, file_md5}
+use Rattle.br_catalog_rows.specs.Tables.{tables_at}
+use Rattle.br_catalog_rows.specs.KnownSchemas.{HasAll, Owns}
 
 -- ---- where the tables are
 

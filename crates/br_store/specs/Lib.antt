@@ -2,3 +2,8 @@ pub mod Names
 pub mod Held
 pub mod Made
 pub mod Calls
+pub mod Kept
+pub mod Crash
+pub mod Scene
+pub mod Look
+pub mod LookFolded

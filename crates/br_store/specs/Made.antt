@@ -6,13 +6,13 @@ use Rattle.sqlite.specs.Schema.{Schema}
 use Rattle.sqlite.specs.Effect.{Database, IsDatabase}
 use Rattle.sqlite.specs.State.{State}
 use Rattle.sqlite.specs.Order.{Row, column}
-use Rattle.br_rows.specs.Decode.{natural}
-use Rattle.br_rows.specs.Load.{is_read}
-use Rattle.br_rows.specs.Fault.{IsStoreFault}
-use Rattle.br_rows.specs.declared.fault.StoreFault.{StoreFault}
-use Rattle.br_rows.specs.declared.fault.StoreFault.TheVariants.{OldCatalogue}
-use Rattle.br_rows.specs.Rows.{no_rows}
-use Rattle.br_schema.specs.Tables.{no_schema}
+use Rattle.br_catalog_rows.specs.Decode.{natural}
+use Rattle.br_catalog_rows.specs.Load.{is_read}
+use Rattle.br_catalog_rows.specs.Fault.{IsStoreFault}
+use Rattle.br_catalog_rows.specs.declared.fault.StoreFault.{StoreFault}
+use Rattle.br_catalog_rows.specs.declared.fault.StoreFault.TheVariants.{OldCatalogue}
+use Rattle.br_catalog_rows.specs.Rows.{no_rows}
+use Rattle.br_catalog_rows.specs.Tables.{no_schema}
 use Rattle.br_store.specs.Held.{HasTables, rows_in}
 
 -- a database with these tables, which have no row

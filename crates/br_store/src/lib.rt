@@ -4,18 +4,45 @@
 //! Contracts see a `Store` as its connection; `state` is the database of a connection. What they
 //! say of rows holds if the disk returns what was written to it, or the store is in memory
 //! (`HasCleanDisk`).
+//!
+//! `StoredJobs` is a `Store` that a keeper owns. It gives the relations that the contracts of a
+//! keeper name a meaning: what an insertion makes of the database, and what a crash may leave of
+//! it.
+//!
+//! `look` copies the file of a catalogue into memory and opens the copy as a database, so that
+//! nothing is written or made. `Sight` is what it needs of the system: `HostSight` is that of the
+//! system, as thin as it can be, and `MemSight` one over memory, for tests. `fold` ends the use of
+//! a catalogue that was written to: its file alone has what was committed.
 #![tactic(auto)]
 
-mod facts;
+mod crash_laws;
+mod laws;
+mod look_beside;
+mod look_fault;
+mod look_file;
+mod look_folding;
+mod look_host;
+mod look_mem;
+mod look_sight;
 mod names;
 mod opening;
 mod queries;
 mod reads;
 mod store;
+mod stored_jobs;
 mod tables;
 mod version;
 mod write;
 
-pub use br_rows::{StoreFault, inserted_jobs_load};
+pub use br_catalog_rows::{StoreFault, inserted_jobs_load};
+pub use crash_laws::commits_outlive_crashes;
+pub use look_beside::Beside;
+pub use look_fault::LookFault;
+pub use look_file::look;
+pub use look_folding::fold;
+pub use look_host::{HostFile, HostSight};
+pub use look_mem::MemSight;
+pub use look_sight::{Sight, Stamp};
 pub use opening::{create, reopened};
 pub use store::Store;
+pub use stored_jobs::StoredJobs;

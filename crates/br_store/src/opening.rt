@@ -3,17 +3,16 @@
 ghost use Rattle.std.specs.Prelude.{◌≡◌, false, IsTrue, IfOk, IfErr, OnOk, OnErr};
 ghost use Rattle.sqlite.specs.Held.{state};
 ghost use Rattle.sqlite.specs.State.{HasCleanDisk, IsUnchanged, Survives};
-ghost use Rattle.br_schema.specs.Tables.{no_schema};
+ghost use Rattle.br_catalog_rows.specs.Tables.{no_schema};
 ghost use Rattle.br_store.specs.Calls.{CommitsNothing, IsJustOpened, IsReadable, IsSame, OnCleanDisk, StaysIdle, WhileClean};
 ghost use Rattle.br_store.specs.Held.{IsCatalogue, HasTables, rows_in};
-ghost use Rattle.br_rows.specs.Fault.{IsStoreFault};
+ghost use Rattle.br_catalog_rows.specs.Fault.{IsStoreFault};
 ghost use Rattle.br_store.specs.Made.{Finds, IsMade, IsOpenFault, is_first};
 
 use crate::queries::versions;
 use crate::tables::make_tables;
 use crate::version::are_first;
-use br_rows::StoreFault;
-use br_schema::{is_empty, is_old, is_ours};
+use br_catalog_rows::{StoreFault, is_empty, is_old, is_ours};
 use sqlite::{Alter, Connection, Error, ErrorCode};
 use std::alloc::Global;
 

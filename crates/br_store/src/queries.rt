@@ -6,8 +6,8 @@ ghost use Rattle.sqlite.specs.State.{IsUnchanged, KeepsCommit};
 ghost use Rattle.br_store.specs.Calls.{CommitsNothing, IsReadable, IsSame, OnCleanDisk, Stays, StaysIdle};
 ghost use Rattle.br_store.specs.Held.{IsCatalogue, rows_in};
 
-use crate::facts::idle_is_settled;
-use br_rows::CatalogueRows;
+use crate::laws::idle_is_settled;
+use br_catalog_rows::CatalogueRows;
 use sqlite::{Alter, Connection, Error, Row};
 
 /// Reads the versions.

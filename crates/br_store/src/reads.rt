@@ -5,7 +5,7 @@ ghost use Rattle.sqlite.specs.State.{IsUnchanged, KeepsCommit};
 ghost use Rattle.br_store.specs.Calls.{BorrowsSame, CommitsNothing, OnTables};
 ghost use Rattle.br_store.specs.Held.{rows_in};
 
-use br_rows::CatalogueRows;
+use br_catalog_rows::CatalogueRows;
 use sqlite::{Alter, Error, Row, Transaction};
 
 /// Reads the versions.

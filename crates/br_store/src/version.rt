@@ -2,8 +2,8 @@
 
 ghost use Rattle.std.specs.Prelude.{◌≡◌};
 ghost use Rattle.sqlite.specs.Order.{column};
-ghost use Rattle.br_rows.specs.Decode.{natural};
-ghost use Rattle.br_rows.specs.Load.{is_read};
+ghost use Rattle.br_catalog_rows.specs.Decode.{natural};
+ghost use Rattle.br_catalog_rows.specs.Load.{is_read};
 ghost use Rattle.br_store.specs.Made.{is_first};
 
 use sqlite::Row;

@@ -3,14 +3,16 @@
 ghost use Rattle.std.specs.Prelude.{◌≡◌, [], ◌∷◌, OnOk, OnErr};
 ghost use Rattle.std.specs.List.{AllByRecursion};
 ghost use Rattle.sqlite.specs.State.{KeepsCommit};
-ghost use Rattle.br_rows.specs.Rows.{with_spans, with_files, with_rows};
-ghost use Rattle.br_rows.specs.Inserted.{IsFile, IsSpan};
+ghost use Rattle.br_catalog_rows.specs.Rows.{with_spans, with_files, with_rows};
+ghost use Rattle.br_catalog_rows.specs.Inserted.{IsFile, IsSpan};
 ghost use Rattle.br_store.specs.Calls.{AddsJob, BorrowsSame, CommitsNothing, InCatalogue, InTransaction};
 ghost use Rattle.br_store.specs.Held.{Writes, WritesFileOf, WritesJob, WritesJobOf, WritesSpanOf};
 
 use crate::names::{Dictionary, name_id};
+use br_catalog_rows::{
+    cut, digits_of, file_is_whole, high_half, job_is_whole, low_half, span_is_whole,
+};
 use br_history::{FileRow, JobRow, JobRows};
-use br_rows::{cut, digits_of, file_is_whole, high_half, job_is_whole, low_half, span_is_whole};
 use br_session::Span;
 use br_types::SessionKey;
 use sqlite::types::{ToSql, ValueRef};

@@ -2,7 +2,7 @@ ghost use Rattle.std.specs.Prelude.{◌≡◌};
 ghost use Rattle.br_tree.specs.Change.{flag_of};
 
 /// What a change does to the marks of the paths that are meant.
-#[derive(Clone, Copy, Debug, PartialEq, Eq)]
+#[derive(Clone, Copy, PartialEq, Eq)]
 pub(crate) enum Change {
     /// It sets them.
     Mark,
@@ -23,7 +23,7 @@ impl Change {
 }
 
 /// The paths of a directory that are meant.
-#[derive(Clone, Copy, Debug)]
+#[derive(Clone, Copy)]
 pub(crate) enum Meant<'p> {
     /// The names that match the pattern, and all below the directories among them.
     Names(&'p [u8]),

@@ -2,7 +2,7 @@ ghost use Rattle.std.specs.Prelude.{◌≡◌};
 ghost use Rattle.br_tree.specs.Seen.{sign_byte};
 
 /// Says whether a name of a directory is marked, or something below it.
-#[derive(Clone, Copy, Debug, PartialEq, Eq)]
+#[derive(Clone, Copy, PartialEq, Eq)]
 pub enum Sign {
     /// Its own path is marked.
     Marked,
@@ -26,7 +26,7 @@ impl Sign {
 }
 
 /// A name of a directory, with the `/` at its end if it is a directory itself.
-#[derive(Clone, Copy, Debug)]
+#[derive(Clone, Copy)]
 pub struct Child<'h> {
     /// The name, a part of a path of the view.
     pub name: &'h [u8],

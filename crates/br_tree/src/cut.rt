@@ -6,7 +6,7 @@ use crate::run::{Shown, child_name};
 use br_types::Path;
 
 /// A test that the first ones of some paths pass, and no later one.
-#[derive(Clone, Copy, Debug)]
+#[derive(Clone, Copy)]
 pub(crate) enum Test<'t> {
     /// The path comes before a text in byte order.
     Before(&'t [u8]),

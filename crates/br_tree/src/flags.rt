@@ -31,7 +31,7 @@ fn count_between(flags: &[bool], sums: &[usize], from: usize, to: usize) -> usiz
 }
 
 /// A flag for each path, and sums by which those that are set are counted.
-#[derive(Debug, Drop)]
+#[derive(Drop)]
 pub(crate) struct Flags {
     flags: Vec<bool>,
     sums: Vec<usize>,

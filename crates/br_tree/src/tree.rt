@@ -90,7 +90,7 @@ fn rows<'v, 'h>(view: &'v View<'h>) -> &'v [(&'h Path, Entry)]
 }
 
 /// A view and the marks on its paths.
-#[derive(Debug, Drop)]
+#[derive(Drop)]
 pub struct Tree<'h> {
     shown: View<'h>,
     is_marked: Flags,

@@ -1,5 +1,14 @@
-//! Names, paths and keys, which every other crate uses. Also printing of names, paths and numbers,
-//! and tests of bytes.
+//! Names, paths, keys and numbers, which every other crate uses: what they are, how they are printed
+//! and read, and how they compare.
+//!
+//! - `Name`, `VolName`, `Path`, `FileKey`, `SessionKey` and `Names` are the values themselves.
+//! - `push_escaped`, `push_number` and what is like them print them; `cut`, `read_bytes` and
+//!   `read_number` read the fields of a line of a script.
+//! - `Ways` finds whether a path conflicts with one of some paths: a file where another file's
+//!   folder has to be, or the reverse.
+//! - `NewestCopies` returns for each path the newest of its copies: that of the session with the
+//!   latest time, then with the greatest number, then the one with the greatest index.
+//! - `Wanted` says which copies, conflicts and gaps an operator asks a restore to handle.
 //!
 //! Contracts see each type as its value of the model: a name or a path as its bytes, a number as a
 //! number, a key as the record of its numbers, `Names` as a finite map.
@@ -8,21 +17,35 @@
 #![tactic(auto)]
 
 mod bytes;
+mod conflicts;
 mod decimal;
+mod decimal_field;
 mod escape;
 mod fault;
+mod fields;
 mod key;
+mod line_fault;
 mod name;
 mod names;
+mod newest;
+mod newest_laws;
 mod number;
 mod path;
+mod wanted;
 
 pub use bytes::{are_digits, has_no_nul, is_blank_byte, is_directory_path};
+pub use conflicts::{Ways, is_next};
 pub use decimal::{push_number, push_wide};
+pub use decimal_field::read_number;
 pub use escape::{byte_by, escaped_reads_back, push_escaped, push_hexadecimal, unescape};
 pub use fault::{EscapeFault, NameFault};
+pub use fields::{cut, read_bytes};
 pub use key::{FileKey, SessionKey};
+pub use line_fault::LineFault;
 pub use name::{Name, VolName};
 pub use names::Names;
+pub use newest::NewestCopies;
+pub use newest_laws::{newest_has_each_path, newest_has_each_path_once, planned_are_newest};
 pub use number::{FileIndex, JobId, Letter};
-pub use path::Path;
+pub use path::{Path, is_path_of};
+pub use wanted::{Copies, Gaps, Start, Stops, Wanted};

@@ -43,8 +43,9 @@ fn are_components_of(bytes: &[u8]) -> bool
     }
 }
 
+/// Returns if these bytes are a path. It takes no memory.
 #[tactic(auto, unfolding(br_model::specs::Name::is_path))]
-fn is_path_of(bytes: &[u8]) -> bool
+pub fn is_path_of(bytes: &[u8]) -> bool
     ensures { result ≡ is_path bytes.now }
 {
     match bytes {

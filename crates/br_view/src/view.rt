@@ -24,7 +24,7 @@ fn compared(first: &Path, second: &Path) -> Ordering
 }
 
 /// The newest copies of the paths of some jobs, in byte order of the paths. The paths are lent by the jobs.
-#[derive(Debug, Drop)]
+#[derive(Drop)]
 pub struct View<'h> {
     entries: Vec<(&'h Path, Entry)>,
 }

@@ -4,3 +4,6 @@ pub mod KeptLaws
 pub mod AppendLaws
 pub mod PlaceLaws
 pub mod GrowingLaws
+pub mod FolderLaws
+pub mod FreeLaws
+pub mod StoreLaws

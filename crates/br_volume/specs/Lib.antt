@@ -4,3 +4,5 @@ pub mod Calls
 pub mod Memory
 pub mod Store
 pub mod MemStore
+pub mod Folder
+pub mod HostDrives

@@ -10,7 +10,7 @@ use br_types::VolName;
 use std::marker::Model;
 
 /// A drive over volumes that their owner keeps. It never fails.
-#[derive(Debug, Drop)]
+#[derive(Drop)]
 pub struct BorrowedDrive<'v> {
     volumes: &'v [(VolName, Vec<u8>)],
 }

@@ -5,7 +5,7 @@ ghost use Rattle.std.specs.Borrow.{ftrue};
 use std::marker::Model;
 
 /// The number of times that something happened.
-#[derive(Debug, Drop)]
+#[derive(Drop)]
 pub struct Count {
     pub ghost number: { ℕ },
 }

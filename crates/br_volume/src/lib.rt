@@ -2,15 +2,22 @@
 //!
 //! `Drive` is the trait of drives. `MemDrive` is a drive over memory, and `BorrowedDrive` one over
 //! volumes in memory that their owner keeps. Code that reads volumes is generic over the trait. Its
-//! clauses say what each call returns, when a call may fail, and that volumes only grow. `VolumeStore`
-//! is the trait of stores, and `MemStore` a store over memory. Those over the files of a folder are in
-//! br_folder.
+//! clauses say what each call returns, when a call may fail, and that volumes only grow.
+//! `VolumeStore` is the trait of stores, and `MemStore` a store over memory.
+//!
+//! `FolderDrive` and `FolderStore` read and append volumes in a folder of a disk: each volume is
+//! the file with its name. If the disk tells its files, the clauses of `Drive` and `VolumeStore`
+//! hold of them whole. `drives_over` makes drives over a folder of the system.
 #![tactic(auto)]
 
 mod borrowed;
 mod count;
 mod drive;
 mod fault;
+mod folder;
+mod folder_drive;
+mod folder_store;
+mod host_drives;
 mod mem;
 mod mem_store;
 mod store;
@@ -19,6 +26,9 @@ pub use borrowed::BorrowedDrive;
 pub use count::Count;
 pub use drive::{Drive, Got};
 pub use fault::{DriveFault, VolumeFault};
+pub use folder_drive::FolderDrive;
+pub use folder_store::{FolderStore, open_or_make};
+pub use host_drives::{HostDrive, drives_over};
 pub use mem::MemDrive;
 pub use mem_store::MemStore;
 pub use store::{VolumeStore, appends_add_up};

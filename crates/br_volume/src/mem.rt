@@ -19,7 +19,7 @@ use std::alloc::AllocError;
 use std::marker::Model;
 
 /// A drive over memory. Its volumes change only if it was made with tails to append.
-#[derive(Debug, Drop)]
+#[derive(Drop)]
 pub struct MemDrive {
     volumes: Vec<(VolName, Vec<u8>)>,
     tails: Vec<(VolName, Vec<u8>)>,

@@ -18,7 +18,7 @@ use std::marker::Model;
 
 /// A store over memory. An append fails if memory runs out, and then changes nothing. One append may
 /// be made to fail after the first of its bytes.
-#[derive(Debug, Drop)]
+#[derive(Drop)]
 pub struct MemStore {
     alloc: Global,
     volumes: Vec<(VolName, Vec<u8>)>,

@@ -1,19 +1,22 @@
 //! The restoring half of a Bacula Director, with the volume reading that a restore needs.
 //!
-//! `extract` runs a bootstrap over the volumes of a folder. `console` lets the operator mark files as they were at a moment, and
-//! restores them. Both write the restored files into another folder, if one is given. `jobs` lists the jobs of a catalogue.
-//! `explain` says what a refusal number means. `migrate` makes a catalogue of version 1 one of version 2.
-//! `serve` runs a script from standard input, over a catalogue and a folder of volumes, or in memory; without a command the
+//! `extract` runs a bootstrap over the volumes of a folder. `console` lets the operator mark files
+//! as they were at a moment, and restores them. Both write the restored files into another folder,
+//! if one is given. `jobs` lists the jobs of a catalogue. `explain` says what a refusal number
+//! means. `migrate` makes a catalogue of version 1 one of version 2. `serve` runs a script from
+//! standard input, over a catalogue and a folder of volumes, or in memory; without a command the
 //! program does the same in memory.
 //!
-//! The words of the command line are read by clap, catalogues are in files of SQLite (br_catalogue_files), and what the commands do is in
-//! br_commands.
+//! The words of the command line are read by clap, catalogues are in files of SQLite (module
+//! `catalogue`), and what the commands do is in br_cli.
 #![tactic(auto)]
 
-use br_catalogue_files::CatalogueFiles;
-use br_command::read_words;
-use br_commands::{BAD_STREAM, run_command};
-use br_setup::{CLEAN, REFUSED, tell_refusal};
+mod catalogue;
+
+use crate::catalogue::CatalogueFiles;
+use br_cli::{BAD_STREAM, run_command};
+use br_cli_args::read_words;
+use br_cli_common::{CLEAN, REFUSED, tell_refusal};
 use std::io::{self, ErrorKind};
 use std::process::ExitCode;
 use std::rt::Env;

@@ -1,7 +1,7 @@
 use Rattle.std.proofs.Common.{List, map, subst, sym, arith}
 use Rattle.std.proofs.lemmas.List.{take_all}
 use Rattle.br_model.specs.Name.{FileKey}
-use Rattle.br_records.specs.Shown.{outlined}
+use Rattle.br_records.specs.ShownRecords.{outlined}
 use Rattle.br_records.specs.declared.outline.Sketch.{Sketch}
 use Rattle.br_check.specs.Conflicts.{Told}
 use Rattle.br_check.specs.Findings.{copies_of}

@@ -1,5 +1,5 @@
 use Rattle.std.proofs.Common.{map, take}
-use Rattle.br_records.specs.Shown.{outlined}
+use Rattle.br_records.specs.ShownRecords.{outlined}
 use Rattle.br_check.specs.Conflicts.{Told}
 use Rattle.br_check.specs.Findings.{copies_of}
 use Rattle.br_check.proofs.conflicts.push_conflicts.Given as goal

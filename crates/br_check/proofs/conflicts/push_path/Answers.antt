@@ -1,6 +1,6 @@
 use Rattle.std.proofs.Common.{refl}
 use Rattle.std.proofs.lemmas.Result.{on_ok_weaker}
-use Rattle.br_newest.specs.Newest.{Copy}
+use Rattle.br_types.specs.Newest.{Copy}
 use Rattle.br_check.proofs.ConflictLaws.{told_free, told_left}
 use Rattle.br_check.proofs.conflicts.push_path.Goals as goal
 

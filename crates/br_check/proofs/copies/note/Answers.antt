@@ -1,6 +1,6 @@
 use Rattle.std.proofs.Common.{◌≡◌, ◌∙◌, List, ℕ, ap}
 use Rattle.std.proofs.lemmas.Result.{on_ok_weaker}
-use Rattle.br_newest.specs.Newest.{Copy}
+use Rattle.br_types.specs.Newest.{Copy}
 use Rattle.br_records.specs.Outline.{Outline}
 use Rattle.br_check.proofs.CopyLaws.{noted_one}
 use Rattle.br_check.proofs.copies.note.Goals as goal

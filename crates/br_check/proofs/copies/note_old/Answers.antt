@@ -1,8 +1,8 @@
 use Rattle.std.proofs.Common.{◌≡◌, ◌∙◌, List, ℕ, ap, map, sym}
 use Rattle.std.proofs.lemmas.Result.{on_ok_weaker}
-use Rattle.br_newest.specs.Newest.{Copy, is_outdated}
+use Rattle.br_types.specs.Newest.{Copy, is_outdated}
 use Rattle.br_records.specs.Outline.{Outline}
-use Rattle.br_records.specs.Shown.{outlined}
+use Rattle.br_records.specs.ShownRecords.{outlined}
 use Rattle.br_check.specs.Findings.{copies_of}
 use Rattle.br_check.proofs.CopyLaws.{noted_old}
 use Rattle.br_check.proofs.copies.note_old.Goals as goal

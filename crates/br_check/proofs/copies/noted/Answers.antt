@@ -1,7 +1,7 @@
 use Rattle.std.proofs.Common.{◌++◌, ◌∷◌, [], List, ap, map, sym, ◌∙◌, append_assoc}
 use Rattle.std.specs.Slice.Iter.{iter_rest}
 use Rattle.br_model.specs.Name.{FileKey}
-use Rattle.br_records.specs.Shown.{outlined}
+use Rattle.br_records.specs.ShownRecords.{outlined}
 use Rattle.br_records.specs.declared.outline.Sketch.{Sketch}
 use Rattle.br_check.specs.Findings.{copies_of}
 use Rattle.br_check.proofs.copies.noted.Goals as goal

@@ -2,9 +2,9 @@ use Rattle.std.proofs.Common.{◌++◌, ◌∷◌, [], List, ap, flat_map, map, 
 use Rattle.std.specs.Slice.Iter.{iter_rest}
 use Rattle.std.proofs.lemmas.List.{nil_from_length}
 use Rattle.br_model.specs.Name.{FileKey}
-use Rattle.br_records.specs.Shown.{outlined}
+use Rattle.br_records.specs.ShownRecords.{outlined}
 use Rattle.br_records.specs.declared.outline.Sketch.{Sketch}
-use Rattle.br_newest.specs.Newest.{AreNoted, Copy, is_outdated}
+use Rattle.br_types.specs.Newest.{AreNoted, Copy, is_outdated}
 use Rattle.br_check.specs.Copies.{outdated_at}
 use Rattle.br_check.specs.Findings.{copies_at, copies_of}
 use Rattle.br_check.proofs.CopyLaws.{filter_flat}

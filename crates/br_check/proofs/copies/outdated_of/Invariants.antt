@@ -1,8 +1,8 @@
 use Rattle.std.proofs.Common.{◌≡◌, ◌++◌, List, flat_map, map}
 use Rattle.std.specs.Slice.Iter.{iter_rest}
 use Rattle.br_model.specs.Name.{FileKey}
-use Rattle.br_newest.specs.Newest.{AreNoted}
-use Rattle.br_records.specs.Shown.{outlined}
+use Rattle.br_types.specs.Newest.{AreNoted}
+use Rattle.br_records.specs.ShownRecords.{outlined}
 use Rattle.br_records.specs.declared.outline.Sketch.{Sketch}
 use Rattle.br_check.specs.Copies.{outdated_at}
 use Rattle.br_check.specs.Findings.{copies_of}

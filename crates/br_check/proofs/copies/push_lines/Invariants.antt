@@ -1,5 +1,5 @@
 use Rattle.std.proofs.Common.{◌≡◌, ◌++◌, take, flat_map, map}
-use Rattle.br_records.specs.Shown.{outlined}
+use Rattle.br_records.specs.ShownRecords.{outlined}
 use Rattle.br_check.specs.Findings.{copies_of, lines_at}
 use Rattle.br_check.proofs.copies.push_lines.Given as goal
 

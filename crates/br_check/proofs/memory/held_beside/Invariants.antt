@@ -1,5 +1,5 @@
 use Rattle.std.proofs.Common.{◌≡◌, ◌≤◌, ◌+◌, ◌*◌, ◌^◌, take, map}
-use Rattle.br_records.specs.Shown.{outlined}
+use Rattle.br_records.specs.ShownRecords.{outlined}
 use Rattle.br_check.specs.Findings.{held_beside}
 use Rattle.br_check.proofs.memory.held_beside.Given as goal
 

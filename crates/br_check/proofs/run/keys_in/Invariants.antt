@@ -1,5 +1,5 @@
 use Rattle.std.proofs.Common.{◌≡◌, take, map}
-use Rattle.br_records.specs.Shown.{outlined}
+use Rattle.br_records.specs.ShownRecords.{outlined}
 use Rattle.br_check.specs.Check.{keys_of}
 use Rattle.br_check.proofs.run.keys_in.Given as goal
 

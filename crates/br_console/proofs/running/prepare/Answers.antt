@@ -1,7 +1,7 @@
 use Rattle.std.proofs.Common.{◌∙◌, ap, refl}
 use Rattle.std.proofs.lemmas.Result.{err_from_is_err_and}
 use Rattle.br_model.specs.Plan.{plan_of}
-use Rattle.br_console.specs.Ending.{is_done}
+use Rattle.br_console.specs.ConsoleEnding.{is_done}
 use Rattle.br_console.proofs.RunLaws.{begins_unchosen, begins_undone, begins_unplanned, begins_planned, marked_done, marked_undone, opening_views, unplanned_has_end, was_chosen}
 use Rattle.br_console.proofs.running.prepare.Goals as goal
 

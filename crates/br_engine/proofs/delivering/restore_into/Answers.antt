@@ -8,7 +8,7 @@ use Rattle.br_model.specs.Restored.{planned_in}
 use Rattle.br_model.specs.Manifest.{manifest}
 use Rattle.br_model.specs.Volume.{Volume}
 use Rattle.br_join.specs.Outcome.{restored}
-use Rattle.br_engine.specs.Again.{CanGive, EndsLike}
+use Rattle.br_engine.specs.DeliveredAgain.{CanGive, EndsLike}
 use Rattle.br_engine.specs.Delivering.{in_sink}
 use Rattle.br_engine.specs.Restoring.{AllStand}
 use Rattle.br_engine.proofs.AgainLaws.{delivers_like, nothing_written, only_grow, stand_midst, stay_on}

@@ -1,7 +1,7 @@
 use Rattle.std.proofs.Common.{List, ℕ, map, sym, subst}
 use Rattle.br_pool.proofs.WorkedLaws.{all_kept}
 use Rattle.br_engine.specs.Delivering.{in_sink}
-use Rattle.br_engine.specs.Reading.{ReadsAs}
+use Rattle.br_engine.specs.BootstrapText.{ReadsAs}
 use Rattle.br_engine.proofs.DeliverLaws.{reader_delivers, runs_over}
 use Rattle.br_engine.proofs.delivering.run_extract.Goals as goal
 

@@ -1,9 +1,9 @@
 use Rattle.std.proofs.Common.{◌≡◌, Vec, Ok, Err, map, ap, subst, ◌∙◌}
 use Rattle.std.specs.Global.{Global}
 use Rattle.br_join.specs.Outcome.{restored}
-use Rattle.br_reread.specs.Many.{RereadingMany, driven_by}
+use Rattle.br_data.specs.ManyDrives.{RereadingMany, driven_by}
 use Rattle.br_sink.specs.Delivery.{items_in}
-use Rattle.br_engine.specs.Again.{CanMake}
+use Rattle.br_engine.specs.DeliveredAgain.{CanMake}
 use Rattle.br_engine.proofs.AgainLaws.{many_is, stay_driven}
 use Rattle.br_engine.proofs.EndLaws.{all_put, some_put}
 use Rattle.br_engine.proofs.StopLaws.{puts_if}

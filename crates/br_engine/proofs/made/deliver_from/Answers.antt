@@ -2,7 +2,7 @@ use Rattle.std.proofs.Common.{Option, None, Some, map, subst, sym}
 use Rattle.std.specs.Prelude.{option_map}
 use Rattle.br_join.specs.Outcome.{restored}
 use Rattle.br_pool.proofs.WorkedLaws.{all_kept}
-use Rattle.br_engine.specs.Again.{CanGive, EndsLike}
+use Rattle.br_engine.specs.DeliveredAgain.{CanGive, EndsLike}
 use Rattle.br_engine.proofs.DeliverLaws.{ends_whole}
 use Rattle.br_engine.proofs.EndLaws.{ends_like_itself}
 use Rattle.br_engine.proofs.made.deliver_from.Goals as goal

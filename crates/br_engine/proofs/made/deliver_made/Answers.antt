@@ -4,7 +4,7 @@ use Rattle.br_model.specs.Name.{FileKey}
 use Rattle.br_join.specs.Outcome.{restored}
 use Rattle.br_join.specs.declared.item.Outcome.{Outcome}
 use Rattle.br_pool.proofs.WorkedLaws.{all_kept}
-use Rattle.br_engine.specs.Again.{CanGive}
+use Rattle.br_engine.specs.DeliveredAgain.{CanGive}
 use Rattle.br_engine.specs.Delivering.{EndsWith}
 use Rattle.br_engine.proofs.EndLaws.{ends_like_itself}
 use Rattle.br_engine.proofs.made.deliver_made.Goals as goal

@@ -4,9 +4,9 @@ use Rattle.std.proofs.lemmas.Result.{err_from_is_err_and}
 use Rattle.br_join.specs.Outcome.{restored}
 use Rattle.br_records.specs.Runs.{AreListed}
 use Rattle.br_pool.proofs.WorkedLaws.{all_kept}
-use Rattle.br_reread.specs.Many.{driven_by}
-use Rattle.br_gather.specs.Gathered.{Gathered}
-use Rattle.br_engine.specs.Again.{CanGive}
+use Rattle.br_data.specs.ManyDrives.{driven_by}
+use Rattle.br_reread_files.specs.Gathered.{Gathered}
+use Rattle.br_engine.specs.DeliveredAgain.{CanGive}
 use Rattle.br_engine.proofs.AgainLaws.{fail_driven, files_made, made_again, only_failed, stay_driven}
 use Rattle.br_engine.proofs.made.made_of.Goals as goal
 

@@ -4,7 +4,7 @@ use Rattle.std.proofs.lemmas.Result.{err_from_is_err_and}
 use Rattle.br_model.specs.Bootstrap.{Group}
 use Rattle.br_model.specs.Restored.{Names, files, planned_in}
 use Rattle.br_join.specs.Outcome.{restored}
-use Rattle.br_engine.specs.Again.{CanGive, CanReread, MadeOver}
+use Rattle.br_engine.specs.DeliveredAgain.{CanGive, CanReread, MadeOver}
 use Rattle.br_engine.specs.declared.made.Made.{Made}
 use Rattle.br_engine.proofs.AgainLaws.{fails_later, made_files, made_gives, stay_on}
 use Rattle.br_engine.proofs.ExtractLaws.{gives_files, gives_refused}

@@ -3,7 +3,7 @@ use Rattle.std.proofs.lemmas.Result.{err_from_is_err_and}
 use Rattle.br_model.specs.Answer.{refused_as}
 use Rattle.br_model.specs.File.{fault, is_data}
 use Rattle.br_join.specs.Data.{laid_from}
-use Rattle.br_body.specs.Parts.{joined}
+use Rattle.br_data.specs.BodyParts.{joined}
 use Rattle.br_join.proofs.DataLaws.{laid_more, laid_given_up, laid_done, data_more, data_not, data_done}
 use Rattle.br_join.proofs.data.data_of.Goals as goal
 use Rattle.br_join.proofs.data.data_of.Goals.{then-is_data+in_ok-end, else-is_data}

@@ -1,7 +1,7 @@
 use Rattle.std.proofs.Common.{◌≡◌, [], drop, filter, length}
 use Rattle.br_model.specs.File.{is_data}
 use Rattle.br_join.specs.Data.{laid_from}
-use Rattle.br_body.specs.Parts.{joined}
+use Rattle.br_data.specs.BodyParts.{joined}
 use Rattle.br_join.proofs.data.data_of.Given as goal
 
 abbrev pub invariant-loop-record : goal.invariant-loop-record

@@ -1,7 +1,7 @@
 use Rattle.std.proofs.Common.{◌≡◌, sym, subst, refl, ap}
 use Rattle.crossbeam_queue.specs.Passes.{view}
 use Rattle.br_pool.specs.Crew.{HasAll}
-use Rattle.br_pool.specs.declared.line.Crew.{Crew}
+use Rattle.br_pool.specs.declared.batch_queue.Crew.{Crew}
 use Rattle.br_pool.proofs.GatheringLaws.{still_itself, takes_lost, takes_none, takes_one}
 use Rattle.br_pool.proofs.gathering.take_one.Goals as goal
 

@@ -8,7 +8,7 @@ use Rattle.br_pool.specs.Gathering.{hits_of_batches}
 use Rattle.br_pool.specs.Pool.{StandsTold}
 use Rattle.br_pool.specs.Sending.{IsSent, SendsOver}
 use Rattle.br_pool.specs.Workers.{Answer, EachHolds, number_at, numbers_of}
-use Rattle.br_pool.specs.declared.line.Crew.{Crew}
+use Rattle.br_pool.specs.declared.batch_queue.Crew.{Crew}
 use Rattle.br_pool.proofs.DrawnLaws.{below_at, one_more}
 use Rattle.br_pool.proofs.SendingLaws.{come_after, each_one_more, sent_ends, sent_stops}
 use Rattle.br_pool.proofs.sender.send_drawn.Goals as goal

@@ -5,7 +5,7 @@ use Rattle.br_pool.specs.Gathering.{hits_of_batches}
 use Rattle.br_pool.specs.Pool.{StandsTold}
 use Rattle.br_pool.specs.Sending.{IsSent}
 use Rattle.br_pool.specs.Workers.{Answer, EachHolds, number_at, numbers_of}
-use Rattle.br_pool.specs.declared.line.Crew.{Crew}
+use Rattle.br_pool.specs.declared.batch_queue.Crew.{Crew}
 use Rattle.br_pool.proofs.ReaderLaws.{served_itself}
 use Rattle.br_pool.proofs.sender.work.Goals as goal
 

@@ -2,7 +2,7 @@ use Rattle.std.proofs.Common.{◌≡◌, ◌++◌, map, reverse, ap, ◌∙◌, 
 use Rattle.crossbeam_queue.specs.Passes.{view}
 use Rattle.br_pool.specs.Crew.{hired}
 use Rattle.br_pool.specs.Sending.{IsPassAt}
-use Rattle.br_pool.specs.declared.line.Crew.{Crew}
+use Rattle.br_pool.specs.declared.batch_queue.Crew.{Crew}
 use Rattle.br_pool.specs.declared.sender.Sender.{Sender}
 use Rattle.br_pool.proofs.ListLaws.{all_more, moved_back, turned_more}
 use Rattle.br_pool.proofs.senders.hire.Goals as goal

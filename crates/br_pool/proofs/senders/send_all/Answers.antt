@@ -8,7 +8,7 @@ use Rattle.br_pool.specs.Gathering.{hits_of_batches}
 use Rattle.br_pool.specs.Gathers.{sent_of, shown_to}
 use Rattle.br_pool.specs.Pool.{StandsTold}
 use Rattle.br_pool.specs.Sending.{IsPassAt}
-use Rattle.br_pool.specs.declared.line.Crew.{Crew}
+use Rattle.br_pool.specs.declared.batch_queue.Crew.{Crew}
 use Rattle.br_pool.specs.declared.sender.Sender.{Sender}
 use Rattle.br_pool.proofs.ListLaws.{zip_length}
 use Rattle.br_pool.proofs.SendersLaws.{all_come, all_set_up, gathered, workers_ran}

@@ -3,7 +3,7 @@ use Rattle.std.specs.Option.{option_copied}
 use Rattle.br_model.specs.Meaning.{Hit}
 use Rattle.br_records.specs.Outline.{Foreseen, Outlined, outlines_found}
 use Rattle.br_records.specs.Runs.{listed}
-use Rattle.br_records.specs.Shown.{outlined}
+use Rattle.br_records.specs.ShownRecords.{outlined}
 use Rattle.br_records.proofs.FilesLaws.{none_left, listed_behind, more_files}
 use Rattle.br_records.proofs.OutlineLaws.{outlines_turn, no_outlines}
 use Rattle.br_records.proofs.outline.sketches_of.Goals as goal

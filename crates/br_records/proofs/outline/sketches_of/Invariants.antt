@@ -1,7 +1,7 @@
 use Rattle.std.proofs.Common.{◌≡◌, ◌++◌, length, map}
 use Rattle.br_records.specs.Outline.{outlines_found}
 use Rattle.br_records.specs.Runs.{AreListed, listed}
-use Rattle.br_records.specs.Shown.{outlined}
+use Rattle.br_records.specs.ShownRecords.{outlined}
 use Rattle.br_records.proofs.outline.sketches_of.Given as goal
 
 -- the sketches so far, and the outlines of the hits that are left

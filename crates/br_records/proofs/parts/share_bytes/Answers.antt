@@ -1,5 +1,5 @@
 use Rattle.std.proofs.Common.{◌+◌, List, ℕ, drop, min, refl, sym, ap, ◌∙◌, ◌++◌}
-use Rattle.br_body.specs.Parts.{joined}
+use Rattle.br_data.specs.BodyParts.{joined}
 use Rattle.br_records.specs.Records.{bytes_in}
 use Rattle.br_records.proofs.PartLaws.{bytes_more, pushed_more}
 use Rattle.br_records.proofs.parts.share_bytes.Goals as goal

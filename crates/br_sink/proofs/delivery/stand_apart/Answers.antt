@@ -3,7 +3,7 @@ use Rattle.std.specs.List.{list_any}
 use Rattle.br_model.specs.Delivery.{in_the_way}
 use Rattle.br_model.specs.File.{Item}
 use Rattle.br_sink.specs.Delivery.{AreApart, StandApart, items_in}
-use Rattle.br_ways.specs.Ways.{Noted}
+use Rattle.br_types.specs.Conflicts.{Noted}
 use Rattle.br_sink.proofs.DeliveryLaws.{items_at, items_file, items_fault, items_one_more, paths_behind, behind_one_more, apart_one_more, ends_apart, some_behind, not_false, not_true, stand_before}
 use Rattle.br_sink.proofs.delivery.stand_apart.Goals as goal
 use Rattle.br_sink.proofs.delivery.stand_apart.Goals.{in-File+in_ok-is_next+else-not-branch, in_default}

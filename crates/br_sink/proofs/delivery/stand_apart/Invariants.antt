@@ -1,6 +1,6 @@
 use Rattle.std.proofs.Common.{◌≡◌, ◌≤◌, [], length, take}
 use Rattle.br_sink.specs.Delivery.{AreApart, items_in}
-use Rattle.br_ways.specs.Ways.{Noted}
+use Rattle.br_types.specs.Conflicts.{Noted}
 use Rattle.br_sink.proofs.DeliveryLaws.{paths_behind}
 use Rattle.br_sink.proofs.delivery.stand_apart.Given as goal
 

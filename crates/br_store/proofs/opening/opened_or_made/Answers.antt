@@ -3,9 +3,9 @@ use Rattle.std.proofs.lemmas.Result.{IfOk-weaker}
 use Rattle.sqlite.specs.Effect.{Database, IsDatabase}
 use Rattle.sqlite.specs.Held.{state}
 use Rattle.sqlite.specs.State.{HasCleanDisk}
-use Rattle.br_schema.specs.Tables.{no_schema}
-use Rattle.br_schema.specs.Stands.{IsStoreSchema}
-use Rattle.br_rows.specs.Rows.{Rows}
+use Rattle.br_catalog_rows.specs.Tables.{no_schema}
+use Rattle.br_catalog_rows.specs.KnownSchemas.{IsStoreSchema}
+use Rattle.br_catalog_rows.specs.Rows.{Rows}
 use Rattle.br_store.specs.Made.{is_first}
 use Rattle.br_store.proofs.Ready.{if_ok_both}
 use Rattle.br_store.proofs.Opens.{finds_made, finds_kept, has_tables, not_fresh}

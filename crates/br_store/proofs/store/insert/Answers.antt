@@ -4,7 +4,7 @@ use Rattle.sqlite.specs.Effect.{Database}
 use Rattle.sqlite.specs.State.{HasCleanDisk}
 use Rattle.sqlite.specs.Held.{state}
 use Rattle.sqlite.proofs.StateLemmas.{survives_then, survives_weaker}
-use Rattle.br_rows.specs.Inserted.{Adds}
+use Rattle.br_catalog_rows.specs.Inserted.{Adds}
 use Rattle.br_store.specs.Held.{HasTables, rows_in}
 use Rattle.br_store.proofs.Ready.{err_with, from_both}
 use Rattle.br_store.proofs.store.insert.Goals as goal

@@ -4,8 +4,8 @@ use Rattle.sqlite.specs.Held.{state}
 use Rattle.sqlite.specs.State.{HasCleanDisk}
 use Rattle.sqlite.specs.Order.{Row}
 use Rattle.br_model.specs.Job.{FileRow}
-use Rattle.br_rows.specs.Decode.{front, rest, digest_text}
-use Rattle.br_rows.specs.Rows.{with_file_row}
+use Rattle.br_catalog_rows.specs.Decode.{front, rest, digest_text}
+use Rattle.br_catalog_rows.specs.Rows.{with_file_row}
 use Rattle.br_store.specs.Held.{Wrote, rows_in}
 use Rattle.br_store.proofs.Writes.{wrote_after, file_row_is}
 use Rattle.br_store.proofs.write.put_file.Goals as goal

@@ -2,8 +2,8 @@ use Rattle.std.proofs.Common.{rules, arith, take, subst, sym, ap, ◌≡◌, ◌
 use Rattle.std.proofs.lemmas.List.{take_more}
 use Rattle.std.specs.List.{AllByRecursion}
 use Rattle.sqlite.specs.Held.{state}
-use Rattle.br_rows.specs.Rows.{with_files}
-use Rattle.br_rows.specs.Inserted.{IsFile}
+use Rattle.br_catalog_rows.specs.Rows.{with_files}
+use Rattle.br_catalog_rows.specs.Inserted.{IsFile}
 use Rattle.br_store.specs.Held.{Wrote, rows_in}
 use Rattle.br_store.proofs.Appends.{all_push, survives_both}
 use Rattle.br_store.proofs.Writes.{wrote_next, wrote_as, one_file_more, kept_then}

@@ -4,8 +4,8 @@ use Rattle.sqlite.specs.Held.{state}
 use Rattle.sqlite.specs.State.{HasCleanDisk}
 use Rattle.br_model.specs.Job.{JobRow}
 use Rattle.br_store.specs.declared.names.Dictionary.TheVariants.{Client, FileSet}
-use Rattle.br_rows.specs.Rows.{with_job}
-use Rattle.br_rows.specs.Inserted.{IsNewIn}
+use Rattle.br_catalog_rows.specs.Rows.{with_job}
+use Rattle.br_catalog_rows.specs.Inserted.{IsNewIn}
 use Rattle.br_store.specs.Held.{IsName}
 use Rattle.br_store.proofs.Writes.{wrote_after}
 use Rattle.br_store.proofs.write.put_job.Goals as goal

@@ -4,7 +4,7 @@ use Rattle.sqlite.specs.Held.{state}
 use Rattle.sqlite.specs.State.{HasCleanDisk}
 use Rattle.br_model.specs.Job.{Span}
 use Rattle.br_store.specs.declared.names.Dictionary.TheVariants.{Media}
-use Rattle.br_rows.specs.Rows.{with_spans}
+use Rattle.br_catalog_rows.specs.Rows.{with_spans}
 use Rattle.br_store.specs.Held.{IsName}
 use Rattle.br_store.proofs.Writes.{wrote_after}
 use Rattle.br_store.proofs.write.put_span.Goals as goal

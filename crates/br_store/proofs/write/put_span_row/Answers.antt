@@ -2,8 +2,8 @@ use Rattle.std.proofs.Common.{pos, refl, subst, [], ◌∷◌}
 use Rattle.sqlite.specs.Held.{state}
 use Rattle.br_model.specs.Job.{Span}
 use Rattle.br_store.specs.declared.names.Dictionary.TheVariants.{Media}
-use Rattle.br_rows.specs.Decode.{high, low}
-use Rattle.br_rows.specs.Rows.{with_spans}
+use Rattle.br_catalog_rows.specs.Decode.{high, low}
+use Rattle.br_catalog_rows.specs.Rows.{with_spans}
 use Rattle.br_store.specs.Held.{Wrote, IsName, layout_in, rows_in}
 use Rattle.br_store.proofs.Inserts.{puts_span}
 use Rattle.br_store.proofs.Writes.{wrote_span}

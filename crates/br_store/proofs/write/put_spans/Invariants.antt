@@ -2,8 +2,8 @@ use Rattle.std.proofs.Common.{◌≡◌, take, IsTrue}
 use Rattle.std.specs.List.{AllByRecursion}
 use Rattle.sqlite.specs.State.{HasCleanDisk, Survives}
 use Rattle.sqlite.specs.Held.{state}
-use Rattle.br_rows.specs.Rows.{with_spans}
-use Rattle.br_rows.specs.Inserted.{IsSpan}
+use Rattle.br_catalog_rows.specs.Rows.{with_spans}
+use Rattle.br_catalog_rows.specs.Inserted.{IsSpan}
 use Rattle.br_store.specs.Held.{HasTables, Wrote, rows_in}
 use Rattle.br_store.proofs.write.put_spans.Given as goal
 

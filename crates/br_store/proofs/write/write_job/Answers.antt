@@ -4,8 +4,8 @@ use Rattle.std.proofs.lemmas.Result.{on_ok_weaker}
 use Rattle.sqlite.specs.Held.{state}
 use Rattle.sqlite.specs.State.{HasCleanDisk}
 use Rattle.br_model.specs.Job.{JobRow, is_job_row}
-use Rattle.br_rows.specs.Rows.{with_job, with_spans, with_files}
-use Rattle.br_rows.specs.Inserted.{IsFile, IsNewIn, IsSpan}
+use Rattle.br_catalog_rows.specs.Rows.{with_job, with_spans, with_files}
+use Rattle.br_catalog_rows.specs.Inserted.{IsFile, IsNewIn, IsSpan}
 use Rattle.br_store.specs.Held.{rows_in}
 use Rattle.br_store.proofs.Writes.{on_ok_both, wrote_next, wrote_as, rows_are_all}
 use Rattle.br_store.proofs.write.write_job.Goals as goal

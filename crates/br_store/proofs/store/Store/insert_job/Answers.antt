@@ -1,7 +1,7 @@
 use Rattle.std.proofs.Common.{◌≡◌, subst}
 use Rattle.sqlite.specs.Held.{state}
 use Rattle.sqlite.specs.State.{Survives}
-use Rattle.br_rows.specs.Inserted.{Adds}
+use Rattle.br_catalog_rows.specs.Inserted.{Adds}
 use Rattle.br_store.specs.Held.{rows_in, rows_of}
 use Rattle.br_store.proofs.Ready.{err_with}
 use Rattle.br_store.proofs.store.Store.insert_job.Goals as goal

@@ -2,8 +2,8 @@ use Rattle.std.proofs.Common.{◌≡◌, ap, subst, ◌∙◌}
 use Rattle.sqlite.specs.Held.{state}
 use Rattle.sqlite.specs.State.{Survives}
 use Rattle.br_model.specs.Answer.{Answers}
-use Rattle.br_rows.specs.Fault.{cause}
-use Rattle.br_rows.specs.Load.{read_history}
+use Rattle.br_catalog_rows.specs.Fault.{cause}
+use Rattle.br_catalog_rows.specs.Load.{read_history}
 use Rattle.br_store.specs.Held.{rows_of}
 use Rattle.br_store.proofs.store.Store.load_history.Goals as goal
 

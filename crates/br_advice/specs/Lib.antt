@@ -1,2 +1,0 @@
-pub mod Absent
-pub mod Lines

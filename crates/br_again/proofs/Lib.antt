@@ -1,3 +1,0 @@
-mod StandLaws
-mod ReadLaws
-mod KnownLaws

@@ -1,5 +1,0 @@
-use Rattle.br_again.proofs.StandLaws.{hits_stand_lem}
-use Rattle.br_again.proofs.hits_stand.Goals as goal
-
-pub returns : goal.returns
-returns c = hits_stand_lem

@@ -1,5 +1,0 @@
-use Rattle.br_again.proofs.StandLaws.{stands_once_lem}
-use Rattle.br_again.proofs.stands_once.Goals as goal
-
-pub returns : goal.returns
-returns c = stands_once_lem

@@ -1,4 +1,0 @@
-pub mod Kept
-pub mod Stands
-pub mod Reading
-pub mod Known

@@ -1,5 +1,0 @@
-use Rattle.br_body.proofs.WrittenLaws.{none_front}
-use Rattle.br_body.proofs.file_bytes.Content.write_to.Goals as goal
-
-pub returns-in-Left-clause-front : goal.returns-in-Left-clause-front
-returns-in-Left-clause-front g c = none_front (g.W.Write.contents c.args.writer.now) _

@@ -1,0 +1,74 @@
+ghost use Rattle.std.specs.Prelude.{◌≡◌, bytes_eq, IfOk, OnOk};
+ghost use Rattle.std.specs.Str.{str_to_ascii_lowercase};
+ghost use Rattle.br_bsr.specs.Counts as model;
+ghost use Rattle.br_bsr.specs.Counts.{counts, stated};
+
+use crate::scan::{cut, first_line, trimmed_of, without_comment};
+use br_types::read_number;
+use std::alloc::{AllocError, Global};
+
+/// Returns whether a word is this name, in letters of either case.
+fn is_word(word: &[u8], name: &[u8]) -> bool
+    requires { str_to_ascii_lowercase name.now ≡ name.now }
+    ensures { result ≡ bytes_eq (str_to_ascii_lowercase word.now) name.now }
+{
+    word.eq_ignore_ascii_case(name)
+}
+
+/// Gives the last group this number.
+fn set_last(counts: &mut Vec<Option<u64>>, number: u64)
+    ensures { counts.new.items ≡ model.with_last number counts.old.items }
+{
+    if let Some(last) = counts.last_mut() {
+        *last = Some(number);
+    }
+}
+
+/// Gives the last group the number that a value spells, if it spells one.
+fn set_value(counts: &mut Vec<Option<u64>>, value: &[u8])
+    ensures { counts.new.items ≡ model.with_value value.now counts.old.items }
+{
+    if let Some(number) = read_number(value, u64::MAX) {
+        set_last(counts, number);
+    }
+}
+
+/// Takes in what a line assigns to the keyword that a word names.
+fn take_in(counts: &mut Vec<Option<u64>>, word: &[u8], value: &[u8]) -> Result<(), AllocError>
+    ensures { OnOk result (counts.new.items ≡ model.with_word word.now value.now counts.old.items) }
+{
+    if is_word(word, b"volume") {
+        counts.push(None)?;
+    } else if is_word(word, b"count") {
+        set_value(counts, value);
+    }
+    Ok(())
+}
+
+/// Takes in what a line states.
+fn take_line(counts: &mut Vec<Option<u64>>, line: &[u8]) -> Result<(), AllocError>
+    ensures { OnOk result (counts.new.items ≡ model.with_line counts.old.items line.now) }
+{
+    match cut(trimmed_of(without_comment(line)), b'=') {
+        Some((word, value)) => take_in(counts, trimmed_of(word), trimmed_of(value)),
+        None => Ok(()),
+    }
+}
+
+/// Returns for each group of a bootstrap's text its `Count`, in the order of the groups; `None` if it has none.
+///
+/// The last `Count` of a group holds that is a number in decimal of at most 2^64 - 1. Any other value is passed
+/// over, and so is a `Count` before the first `Volume`.
+#[tactic(auto, unfolding(crate::specs::Counts::counts))]
+pub fn counts_of(alloc: Global, text: &[u8]) -> Result<Vec<Option<u64>>, AllocError>
+    ensures { IfOk result (λ found. found.items ≡ counts text.now) }
+{
+    let mut found = Vec::new(alloc);
+    let mut rest = text;
+    while !rest.is_empty() {
+        let (line, following) = first_line(rest);
+        take_line(&mut found, line)?;
+        rest = following;
+    }
+    Ok(found)
+}

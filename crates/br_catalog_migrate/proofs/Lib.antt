@@ -1,0 +1,16 @@
+pub mod CursorLaws
+pub mod DigestLaws
+pub mod FileLaws
+pub mod HistoryLaws
+pub mod KeptLaws
+pub mod MigrateLaws
+pub mod MigratedLaws
+pub mod MovedLaws
+pub mod NameLaws
+pub mod OldLaws
+pub mod RenewLaws
+pub mod SoundLaws
+pub mod StepLaws
+pub mod TakenLaws
+pub mod WholeLaws
+pub mod RawFolds

@@ -1,0 +1,15 @@
+pub mod Claims
+pub mod Digest
+pub mod OldFiles
+pub mod Moved
+pub mod OldNames
+pub mod Old
+pub mod OldTrees
+pub mod OldRead
+pub mod Renewed
+pub mod SeenIndexes
+pub mod Sound
+pub mod MigrationSteps
+pub mod WholeMigration
+pub mod RawFolded
+pub mod RawPremises

@@ -1,0 +1,37 @@
+-- The trees of version 2 obey its schema if those of version 1 obeyed theirs.
+use Rattle.std.specs.Prelude.{◌≡◌, ℕ, ℤ, List, [], ◌∷◌}
+use Rattle.sqlite.specs.declared.types.Value.TheVariants.{Blob, Int, Null, Text}
+use Rattle.sqlite.specs.Order.{Row, column}
+use Rattle.sqlite.specs.Schema.{Schema}
+use Rattle.sqlite.specs.Tree.{Trees}
+use Rattle.sqlite_trees.specs.Tree.{with_tree}
+use Rattle.br_catalog_rows.specs.TreePlaces.{moved_layout}
+use Rattle.br_catalog_rows.specs.Tables.{only_tables}
+use Rattle.br_catalog_migrate.specs.Renewed.{replaced}
+
+-- the schema that is made of that of version 1
+abbrev pub moved_schema : Schema
+moved_schema = only_tables moved_layout
+
+-- a row of File of version 2 and the row of version 1 of which it is made: both have the numbers of one job and one path
+pub record IsMovedRow (old new : Row) : Type 0 where
+  pub id : ℤ
+  pub index : ℤ
+  pub job : ℤ
+  pub path : ℤ
+  pub name : List ℕ
+  pub lstat : List ℕ
+  pub digest : List ℕ
+  pub of_job : column old 3 ≡ Int job
+  pub of_path : column old 4 ≡ Int path
+  pub is : new ≡ Int id ∷ Null ∷ Int index ∷ Int job ∷ Int path ∷ Blob name ∷ Text lstat ∷ Text digest ∷ []
+
+abbrev pub AreMovedRows : List Row → List Row → Type 0
+AreMovedRows [] [] = Unit {0}
+AreMovedRows [] (n ∷ news) = ⊥
+AreMovedRows (o ∷ olds) [] = ⊥
+AreMovedRows (o ∷ olds) (n ∷ news) = IsMovedRow o n × AreMovedRows olds news
+
+-- the trees of version 2
+abbrev pub moved_trees : Trees → List Row → List Row → List Row → List Row → List Row → List Row → Trees
+moved_trees trees a b c d files versions = with_tree (with_tree (replaced trees a b c d) 15 files) 0 versions

@@ -1,0 +1,284 @@
+//! The rows of File of version 1, read and tested.
+
+ghost use Rattle.std.specs.Prelude.{◌≡◌, ◌++◌, ◌∷◌, [], ◌==◌, ◌||◌, true, map, pos, length, is_ok, IsTrue, IfOk, IfSome, OnOk};
+ghost use Rattle.sqlite_value.specs.declared.value.Value.TheVariants.{Int, Text};
+ghost use Rattle.sqlite_trees.specs.Tree.{IsTable, rowid};
+ghost use Rattle.sqlite_trees.specs.View.{IsClean, is_int};
+ghost use Rattle.sqlite.specs.Order.{column};
+ghost use Rattle.br_model.specs.Job.{JobRows as Job};
+ghost use Rattle.br_model.specs.Attribute.{read_stat};
+ghost use Rattle.br_model.specs.Name.{is_path};
+ghost use Rattle.std.specs.Str.{is_utf8};
+ghost use Rattle.br_catalog_migrate.specs.Claims.{CanBelong, CanMove, IsMovedAt, TakesFile};
+ghost use Rattle.br_catalog_migrate.specs.OldFiles.{AreFiles, IsOldFile, IsWholeFile, moved_row};
+ghost use Rattle.br_catalog_migrate.specs.OldNames.{AreNames};
+ghost use Rattle.br_catalog_migrate.specs.OldTrees.{file_tree};
+ghost use Rattle.br_catalog_migrate.specs.Sound.{IsMovedRow};
+ghost use Rattle.br_catalog_migrate.specs.MigrationSteps.{CommitsNothing, OnCleanStore, Reads};
+ghost use Rattle.br_catalog_migrate.specs.WholeMigration.{AreWhole};
+
+use crate::old_digest::is_digest;
+use crate::old_names::NameTable;
+use crate::old_trees::FILE;
+use crate::seen_indexes::{Indexes, no_indexes, note};
+use crate::tree_cursor::{start, step};
+use br_attr::Stat;
+use br_catalog_rows::StoreFault;
+use br_history::JobRows;
+use br_types::is_path_of;
+use sqlite_trees::store::Store;
+use sqlite_value::row::Row;
+use sqlite_value::value::ValueRef;
+use std::alloc::{AllocError, Global};
+use std::collections::BTreeMap;
+
+/// The greatest index of a file.
+const MAX_INDEX: u32 = 2_147_483_647;
+
+/// The numbers of a row of File: its own, the index, and those of the job, the path and the name.
+#[derive(Clone, Copy)]
+pub(crate) struct Numbers {
+    pub(crate) id: i64,
+    pub(crate) index: u32,
+    pub(crate) job: u32,
+    pub(crate) path: i64,
+    pub(crate) name: i64,
+}
+
+/// What a row of File has in version 1.
+#[derive(Clone, Copy)]
+pub(crate) struct OldFile<'a> {
+    numbers: Numbers,
+    lstat: &'a [u8],
+    digest: &'a [u8],
+}
+
+/// Returns the integer in a column.
+fn int_at(row: &Row, at: usize) -> Option<i64>
+    ensures { IfSome result (λ n. column row.now at ≡ Int n) }
+{
+    match row.get(at) {
+        ValueRef::Int(number) => Some(number),
+        _ => None,
+    }
+}
+
+/// Returns the number of 32 bits in a column.
+fn small_at(row: &Row, at: usize) -> Option<u32>
+    ensures { IfSome result (λ n. column row.now at ≡ Int (pos n)) }
+{
+    u32::try_from(int_at(row, at)?).ok()
+}
+
+/// Returns the text in a column.
+fn text_at(row: &Row, at: usize) -> Option<&[u8]>
+    ensures { IfSome result (λ t. column row.now at ≡ Text t.now) }
+{
+    match row.get(at) {
+        ValueRef::Text(bytes) => Some(bytes),
+        _ => None,
+    }
+}
+
+/// Returns the values of a row of File, if they have the types of their columns.
+fn old_file(row: &Row) -> Option<OldFile<'_>>
+    ensures { IfSome result (λ file. IsOldFile file row.now) }
+{
+    let numbers = Numbers {
+        id: int_at(row, 0)?,
+        index: small_at(row, 2)?,
+        job: small_at(row, 3)?,
+        path: int_at(row, 4)?,
+        name: int_at(row, 5)?,
+    };
+    Some(OldFile {
+        numbers,
+        lstat: text_at(row, 6)?,
+        digest: text_at(row, 7)?,
+    })
+}
+
+/// Returns `BadCatalogue` unless the two parts make a path. `buffer` is used again.
+fn check_path(buffer: &mut Vec<u8>, front: &[u8], rest: &[u8]) -> Result<(), StoreFault>
+    ensures { OnOk result (is_path (front.now ++ rest.now) ≡ true) }
+{
+    buffer.clear();
+    buffer.extend_from_slice(front)?;
+    buffer.extend_from_slice(rest)?;
+    if is_path_of(buffer) {
+        return Ok(());
+    }
+    Err(StoreFault::BadCatalogue)
+}
+
+/// Returns whether a file has the numbers that one with its index has.
+fn has_numbers(file: &OldFile<'_>) -> bool
+    ensures { result ≡ (file.now.numbers.index == 0 || is_ok (read_stat file.now.lstat.now)) }
+{
+    file.numbers.index == 0 || Stat::read(file.lstat).is_ok()
+}
+
+/// Returns whether these bytes are characters.
+fn is_text(bytes: &[u8]) -> bool
+    ensures { result ≡ is_utf8 bytes.now }
+{
+    match std::str::from_utf8(bytes) {
+        Ok(_text) => true,
+        Err(_) => false,
+    }
+}
+
+/// Returns `BadCatalogue` unless a history can have the file. `buffer` is used again.
+fn check_file(
+    buffer: &mut Vec<u8>,
+    file: &OldFile<'_>,
+    front: &[u8],
+    rest: &[u8],
+) -> Result<(), StoreFault>
+    ensures { OnOk result (IsWholeFile file.now front.now rest.now) }
+{
+    check_path(buffer, front, rest)?;
+    if file.numbers.index > MAX_INDEX || !has_numbers(file) {
+        return Err(StoreFault::BadCatalogue);
+    }
+    if !is_text(file.lstat) || !is_digest(file.digest) {
+        return Err(StoreFault::BadCatalogue);
+    }
+    Ok(())
+}
+
+/// The rows of File, in order of FileId: their numbers, and two texts of each.
+#[derive(Drop)]
+pub(crate) struct Files {
+    numbers: Vec<Numbers>,
+    lstats: Row,
+    digests: Row,
+}
+
+impl Files {
+    fn new(alloc: Global) -> Files
+        ensures { AreFiles result [] }
+    {
+        Files {
+            numbers: Vec::new(alloc),
+            lstats: Row::new(alloc),
+            digests: Row::new(alloc),
+        }
+    }
+
+    /// Appends the values of a row.
+    fn add(&mut self, file: &OldFile<'_>) -> Result<(), StoreFault>
+        ensures { OnOk result ((rows row : _) → IsOldFile file.now row → AreFiles self.old rows → AreFiles self.new (rows ++ row ∷ [])) }
+    {
+        self.numbers.push(file.numbers).map_err(AllocError::from)?;
+        self.lstats.push(ValueRef::Text(file.lstat))?;
+        self.digests.push(ValueRef::Text(file.digest))?;
+        Ok(())
+    }
+
+    /// Returns the number of files.
+    pub(crate) fn len(&self) -> usize
+        ensures { result ≡ length self.now.numbers.items }
+    {
+        self.numbers.len()
+    }
+
+    /// Writes the row of version 2 of the file at a place over `row`.
+    pub(crate) fn moved_at(
+        &self,
+        at: usize,
+        names: &NameTable,
+        row: &mut Row,
+    ) -> Result<(), StoreFault>
+        ensures moved { OnOk result (IsMovedAt self.now names.now at row.new) }
+        ensures keyed { OnOk result (IsTrue (is_int (rowid row.new))) }
+    {
+        let Some(numbers) = self.numbers.get(at) else {
+            return Err(StoreFault::BadCatalogue);
+        };
+        let Some(name) = names.get(numbers.name) else {
+            return Err(StoreFault::BadCatalogue);
+        };
+        row.clear();
+        row.push(ValueRef::Int(numbers.id))?;
+        row.push(ValueRef::Null)?;
+        row.push(ValueRef::Int(i64::from(numbers.index)))?;
+        row.push(ValueRef::Int(i64::from(numbers.job)))?;
+        row.push(ValueRef::Int(numbers.path))?;
+        row.push(name)?;
+        row.push(self.lstats.get(at))?;
+        row.push(self.digests.get(at))?;
+        Ok(())
+    }
+}
+
+/// The rows of File as they are read.
+#[derive(Drop)]
+struct Reading {
+    files: Files,
+    seen: BTreeMap<u32, Indexes>,
+    buffer: Vec<u8>,
+}
+
+impl Reading {
+    fn new(alloc: Global, jobs: &[JobRows]) -> Result<Reading, StoreFault>
+        ensures files { IfOk result (λ reading. AreFiles reading.files []) }
+        ensures whole { IfOk result (λ reading. AreWhole (map (λ (j : Job). j.row) jobs.now) reading.seen []) }
+    {
+        Ok(Reading {
+            files: Files::new(alloc),
+            seen: no_indexes(alloc, jobs)?,
+            buffer: Vec::new(alloc),
+        })
+    }
+
+    /// Takes the next row of File, if a history can have the file.
+    fn take(&mut self, paths: &NameTable, names: &NameTable, row: &Row) -> Result<(), StoreFault>
+        ensures files { OnOk result ((rows : _) → AreFiles self.old.files rows → AreFiles self.new.files (rows ++ row.now ∷ [])) }
+        ensures moved { OnOk result ((ns : _) → AreNames names.now ns → IsTable ns → IsMovedRow row.now (moved_row ns row.now)) }
+        ensures whole { OnOk result (TakesFile paths.now names.now row.now self.old.seen self.new.seen) }
+    {
+        let Some(file) = old_file(row) else {
+            return Err(StoreFault::BadCatalogue);
+        };
+        let front = paths.blob(file.numbers.path)?;
+        let rest = names.blob(file.numbers.name)?;
+        check_file(&mut self.buffer, &file, front, rest)?;
+        note(&mut self.seen, file.numbers.job, file.numbers.index)?;
+        self.files.add(&file)?;
+        Ok(())
+    }
+}
+
+/// Reads the rows of File, if a history with these jobs can have the files. `paths` and `names` are the
+/// names that rows of File have numbers of.
+///
+/// # Errors
+///
+/// `BadCatalogue` if no history can; `Store`, with its cause, if the store fails; `Memory` if memory runs
+/// out.
+pub(crate) fn read_files<S: Store>(
+    alloc: Global,
+    store: &mut S,
+    jobs: &[JobRows],
+    paths: &NameTable,
+    names: &NameTable,
+) -> Result<Files, StoreFault>
+    ensures files { OnCleanStore S.Store store.old store.new (λ old new. IfOk result (λ files. AreFiles files (old.trees file_tree))) }
+    ensures moved { OnCleanStore S.Store store.old store.new (λ old new. OnOk result (CanMove names.now old.trees)) }
+    ensures whole { OnCleanStore S.Store store.old store.new (λ old new. OnOk result (CanBelong jobs.now paths.now names.now old.trees)) }
+    ensures reads { OnCleanStore S.Store store.old store.new (λ old new. OnOk result (Reads old new)) }
+    ensures kept { CommitsNothing S.Store store.old store.new }
+{
+    let mut reading = Reading::new(alloc, jobs)?;
+    let mut row = Row::new(alloc);
+    start(store, FILE, &row)?;
+    'rows: for _ in 0..u64::MAX {
+        if !step(store, &mut row)? {
+            return Ok(reading.files);
+        }
+        reading.take(paths, names, &row)?;
+    }
+    // No store has this many rows.
+    Err(StoreFault::Memory)
+}

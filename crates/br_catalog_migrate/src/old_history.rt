@@ -1,0 +1,56 @@
+//! The jobs of a catalogue of version 1, without their files.
+
+ghost use Rattle.std.specs.Prelude.{◌≡◌, [], Ok, IfOk, OnOk};
+ghost use Rattle.sqlite_trees.specs.View.{IsClean};
+ghost use Rattle.br_catalog_rows.specs.Load.{read_loaded};
+ghost use Rattle.br_catalog_migrate.specs.Claims.{AreBareJobs};
+ghost use Rattle.br_catalog_migrate.specs.MigrationSteps.{CommitsNothing, OnCleanStore, Reads};
+
+use crate::old_jobs::{keep, read_jobs, read_spans};
+use crate::old_names::read_names;
+use crate::old_trees::{CLIENT, FILESET, MEDIA};
+use br_catalog_rows::{CatalogueRows, StoreFault, history_of};
+use br_history::History;
+use sqlite::Row as Shown;
+use sqlite_exec::work::FromRow;
+use sqlite_trees::store::Store;
+use sqlite_value::row::Row;
+use sqlite_value::value::ValueRef;
+use std::alloc::Global;
+
+/// Makes the history of rows of jobs and spans. Its jobs have no files.
+fn history_in(alloc: Global, jobs: Vec<Shown>, spans: Vec<Shown>) -> Result<History, StoreFault>
+    ensures { IfOk result (λ history. read_loaded jobs.items spans.items [] ≡ Ok history) }
+{
+    let mut version = Row::new(alloc);
+    version.push(ValueRef::Int(2))?;
+    let mut versions = Vec::new(alloc);
+    keep(&mut versions, Shown::from_row(alloc, &version)?)?;
+    let rows = CatalogueRows {
+        versions,
+        jobs,
+        spans,
+        files: Vec::new(alloc),
+    };
+    history_of(alloc, &rows)
+}
+
+/// Loads the jobs without their files.
+///
+/// # Errors
+///
+/// `BadCatalogue` if they form no history; `Store`, with its cause, if the store fails; `Memory` if memory
+/// runs out.
+pub(crate) fn load_jobs<S: Store>(alloc: Global, store: &mut S) -> Result<History, StoreFault>
+    ensures jobs { OnCleanStore S.Store store.old store.new (λ old new. IfOk result (AreBareJobs old.trees)) }
+    ensures reads { OnCleanStore S.Store store.old store.new (λ old new. OnOk result (Reads old new)) }
+    ensures kept { CommitsNothing S.Store store.old store.new }
+{
+    let clients = read_names(alloc, store, CLIENT)?;
+    let filesets = read_names(alloc, store, FILESET)?;
+    let media = read_names(alloc, store, MEDIA)?;
+    let jobs = read_jobs(alloc, store, &clients, &filesets)?;
+    let spans = read_spans(alloc, store, &media)?;
+    let history = history_in(alloc, jobs, spans)?;
+    Ok(history)
+}

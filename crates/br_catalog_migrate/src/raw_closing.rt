@@ -1,0 +1,72 @@
+//! The end of a store's use.
+
+ghost use Rattle.std.specs.Prelude.{◌≡◌, [], IfOk, IsTrue};
+ghost use Rattle.sqlite_store.specs.FileStore.{recovers, view};
+ghost use Rattle.sqlite.specs.Held.{AreDatabases};
+ghost use Rattle.br_catalog_migrate.specs.RawFolded.{IsCopied, IsFolded};
+ghost use Rattle.br_catalog_migrate.specs.RawPremises.{HaveKept};
+
+use sqlite::{Error, ErrorCode, FileStore, Files};
+use sqlite_disk::Disk;
+use sqlite_trees::error::StoreError;
+use sqlite_trees::store::Store;
+
+/// Returns why a call on the store failed.
+fn fault_of(error: StoreError) -> Error {
+    Error::SqliteFailure(match error {
+        StoreError::OutOfMemory => ErrorCode::OutOfMemory,
+        StoreError::Io => ErrorCode::SystemIoFailure,
+        StoreError::Corrupt => ErrorCode::DatabaseCorrupt,
+        StoreError::Full => ErrorCode::DiskFull,
+        StoreError::Broken => ErrorCode::Closed,
+        StoreError::Unstorable => ErrorCode::TooBig,
+    })
+}
+
+/// Copies the log into the database file, and gives the files back. What is not committed is lost.
+fn copied<D: Disk + Drop>(store: FileStore<D>) -> Result<Files<D>, Error>
+    ensures usable { IfOk result (λ files. IsTrue (D.Disk.is_usable files.log)) }
+    ensures copied { IfOk result (λ files.
+        HaveKept D.Disk files → IsTrue (view store).is_numbered → AreDatabases (recovers store) → IsCopied store files) }
+{
+    let mut store = store;
+    store.rollback();
+    match store.checkpoint() {
+        Ok(()) => Ok(store.close()),
+        Err(error) => Err(fault_of(error)),
+    }
+}
+
+/// Empties the log.
+fn emptied<D: Disk + Drop>(files: Files<D>) -> Result<Files<D>, Error>
+    requires usable { IsTrue (D.Disk.is_usable files.log) }
+    ensures log { IfOk result (λ left. D.Disk.seen left.log ≡ []) }
+    ensures clean { IfOk result (λ left. IsTrue (D.Disk.is_clean left.log) → IsTrue (D.Disk.is_clean files.log)) }
+    ensures db { IfOk result (λ left. left.db ≡ files.db) }
+{
+    let Files { mut log, db } = files;
+    match log.set_len(0) {
+        Ok(()) => Ok(Files { log, db }),
+        Err(_) => Err(Error::SqliteFailure(ErrorCode::SystemIoFailure)),
+    }
+}
+
+/// Puts all that was committed into the database file, and empties the log. Returns both files:
+/// while they are there, no other program opens them. What is not committed is lost. If each
+/// database that a crash could leave is sound, the database file alone holds what was committed
+/// (`folded`).
+///
+/// A crash between the two leaves the log with a new header, which makes nothing of what comes
+/// after it.
+///
+/// # Errors
+///
+/// If the log was not copied, or was not emptied. Nothing that was committed is lost.
+pub fn fold<D: Disk + Drop>(store: FileStore<D>) -> Result<Files<D>, Error>
+    ensures folded { IfOk result (λ files.
+        HaveKept D.Disk files → IsTrue (view store).is_numbered → AreDatabases (recovers store) → IsFolded store files) }
+{
+    let files = copied(store)?;
+    let left = emptied(files)?;
+    Ok(left)
+}

@@ -1,0 +1,6 @@
+pub mod Cuts
+pub mod ReadLaws
+pub mod SpanOrder
+pub mod LoadLaws
+pub mod InsertedLaws
+pub mod Schemas

@@ -1,0 +1,31 @@
+use Rattle.std.proofs.Common.{arith}
+use Rattle.br_volume.proofs.ExtendLaws.{grows_itself, grows_more}
+use Rattle.br_check.proofs.PieceLaws.{none_told, piece_more}
+use Rattle.br_check.proofs.checksum_pieces.push_pieces.Goals as goal
+
+pub loop-piece-init : goal.loop-piece-init
+loop-piece-init g c = record {
+  tells = none_told (g.D.Drive.shows c.args.drive.now) (g.D.Drive.failures c.args.drive.now) c.args.text.now.items;
+  grows = grows_itself (g.D.Drive.shows c.args.drive.now);
+  counted = omega arith;
+}
+
+pub loop-piece-preserved : goal.loop-piece-preserved
+loop-piece-preserved g c =
+    let first = g.D.Drive.shows c.args.drive.now in
+    let second = g.D.Drive.shows c.loop-piece.drive in
+    let third = g.D.Drive.shows c.push_piece.new.drive in
+    let before = c.loop-piece.invariant in
+    record {
+      tells =
+          piece_more first second third (g.D.Drive.failures c.args.drive.now) (g.D.Drive.failures c.loop-piece.drive) (g.D.Drive.failures c.push_piece.new.drive)
+          c.args.pieces.now c.loop-piece.piece-index c.piece-item.result c.args.text.now.items c.loop-piece.text.items c.push_piece.new.text.items c.loop-piece-test.true
+          c.piece-item.is before.grows c.push_piece.ensures.grows before.counted c.push_piece.ensures.counted before.tells c.in_ok-push_piece.ensures.tells;
+      grows = grows_more first second third before.grows c.push_piece.ensures.grows;
+      counted = omega (arith, before.counted, c.push_piece.ensures.counted);
+    }
+
+pub returns-in_err-push_piece-clause-grows : goal.returns-in_err-push_piece-clause-grows
+returns-in_err-push_piece-clause-grows g c =
+    grows_more (g.D.Drive.shows c.args.drive.now) (g.D.Drive.shows c.loop-piece.drive) (g.D.Drive.shows c.push_piece.new.drive) c.loop-piece.invariant.grows
+    c.push_piece.ensures.grows

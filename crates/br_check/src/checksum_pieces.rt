@@ -1,0 +1,81 @@
+//! The lines of all pieces of a bootstrap.
+ghost use Rattle.std.specs.Prelude.{◌≡◌, ◌≤◌, OnOk};
+ghost use Rattle.br_model.specs.Meaning.{pieces_of};
+ghost use Rattle.br_volume.specs.Drive.{OnlyGrows};
+ghost use Rattle.br_check.specs.ChecksumPieces.{PieceOver, SumsOver};
+
+use crate::checksum_lines::push_failed;
+use crate::checksum_walk::{AskedBlocks, Step};
+use br_block::Crc;
+use br_bsr::Bootstrap;
+use br_piece::{Piece, split};
+use br_volume::Drive;
+use std::alloc::{AllocError, Global};
+
+/// Appends the lines of a piece's blocks. If the drive fails, it appends a line that says so and goes
+/// no further.
+fn push_piece<D: Drive>(
+    crc: &Crc,
+    text: &mut Vec<u8>,
+    drive: &mut D,
+    piece: &Piece,
+    buf: &mut Vec<u8>,
+) -> Result<(), AllocError>
+    ensures tells { OnOk result (PieceOver D.shows D.failures drive.old drive.new piece.now text.old.items text.new.items) }
+    ensures grows { OnlyGrows (D.shows drive.old) (D.shows drive.new) }
+    ensures counted { D.failures drive.old ≤ D.failures drive.new }
+{
+    let asked = AskedBlocks::new(crc, &piece.vol, &piece.groups);
+    let mut addr = 0;
+    loop {
+        match asked.step(text, drive, addr, buf)? {
+            Step::Passed(size) => addr += u64::from(size),
+            Step::Ended => return Ok(()),
+            Step::Failed => return push_failed(text, &piece.vol, addr),
+        }
+    }
+}
+
+/// Appends the lines of the blocks of some pieces.
+fn push_pieces<D: Drive>(
+    alloc: Global,
+    text: &mut Vec<u8>,
+    drive: &mut D,
+    pieces: &[Piece],
+) -> Result<(), AllocError>
+    ensures tells { OnOk result (SumsOver D.shows D.failures drive.old drive.new pieces.now text.old.items text.new.items) }
+    ensures grows { OnlyGrows (D.shows drive.old) (D.shows drive.new) }
+    ensures counted { D.failures drive.old ≤ D.failures drive.new }
+{
+    let crc = Crc::new(alloc)?;
+    let mut buf = Vec::new(alloc);
+    for piece in pieces {
+        push_piece(&crc, text, drive, piece, &mut buf)?;
+    }
+    Ok(())
+}
+
+/// Appends a line `checksum VOLUME ADDRESS` for each block that the bootstrap asks for by its volume and its
+/// address and whose checksum, if it is not 0, is not the CRC-32 of the bytes after it. The volumes come in
+/// the order in which the bootstrap first names them, and the blocks in the order of their addresses, up to
+/// the end of the volume or the first block that can't be read.
+///
+/// If the drive fails, the line `volume 13 VOLUME ADDRESS` comes in place of those of the volume's blocks
+/// from there on.
+///
+/// # Errors
+///
+/// `AllocError` if memory runs out.
+pub fn push_checksums<D: Drive>(
+    alloc: Global,
+    text: &mut Vec<u8>,
+    bootstrap: &Bootstrap,
+    drive: &mut D,
+) -> Result<(), AllocError>
+    ensures tells { OnOk result (SumsOver D.shows D.failures drive.old drive.new (pieces_of bootstrap.now) text.old.items text.new.items) }
+    ensures grows { OnlyGrows (D.shows drive.old) (D.shows drive.new) }
+    ensures counted { D.failures drive.old ≤ D.failures drive.new }
+{
+    let pieces = split(alloc, bootstrap)?;
+    push_pieces(alloc, text, drive, &pieces)
+}

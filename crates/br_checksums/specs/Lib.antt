@@ -1,4 +1,0 @@
-pub mod Blocks
-pub mod Walk
-pub mod Asked
-pub mod Pieces

@@ -1,0 +1,2 @@
+mod FreeLaws
+pub mod VolumesLaws

@@ -1,0 +1,18 @@
+use Rattle.std.proofs.lemmas.Result.{IfOk-weaker}
+use Rattle.br_volume.proofs.ExtendLaws.{grows_more}
+use Rattle.br_cli.specs.CheckCommand.{ChecksFor}
+use Rattle.br_cli_common.specs.declared.options.Checksums.TheVariants.{Compared, Passed}
+use Rattle.br_cli.proofs.check_command.checked_for.Goals as goal
+
+pub returns-in-Passed-clause-checked : goal.returns-in-Passed-clause-checked
+returns-in-Passed-clause-checked g c = rw (c.in-Passed.is) c.in_ok-checked.ensures.checked
+
+pub returns-in-Compared-clause-checked : goal.returns-in-Compared-clause-checked
+returns-in-Compared-clause-checked g c =
+    rw (c.in-Compared.is)
+    (IfOk-weaker c.with_checksums.result _ _ (λ summed sums. (c.check.new.drive, c.in_ok-checked.checked, c.in_ok-checked.ensures.checked, sums)) c.with_checksums.ensures.sums)
+
+pub returns-in-Compared-clause-grows : goal.returns-in-Compared-clause-grows
+returns-in-Compared-clause-grows g c =
+    grows_more (g.D.Drive.shows c.args.drive.now) (g.D.Drive.shows c.check.new.drive) (g.D.Drive.shows c.with_checksums.new.drive) c.check.ensures.grows
+    c.with_checksums.ensures.grows

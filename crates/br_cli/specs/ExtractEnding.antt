@@ -1,0 +1,59 @@
+-- How a run ends that extracts files.
+use Rattle.std.specs.Prelude.{ℕ, Bool, ◌&&◌, List, [], map, Option, Some, None, Result, Ok, Err, if◌then◌else◌}
+use Rattle.br_model.specs.File.{Item}
+use Rattle.br_model.specs.Text.{is_empty}
+use Rattle.br_engine.specs.Fault.{fault_text}
+use Rattle.br_engine.specs.declared.outputs.RestoreEnd.{RestoreEnd}
+use Rattle.br_engine.specs.declared.outputs.RestoreEnd.TheVariants.{AllFiles, SomeFaults, Stopped}
+use Rattle.br_engine.specs.declared.fault.ExtractFault.{ExtractFault}
+use Rattle.br_engine.specs.declared.fault.ExtractFault.TheVariants.{Io, NoEnd}
+use Rattle.br_engine.specs.WantedRestore.{done_lines}
+use Rattle.br_engine.specs.declared.wanted_restore.Extracted.{Extracted}
+use Rattle.br_sink.specs.KeepGoing.{InLeaving}
+use Rattle.br_cli_target.specs.declared.target_tar.Extent.{Extent}
+use Rattle.br_cli_target.specs.declared.target_tar.Extent.TheVariants.{All, Part}
+
+abbrev pub fault_status : ExtractFault → ℕ
+fault_status (Io e) = 3
+fault_status (NoEnd turns) = 3
+fault_status _ = 1
+
+-- 0 if each outcome is a file, 1 if some outcome is not or the delivery stopped
+abbrev pub end_status : RestoreEnd → ℕ
+end_status AllFiles = 0
+end_status SomeFaults = 1
+end_status (Stopped stop) = 1
+
+-- nothing is reported as missing, and no file is left out, neither for its path nor of those at which the sink failed
+abbrev pub is_whole : Extracted → List (List ℕ) → Bool
+is_whole done failed = is_empty done.missing.items && is_empty done.left.items && is_empty failed
+
+-- 1 also if something is reported as missing or left out
+abbrev pub done_status : Extracted → List (List ℕ) → ℕ
+done_status done failed = if is_whole done failed then end_status done.end else 1
+
+-- the paths of the files at which a sink failed and that are left out, if there is a sink
+abbrev pub failed_paths : {S : Type 0} → Option (InLeaving S) → List (List ℕ)
+failed_paths None = []
+failed_paths (Some sink) = map (λ (i : Item). i.path) sink.left
+
+-- 3 if reading or writing failed or the input has no end, 1 for any other fault
+abbrev pub run_status : Result Extracted ExtractFault → List (List ℕ) → ℕ
+run_status (Ok done) failed = done_status done failed
+run_status (Err fault) failed = fault_status fault
+
+-- how many of the files a restore that ended so put into its sink
+abbrev pub extent_by : RestoreEnd → Extent
+extent_by AllFiles = All
+extent_by SomeFaults = All
+extent_by (Stopped stop) = Part
+
+-- how many of the wanted files a run put into its sink
+abbrev pub extent : Result Extracted ExtractFault → Extent
+extent (Ok done) = extent_by done.end
+extent (Err fault) = Part
+
+-- the lines of what is missing and of what is left out, or the line of the refusal
+abbrev pub run_refusal : Result Extracted ExtractFault → List (List ℕ) → List ℕ
+run_refusal (Ok done) failed = done_lines done failed
+run_refusal (Err fault) failed = fault_text fault

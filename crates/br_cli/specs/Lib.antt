@@ -1,0 +1,6 @@
+pub mod Migrating
+pub mod ExtractEnding
+pub mod ExtractTasks
+pub mod CheckCommand
+pub mod MemoryScriptEnding
+pub mod Serving

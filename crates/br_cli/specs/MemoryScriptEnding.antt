@@ -1,0 +1,18 @@
+-- How a script ends.
+use Rattle.std.specs.Prelude.{◌≡◌, ◌⊎◌, ℕ, Result, Ok}
+use Rattle.br_console.specs.declared.script.ScriptEnd.{ScriptEnd}
+use Rattle.br_console.specs.declared.script.ScriptEnd.TheVariants.{Clean, Refused}
+use Rattle.br_console.specs.declared.script_fault.ScriptFault.{ScriptFault}
+
+-- 0 if nothing was refused and every outcome was a file
+abbrev pub script_status : ScriptEnd → ℕ
+script_status Clean = 0
+script_status Refused = 1
+
+-- this is the exit status of a script that ended so
+abbrev pub IsStatusOf : Result ScriptEnd ScriptFault → ℕ → Type 0
+IsStatusOf end status = (e : ScriptEnd) × (end ≡ Ok e) × (status ≡ script_status e)
+
+-- this is an exit status of some script
+abbrev pub IsStatus : ℕ → Type 0
+IsStatus status = (status ≡ 0) ⊎ (status ≡ 1)

@@ -1,0 +1,517 @@
+//! The command `extract`.
+ghost use Rattle.std.specs.Prelude.{◌≡◌, length, not, option_map, None, Some, IfOk, IfSome, IsSome};
+ghost use Rattle.br_cli_common.specs.Options.{AreFew};
+ghost use Rattle.br_pool.specs.Pool.{AreDrives};
+ghost use Rattle.br_volume.specs.HostDrives.{AreOver};
+ghost use Rattle.br_cli_target.specs.AskedTarget.{folder_asked, stream_asked};
+ghost use Rattle.br_cli.specs.ExtractEnding.{done_status, extent, failed_paths, is_whole, run_refusal, run_status};
+ghost use Rattle.br_cli_target.specs.TarEnding.{IsShown};
+ghost use Rattle.br_cli.specs.ExtractTasks.{ExtractsTo, StreamsTo};
+
+use br_cli_common::{CLEAN, ExtractOptions, REFUSED, Target, refuse_start};
+use br_cli_progress::{Gauge, WatchedSink};
+use br_cli_target::{
+    BAD_STREAM, Channel, Ending, Extent, LeavingSink, RestoreIo, Streamed, TarEnd, TarFault, Told,
+    add_tar_end, advise, end_stream, folder_of, gauge_of, lacks_volumes, leaving_over, log_fault,
+    refuse_log, refuse_place, say_conflicts, say_files, say_nowhere, say_stop, say_volumes,
+    tar_into, tar_onto, tell_others, tell_outcomes,
+};
+use br_engine::{
+    Budget, ExtractFault, Extracted, Flush, Outputs, RestoreEnd, extract_wanted, read_text,
+};
+use br_sink::{Leaving, Sink};
+use br_sink_folder::FolderFault;
+use br_sink_tar::TarSink;
+use br_types::{Path, Start, Wanted};
+use br_volume::{Drive, HostDrive};
+use std::alloc::{AllocError, Global};
+use std::fs::File;
+use std::io::{self, BufWriter, ErrorKind};
+use std::rt::Files;
+use std::sync::Wait;
+use std::thread::Threads;
+use thiserror::Error;
+
+/// Returns if nothing is reported as missing, and no file is left out.
+fn is_whole(done: &Extracted, failed: &[Path]) -> bool
+    ensures { result ≡ is_whole done.now failed.now }
+{
+    done.missing.is_empty() && done.left.is_empty() && failed.is_empty()
+}
+
+/// Returns the exit status of a restore that wrote its manifest.
+fn status_of(done: &Extracted, failed: &[Path]) -> u8
+    ensures { result ≡ done_status done.now failed.now }
+{
+    match done.end {
+        RestoreEnd::AllFiles if is_whole(done, failed) => CLEAN,
+        _ => REFUSED,
+    }
+}
+
+/// Returns the exit status and the lines of what is missing, left out or refused for this result. The sink
+/// failed at the files with the paths `failed`, which are left out.
+pub fn extract_ending(
+    alloc: Global,
+    run: &Result<Extracted, ExtractFault>,
+    failed: &[Path],
+) -> Result<Ending, AllocError>
+    ensures status { IfOk result (λ ending. ending.status ≡ run_status run.now failed.now) }
+    ensures refusal { IfOk result (λ ending. ending.refusal.items ≡ run_refusal run.now failed.now) }
+{
+    let mut refusal = Vec::new(alloc);
+    let status = match run {
+        Ok(done) => {
+            done.push_lines(failed, &mut refusal)?;
+            status_of(done, failed)
+        }
+        Err(ExtractFault::Io(_) | ExtractFault::NoEnd(_)) => BAD_STREAM,
+        Err(fault) => {
+            fault.push_line(&mut refusal)?;
+            REFUSED
+        }
+    };
+    Ok(Ending { status, refusal })
+}
+
+/// Prints to standard error that a stream failed, if one did. An error for memory is returned.
+pub(crate) fn report_stream<R: Eprint>(rt: &R, fault: &ExtractFault) -> io::Result<()> {
+    match fault {
+        ExtractFault::Io(e) if e.kind() == ErrorKind::OutOfMemory => {
+            Err(ErrorKind::OutOfMemory.into())
+        }
+        ExtractFault::Io(e) if e.kind() == ErrorKind::InvalidData => {
+            eprintln!(rt; "brestore: {e}")
+        }
+        ExtractFault::Io(e) => eprintln!(rt; "brestore: standard output: {e}"),
+        ExtractFault::NoEnd(e) => eprintln!(rt; "brestore: standard output: {e}"),
+        _ => Ok(()),
+    }
+}
+
+/// Tells a terminal and the log why files are left out and why the delivery stopped.
+fn say_done(
+    rt: &HostRuntime,
+    gauge: &Gauge<'_>,
+    target: Target<'_>,
+    done: &Extracted,
+    failed: &[Path],
+) -> io::Result<()> {
+    say_conflicts(rt, gauge, &done.left)?;
+    say_files(rt, gauge, target, failed)?;
+    say_stop(rt, gauge, target, &done.end, done.stopped_at.as_ref())
+}
+
+/// Prints that a stream failed, if one did, and appends it to the log.
+fn tell_stream(rt: &HostRuntime, gauge: &Gauge<'_>, fault: &ExtractFault) -> io::Result<()> {
+    report_stream(rt, fault)?;
+    match fault {
+        ExtractFault::Io(e) if e.kind() == ErrorKind::InvalidData => {
+            log_fault(rt, gauge, None, fault)
+        }
+        ExtractFault::Io(_) | ExtractFault::NoEnd(_) => {
+            log_fault(rt, gauge, Some("standard output"), fault)
+        }
+        _ => Ok(()),
+    }
+}
+
+/// Prints how a run ended to standard error, and tells a terminal and the log what it means. Returns the exit
+/// status.
+fn report(
+    rt: &HostRuntime,
+    gauge: &Gauge<'_>,
+    given: &ExtractOptions<'_>,
+    told: &Told<'_>,
+    run: &Result<Extracted, ExtractFault>,
+    (failed, end): (&[Path], Option<TarEnd>),
+) -> io::Result<u8> {
+    let mut ending = extract_ending(rt.alloc(), run, failed)?;
+    if let Some(end) = end {
+        add_tar_end(&mut ending, end)?;
+    }
+    if let Err(fault) = run {
+        tell_stream(rt, gauge, fault)?;
+    }
+    gauge.log_refusals(&ending.refusal);
+    let status = ending.print(rt)?;
+    match run {
+        Ok(done) => say_done(rt, gauge, given.target, done, failed)?,
+        Err(ExtractFault::Piece(fault)) if lacks_volumes(fault) => {
+            say_volumes(rt, gauge, given.volumes, told)?
+        }
+        Err(_) => {}
+    }
+    tell_outcomes(rt, gauge, given.volumes, told)?;
+    if let Ok(done) = run {
+        let conflicts = done.left.len() as u64;
+        advise(rt, gauge, given.wanted, &done.outcomes, conflicts, told)?;
+        say_nowhere(gauge, given.target)?;
+    }
+    gauge.tell_end()?;
+    Ok(status)
+}
+
+/// The text of a bootstrap, and the path of the file that has it.
+#[derive(Drop)]
+pub(crate) struct BootstrapFile<'p> {
+    path: &'p str,
+    text: Vec<u8>,
+}
+
+impl<'p> BootstrapFile<'p> {
+    /// Reads the file with this path, as far as it can be a bootstrap.
+    pub(crate) fn read<R: Files + AllocGlobal>(
+        rt: &R,
+        path: &'p str,
+    ) -> Result<BootstrapFile<'p>, ExtractStartFault>
+        ensures { IfOk result (λ file. file.path.now ≡ path.entry.now) }
+    {
+        let mut file = File::open(rt, path)?;
+        let text = read_text(rt.alloc(), &mut file)?;
+        Ok(BootstrapFile { path, text })
+    }
+
+    /// Returns the text of the file.
+    pub(crate) fn text(&self) -> &[u8]
+        ensures { result.now ≡ self.now.text.items }
+    {
+        &self.text
+    }
+}
+
+/// Why no restore began.
+#[derive(Debug, Drop, Error)]
+pub enum ExtractStartFault {
+    /// The folder to deliver into was refused.
+    #[error("{0}")]
+    Folder(FolderFault),
+    /// The file to write a tar stream into was refused.
+    #[error("{0}")]
+    Tar(TarFault),
+    /// The file of the bootstrap can't be read, or memory ran out.
+    #[error("{0}")]
+    Io(io::Error),
+    /// The file of the bootstrap has no end.
+    #[error("{0}")]
+    Text(ExtractFault),
+}
+
+impl From<FolderFault> for ExtractStartFault {
+    fn from(fault: FolderFault) -> ExtractStartFault {
+        ExtractStartFault::Folder(fault)
+    }
+}
+
+impl From<io::Error> for ExtractStartFault {
+    fn from(fault: io::Error) -> ExtractStartFault {
+        ExtractStartFault::Io(fault)
+    }
+}
+
+impl From<ExtractFault> for ExtractStartFault {
+    fn from(fault: ExtractFault) -> ExtractStartFault {
+        match fault {
+            ExtractFault::Memory => ExtractStartFault::from(AllocError),
+            ExtractFault::Io(e) => ExtractStartFault::Io(e),
+            fault => ExtractStartFault::Text(fault),
+        }
+    }
+}
+
+impl From<AllocError> for ExtractStartFault {
+    fn from(_e: AllocError) -> ExtractStartFault {
+        ExtractStartFault::Io(ErrorKind::OutOfMemory.into())
+    }
+}
+
+/// What `extract` restores: the bootstrap, and what is wanted of it beside the plain restore.
+#[derive(Drop)]
+pub struct Extraction<'p> {
+    bootstrap: BootstrapFile<'p>,
+    wanted: Wanted,
+}
+
+/// What `extract` restores, and by what means.
+type ExtractSetup<'r, 'p, W, S> = (Extraction<'p>, RestoreIo<HostDrive<'r>, W, S>);
+
+/// Makes all that is there before a drive is asked, to deliver into a folder if there is one. The folder
+/// is tested (81) before the bootstrap is read. The gauge is told of the files that are put.
+pub fn set_up_extract<'g, 'r, 'p, W: Drop>(
+    rt: &'r HostRuntime,
+    gauge: &'g Gauge<'r>,
+    given: &ExtractOptions<'p>,
+    writer: W,
+) -> Result<ExtractSetup<'r, 'p, W, LeavingSink<'g, 'r>>, ExtractStartFault>
+    ensures bootstrap { IfOk result (λ setup. setup.0.bootstrap.path.now ≡ given.now.bsr.now) }
+    ensures wanted { IfOk result (λ setup. setup.0.wanted ≡ given.now.wanted) }
+    ensures memory { IfOk result (λ setup. setup.1.memory ≡ given.now.memory) }
+    ensures into { IfOk result (λ setup. option_map (λ s. s.inner.inner.folder.path) setup.1.out.sink ≡ folder_asked given.now.target) }
+    ensures start { IfOk result (λ setup. IfSome setup.1.out.sink (λ s. s.inner.inner.start ≡ given.now.start)) }
+    ensures stops { IfOk result (λ setup. IfSome setup.1.out.sink (λ s. s.stops ≡ given.now.wanted.stops)) }
+    ensures drives { IfOk result (λ setup. length setup.1.drives.items ≡ given.now.drives) }
+    ensures volumes { IfOk result (λ setup. AreOver given.now.volumes.now setup.1.drives.items) }
+{
+    let into = folder_of(given.target);
+    let sink = leaving_over(rt, gauge, given.wanted.stops, given.start, into)?;
+    set_up_over(rt, given, Outputs { writer, sink })
+}
+
+/// Makes what else is there before a drive is asked, beside the outputs.
+fn set_up_over<'r, 'p, W: Drop, S: Drop>(
+    rt: &'r HostRuntime,
+    given: &ExtractOptions<'p>,
+    out: Outputs<W, S>,
+) -> Result<ExtractSetup<'r, 'p, W, S>, ExtractStartFault>
+    ensures bootstrap { IfOk result (λ setup. setup.0.bootstrap.path.now ≡ given.now.bsr.now) }
+    ensures wanted { IfOk result (λ setup. setup.0.wanted ≡ given.now.wanted) }
+    ensures memory { IfOk result (λ setup. setup.1.memory ≡ given.now.memory) }
+    ensures out { IfOk result (λ setup. setup.1.out ≡ out) }
+    ensures drives { IfOk result (λ setup. length setup.1.drives.items ≡ given.now.drives) }
+    ensures volumes { IfOk result (λ setup. AreOver given.now.volumes.now setup.1.drives.items) }
+{
+    let bootstrap = BootstrapFile::read(rt, given.bsr)?;
+    let io = RestoreIo::over(rt, given.volumes, given.drives, given.memory, out)?;
+    let extraction = Extraction {
+        bootstrap,
+        wanted: given.wanted,
+    };
+    Ok((extraction, io))
+}
+
+/// Prints why no restore began to standard error. Returns the exit status.
+pub(crate) fn refuse(rt: &HostRuntime, bsr: &str, fault: ExtractStartFault) -> io::Result<u8> {
+    match fault {
+        ExtractStartFault::Folder(fault) => refuse_start(rt, fault.number()),
+        ExtractStartFault::Tar(fault) => refuse_start(rt, fault.number()),
+        ExtractStartFault::Io(e) if e.kind() == ErrorKind::OutOfMemory => Err(e),
+        ExtractStartFault::Io(e) => {
+            eprintln!(rt; "brestore: {bsr}: {e}")?;
+            Ok(BAD_STREAM)
+        }
+        ExtractStartFault::Text(fault) => {
+            eprintln!(rt; "brestore: {bsr}: {fault}")?;
+            Ok(BAD_STREAM)
+        }
+    }
+}
+
+/// Prints why no restore began to standard error, and tells a terminal and the log what it means. Returns the
+/// exit status.
+fn refuse_told(
+    rt: &HostRuntime,
+    gauge: &Gauge<'_>,
+    given: &ExtractOptions<'_>,
+    fault: ExtractStartFault,
+) -> io::Result<u8> {
+    match fault {
+        ExtractStartFault::Folder(fault) => {
+            refuse_place(rt, gauge, given.target, fault.number())
+        }
+        ExtractStartFault::Tar(fault) => refuse_place(rt, gauge, given.target, fault.number()),
+        fault => {
+            log_fault(rt, gauge, Some(given.bsr), &fault)?;
+            refuse(rt, given.bsr, fault)
+        }
+    }
+}
+
+/// Returns the paths of the files that a sink failed at and left out, if there is a sink.
+fn left_out<S: Sink + Drop>(sink: &Option<Leaving<S>>) -> &[Path]
+    ensures { result.now ≡ failed_paths sink.now }
+{
+    match sink {
+        Some(sink) => sink.left_out(),
+        None => &[],
+    }
+}
+
+/// Restores. The manifest goes to the writer, and then the files that are wanted into the sink, if there
+/// is one.
+pub fn extract_over<D: Drive + Send, W: Flush, S: Sink>(
+    threads: &(impl Threads + Wait + Sync),
+    alloc: Global,
+    extraction: &Extraction<'_>,
+    io: &mut RestoreIo<D, W, S>,
+) -> Result<Extracted, ExtractFault>
+    requires drives { AreDrives io.old.drives.items }
+    ensures delivers { ExtractsTo D.shows W.contents S.has extraction.now io.old io.new result }
+    ensures flushed { IfOk result (λ _. W.is_flushed io.new.out.writer) }
+{
+    let budget = Budget {
+        alloc,
+        room: io.memory,
+    };
+    extract_wanted(
+        threads,
+        budget,
+        extraction.bootstrap.text(),
+        extraction.wanted,
+        &mut io.drives,
+        &mut io.out,
+    )
+}
+
+/// Returns how many of the wanted files a run put into its sink.
+fn extent_of(run: &Result<Extracted, ExtractFault>) -> Extent
+    ensures { result ≡ extent run.now }
+{
+    match run {
+        Ok(
+            Extracted {
+                end: RestoreEnd::AllFiles | RestoreEnd::SomeFaults,
+                ..
+            },
+        ) => Extent::All,
+        _ => Extent::Part,
+    }
+}
+
+/// Restores into the tar stream of a sink, and ends the stream if all files were put. The manifest goes
+/// to the writer before.
+fn extract_stream<D: Drive + Send, W: Flush, T: Flush + Drop>(
+    threads: &(impl Threads + Wait + Sync),
+    alloc: Global,
+    extraction: &Extraction<'_>,
+    io: &mut RestoreIo<D, W, WatchedSink<'_, '_, TarSink<T>>>,
+) -> Streamed<Result<Extracted, ExtractFault>, T>
+    requires drives { AreDrives io.old.drives.items }
+    requires sink { IsSome io.old.out.sink }
+    ensures streams { StreamsTo D.shows W.contents T.contents extraction.now io.old io.new result }
+    ensures flushed { IfOk result.run (λ _. W.is_flushed io.new.out.writer) }
+    ensures shown { IfSome result.writer (λ w. IsShown (T.is_flushed w) result.end) }
+{
+    let run = extract_over(threads, alloc, extraction, io);
+    let (writer, end) = end_stream(io.out.sink.take(), extent_of(&run));
+    Streamed { run, end, writer }
+}
+
+/// Names what else is in the folder of a restore that is resumed, if it wrote its manifest.
+fn name_others(
+    rt: &HostRuntime,
+    gauge: &Gauge<'_>,
+    given: &ExtractOptions<'_>,
+    run: &Result<Extracted, ExtractFault>,
+) -> io::Result<()> {
+    match (given.start, given.target, run) {
+        (Start::Resumed, Target::Folder(folder), Ok(done)) => {
+            tell_others(rt, gauge, folder, &done.outcomes)
+        }
+        _ => Ok(()),
+    }
+}
+
+/// Restores into a folder, or prints the manifest alone if there is none.
+fn extract_into(
+    rt: &HostRuntime,
+    threads: &(impl Threads + Wait + Sync),
+    gauge: &Gauge<'_>,
+    given: &ExtractOptions<'_>,
+) -> io::Result<u8>
+    requires few { AreFew given.now.drives }
+    requires asked { stream_asked given.now.target ≡ None }
+{
+    let writer = BufWriter::new(rt.alloc(), io::writer(rt))?;
+    let (extraction, io) = match set_up_extract(rt, gauge, given, writer) {
+        Ok(setup) => setup,
+        Err(fault) => return refuse_told(rt, gauge, given, fault),
+    };
+    gauge.expect_volumes(extraction.bootstrap.text());
+    let mut io = io.watched(rt.alloc(), gauge)?;
+    let run = extract_over(threads, rt.alloc(), &extraction, &mut io);
+    gauge.clear();
+    name_others(rt, gauge, given, &run)?;
+    let told = Told::by(&io.out.writer, extraction.bootstrap.text());
+    let failed = left_out(&io.out.sink);
+    report(rt, gauge, given, &told, &run, (failed, None))
+}
+
+/// Restores into the tar stream of a sink, with the manifest to this writer: standard output, or something
+/// else if the stream goes there.
+fn extract_onto<T: Channel + Drop, W: Channel + Drop>(
+    rt: &HostRuntime,
+    threads: &(impl Threads + Wait + Sync),
+    gauge: &Gauge<'_>,
+    given: &ExtractOptions<'_>,
+    sink: TarSink<BufWriter<T>>,
+    manifest: W,
+) -> io::Result<u8>
+    requires few { AreFew given.now.drives }
+    requires asked { stream_asked given.now.target ≡ Some T.is_output }
+    requires apart { W.is_output ≡ not T.is_output }
+{
+    let writer = BufWriter::new(rt.alloc(), manifest)?;
+    let out = Outputs {
+        writer,
+        sink: Some(sink),
+    };
+    let (extraction, io) = match set_up_over(rt, given, out) {
+        Ok(setup) => setup,
+        Err(fault) => return refuse_told(rt, gauge, given, fault),
+    };
+    gauge.expect_volumes(extraction.bootstrap.text());
+    let mut io = io.watched(rt.alloc(), gauge)?.with_watched_sink(gauge);
+    let stream = extract_stream(threads, rt.alloc(), &extraction, &mut io);
+    gauge.clear();
+    let told = Told::by(&io.out.writer, extraction.bootstrap.text());
+    report(
+        rt,
+        gauge,
+        given,
+        &told,
+        &stream.run,
+        (&[], Some(stream.end)),
+    )
+}
+
+/// Restores by the bootstrap in a file over the volumes in a folder. The manifest goes to standard
+/// output, and what is refused to standard error. Then the restored files are put where they are to go:
+/// into a folder, or as a tar stream into a file or to standard output. In the last case the manifest
+/// goes to standard error. What becomes of the files is told a terminal in words, and appended to a log if
+/// one is given.
+///
+/// A folder has to exist and be empty unless the restore is resumed, and a file must not be there, else it
+/// is refused (81) before anything is read. The manifest is printed before any file is put.
+///
+/// Returns the exit status: 0 if nothing was refused and each outcome is a file; 1 if something was
+/// refused, left out or is reported as missing, or some outcome is not a file; 3 if the bootstrap could not
+/// be read, the log could not be opened or the manifest could not be written.
+///
+/// # Errors
+///
+/// If memory ran out or standard error failed.
+pub fn extract_files(
+    rt: &HostRuntime,
+    threads: &(impl Threads + Wait + Sync),
+    given: &ExtractOptions<'_>,
+) -> io::Result<u8>
+    requires few { AreFew given.now.drives }
+{
+    match gauge_of(rt, given.volumes, given.progress, given.log) {
+        Ok(gauge) => extract_told(rt, threads, &gauge, given),
+        Err(error) => refuse_log(rt, given.log, error),
+    }
+}
+
+/// Restores as `extract_files`, with what watches the restore.
+fn extract_told(
+    rt: &HostRuntime,
+    threads: &(impl Threads + Wait + Sync),
+    gauge: &Gauge<'_>,
+    given: &ExtractOptions<'_>,
+) -> io::Result<u8>
+    requires few { AreFew given.now.drives }
+{
+    match given.target {
+        Target::Nowhere => extract_into(rt, threads, gauge, given),
+        Target::Folder(_) => extract_into(rt, threads, gauge, given),
+        Target::TarFile(path) => match tar_into(rt, path) {
+            Ok(sink) => extract_onto(rt, threads, gauge, given, sink, io::writer(rt)),
+            Err(fault) => refuse_told(rt, gauge, given, ExtractStartFault::Tar(fault)),
+        },
+        Target::TarOutput => match tar_onto(rt.alloc(), io::writer(rt)) {
+            Ok(sink) => extract_onto(rt, threads, gauge, given, sink, rt.stderr()),
+            Err(fault) => refuse_told(rt, gauge, given, ExtractStartFault::Tar(fault)),
+        },
+    }
+}

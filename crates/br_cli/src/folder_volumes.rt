@@ -1,0 +1,78 @@
+//! The volumes in a folder of the system, to which jobs are appended and which restores read.
+ghost use Rattle.std.specs.Prelude.{◌≡◌, length, string_bytes, IfOk};
+ghost use Rattle.br_pool.specs.Pool.{AreDrives};
+ghost use Rattle.br_volume.specs.HostDrives.{AreOver, AreUntold};
+ghost use Rattle.br_cli.specs.Serving.{IsFolder};
+
+use br_console::{DriveCount, DrivenStore, NamedBootstrap};
+use br_engine::{Budget, ExtractFault, RestoreEnd, restore_to};
+use br_fs::HostDisk;
+use br_types::VolName;
+use br_volume::{FolderStore, HostDrive, VolumeFault, VolumeStore, drives_over};
+use std::alloc::AllocError;
+use std::io::Write;
+use std::sync::Wait;
+use std::thread::Threads;
+
+/// The volumes in a folder of the system.
+#[derive(Drop)]
+pub struct FolderVolumes<'r> {
+    rt: &'r HostRuntime,
+    path: String,
+    store: FolderStore<HostDisk<&'r HostRuntime>>,
+}
+
+impl<'r> FolderVolumes<'r> {
+    /// Returns the volumes in the folder with this path. Opens nothing yet.
+    pub(crate) fn new(rt: &'r HostRuntime, path: &str) -> Result<FolderVolumes<'r>, AllocError>
+        ensures { IfOk result (IsFolder path.now) }
+    {
+        Ok(FolderVolumes {
+            rt,
+            path: String::from_str(rt.alloc(), path)?,
+            store: FolderStore::new(rt.alloc(), rt, path)?,
+        })
+    }
+
+    /// Returns this number of drives over the volumes.
+    fn drives(&self, count: DriveCount) -> Result<Vec<HostDrive<'r>>, AllocError>
+        ensures many { IfOk result (λ drives. length drives.items ≡ count) }
+        ensures few { IfOk result (λ drives. AreDrives drives.items) }
+        ensures over { IfOk result (λ drives. AreOver (string_bytes self.now.path) drives.items) }
+        ensures untold { IfOk result (λ drives. AreUntold drives.items) }
+    {
+        drives_over(self.rt, self.path.as_str(), count.get())
+    }
+}
+
+impl VolumeStore for FolderVolumes<'_> {
+    ghost use Rattle.std.specs.Prelude.{None};
+
+    ghost holds = { λ _. None };
+
+    ghost failures = { λ v. v.store.failures };
+
+    fn append(&mut self, vol: &VolName, bytes: &[u8]) -> Result<(), VolumeFault> {
+        self.store.append(vol, bytes)
+    }
+
+    fn length(&mut self, vol: &VolName) -> Result<u64, VolumeFault> {
+        self.store.length(vol)
+    }
+}
+
+impl DrivenStore for FolderVolumes<'_> {
+    #[tactic(auto, using(crate::proofs::VolumesLaws::restored_untold, crate::proofs::VolumesLaws::no_drives))]
+    fn restore<T: Threads + Wait + Sync, W: Write>(
+        &self,
+        rt: &T,
+        budget: Budget,
+        drives: DriveCount,
+        wanted: NamedBootstrap<'_>,
+        writer: &mut W,
+    ) -> Result<RestoreEnd, ExtractFault> {
+        let mut drives = self.drives(drives)?;
+        let NamedBootstrap { bootstrap, names } = wanted;
+        restore_to(rt, budget, bootstrap, names, &mut drives, writer)
+    }
+}

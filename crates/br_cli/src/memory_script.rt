@@ -1,0 +1,90 @@
+//! The command `serve` over memory, which is also what the program does without a command.
+ghost use Rattle.std.specs.Prelude.{◌≡◌, IfOk};
+ghost use Rattle.br_cli.specs.MemoryScriptEnding.{IsStatus, IsStatusOf, script_status};
+
+use br_cli_common::{CLEAN, REFUSED};
+use br_console::{ScriptEnd, ScriptFault, run_script};
+use br_engine::{Budget, Flush};
+use std::io::{self, BufRead, BufReader, BufWriter, ErrorKind};
+use std::sync::Wait;
+use std::thread::Threads;
+
+/// Returns the exit status of a script that ended so.
+fn status_of(end: ScriptEnd) -> u8
+    ensures { result ≡ script_status end }
+{
+    match end {
+        ScriptEnd::Clean => CLEAN,
+        ScriptEnd::Refused => REFUSED,
+    }
+}
+
+/// Flushes what a script wrote that ended so. Returns the exit status.
+pub(crate) fn flushed_end<W: Flush>(
+    end: Result<ScriptEnd, ScriptFault>,
+    writer: &mut W,
+) -> io::Result<u8>
+    ensures flushed { IfOk result (λ _. W.is_flushed writer.new) }
+    ensures status { IfOk result (IsStatusOf end) }
+    ensures known { IfOk result IsStatus }
+{
+    writer.flush_all()?;
+    Ok(status_of(end?))
+}
+
+/// Runs a script, and writes and flushes its answers. Returns the exit status.
+pub fn answer<R: BufRead, W: Flush>(
+    threads: &(impl Threads + Wait + Sync),
+    budget: Budget,
+    reader: &mut R,
+    writer: &mut W,
+) -> io::Result<u8>
+    ensures flushed { IfOk result (λ _. W.is_flushed writer.new) }
+    ensures status { IfOk result IsStatus }
+{
+    let end = run_script(threads, budget, reader, writer);
+    flushed_end(end, writer)
+}
+
+/// Runs the script of standard input, and writes its answers to standard output. Returns the exit status.
+fn run_input<R: Input + Print + AllocGlobal>(
+    rt: &R,
+    threads: &(impl Threads + Wait + Sync),
+    memory: u64,
+) -> io::Result<u8>
+    ensures { IfOk result IsStatus }
+{
+    let mut reader = BufReader::new(rt.alloc(), rt.reader())?;
+    let mut writer = BufWriter::new(rt.alloc(), io::writer(rt))?;
+    let budget = Budget {
+        alloc: rt.alloc(),
+        room: memory,
+    };
+    answer(threads, budget, &mut reader, &mut writer)
+}
+
+/// Returns the exit status of a script. An error for memory is a refusal of the script: it is printed as its
+/// last line.
+pub(crate) fn refuse_memory<R: Print>(rt: &R, status: io::Result<u8>) -> io::Result<u8>
+    requires { IfOk status IsStatus }
+    ensures { IfOk result IsStatus }
+{
+    match status {
+        Err(e) if e.kind() == ErrorKind::OutOfMemory => {
+            println!(rt; "refused 1")?;
+            Ok(REFUSED)
+        }
+        status => status,
+    }
+}
+
+/// Runs the script of standard input over memory. Returns the exit status.
+pub fn serve_memory<R: Input + Print + AllocGlobal>(
+    rt: &R,
+    threads: &(impl Threads + Wait + Sync),
+    memory: u64,
+) -> io::Result<u8>
+    ensures { IfOk result IsStatus }
+{
+    refuse_memory(rt, run_input(rt, threads, memory))
+}

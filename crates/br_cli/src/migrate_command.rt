@@ -1,0 +1,75 @@
+//! The command `migrate`.
+ghost use Rattle.std.specs.Prelude.{[], ◌≡◌, ◌++◌, IfOk, OnOk};
+ghost use Rattle.std.specs.Io.KnownBytes.{Appends};
+ghost use Rattle.br_cli.specs.MemoryScriptEnding.{IsStatus};
+ghost use Rattle.br_cli.specs.Migrating.{migrated_line};
+
+use br_cli_common::{CLEAN, refuse_start};
+use br_engine::{Flush, show};
+use br_keeper::{Catalogue, CatalogueFault};
+use br_types::push_number;
+use std::alloc::AllocError;
+use std::{fs, io};
+
+/// The word of the line `migrated N`, a blank, the digits of a number below 2 ^ 64, and the end of the line.
+const MOST_BYTES: usize = 30;
+
+/// Appends the line `migrated N`.
+fn push_migrated(text: &mut Vec<u8>, jobs: u64) -> Result<(), AllocError>
+    ensures { OnOk result (text.new.items ≡ text.old.items ++ migrated_line jobs) }
+{
+    text.extend_from_slice(b"migrated ")?;
+    push_number(text, jobs)?;
+    text.push(b'\n')?;
+    Ok(())
+}
+
+/// Writes the line `migrated N` and flushes it. The text, which is empty, has room for it.
+fn show_migrated<W: Flush>(mut text: Vec<u8>, writer: &mut W, jobs: u64) -> io::Result<()>
+    requires empty { text.items ≡ [] }
+    ensures written { OnOk result (Appends (W.contents writer.old) (W.contents writer.new) (migrated_line jobs)) }
+    ensures flushed { OnOk result (W.is_flushed writer.new) }
+{
+    push_migrated(&mut text, jobs)?;
+    show(writer, &text)
+}
+
+/// Makes the catalogue of version 1 in a file one of version 2, if the file is there. Returns the number of
+/// its jobs.
+fn migrate_file<C: Catalogue>(
+    rt: &HostRuntime,
+    catalogue: &C,
+    db: &str,
+) -> Result<u64, CatalogueFault>
+    ensures jobs { IfOk result (C.migrates catalogue.now db.now) }
+{
+    // A file that is not there would be made.
+    if fs::metadata(rt, db).is_err() {
+        return Err(CatalogueFault::Unreadable);
+    }
+    catalogue.migrate(db)
+}
+
+/// Makes the catalogue of version 1 in a file one of version 2, and prints `migrated N`, the number of its
+/// jobs. What is refused (45, 47) goes to standard error. Returns the exit status, 1 if it was refused.
+///
+/// # Errors
+///
+/// If memory ran out, or a stream failed.
+pub(crate) fn migrate_catalogue<C: Catalogue>(
+    rt: &HostRuntime,
+    catalogue: &C,
+    db: &str,
+) -> io::Result<u8>
+    ensures status { IfOk result IsStatus }
+{
+    // Memory for the line is taken first, so that none is refused once the file is migrated.
+    let text = Vec::with_capacity(rt.alloc(), MOST_BYTES)?;
+    match migrate_file(rt, catalogue, db) {
+        Ok(jobs) => {
+            show_migrated(text, &mut io::writer(rt), jobs)?;
+            Ok(CLEAN)
+        }
+        Err(fault) => refuse_start(rt, fault.number()),
+    }
+}

@@ -1,0 +1,2 @@
+pub mod ByteSize
+pub mod Words

@@ -1,0 +1,323 @@
+-- What the words of a command line ask for, by the definitions of clap.
+use Rattle.std.specs.Prelude.{◌≡◌, if◌then◌else◌, ℕ, ◌^◌, not, List, [], ◌∷◌, Bool, bytes_eq, codes, is_some, Option, Some, None, option_and_then, option_map, false, true}
+use Rattle.std.specs.Borrow.{Bor}
+use Rattle.std.specs.Str.Parse.{digits_value, without_leading_plus}
+use Rattle.clap.specs.Kinds.{Kinds, or_else}
+use Rattle.clap.specs.Simple.{subcommand_of}
+use Rattle.clap.specs.ValueTests.{is_unsigned_in}
+use Rattle.clap.specs.Walk.{Row, Text, first_of, one_of}
+use Rattle.clap.specs.Faults.{fault_of}
+use Rattle.clap.specs.declared.error.kind.ErrorKind.{ErrorKind}
+use Rattle.clap.specs.declared.error.kind.ErrorKind.TheVariants.{ArgumentConflict, MissingRequiredArgument, ValueValidation}
+use Rattle.clap.specs.Simple.{subcommand_rows_of}
+use Rattle.clap.specs.declared.parser.matches.ArgMatches.{ArgMatches}
+use Rattle.br_cli_clap.specs.ClapCommands.{program_app}
+use Rattle.br_cli_args.specs.ByteSize.{size_spelled}
+use Rattle.br_types.specs.declared.wanted.Copies.{Copies}
+use Rattle.br_types.specs.declared.wanted.Copies.TheVariants as copies
+use Rattle.br_types.specs.declared.wanted.Gaps.{Gaps}
+use Rattle.br_types.specs.declared.wanted.Gaps.TheVariants as gaps
+use Rattle.br_types.specs.declared.wanted.Wanted.{Wanted}
+use Rattle.br_cli_common.specs.declared.options.Checksums.{Checksums}
+use Rattle.br_cli_common.specs.declared.options.Checksums.TheVariants as checksums
+use Rattle.br_cli_common.specs.declared.options.Clock.{Clock}
+use Rattle.br_cli_common.specs.declared.options.Clock.TheVariants as clocks
+use Rattle.br_types.specs.declared.wanted.Start.{Start}
+use Rattle.br_types.specs.declared.wanted.Start.TheVariants as starts
+use Rattle.br_types.specs.declared.wanted.Stops.{Stops}
+use Rattle.br_types.specs.declared.wanted.Stops.TheVariants as stops
+use Rattle.br_cli_common.specs.declared.options.Progress.{Progress}
+use Rattle.br_cli_common.specs.declared.options.Progress.TheVariants as progress
+use Rattle.br_cli_common.specs.declared.options.Invocation.{Invocation}
+use Rattle.br_cli_common.specs.declared.options.Invocation.TheVariants as commands
+use Rattle.br_cli_common.specs.declared.options.Target.{Target}
+use Rattle.br_cli_common.specs.declared.options.Target.TheVariants as targets
+
+-- where the restored files go: nowhere, into a folder, and as a tar stream into a file or to standard output
+pub data Goal : Type 0 where
+  Nowhere : Goal
+  Folder : Text → Goal
+  TarFile : Text → Goal
+  TarOutput : Goal
+
+-- a command of the program: a script, and the memory for data; a script, a catalogue's file, the folder of the volumes and the memory; a
+-- bootstrap's file, the folder of the volumes, where the files go, the number of drives, the memory, what else is done, what the folder may
+-- hold, if progress is shown, and the file of a log if there is one; a catalogue's file, the folder of the volumes, client, file set and
+-- moment, where the files go, the number of drives, the memory, if progress is shown, and the file of a log if there is one; a bootstrap's
+-- file, the folder of the volumes, what is done with checksums and the memory; a catalogue's file, client, file set and moment of jobs, each
+-- if it is given, and in which time moments are shown; a catalogue's file; a number; all numbers
+pub data Asked : Type 0 where
+  Serve : ℕ → Asked
+  ServeFiles : Text → Text → ℕ → Asked
+  Extract : Text → Text → Goal → ℕ → ℕ → Wanted → Start → Progress → Option Text → Asked
+  Console : Text → Text → Text → Text → Text → Goal → ℕ → ℕ → Progress → Option Text → Asked
+  Check : Text → Text → Checksums → ℕ → Asked
+  Jobs : Text → Option Text → Option Text → Option Text → Clock → Asked
+  Migrate : Text → Asked
+  Explain : ℕ → Asked
+  ExplainAll : Asked
+
+-- where the program has the restored files go
+abbrev pub target : Target → Goal
+target targets.Nowhere = Nowhere
+target (targets.Folder folder) = Folder folder.now
+target (targets.TarFile file) = TarFile file.now
+target targets.TarOutput = TarOutput
+
+-- the text of an option's value, if it is given
+abbrev pub text_of : Option (Bor Text) → Option Text
+text_of value = option_map (λ s. s.now) value
+
+-- what the program holds of a command line
+abbrev pub asked : Invocation → Asked
+asked (commands.Serve memory) = Serve memory
+asked (commands.ServeFiles o) = ServeFiles o.db.now o.volumes.now o.memory
+asked (commands.Extract o) = Extract o.bsr.now o.volumes.now (target o.target) o.drives o.memory o.wanted o.start o.progress (text_of o.log)
+asked (commands.Console o) =
+    Console o.db.now o.volumes.now o.client.now o.fileset.now o.before.now (target o.target) o.drives o.memory o.progress (text_of o.log)
+asked (commands.Check o) = Check o.bsr.now o.volumes.now o.checksums o.memory
+asked (commands.Jobs o) = Jobs o.db.now (text_of o.client) (text_of o.fileset) (text_of o.before) o.clock
+asked (commands.Migrate db) = Migrate db.now
+asked (commands.Explain number) = Explain number
+asked commands.ExplainAll = ExplainAll
+
+-- the number that a text is, if it is one from `low` to `high`
+abbrev pub number_in : ℕ → ℕ → Text → Option ℕ
+number_in low high text = if is_unsigned_in low high text then Some (digits_value 10 (without_leading_plus text)) else None
+
+-- the number of drives, by the values that were found for the options
+unfoldable pub drives_asked : List Row → Option ℕ
+drives_asked rows = option_and_then (number_in 1 16) (one_of (codes "drives") rows)
+
+-- the memory for data, by the values that were found for the options
+unfoldable pub memory_asked : List Row → Option ℕ
+memory_asked rows = option_and_then size_spelled (first_of (codes "memory") rows)
+
+-- the memory for data, if nothing is asked for
+abbrev pub default_memory : ℕ
+default_memory = 2 ^ 30
+
+-- the number to explain
+unfoldable pub number_asked : List Row → Option ℕ
+number_asked rows = option_and_then (number_in 0 4294967295) (one_of (codes "number") rows)
+
+-- where a tar stream goes: - is standard output
+abbrev pub tar_target : Text → Goal
+tar_target file = if bytes_eq file (codes "-") then TarOutput else TarFile file
+
+-- where the restored files go by the values of `--into` and `--tar`, of which one may be given
+abbrev pub target_by : Option Text → Option Text → Option Goal
+target_by None None = Some Nowhere
+target_by (Some folder) None = Some (Folder folder)
+target_by None (Some file) = Some (tar_target file)
+target_by (Some folder) (Some file) = None
+
+-- the same by the values that were found for the options
+unfoldable pub target_asked : List Row → Option Goal
+target_asked rows = target_by (first_of (codes "into") rows) (first_of (codes "tar") rows)
+
+-- whether a value is that of an option that was given
+abbrev pub is_true : Option Text → Bool
+is_true None = false
+is_true (Some value) = bytes_eq value (codes "true")
+
+-- whether an option without a value was given
+abbrev pub is_given : Text → List Row → Bool
+is_given name rows = is_true (first_of name rows)
+
+-- which files are delivered: with `--newest` the newest copies
+abbrev pub copies_by : Bool → Copies
+copies_by is_newest = if is_newest then copies.Newest else copies.All
+
+-- the same by the values that were found for the options
+unfoldable pub copies_asked : List Row → Copies
+copies_asked rows = copies_by (is_given (codes "newest") rows)
+
+-- whether missing indexes are reported: with `--complete`
+abbrev pub gaps_by : Bool → Gaps
+gaps_by is_complete = if is_complete then gaps.Reported else gaps.Unreported
+
+-- the same by the values that were found for the options
+unfoldable pub gaps_asked : List Row → Gaps
+gaps_asked rows = gaps_by (is_given (codes "complete") rows)
+
+-- what the delivery does at a file that can't be put: with `--keep-going` it goes on
+abbrev pub stops_by : Bool → Stops
+stops_by goes_on = if goes_on then stops.Never else stops.AtFirst
+
+-- the same by the values that were found for the options
+unfoldable pub stops_asked : List Row → Stops
+stops_asked rows = stops_by (is_given (codes "keep-going") rows)
+
+-- what else `extract` does
+abbrev pub wanted_asked : List Row → Wanted
+wanted_asked rows = record { copies = copies_asked rows; gaps = gaps_asked rows; stops = stops_asked rows }
+
+-- if a terminal is told how far a restore is: unless `--quiet` is given
+abbrev pub progress_by : Bool → Progress
+progress_by is_quiet = if is_quiet then progress.Quiet else progress.Shown
+
+-- the same by the values that were found for the options
+unfoldable pub progress_asked : List Row → Progress
+progress_asked rows = progress_by (is_given (codes "quiet") rows)
+
+-- the file of a log, if there is one
+abbrev pub log_asked : List Row → Option Text
+log_asked rows = first_of (codes "log") rows
+
+-- what `check` does with checksums: with `--checksums` it compares them
+abbrev pub checksums_by : Bool → Checksums
+checksums_by is_compared = if is_compared then checksums.Compared else checksums.Passed
+
+-- the same by the values that were found for the options
+unfoldable pub checksums_asked : List Row → Checksums
+checksums_asked rows = checksums_by (is_given (codes "checksums") rows)
+
+-- the command `explain` by the value that was found, if any
+unfoldable pub explain_asked : List Row → Option Asked
+explain_asked rows =
+    if is_some (first_of (codes "number") rows) then option_map Explain (number_asked rows)
+    else Some ExplainAll
+
+-- what the folder of a restore may hold: with `--resume` what a restore that was cut off has put there
+abbrev pub start_by : Bool → Start
+start_by is_resumed = if is_resumed then starts.Resumed else starts.Empty
+
+-- the same by the values that were found for the options
+unfoldable pub start_asked : List Row → Start
+start_asked rows = start_by (is_given (codes "resume") rows)
+
+-- the same by where the files go: only a folder may hold something
+abbrev pub start_for : Goal → Start → Option Start
+start_for (Folder folder) start = Some start
+start_for Nowhere starts.Empty = Some starts.Empty
+start_for Nowhere starts.Resumed = None
+start_for (TarFile file) starts.Empty = Some starts.Empty
+start_for (TarFile file) starts.Resumed = None
+start_for TarOutput starts.Empty = Some starts.Empty
+start_for TarOutput starts.Resumed = None
+
+-- the command `extract` by the values that were found for its options
+unfoldable pub extract_asked : List Row → Option Asked
+extract_asked rows =
+    option_and_then (λ bsr.
+    option_and_then (λ volumes.
+    option_and_then (λ goal.
+    option_and_then (λ drives.
+    option_and_then (λ memory.
+    option_map (λ start. Extract bsr volumes goal drives memory (wanted_asked rows) start (progress_asked rows) (log_asked rows))
+    (start_for goal (start_asked rows)))
+    (memory_asked rows))
+    (drives_asked rows))
+    (target_asked rows))
+    (first_of (codes "volumes") rows))
+    (first_of (codes "bsr") rows)
+
+-- the command `console` by the values that were found for its options
+unfoldable pub console_asked : List Row → Option Asked
+console_asked rows =
+    option_and_then (λ db.
+    option_and_then (λ volumes.
+    option_and_then (λ client.
+    option_and_then (λ fileset.
+    option_and_then (λ before.
+    option_and_then (λ goal.
+    option_and_then (λ drives.
+    option_map (λ memory. Console db volumes client fileset before goal drives memory (progress_asked rows) (log_asked rows)) (memory_asked rows))
+    (drives_asked rows))
+    (target_asked rows))
+    (first_of (codes "before") rows))
+    (first_of (codes "fileset") rows))
+    (first_of (codes "client") rows))
+    (first_of (codes "volumes") rows))
+    (first_of (codes "db") rows)
+
+-- the command `check` by the values that were found for its options
+unfoldable pub check_asked : List Row → Option Asked
+check_asked rows =
+    option_and_then (λ bsr.
+    option_and_then (λ volumes. option_map (λ memory. Check bsr volumes (checksums_asked rows) memory) (memory_asked rows))
+    (first_of (codes "volumes") rows))
+    (first_of (codes "bsr") rows)
+
+-- in which time moments are shown: with `--local` in that of the system, too
+abbrev pub clock_by : Bool → Clock
+clock_by is_local = if is_local then clocks.UtcAndLocal else clocks.Utc
+
+-- the same by the values that were found for the options
+unfoldable pub clock_asked : List Row → Clock
+clock_asked rows = clock_by (is_given (codes "local") rows)
+
+-- the command `jobs` by the values that were found for its options
+unfoldable pub jobs_asked : List Row → Option Asked
+jobs_asked rows =
+    option_map
+    (λ db. Jobs db (first_of (codes "client") rows) (first_of (codes "fileset") rows) (first_of (codes "before") rows) (clock_asked rows))
+    (first_of (codes "db") rows)
+
+-- the command `serve` by the values of `--db` and `--volumes`, which go together, and the memory
+abbrev pub serve_by : Option Text → Option Text → ℕ → Option Asked
+serve_by None None memory = Some (Serve memory)
+serve_by (Some db) (Some volumes) memory = Some (ServeFiles db volumes memory)
+serve_by (Some db) None memory = None
+serve_by None (Some volumes) memory = None
+
+-- the same by the values that were found for the options
+unfoldable pub serve_asked : List Row → Option Asked
+serve_asked rows = option_and_then (serve_by (first_of (codes "db") rows) (first_of (codes "volumes") rows)) (memory_asked rows)
+
+-- the command `migrate` by the value that was found for its option
+unfoldable pub migrate_asked : List Row → Option Asked
+migrate_asked rows = option_map Migrate (first_of (codes "db") rows)
+
+-- the command by the name of the subcommand and what was found for its options; with no subcommand it is a script
+unfoldable pub asked_by : Option (Text × List Row) → Option Asked
+asked_by None = Some (Serve default_memory)
+asked_by (Some (name, rows)) =
+    if bytes_eq name (codes "extract") then extract_asked rows
+    else if bytes_eq name (codes "console") then console_asked rows
+    else if bytes_eq name (codes "check") then check_asked rows
+    else if bytes_eq name (codes "jobs") then jobs_asked rows
+    else if bytes_eq name (codes "explain") then explain_asked rows
+    else if bytes_eq name (codes "serve") then serve_asked rows
+    else if bytes_eq name (codes "migrate") then migrate_asked rows
+    else None
+
+-- the command that words ask for, the first of which is the program's name
+unfoldable pub words_asked : List Text → Option Asked
+words_asked words = asked_by (subcommand_of program_app words)
+
+-- the words ask for the command that was found in them
+abbrev pub AsksFor : List Text → ArgMatches → Type 0
+AsksFor words found = words_asked words ≡ asked_by (subcommand_rows_of found)
+
+-- whether a value is no size
+abbrev pub is_no_size : Option Text → Bool
+is_no_size None = false
+is_no_size (Some value) = not (is_some (size_spelled value))
+
+-- the kind of fault of options that ask for no command: two that exclude each other, a value that is no size, or one that is missing
+abbrev pub kind_in : List Row → ErrorKind
+kind_in rows =
+    if not (is_some (target_asked rows)) then ArgumentConflict
+    else if is_no_size (first_of (codes "memory") rows) then ValueValidation
+    else MissingRequiredArgument
+
+-- the same by the subcommand that was found, if any
+unfoldable pub kind_by : Option (Text × List Row) → ErrorKind
+kind_by None = MissingRequiredArgument
+kind_by (Some (name, rows)) = kind_in rows
+
+-- the kind of fault of words that ask for no command
+unfoldable pub words_kind : List Text → ErrorKind
+words_kind words = kind_by (subcommand_of program_app words)
+
+-- this is the kind of fault by what was found in the words
+abbrev pub MissesBy : List Text → ArgMatches → Type 0
+MissesBy words found = words_kind words ≡ kind_by (subcommand_rows_of found)
+
+-- the kinds of fault that words have, none if they are taken
+unfoldable pub words_fault : List Text → Kinds
+words_fault words =
+    or_else (fault_of program_app words)
+    (if is_some (words_asked words) then [] else words_kind words ∷ [])

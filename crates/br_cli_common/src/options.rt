@@ -1,0 +1,142 @@
+use br_types::{Start, Wanted};
+
+/// Where the restored files go.
+#[derive(Clone, Copy, Debug, PartialEq, Eq)]
+pub enum Target<'a> {
+    /// Nowhere: the manifest alone is printed.
+    Nowhere,
+    /// Into this folder.
+    Folder(&'a str),
+    /// Into this new file, as a tar stream.
+    TarFile(&'a str),
+    /// To standard output, as a tar stream.
+    TarOutput,
+}
+
+/// If a terminal on standard error is told how far a restore is.
+#[derive(Clone, Copy, Debug, PartialEq, Eq)]
+pub enum Progress {
+    /// A line tells it while the restore runs.
+    Shown,
+    /// Nothing tells it.
+    Quiet,
+}
+
+/// The options of `extract`.
+#[derive(Clone, Copy, Debug, PartialEq, Eq)]
+pub struct ExtractOptions<'a> {
+    /// The file of the bootstrap.
+    pub bsr: &'a str,
+    /// The folder of the volumes.
+    pub volumes: &'a str,
+    pub target: Target<'a>,
+    /// The number of drives that read the volumes at once, from 1 to 16.
+    pub drives: usize,
+    /// The number of bytes of data that are held in memory.
+    pub memory: u64,
+    pub wanted: Wanted,
+    /// What the folder of the target may hold. Other targets are new.
+    pub start: Start,
+    pub progress: Progress,
+    /// The file that a log of the restore is appended to, if there is one.
+    pub log: Option<&'a str>,
+}
+
+/// What `check` does with the checksums of blocks.
+#[derive(Clone, Copy, Debug, PartialEq, Eq)]
+pub enum Checksums {
+    /// It passes over them.
+    Passed,
+    /// It reads whole blocks and compares the checksum of each.
+    Compared,
+}
+
+/// The options of `check`.
+#[derive(Clone, Copy, Debug, PartialEq, Eq)]
+pub struct CheckOptions<'a> {
+    /// The file of the bootstrap.
+    pub bsr: &'a str,
+    /// The folder of the volumes.
+    pub volumes: &'a str,
+    pub checksums: Checksums,
+    /// The number of bytes of data that a restore would hold in memory.
+    pub memory: u64,
+}
+
+/// The options of `console`.
+#[derive(Clone, Copy, Debug, PartialEq, Eq)]
+pub struct ConsoleOptions<'a> {
+    /// The file of the catalogue.
+    pub db: &'a str,
+    /// The folder of the volumes.
+    pub volumes: &'a str,
+    pub client: &'a str,
+    pub fileset: &'a str,
+    /// The moment, as text.
+    pub before: &'a str,
+    pub target: Target<'a>,
+    /// The number of drives that read the volumes at once, from 1 to 16.
+    pub drives: usize,
+    /// The number of bytes of data that are held in memory.
+    pub memory: u64,
+    pub progress: Progress,
+    /// The file that a log of the session is appended to, if there is one.
+    pub log: Option<&'a str>,
+}
+
+/// The options of `serve` over files.
+#[derive(Clone, Copy, Debug, PartialEq, Eq)]
+pub struct ServeOptions<'a> {
+    /// The file of the catalogue.
+    pub db: &'a str,
+    /// The folder of the volumes.
+    pub volumes: &'a str,
+    /// The number of bytes of data that a restore holds in memory.
+    pub memory: u64,
+}
+
+/// In which time the moments of jobs are shown.
+#[derive(Clone, Copy, Debug, PartialEq, Eq)]
+pub enum Clock {
+    /// In UTC.
+    Utc,
+    /// In UTC, and in the time zone of this system.
+    UtcAndLocal,
+}
+
+/// The options of `jobs`. A job is listed if it is of the client and of the file set and began before the moment, of those
+/// that are given.
+#[derive(Clone, Copy, Debug, PartialEq, Eq)]
+pub struct JobsOptions<'a> {
+    /// The file of the catalogue.
+    pub db: &'a str,
+    pub client: Option<&'a str>,
+    pub fileset: Option<&'a str>,
+    /// The moment, as text.
+    pub before: Option<&'a str>,
+    pub clock: Clock,
+}
+
+/// A command of the program with its options.
+#[derive(Clone, Copy, Debug, PartialEq, Eq)]
+pub enum Invocation<'a> {
+    /// Runs a script from standard input, with its jobs and volumes in memory, and this number of bytes
+    /// of data that a restore holds.
+    Serve(u64),
+    /// Runs a script from standard input, with its jobs in a catalogue and its volumes in a folder.
+    ServeFiles(ServeOptions<'a>),
+    /// Runs a bootstrap over the volumes of a folder.
+    Extract(ExtractOptions<'a>),
+    /// Runs a console session over the jobs of a catalogue, and restores what was marked.
+    Console(ConsoleOptions<'a>),
+    /// Checks a bootstrap over the volumes of a folder.
+    Check(CheckOptions<'a>),
+    /// Lists the jobs of a catalogue.
+    Jobs(JobsOptions<'a>),
+    /// Makes the catalogue of version 1 in this file one of version 2.
+    Migrate(&'a str),
+    /// Explains the number of a refusal or of an outcome.
+    Explain(u32),
+    /// Explains all numbers.
+    ExplainAll,
+}

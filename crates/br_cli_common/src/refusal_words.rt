@@ -1,0 +1,31 @@
+//! Words beside a refusal.
+
+use crate::refusal_lines::{push_words, refused_number};
+use std::io::{self, IsTerminal, Write};
+
+/// Returns true if standard error is a terminal.
+pub fn is_shown(rt: &HostRuntime) -> bool {
+    rt.stderr().is_terminal()
+}
+
+/// Prints what the refusal with this number means and what to do next to standard error, if that is a
+/// terminal.
+pub fn tell_refusal(rt: &HostRuntime, number: u32) -> io::Result<()> {
+    if !is_shown(rt) {
+        return Ok(());
+    }
+    let mut text = Vec::new(rt.alloc());
+    push_words(&mut text, number)?;
+    rt.stderr().write_all(&text)
+}
+
+/// Prints of each line `refused N` of a text what it means and what to do next to standard error, if that
+/// is a terminal.
+pub fn tell_refusals(rt: &HostRuntime, text: &[u8]) -> io::Result<()> {
+    for line in text.split(|byte| *byte == b'\n') {
+        if let Some(number) = refused_number(line) {
+            tell_refusal(rt, number)?;
+        }
+    }
+    Ok(())
+}

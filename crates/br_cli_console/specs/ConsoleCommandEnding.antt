@@ -1,0 +1,57 @@
+-- How a run of the console ends.
+use Rattle.std.specs.Prelude.{ℕ, List, [], Result, Ok, Err}
+use Rattle.br_engine.specs.Outputs.{end_text}
+use Rattle.br_engine.specs.declared.outputs.RestoreEnd.TheVariants.{AllFiles, SomeFaults, Stopped}
+use Rattle.br_console.specs.ConsoleFault.{fault_text}
+use Rattle.br_console.specs.declared.ending.Lines.{Lines}
+use Rattle.br_console.specs.declared.ending.Lines.TheVariants.{AllAccepted, SomeRefused}
+use Rattle.br_console.specs.declared.ending.End.{End}
+use Rattle.br_console.specs.declared.ending.End.TheVariants.{Done, Quit}
+use Rattle.br_console.specs.declared.ending.ConsoleRun.{ConsoleRun}
+use Rattle.br_console.specs.declared.console_fault.ConsoleFault.{ConsoleFault}
+use Rattle.br_console.specs.declared.console_fault.ConsoleFault.TheVariants.{Io, NoEnd}
+use Rattle.br_cli_target.specs.declared.target_tar.Extent.{Extent}
+use Rattle.br_cli_target.specs.declared.target_tar.Extent.TheVariants.{All, Part}
+
+abbrev pub fault_status : ConsoleFault → ℕ
+fault_status (Io e) = 3
+fault_status (NoEnd turns) = 3
+fault_status _ = 1
+
+-- 0 if no line was refused
+abbrev pub lines_status : Lines → ℕ
+lines_status AllAccepted = 0
+lines_status SomeRefused = 1
+
+-- 1 if some outcome is not a file or the delivery stopped; otherwise the status of the lines
+abbrev pub status_by : Lines → End → ℕ
+status_by lines Quit = lines_status lines
+status_by lines (Done AllFiles) = lines_status lines
+status_by lines (Done SomeFaults) = 1
+status_by lines (Done (Stopped stop)) = 1
+
+-- how many of the marked files a session put into its sink; if it was quit, there are none
+abbrev pub extent_by : End → Extent
+extent_by Quit = All
+extent_by (Done AllFiles) = All
+extent_by (Done SomeFaults) = All
+extent_by (Done (Stopped stop)) = Part
+
+abbrev pub extent : Result ConsoleRun ConsoleFault → Extent
+extent (Ok run) = extent_by run.end
+extent (Err fault) = Part
+
+-- the line of a delivery that stopped
+abbrev pub end_line : End → List ℕ
+end_line Quit = []
+end_line (Done end) = end_text end
+
+-- 3 if reading or writing failed or the lines have no end, 1 for any other fault
+abbrev pub run_status : Result ConsoleRun ConsoleFault → ℕ
+run_status (Ok run) = status_by run.lines run.end
+run_status (Err fault) = fault_status fault
+
+-- the line of the refusal or of the stop, if there is one
+abbrev pub run_refusal : Result ConsoleRun ConsoleFault → List ℕ
+run_refusal (Ok run) = end_line run.end
+run_refusal (Err fault) = fault_text fault

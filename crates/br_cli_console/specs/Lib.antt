@@ -1,0 +1,6 @@
+pub mod AskedJobs
+pub mod ConsoleCommandEnding
+pub mod ConsoleStarting
+pub mod ConsoleTasks
+pub mod LocalCommands
+pub mod DirLines

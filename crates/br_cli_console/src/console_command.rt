@@ -1,0 +1,568 @@
+//! The command `console`.
+ghost use Rattle.std.specs.Prelude.{◌≡◌, ◌++◌, length, not, option_map, None, Some, Ok, IfOk, IfSome, IsSome, OnOk};
+ghost use Rattle.br_model.specs.Answer.{Answers};
+ghost use Rattle.br_cli_common.specs.Options.{AreFew};
+ghost use Rattle.br_pool.specs.Pool.{AreDrives};
+ghost use Rattle.br_plan.specs.RequestWords.{cause};
+ghost use Rattle.br_keeper.specs.Catalogue.{AreJobs};
+ghost use Rattle.br_volume.specs.HostDrives.{AreOver};
+ghost use Rattle.br_cli_console.specs.AskedJobs.{request_asked};
+ghost use Rattle.br_cli_target.specs.AskedTarget.{folder_asked, stream_asked};
+ghost use Rattle.br_cli_console.specs.ConsoleCommandEnding.{end_line, extent, extent_by, run_refusal, run_status, status_by};
+ghost use Rattle.br_cli_console.specs.ConsoleStarting.{start_number};
+ghost use Rattle.br_cli_target.specs.TarEnding.{IsShown};
+ghost use Rattle.br_cli_console.specs.ConsoleTasks.{RunsOver, StreamsOver};
+ghost use Rattle.br_cli_console.specs.declared.console_command.ConsoleStartFault.TheVariants as start;
+
+use crate::chosen_jobs::tell_chosen;
+use crate::helped_reader::with_help;
+use br_cli_common::{CLEAN, ConsoleOptions, REFUSED, Target, with_prompt};
+use br_cli_progress::{Gauge, WatchedSink};
+use br_cli_target::{
+    BAD_STREAM, Channel, Ending, Extent, HostSink, RestoreIo, Streamed, TarFault, Told,
+    add_tar_end, end_stream, folder_of, gauge_of, lacks_volumes, log_fault, refuse_log,
+    refuse_place, say_nowhere, say_stop, say_volumes, sink_over, tar_into, tar_onto, tell_outcomes,
+};
+use br_console::{ConsoleFault, ConsoleRun, End, JobSelection, Lines, run_console};
+use br_engine::{Budget, Flush, Outputs, RestoreEnd};
+use br_history::History;
+use br_keeper::{Catalogue, CatalogueFault};
+use br_plan::{Request, RequestFault, read_request};
+use br_sink::Sink;
+use br_sink_folder::FolderFault;
+use br_sink_tar::TarSink;
+use br_types::Path;
+use br_volume::{Drive, HostDrive};
+use std::alloc::{AllocError, Global};
+use std::cell::OnceCell;
+use std::fs::{self, File};
+use std::io::{self, BufRead, BufReader, BufWriter, ErrorKind, Printer};
+use std::sync::Wait;
+use std::thread::Threads;
+use thiserror::Error;
+
+/// What an operator at a terminal reads before the first line.
+const GREETING: &str =
+    "Mark files with `mark NAME`, or all with `mark *`. `ls` lists, `cd NAME` goes into a folder.
+`done` restores what is marked, and `quit` restores nothing. `help` lists all commands.";
+
+/// Returns the exit status of a run that was not refused.
+fn status_of(run: &ConsoleRun) -> u8
+    ensures { result ≡ status_by run.now.lines run.now.end }
+{
+    match &run.end {
+        End::Quit | End::Done(RestoreEnd::AllFiles) => match run.lines {
+            Lines::AllAccepted => CLEAN,
+            Lines::SomeRefused => REFUSED,
+        },
+        End::Done(RestoreEnd::SomeFaults | RestoreEnd::Stopped(_)) => REFUSED,
+    }
+}
+
+/// Appends the line of a delivery that stopped, and nothing otherwise.
+fn push_stop(text: &mut Vec<u8>, run: &ConsoleRun) -> Result<(), AllocError>
+    ensures { OnOk result (text.new.items ≡ text.old.items ++ end_line run.now.end) }
+{
+    match &run.end {
+        End::Quit => Ok(()),
+        End::Done(end) => end.push_line(text),
+    }
+}
+
+/// Returns the exit status and the refusal line for this result.
+pub fn console_ending(
+    alloc: Global,
+    run: &Result<ConsoleRun, ConsoleFault>,
+) -> Result<Ending, AllocError>
+    ensures status { IfOk result (λ ending. ending.status ≡ run_status run.now) }
+    ensures refusal { IfOk result (λ ending. ending.refusal.items ≡ run_refusal run.now) }
+{
+    let mut refusal = Vec::new(alloc);
+    let status = match run {
+        Ok(run) => {
+            push_stop(&mut refusal, run)?;
+            status_of(run)
+        }
+        Err(ConsoleFault::Io(_) | ConsoleFault::NoEnd(_)) => BAD_STREAM,
+        Err(fault) => {
+            fault.push_line(&mut refusal)?;
+            REFUSED
+        }
+    };
+    Ok(Ending { status, refusal })
+}
+
+/// Prints to standard error that a stream failed, if one did.
+fn report_stream<R: Eprint>(rt: &R, fault: &ConsoleFault) -> io::Result<()> {
+    match fault {
+        ConsoleFault::Io(e) if e.kind() == ErrorKind::InvalidData => {
+            eprintln!(rt; "brestore: {e}")
+        }
+        ConsoleFault::Io(e) => eprintln!(rt; "brestore: standard input or output: {e}"),
+        ConsoleFault::NoEnd(e) => eprintln!(rt; "brestore: standard input or output: {e}"),
+        _ => Ok(()),
+    }
+}
+
+/// Prints that a stream failed, if one did, and appends it to the log.
+fn tell_stream(rt: &HostRuntime, gauge: &Gauge<'_>, fault: &ConsoleFault) -> io::Result<()> {
+    report_stream(rt, fault)?;
+    match fault {
+        ConsoleFault::Io(e) if e.kind() == ErrorKind::InvalidData => {
+            log_fault(rt, gauge, None, fault)
+        }
+        ConsoleFault::Io(_) | ConsoleFault::NoEnd(_) => {
+            log_fault(rt, gauge, Some("standard input or output"), fault)
+        }
+        _ => Ok(()),
+    }
+}
+
+/// Tells a terminal, unless it is to be quiet, that nothing was restored.
+fn say_quit(gauge: &Gauge<'_>) -> io::Result<()> {
+    if gauge.is_shown() {
+        return gauge.say("nothing was restored. `done` restores what is marked.");
+    }
+    Ok(())
+}
+
+/// Tells a terminal and the log why the delivery stopped, if it did, or that nothing was written. The sink failed at a
+/// file with the first of the paths.
+fn say_end(
+    rt: &HostRuntime,
+    gauge: &Gauge<'_>,
+    target: Target<'_>,
+    end: &End,
+    failed: Option<&Path>,
+) -> io::Result<()> {
+    match end {
+        End::Quit => say_quit(gauge),
+        End::Done(end) => {
+            say_stop(rt, gauge, target, end, failed)?;
+            say_nowhere(gauge, target)
+        }
+    }
+}
+
+/// Prints how a run ended to standard error, and tells a terminal and the log what it means. The ending has what
+/// else is refused. Returns the exit status.
+fn report(
+    rt: &HostRuntime,
+    gauge: &Gauge<'_>,
+    given: &ConsoleOptions<'_>,
+    (told, failed): (&Told<'_>, Option<&Path>),
+    run: &Result<ConsoleRun, ConsoleFault>,
+    ending: &Ending,
+) -> io::Result<u8> {
+    if let Err(fault) = run {
+        tell_stream(rt, gauge, fault)?;
+    }
+    gauge.log_refusals(&ending.refusal);
+    let status = ending.print(rt)?;
+    match run {
+        Ok(run) => say_end(rt, gauge, given.target, &run.end, failed)?,
+        Err(ConsoleFault::Piece(fault)) if lacks_volumes(fault) => {
+            say_volumes(rt, gauge, given.volumes, told)?
+        }
+        Err(_) => {}
+    }
+    tell_outcomes(rt, gauge, given.volumes, told)?;
+    gauge.tell_end()?;
+    Ok(status)
+}
+
+/// Why no session began.
+#[derive(Debug, Drop, Error)]
+pub enum ConsoleStartFault {
+    #[error("out of memory")]
+    Memory,
+    /// Client, file set or moment were refused.
+    #[error("{0}")]
+    Request(RequestFault),
+    /// The folder to deliver into was refused.
+    #[error("{0}")]
+    Folder(FolderFault),
+    /// The file to write a tar stream into was refused.
+    #[error("{0}")]
+    Tar(TarFault),
+    #[error("the file of the catalogue is not there")]
+    NoCatalogue,
+    /// The catalogue was refused.
+    #[error("{0}")]
+    Catalogue(CatalogueFault),
+}
+
+impl From<RequestFault> for ConsoleStartFault {
+    ghost from_gives = { λ fault e. e ≡ start.Request fault };
+
+    fn from(fault: RequestFault) -> ConsoleStartFault {
+        ConsoleStartFault::Request(fault)
+    }
+}
+
+impl From<FolderFault> for ConsoleStartFault {
+    ghost from_gives = { λ fault e. e ≡ start.Folder fault };
+
+    fn from(fault: FolderFault) -> ConsoleStartFault {
+        ConsoleStartFault::Folder(fault)
+    }
+}
+
+impl From<TarFault> for ConsoleStartFault {
+    ghost from_gives = { λ fault e. e ≡ start.Tar fault };
+
+    fn from(fault: TarFault) -> ConsoleStartFault {
+        ConsoleStartFault::Tar(fault)
+    }
+}
+
+impl From<CatalogueFault> for ConsoleStartFault {
+    ghost from_gives = { λ fault e. e ≡ start.Catalogue fault };
+
+    fn from(fault: CatalogueFault) -> ConsoleStartFault {
+        ConsoleStartFault::Catalogue(fault)
+    }
+}
+
+impl From<AllocError> for ConsoleStartFault {
+    ghost from_gives = { λ _ e. e ≡ start.Memory };
+
+    fn from(_e: AllocError) -> ConsoleStartFault {
+        ConsoleStartFault::Memory
+    }
+}
+
+impl ConsoleStartFault {
+    /// Returns the number of the refusal: 1 out of memory, 2 client or file set, 52 the moment, 81 the
+    /// folder or the file of a tar stream, 45 and 47 the catalogue.
+    pub fn number(&self) -> u32
+        ensures { result ≡ start_number self.now }
+    {
+        match self {
+            ConsoleStartFault::Memory => 1,
+            ConsoleStartFault::Request(fault) => fault.number(),
+            ConsoleStartFault::Folder(fault) => fault.number(),
+            ConsoleStartFault::Tar(fault) => fault.number(),
+            ConsoleStartFault::NoCatalogue => 45,
+            ConsoleStartFault::Catalogue(fault) => fault.number(),
+        }
+    }
+}
+
+/// Loads the jobs in the file of a catalogue, if the file is there.
+fn jobs_in<C: Catalogue>(
+    rt: &HostRuntime,
+    catalogue: &C,
+    db: &str,
+) -> Result<History, ConsoleStartFault>
+    ensures jobs { IfOk result (λ history. AreJobs (C.jobs_at catalogue.now db.now) history) }
+{
+    // No catalogue is asked for a file that is not there.
+    if fs::metadata(rt, db).is_err() {
+        return Err(ConsoleStartFault::NoCatalogue);
+    }
+    Ok(catalogue.load(db)?)
+}
+
+/// The jobs of a catalogue, and which of them to choose.
+#[derive(Drop)]
+pub struct ConsoleJobs {
+    history: History,
+    request: Request,
+}
+
+/// What a session is over, and by what means it restores.
+type ConsoleSetup<'r, W, S> = (ConsoleJobs, RestoreIo<HostDrive<'r>, W, S>);
+
+/// Reads the client, the file set and the moment that were given.
+fn request_of(alloc: Global, given: &ConsoleOptions<'_>) -> Result<Request, RequestFault>
+    ensures asked { Answers (λ request. request) cause result (request_asked given.now) }
+{
+    read_request(alloc, given.client, given.fileset, given.before)
+}
+
+/// Makes all that is there before a line is read, to deliver into a folder if there is one: client and file
+/// set (2), moment (52), the folder (81), and the catalogue (45, 47) are tested in this order.
+pub fn set_up_console<'r, C: Catalogue, W: Drop>(
+    rt: &'r HostRuntime,
+    catalogue: &C,
+    given: &ConsoleOptions<'_>,
+    writer: W,
+) -> Result<ConsoleSetup<'r, W, HostSink<'r>>, ConsoleStartFault>
+    ensures asked { IfOk result (λ setup. request_asked given.now ≡ Ok setup.0.request) }
+    ensures into { IfOk result (λ setup. option_map (λ s. s.path) setup.1.out.sink ≡ folder_asked given.now.target) }
+    ensures jobs { IfOk result (λ setup. AreJobs (C.jobs_at catalogue.now given.now.db.now) setup.0.history) }
+    ensures memory { IfOk result (λ setup. setup.1.memory ≡ given.now.memory) }
+    ensures drives { IfOk result (λ setup. length setup.1.drives.items ≡ given.now.drives) }
+    ensures volumes { IfOk result (λ setup. AreOver given.now.volumes.now setup.1.drives.items) }
+{
+    let request = request_of(rt.alloc(), given)?;
+    let sink = sink_over(rt, folder_of(given.target))?;
+    set_up_over(rt, catalogue, given, request, Outputs { writer, sink })
+}
+
+/// Makes what else is there before a line is read, beside the request and the outputs.
+fn set_up_over<'r, C: Catalogue, W: Drop, S: Drop>(
+    rt: &'r HostRuntime,
+    catalogue: &C,
+    given: &ConsoleOptions<'_>,
+    request: Request,
+    out: Outputs<W, S>,
+) -> Result<ConsoleSetup<'r, W, S>, ConsoleStartFault>
+    ensures request { IfOk result (λ setup. setup.0.request ≡ request) }
+    ensures out { IfOk result (λ setup. setup.1.out ≡ out) }
+    ensures jobs { IfOk result (λ setup. AreJobs (C.jobs_at catalogue.now given.now.db.now) setup.0.history) }
+    ensures memory { IfOk result (λ setup. setup.1.memory ≡ given.now.memory) }
+    ensures drives { IfOk result (λ setup. length setup.1.drives.items ≡ given.now.drives) }
+    ensures volumes { IfOk result (λ setup. AreOver given.now.volumes.now setup.1.drives.items) }
+{
+    let history = jobs_in(rt, catalogue, given.db)?;
+    let io = RestoreIo::over(rt, given.volumes, given.drives, given.memory, out)?;
+    Ok((ConsoleJobs { history, request }, io))
+}
+
+/// Runs a session by the lines of a reader. The answers, the bootstrap and the manifest go to the writer,
+/// and then the files into the sink, if there is one.
+pub fn console_over<R: BufRead + Drop, D: Drive + Send, W: Flush + Drop, S: Sink>(
+    threads: &(impl Threads + Wait + Sync),
+    alloc: Global,
+    jobs: &ConsoleJobs,
+    io: &mut RestoreIo<D, W, S>,
+    reader: &mut R,
+) -> Result<ConsoleRun, ConsoleFault>
+    requires drives { AreDrives io.old.drives.items }
+    requires shown { W.is_flushed io.old.out.writer }
+    ensures delivers { RunsOver (R.remaining reader.old) D.shows W.contents S.has jobs.now io.old io.new result }
+    ensures flushed { OnOk result (W.is_flushed io.new.out.writer) }
+{
+    let asked = JobSelection {
+        history: &jobs.history,
+        request: &jobs.request,
+    };
+    let budget = Budget {
+        alloc,
+        room: io.memory,
+    };
+    run_console(threads, budget, &asked, reader, &mut io.drives, &mut io.out)
+}
+
+/// Returns how many of the marked files a run put into its sink.
+fn extent_of(run: &Result<ConsoleRun, ConsoleFault>) -> Extent
+    ensures { result ≡ extent run.now }
+{
+    match run {
+        Ok(run) => extent_by(&run.end),
+        Err(_) => Extent::Part,
+    }
+}
+
+/// Returns the same by the end of a session. One that was quit has no files to put.
+fn extent_by(end: &End) -> Extent
+    ensures { result ≡ extent_by end.now }
+{
+    match end {
+        End::Quit | End::Done(RestoreEnd::AllFiles | RestoreEnd::SomeFaults) => Extent::All,
+        End::Done(RestoreEnd::Stopped(_)) => Extent::Part,
+    }
+}
+
+/// Runs a session whose sink writes a tar stream, and ends the stream if all files were put.
+fn console_stream<R: BufRead + Drop, D: Drive + Send, W: Flush + Drop, T: Flush + Drop>(
+    threads: &(impl Threads + Wait + Sync),
+    alloc: Global,
+    jobs: &ConsoleJobs,
+    io: &mut RestoreIo<D, W, WatchedSink<'_, '_, TarSink<T>>>,
+    reader: &mut R,
+) -> Streamed<Result<ConsoleRun, ConsoleFault>, T>
+    requires drives { AreDrives io.old.drives.items }
+    requires shown { W.is_flushed io.old.out.writer }
+    requires sink { IsSome io.old.out.sink }
+    ensures streams { StreamsOver (R.remaining reader.old) D.shows W.contents T.contents jobs.now io.old io.new result }
+    ensures flushed { OnOk result.run (W.is_flushed io.new.out.writer) }
+    ensures shown { IfSome result.writer (λ w. IsShown (T.is_flushed w) result.end) }
+{
+    let run = console_over(threads, alloc, jobs, io, reader);
+    let (writer, end) = end_stream(io.out.sink.take(), extent_of(&run));
+    Streamed { run, end, writer }
+}
+
+/// Returns the path of the first file that a watched sink failed at, if it did.
+fn failed_at<'s, S>(sink: &'s Option<WatchedSink<'_, '_, S>>) -> Option<&'s Path> {
+    match sink {
+        Some(sink) => sink.failed().first(),
+        None => None,
+    }
+}
+
+/// Restores by lines into a folder, or prints the manifest alone if there is none.
+fn restore_into<C: Catalogue, R: BufRead + Drop>(
+    rt: &HostRuntime,
+    threads: &(impl Threads + Wait + Sync),
+    catalogue: &C,
+    gauge: &Gauge<'_>,
+    given: &ConsoleOptions<'_>,
+    reader: &mut R,
+) -> io::Result<u8>
+    requires few { AreFew given.now.drives }
+    requires asked { stream_asked given.now.target ≡ None }
+{
+    let writer = BufWriter::new(rt.alloc(), io::writer(rt))?;
+    let (jobs, io) = match set_up_console(rt, catalogue, given, writer) {
+        Ok(setup) => setup,
+        Err(fault) => return refuse_place(rt, gauge, given.target, fault.number()),
+    };
+    tell_chosen(rt, &jobs.history, &jobs.request)?;
+    let mut io = io.watched(rt.alloc(), gauge)?.with_watched_sink(gauge);
+    let run = console_over(threads, rt.alloc(), &jobs, &mut io, reader);
+    gauge.clear();
+    let ending = console_ending(rt.alloc(), &run)?;
+    let told = Told::of_session(&io.out.writer);
+    let failed = failed_at(&io.out.sink);
+    report(rt, gauge, given, (&told, failed), &run, &ending)
+}
+
+/// Makes all that is there before a line is read, to deliver into a new file as a tar stream. The file is
+/// tested where a folder would be.
+fn set_up_tar_file<'r, C: Catalogue, W: Drop>(
+    rt: &'r HostRuntime,
+    catalogue: &C,
+    given: &ConsoleOptions<'_>,
+    path: &str,
+    writer: W,
+) -> Result<ConsoleSetup<'r, W, TarSink<BufWriter<File>>>, ConsoleStartFault>
+    ensures asked { IfOk result (λ setup. request_asked given.now ≡ Ok setup.0.request) }
+    ensures sink { IfOk result (λ setup. IsSome setup.1.out.sink) }
+    ensures jobs { IfOk result (λ setup. AreJobs (C.jobs_at catalogue.now given.now.db.now) setup.0.history) }
+    ensures memory { IfOk result (λ setup. setup.1.memory ≡ given.now.memory) }
+    ensures drives { IfOk result (λ setup. length setup.1.drives.items ≡ given.now.drives) }
+    ensures volumes { IfOk result (λ setup. AreOver given.now.volumes.now setup.1.drives.items) }
+{
+    let request = request_of(rt.alloc(), given)?;
+    let sink = Some(tar_into(rt, path)?);
+    set_up_over(rt, catalogue, given, request, Outputs { writer, sink })
+}
+
+/// Makes all that is there before a line is read, to deliver to standard output as a tar stream.
+fn set_up_tar_output<'r, C: Catalogue, W: Drop>(
+    rt: &'r HostRuntime,
+    catalogue: &C,
+    given: &ConsoleOptions<'_>,
+    writer: W,
+) -> Result<ConsoleSetup<'r, W, TarSink<BufWriter<Printer<'r, HostRuntime>>>>, ConsoleStartFault>
+    ensures asked { IfOk result (λ setup. request_asked given.now ≡ Ok setup.0.request) }
+    ensures sink { IfOk result (λ setup. IsSome setup.1.out.sink) }
+    ensures jobs { IfOk result (λ setup. AreJobs (C.jobs_at catalogue.now given.now.db.now) setup.0.history) }
+    ensures memory { IfOk result (λ setup. setup.1.memory ≡ given.now.memory) }
+    ensures drives { IfOk result (λ setup. length setup.1.drives.items ≡ given.now.drives) }
+    ensures volumes { IfOk result (λ setup. AreOver given.now.volumes.now setup.1.drives.items) }
+{
+    let request = request_of(rt.alloc(), given)?;
+    let sink = Some(tar_onto(rt.alloc(), io::writer(rt))?);
+    set_up_over(rt, catalogue, given, request, Outputs { writer, sink })
+}
+
+/// Restores by lines into the tar stream that was set up, with the answers to its writer: standard output,
+/// or something else if the stream goes there. Returns the exit status.
+fn restore_onto<'r, R: BufRead + Drop, T: Channel + Drop, W: Channel + Drop>(
+    threads: &(impl Threads + Wait + Sync),
+    watch: (&'r HostRuntime, &'r Gauge<'r>),
+    given: &ConsoleOptions<'_>,
+    setup: ConsoleSetup<'r, BufWriter<W>, TarSink<BufWriter<T>>>,
+    reader: &mut R,
+) -> io::Result<u8>
+    requires few { AreFew (length setup.1.drives.items) }
+    requires sink { IsSome setup.1.out.sink }
+    requires asked { stream_asked given.now.target ≡ Some T.is_output }
+    requires apart { W.is_output ≡ not T.is_output }
+{
+    let (rt, gauge) = watch;
+    let (jobs, io) = setup;
+    tell_chosen(rt, &jobs.history, &jobs.request)?;
+    let mut io = io.watched(rt.alloc(), gauge)?.with_watched_sink(gauge);
+    let stream = console_stream(threads, rt.alloc(), &jobs, &mut io, reader);
+    gauge.clear();
+    let mut ending = console_ending(rt.alloc(), &stream.run)?;
+    add_tar_end(&mut ending, stream.end)?;
+    let told = Told::of_session(&io.out.writer);
+    report(rt, gauge, given, (&told, None), &stream.run, &ending)
+}
+
+/// Reads lines and answers them on standard output, over the jobs of a client's file set before a
+/// moment in a catalogue. After `done` prints the bootstrap and the manifest, and puts the restored files
+/// where they are to go: into a folder, or as a tar stream into a file or to standard output. In the last
+/// case all that is printed goes to standard error. What is refused of a line is part of the answers; any
+/// other refusal goes to standard error, and so does the stop of a delivery.
+///
+/// Client and file set (2), moment (52), the folder, which has to exist and be empty, or the file, which
+/// must not be there (81), and the catalogue (45, 47) are tested in this order before a line is read. The
+/// manifest is printed before any file is put.
+///
+/// Returns the exit status: 0 if nothing was refused and each outcome is a file; 1 if something was
+/// refused or some outcome is not a file; 3 if the log could not be opened, or the reader or standard output
+/// failed.
+///
+/// # Errors
+///
+/// If memory ran out or standard error failed.
+pub fn restore_by_lines<C: Catalogue, R: BufRead + Drop>(
+    rt: &HostRuntime,
+    threads: &(impl Threads + Wait + Sync),
+    catalogue: &C,
+    given: &ConsoleOptions<'_>,
+    reader: &mut R,
+) -> io::Result<u8>
+    requires few { AreFew given.now.drives }
+{
+    match gauge_of(rt, given.volumes, given.progress, given.log) {
+        Ok(gauge) => restore_told(rt, threads, catalogue, &gauge, given, reader),
+        Err(error) => refuse_log(rt, given.log, error),
+    }
+}
+
+/// Restores as `restore_by_lines`, with what watches the restore.
+fn restore_told<C: Catalogue, R: BufRead + Drop>(
+    rt: &HostRuntime,
+    threads: &(impl Threads + Wait + Sync),
+    catalogue: &C,
+    gauge: &Gauge<'_>,
+    given: &ConsoleOptions<'_>,
+    reader: &mut R,
+) -> io::Result<u8>
+    requires few { AreFew given.now.drives }
+{
+    let watch = (rt, gauge);
+    match given.target {
+        Target::Nowhere => restore_into(rt, threads, catalogue, gauge, given, reader),
+        Target::Folder(_) => restore_into(rt, threads, catalogue, gauge, given, reader),
+        Target::TarFile(path) => {
+            let answers = BufWriter::new(rt.alloc(), io::writer(rt))?;
+            match set_up_tar_file(rt, catalogue, given, path, answers) {
+                Ok(setup) => restore_onto(threads, watch, given, setup, reader),
+                Err(fault) => refuse_place(rt, gauge, given.target, fault.number()),
+            }
+        }
+        Target::TarOutput => {
+            let answers = BufWriter::new(rt.alloc(), rt.stderr())?;
+            match set_up_tar_output(rt, catalogue, given, answers) {
+                Ok(setup) => restore_onto(threads, watch, given, setup, reader),
+                Err(fault) => refuse_place(rt, gauge, given.target, fault.number()),
+            }
+        }
+    }
+}
+
+/// Restores by the lines of standard input, as `restore_by_lines`.
+pub fn restore_marked<C: Catalogue>(
+    rt: &HostRuntime,
+    threads: &(impl Threads + Wait + Sync),
+    catalogue: &C,
+    given: &ConsoleOptions<'_>,
+) -> io::Result<u8>
+    requires few { AreFew given.now.drives }
+{
+    let jobs = OnceCell::new();
+    let input = with_prompt(rt, GREETING, rt.reader());
+    let helped = with_help(rt, catalogue, given, &jobs, input);
+    let mut reader = BufReader::new(rt.alloc(), helped)?;
+    restore_by_lines(rt, threads, catalogue, given, &mut reader)
+}

@@ -1,0 +1,138 @@
+//! A reader that answers `help` and `dir` itself.
+
+use crate::help_text::HELP;
+use crate::loaded_jobs::{DirFault, Jobs};
+use crate::local_command::{LocalCommand, asked_of, without_feed};
+use crate::working_folder::ConsoleFolder;
+use br_cli_common::{ConsoleOptions, is_attended};
+use br_keeper::Catalogue;
+use br_mark::Command;
+use std::alloc::AllocError;
+use std::cell::OnceCell;
+use std::io::{self, Read, Write};
+
+/// Where the console is, as far as it was followed.
+#[derive(Drop)]
+enum Way<'j> {
+    /// The lines that lead there from `/`, as long as nobody asked for it.
+    Noted(Vec<Command>),
+    Followed(ConsoleFolder<'j>),
+}
+
+/// A reader of the lines of a console session. If somebody attends to it, it takes out the lines `help` and
+/// `dir` and answers them on standard error. A terminal gives one line to each read.
+#[derive(Drop)]
+pub struct Helped<'j, 'r, C, I> {
+    rt: &'r HostRuntime,
+    catalogue: &'j C,
+    given: &'j ConsoleOptions<'j>,
+    /// The jobs of the session, once they are asked for.
+    jobs: &'j OnceCell<Jobs>,
+    input: I,
+    is_attended: bool,
+    /// True if what is read next begins a line.
+    is_at_start: bool,
+    way: Way<'j>,
+}
+
+/// Returns the reader, which answers `help` and `dir` if standard input and standard error are terminals.
+/// The jobs are loaded into the cell at the first `dir`.
+pub fn with_help<'j, 'r, C: Catalogue, I: Read>(
+    rt: &'r HostRuntime,
+    catalogue: &'j C,
+    given: &'j ConsoleOptions<'j>,
+    jobs: &'j OnceCell<Jobs>,
+    input: I,
+) -> Helped<'j, 'r, C, I> {
+    Helped {
+        rt,
+        catalogue,
+        given,
+        jobs,
+        input,
+        is_attended: is_attended(rt),
+        is_at_start: true,
+        way: Way::Noted(Vec::new(rt.alloc())),
+    }
+}
+
+impl<'j, C: Catalogue, I: Read> Helped<'j, '_, C, I> {
+    /// Notes where a line leads, if it is a `cd`.
+    fn note(&mut self, line: &[u8]) -> Result<(), AllocError> {
+        let Ok(command) = Command::read(self.rt.alloc(), line) else {
+            return Ok(());
+        };
+        if let Command::Cd(_) = &command {
+            match &mut self.way {
+                Way::Noted(commands) => commands.push(command)?,
+                Way::Followed(place) => place.follow(&command),
+            }
+        }
+        Ok(())
+    }
+
+    /// Returns where the noted lines lead.
+    fn follow(&self, commands: &[Command]) -> Result<ConsoleFolder<'j>, DirFault> {
+        let (rt, catalogue, given) = (self.rt, self.catalogue, self.given);
+        let jobs = self
+            .jobs
+            .get_or_try_init(|| Jobs::load(rt, catalogue, given))?;
+        let mut place = ConsoleFolder::new(rt.alloc(), jobs)?;
+        for command in commands {
+            place.follow(command);
+        }
+        Ok(place)
+    }
+
+    /// Returns the lines of the names in the folder.
+    fn list(&mut self) -> Result<Vec<u8>, DirFault> {
+        if let Way::Noted(commands) = &self.way {
+            let place = self.follow(commands)?;
+            self.way = Way::Followed(place);
+        }
+        match &self.way {
+            Way::Followed(place) => Ok(place.list()?),
+            Way::Noted(_) => Ok(Vec::new(self.rt.alloc())),
+        }
+    }
+
+    /// Answers a line if it is `help` or `dir`. Returns false if it is for the console.
+    fn answer(&mut self, line: &[u8]) -> io::Result<bool> {
+        match asked_of(line) {
+            LocalCommand::Help => self.rt.stderr().write_all(HELP)?,
+            LocalCommand::Dir => match self.list() {
+                Ok(text) => self.rt.stderr().write_all(&text)?,
+                Err(fault) => eprintln!(self.rt; "dir: {fault}")?,
+            },
+            LocalCommand::Other => {
+                self.note(without_feed(line))?;
+                return Ok(false);
+            }
+        }
+        Ok(true)
+    }
+
+    /// Takes what was read. Returns true if it was a line that is answered here.
+    fn take(&mut self, text: &[u8]) -> io::Result<bool> {
+        if !self.is_at_start {
+            self.is_at_start = text.ends_with(b"\n");
+            return Ok(false);
+        }
+        let is_answered = self.answer(text)?;
+        self.is_at_start = is_answered || text.ends_with(b"\n");
+        Ok(is_answered)
+    }
+}
+
+impl<C: Catalogue, I: Read> Read for Helped<'_, '_, C, I> {
+    fn read(&mut self, buf: &mut [u8]) -> io::Result<usize> {
+        for _ in 0..u64::MAX {
+            let len = self.input.read(buf)?;
+            let text = buf.get(..len).unwrap_or(&[]);
+            if !self.is_attended || !self.take(text)? {
+                return Ok(len);
+            }
+        }
+        Ok(0)
+    }
+}

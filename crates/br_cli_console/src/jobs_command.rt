@@ -1,0 +1,128 @@
+ghost use Rattle.std.specs.Prelude.{◌≡◌, ◌⊎◌, IfOk};
+ghost use Rattle.br_keeper.specs.Catalogue.{AreJobs};
+
+use crate::time_zone::SystemZones;
+use br_cli_common::{CLEAN, Clock, JobsOptions, is_shown, refuse_start};
+use br_history::History;
+use br_jobs::{Filter, Zones, marked_lines_in, unmarked_lines_in};
+use br_keeper::{Catalogue, CatalogueFault};
+use br_plan::{BadMoment, read_moment};
+use std::fs;
+use std::io::{self, Write};
+
+/// Returns which jobs are listed by these options.
+fn filter_of<'a>(given: &JobsOptions<'a>) -> Result<Filter<'a>, BadMoment> {
+    let before = match given.before {
+        Some(text) => Some(read_moment(text.as_bytes())?),
+        None => None,
+    };
+    Ok(Filter {
+        client: given.client,
+        fileset: given.fileset,
+        before,
+    })
+}
+
+/// Loads the jobs in the file of a catalogue, if the file is there.
+fn jobs_in<C: Catalogue>(
+    rt: &HostRuntime,
+    catalogue: &C,
+    db: &str,
+) -> Result<History, CatalogueFault>
+    ensures jobs { IfOk result (λ history. AreJobs (C.jobs_at catalogue.now db.now) history) }
+{
+    // No catalogue is asked for a file that is not there.
+    if fs::metadata(rt, db).is_err() {
+        return Err(CatalogueFault::Unreadable);
+    }
+    catalogue.load(db)
+}
+
+/// Prints lines to standard output.
+fn print_lines(rt: &HostRuntime, text: &[u8]) -> io::Result<()> {
+    let mut writer = io::writer(rt);
+    writer.write_all(text)?;
+    writer.flush()
+}
+
+/// Returns whether each job is asked for.
+fn asks_for_all(filter: &Filter<'_>) -> bool {
+    filter.client.is_none() && filter.fileset.is_none() && filter.before.is_none()
+}
+
+/// Prints to standard error why no job is listed, if there is no line and standard error is a terminal.
+fn tell_if_none(rt: &HostRuntime, lines: &[u8], filter: &Filter<'_>) -> io::Result<()> {
+    if !lines.is_empty() || !is_shown(rt) {
+        return Ok(());
+    }
+    if asks_for_all(filter) {
+        eprintln!(rt; "The catalogue has no jobs.")
+    } else {
+        eprintln!(rt;
+            "No job of this catalogue is asked for. Without --client, --fileset and --before all are listed."
+        )
+    }
+}
+
+/// Prints the lines of the jobs that the filter lists, and why none is marked, if the choice was refused.
+/// Returns the exit status.
+fn print_jobs(
+    rt: &HostRuntime,
+    history: &History,
+    filter: &Filter<'_>,
+    zones: &Zones<'_>,
+) -> io::Result<u8>
+    ensures status { IfOk result (λ status. (status ≡ 0) ⊎ (status ≡ 1)) }
+{
+    match marked_lines_in(rt.alloc(), history, filter, zones) {
+        Ok(text) => {
+            print_lines(rt, &text)?;
+            tell_if_none(rt, &text, filter)?;
+            Ok(CLEAN)
+        }
+        Err(fault) => {
+            let text = unmarked_lines_in(rt.alloc(), history, filter, zones)?;
+            print_lines(rt, &text)?;
+            refuse_start(rt, fault.number())
+        }
+    }
+}
+
+/// Prints the same lines with moments in UTC and in the time zone of the system. Returns the exit status.
+fn print_local_jobs(rt: &HostRuntime, history: &History, filter: &Filter<'_>) -> io::Result<u8>
+    ensures status { IfOk result (λ status. (status ≡ 0) ⊎ (status ≡ 1)) }
+{
+    let system = SystemZones::read(rt)?;
+    let zones = Zones::UtcAndLocal(system.zone()?);
+    print_jobs(rt, history, filter, &zones)
+}
+
+/// Prints the jobs of a catalogue, a line for each. If client, file set and moment are given, it marks those
+/// that `console` would choose; if that choice is refused, the refusal goes to standard error after the
+/// jobs.
+///
+/// Returns the exit status: 1 if something was refused, else 0.
+///
+/// # Errors
+///
+/// If memory ran out, or a stream failed.
+pub fn list<C: Catalogue>(
+    rt: &HostRuntime,
+    catalogue: &C,
+    given: &JobsOptions<'_>,
+) -> io::Result<u8>
+    ensures status { IfOk result (λ status. (status ≡ 0) ⊎ (status ≡ 1)) }
+{
+    let filter = match filter_of(given) {
+        Ok(filter) => filter,
+        Err(fault) => return refuse_start(rt, fault.number()),
+    };
+    let history = match jobs_in(rt, catalogue, given.db) {
+        Ok(history) => history,
+        Err(fault) => return refuse_start(rt, fault.number()),
+    };
+    match given.clock {
+        Clock::Utc => print_jobs(rt, &history, &filter, &Zones::Utc),
+        Clock::UtcAndLocal => print_local_jobs(rt, &history, &filter),
+    }
+}

@@ -1,0 +1,46 @@
+ghost use Rattle.std.specs.Prelude.{◌≡◌};
+ghost use Rattle.std.specs.Io.BufRead.{strip_last};
+ghost use Rattle.br_cli_console.specs.LocalCommands.{asked_by, asked_of};
+
+use br_mark::trimmed;
+
+/// What a line asks for.
+#[derive(Clone, Copy, Debug, PartialEq, Eq)]
+pub enum LocalCommand {
+    /// The commands of the console.
+    Help,
+    /// The names of its folder, with size and moment.
+    Dir,
+    /// Something else, which is for the console.
+    Other,
+}
+
+/// Returns the line without its line feed, if it has one.
+pub(crate) fn without_feed(line: &[u8]) -> &[u8]
+    ensures { result.now ≡ strip_last 10 line.now }
+{
+    match line.split_last() {
+        Some((b'\n', front)) => front,
+        _ => line,
+    }
+}
+
+/// Returns what a word asks for.
+fn asked_by(word: &[u8]) -> LocalCommand
+    ensures { result ≡ asked_by word.now }
+{
+    if word == b"help".as_slice() {
+        LocalCommand::Help
+    } else if word == b"dir".as_slice() {
+        LocalCommand::Dir
+    } else {
+        LocalCommand::Other
+    }
+}
+
+/// Returns what a line asks for: `help` and `dir` are alone in it, with or without blanks around them.
+pub fn asked_of(line: &[u8]) -> LocalCommand
+    ensures { result ≡ asked_of line.now }
+{
+    asked_by(trimmed(without_feed(line)))
+}

@@ -1,0 +1,245 @@
+//! What is counted while a restore runs, and when and where it is told.
+
+use crate::expecting::len_of_volumes;
+use crate::log::Log;
+use crate::progress_counts::Count;
+use crate::progress_line::{Standing, seconds_left};
+use std::alloc::Global;
+use std::io::{self, IsTerminal, Write};
+use std::sync::atomic::{AtomicBool, AtomicU64, Ordering};
+use std::time::Instant;
+
+/// The shortest time between two lines, in milliseconds.
+const INTERVAL: u64 = 500;
+
+/// Counts how far a restore is, and shows it in a line on standard error, at most twice a second. It tells a
+/// terminal and a log in words what became of the files. All that take part in the restore share it.
+#[derive(Drop)]
+pub struct Gauge<'r> {
+    rt: &'r HostRuntime,
+    /// True if standard error is a terminal.
+    is_terminal: bool,
+    /// The log, if there is one.
+    pub(crate) log: Option<Log>,
+    /// The path of the folder with the volumes.
+    volumes: &'r str,
+    /// When the gauge was made, if it shows how far the restore is.
+    begun: Option<Instant>,
+    to_read: AtomicU64,
+    read: AtomicU64,
+    files: AtomicU64,
+    put: AtomicU64,
+    /// The number of files of the manifest that are older copies and are left out.
+    older: AtomicU64,
+    /// The number of outcomes that are no files.
+    lost: AtomicU64,
+    /// True once files are put.
+    is_putting: AtomicBool,
+    /// When the reading began, and later when files were first put, in milliseconds since the gauge was
+    /// made; 0 before.
+    step: AtomicU64,
+    /// When the last line was shown or, before there was one, something was first counted, in milliseconds
+    /// since the gauge was made; 0 before.
+    told: AtomicU64,
+    /// True while a line is on the terminal.
+    is_up: AtomicBool,
+}
+
+impl<'r> Gauge<'r> {
+    /// Creates a gauge without a log, of a restore from volumes in the folder with this path. It shows how far the
+    /// restore is, or does not.
+    pub fn new(rt: &'r HostRuntime, volumes: &'r str, is_shown: bool) -> Gauge<'r> {
+        let begun = if is_shown {
+            Instant::now(rt).ok()
+        } else {
+            None
+        };
+        Gauge {
+            rt,
+            is_terminal: rt.stderr().is_terminal(),
+            log: None,
+            volumes,
+            begun,
+            to_read: AtomicU64::new(0),
+            read: AtomicU64::new(0),
+            files: AtomicU64::new(0),
+            put: AtomicU64::new(0),
+            older: AtomicU64::new(0),
+            lost: AtomicU64::new(0),
+            is_putting: AtomicBool::new(false),
+            step: AtomicU64::new(0),
+            told: AtomicU64::new(0),
+            is_up: AtomicBool::new(false),
+        }
+    }
+
+    /// Returns the gauge with a log, if there is one.
+    pub fn with_log(self, log: Option<Log>) -> Gauge<'r> {
+        Gauge { log, ..self }
+    }
+
+    /// Returns the allocator.
+    pub(crate) fn alloc(&self) -> Global {
+        self.rt.alloc()
+    }
+
+    /// Returns true if the gauge has something to show or to tell.
+    pub fn is_watching(&self) -> bool {
+        self.is_terminal || self.is_shown() || self.log.is_some()
+    }
+
+    /// Returns true if the gauge shows how far the restore is.
+    pub fn is_shown(&self) -> bool {
+        self.begun.is_some()
+    }
+
+    /// Notes the number of bytes of the volumes that a bootstrap names, as those that will be read, if how far the
+    /// restore is is shown. It is 0 if it can't be told.
+    pub fn expect_volumes(&self, bootstrap: &[u8]) {
+        if self.is_shown() {
+            let len = len_of_volumes(self.rt, self.volumes, bootstrap);
+            self.to_read.store(len.unwrap_or(0), Ordering::SeqCst);
+        }
+    }
+
+    /// Notes that this number of bytes were passed.
+    pub(crate) fn note_read(&self, bytes: u64) {
+        self.read.fetch_add(bytes, Ordering::SeqCst);
+        self.tell();
+    }
+
+    /// Notes that this number of files more are to be put.
+    pub(crate) fn note_files(&self, count: u64) {
+        self.files.fetch_add(count, Ordering::SeqCst);
+    }
+
+    /// Notes that files are put from now on.
+    pub(crate) fn begin_putting(&self) {
+        if !self.is_putting.swap(true, Ordering::SeqCst) {
+            self.step.store(0, Ordering::SeqCst);
+        }
+        self.tell();
+    }
+
+    /// Returns what became of the files, once files are put.
+    pub(crate) fn count(&self) -> Option<Count> {
+        if !self.is_putting.load(Ordering::SeqCst) {
+            return None;
+        }
+        Some(Count {
+            put: self.put.load(Ordering::SeqCst),
+            files: self.files.load(Ordering::SeqCst),
+            older: self.older.load(Ordering::SeqCst),
+            lost: self.lost.load(Ordering::SeqCst),
+        })
+    }
+
+    /// Notes that an outcome is no file.
+    pub(crate) fn note_lost(&self) {
+        self.lost.fetch_add(1, Ordering::SeqCst);
+    }
+
+    /// Notes that the files of the manifest are older copies that are left out, but for this number of others.
+    pub fn note_others(&self, others: u64) {
+        let files = self.files.load(Ordering::SeqCst);
+        self.older
+            .store(files.saturating_sub(others), Ordering::SeqCst);
+    }
+
+    /// Prints a text to standard error if that is a terminal.
+    pub(crate) fn show(&self, text: &[u8]) -> io::Result<()> {
+        if !self.is_terminal {
+            return Ok(());
+        }
+        self.clear();
+        self.rt.stderr().write_all(text)
+    }
+
+    /// Prints a line to standard error that the log could not be written, if it could not.
+    pub(crate) fn tell_torn(&self) -> io::Result<()> {
+        match &self.log {
+            Some(log) if log.is_torn() => {
+                eprintln!(self.rt; "brestore: the log could not be written, so it is not whole")
+            }
+            _ => Ok(()),
+        }
+    }
+
+    /// Notes that this number of files more were put.
+    pub fn note_put(&self, count: u64) {
+        self.is_putting.store(true, Ordering::SeqCst);
+        self.put.fetch_add(count, Ordering::SeqCst);
+        self.tell();
+    }
+
+    /// Takes the line from the terminal, if it is there.
+    pub fn clear(&self) {
+        if self.is_up.swap(false, Ordering::SeqCst) {
+            let cleared = eprint!(self.rt; "\r\x1b[K");
+            drop(cleared);
+        }
+    }
+
+    /// Returns the milliseconds since the gauge was made, at least 1, if it shows something.
+    fn now(&self) -> Option<u64> {
+        let elapsed = self.begun?.elapsed(self.rt).ok()?;
+        let now = u64::try_from(elapsed.as_millis()).ok()?;
+        Some(now.max(1))
+    }
+
+    /// Returns how far the restore is.
+    fn standing(&self, elapsed: u64) -> Standing {
+        let read = self.read.load(Ordering::SeqCst);
+        let to_read = self.to_read.load(Ordering::SeqCst);
+        let put = self.put.load(Ordering::SeqCst);
+        let (files, left) = if self.is_putting.load(Ordering::SeqCst) {
+            let files = self.files.load(Ordering::SeqCst);
+            (files, seconds_left(elapsed, put, files))
+        } else {
+            (0, seconds_left(elapsed, read, to_read))
+        };
+        Standing {
+            read,
+            to_read,
+            put,
+            files,
+            left,
+        }
+    }
+
+    /// Returns when the step began that is measured. The first call of a step begins it.
+    fn step_at(&self, now: u64) -> u64 {
+        let step = &self.step;
+        match step.compare_exchange(0, now, Ordering::SeqCst, Ordering::SeqCst) {
+            Ok(_) => now,
+            Err(begun) => begun,
+        }
+    }
+
+    /// Returns true if the last line is half a second old. Of several threads that ask at once, it is true
+    /// for one.
+    fn is_due(&self, now: u64) -> bool {
+        let told = self.told.load(Ordering::SeqCst);
+        if told != 0 && now < told.saturating_add(INTERVAL) {
+            return false;
+        }
+        let turn = self
+            .told
+            .compare_exchange(told, now, Ordering::SeqCst, Ordering::SeqCst);
+        told != 0 && turn.is_ok()
+    }
+
+    /// Shows how far the restore is, unless that was done in the last half second.
+    fn tell(&self) {
+        let Some(now) = self.now() else {
+            return;
+        };
+        let begun = self.step_at(now);
+        if self.is_due(now) {
+            self.is_up.store(true, Ordering::SeqCst);
+            let standing = self.standing(now.saturating_sub(begun));
+            let shown = eprint!(self.rt; "\r{standing}\x1b[K");
+            drop(shown);
+        }
+    }
+}

@@ -1,0 +1,163 @@
+//! What a gauge tells in words at a terminal and in its log.
+
+use crate::gauge::Gauge;
+use crate::passed_faults::Faults;
+use crate::progress_counts::{push_count, push_failed, push_put, put_lines};
+use br_cli_common::{push_with_words, push_words};
+use br_join::{Item, Outcome};
+use br_types::{FileKey, push_number};
+use std::alloc::{AllocError, Global};
+use std::io;
+
+/// Returns a line with its end.
+fn ended(alloc: Global, line: &[u8]) -> Result<Vec<u8>, AllocError> {
+    let mut text = Vec::from_slice(alloc, line)?;
+    text.push(b'\n')?;
+    Ok(text)
+}
+
+/// Returns the line of a file that was put.
+fn put_line(alloc: Global, item: &Item) -> Result<Vec<u8>, AllocError> {
+    let mut text = Vec::new(alloc);
+    push_put(&mut text, &item.path)?;
+    Ok(text)
+}
+
+/// Returns the line of a file at which the sink failed.
+fn failed_line(alloc: Global, item: &Item) -> Result<Vec<u8>, AllocError> {
+    let mut text = Vec::new(alloc);
+    push_failed(&mut text, &item.path)?;
+    Ok(text)
+}
+
+/// Returns the line of a refusal, with what it means and what to do next.
+fn refusal_lines(alloc: Global, number: u32) -> Result<Vec<u8>, AllocError> {
+    let mut text = Vec::from_slice(alloc, b"refused ")?;
+    push_number(&mut text, u64::from(number))?;
+    text.push(b'\n')?;
+    push_words(&mut text, number)?;
+    Ok(text)
+}
+
+impl<'r> Gauge<'r> {
+    /// Appends lines to the log, if there is one. For lines for which memory ran out the log is torn.
+    fn log_lines(&self, lines: Result<Vec<u8>, AllocError>) {
+        if let Some(log) = &self.log {
+            match lines {
+                Ok(lines) => log.append(&lines),
+                Err(_) => log.tear(),
+            }
+        }
+    }
+
+    /// Appends the line of an outcome that is no file to the log.
+    pub(crate) fn log_fault(&self, line: &[u8]) {
+        if self.log.is_some() {
+            self.log_lines(ended(self.alloc(), line));
+        }
+    }
+
+    /// Notes that the first files among the outcomes were put, as many as `count`.
+    pub(crate) fn note_files_put(&self, outcomes: &[(FileKey, Outcome)], count: u64) {
+        if self.log.is_some() {
+            self.log_lines(put_lines(self.alloc(), outcomes, count));
+        }
+        self.note_put(count);
+    }
+
+    /// Notes that a file was put.
+    pub(crate) fn note_file_put(&self, item: &Item) {
+        if self.log.is_some() {
+            self.log_lines(put_line(self.alloc(), item));
+        }
+        self.note_put(1);
+    }
+
+    /// Appends the line of a file at which the sink failed to the log.
+    pub(crate) fn log_failed(&self, item: &Item) {
+        if self.log.is_some() {
+            self.log_lines(failed_line(self.alloc(), item));
+        }
+    }
+
+    /// Tells a terminal what the refusal of a line means, and the log the refusal too. A terminal that takes
+    /// nothing stops nothing.
+    pub(crate) fn explain(&self, number: u32) {
+        let mut words = Vec::new(self.alloc());
+        if push_words(&mut words, number).is_ok() {
+            let _shown = self.show(&words);
+        }
+        if self.log.is_some() {
+            self.log_lines(refusal_lines(self.alloc(), number));
+        }
+    }
+
+    /// Appends lines to the log, if there is one, and after each line `refused N` what it means and what to do
+    /// next.
+    pub fn log_refusals(&self, lines: &[u8]) {
+        if self.log.is_some() {
+            let mut text = Vec::new(self.alloc());
+            let pushed = push_with_words(&mut text, lines);
+            self.log_lines(pushed.map(|_| text));
+        }
+    }
+
+    /// Tells a line to a terminal and to the log.
+    ///
+    /// # Errors
+    ///
+    /// If memory ran out or standard error failed.
+    pub fn say(&self, line: &str) -> io::Result<()> {
+        self.tell_lines(ended(self.alloc(), line.as_bytes())?)
+    }
+
+    /// Returns the line that tells how many files were put if some were to be put, and if it is told to a
+    /// terminal: one that is not told how far the restore is reads it only if a file was neither put nor an older copy that is
+    /// left out.
+    fn count_text(&self) -> Result<(Vec<u8>, bool), AllocError> {
+        let mut text = Vec::new(self.alloc());
+        let Some(count) = self.count() else {
+            return Ok((text, false));
+        };
+        push_count(&mut text, count)?;
+        let done = count.put.saturating_add(count.older);
+        Ok((text, self.is_shown() || done < count.files))
+    }
+
+    /// Tells a terminal and the log the outcomes that are no files, in words.
+    ///
+    /// # Errors
+    ///
+    /// If memory ran out or standard error failed.
+    pub fn tell_faults(&self, faults: &Faults) -> io::Result<()> {
+        let mut text = Vec::new(self.alloc());
+        faults.push(&mut text)?;
+        self.tell_lines(text)
+    }
+
+    /// Tells lines to a terminal and to the log.
+    ///
+    /// # Errors
+    ///
+    /// If standard error failed.
+    pub fn tell_lines(&self, lines: Vec<u8>) -> io::Result<()> {
+        self.show(&lines)?;
+        self.log_lines(Ok(lines));
+        Ok(())
+    }
+
+    /// Tells a terminal and the log how many files were put. If the log could not be written, a line on standard
+    /// error says so.
+    ///
+    /// # Errors
+    ///
+    /// If memory ran out or standard error failed.
+    pub fn tell_end(&self) -> io::Result<()> {
+        let (count, is_told) = self.count_text()?;
+        if is_told {
+            self.show(&count)?;
+        }
+        self.log_lines(Ok(count));
+        self.tell_torn()
+    }
+}

@@ -1,0 +1,132 @@
+//! The line that tells how far a restore is.
+
+use std::fmt;
+
+/// The number of bytes of a MiB.
+const MIB: u64 = 1_048_576;
+
+/// The number of bytes of a GiB.
+const GIB: u64 = 1_073_741_824;
+
+/// How far a restore is.
+#[derive(Clone, Copy, PartialEq, Eq)]
+pub struct Standing {
+    /// The number of bytes of the volumes that were passed. Those that are read again are counted again.
+    pub read: u64,
+    /// The number of bytes of the volumes that are read, 0 if it is not known.
+    pub to_read: u64,
+    /// The number of files that were put.
+    pub put: u64,
+    /// The number of files that are put in all, 0 until it is known.
+    pub files: u64,
+    /// The seconds that are left of what is done now, if that can be told.
+    pub left: Option<u64>,
+}
+
+/// A number of bytes in MiB or GiB, with one digit after the point.
+#[derive(Clone, Copy)]
+struct Size {
+    bytes: u64,
+}
+
+impl fmt::Display for Size {
+    fn fmt<W: fmt::Write>(&self, f: &mut fmt::Formatter<W>) -> fmt::Result {
+        let ten_times = self.bytes.saturating_mul(10);
+        if self.bytes < GIB {
+            let tenths = ten_times / MIB;
+            write!(f, "{}.{} MiB", tenths / 10, tenths % 10)
+        } else {
+            let tenths = ten_times / GIB;
+            write!(f, "{}.{} GiB", tenths / 10, tenths % 10)
+        }
+    }
+}
+
+/// A number with a comma before each three digits that follow others.
+#[derive(Clone, Copy)]
+struct Grouped {
+    number: u64,
+}
+
+impl fmt::Display for Grouped {
+    fn fmt<W: fmt::Write>(&self, f: &mut fmt::Formatter<W>) -> fmt::Result {
+        let (thousands, ones) = (self.number / 1000, self.number % 1000);
+        if thousands == 0 {
+            write!(f, "{ones}")
+        } else if thousands < 1000 {
+            write!(f, "{thousands},{ones:03}")
+        } else {
+            let (millions, thousands) = (thousands / 1000, thousands % 1000);
+            write!(f, "{millions},{thousands:03},{ones:03}")
+        }
+    }
+}
+
+/// A number of seconds as `0:42` or `1:02:03`.
+#[derive(Clone, Copy)]
+struct Time {
+    seconds: u64,
+}
+
+impl fmt::Display for Time {
+    fn fmt<W: fmt::Write>(&self, f: &mut fmt::Formatter<W>) -> fmt::Result {
+        let (minutes, seconds) = (self.seconds / 60, self.seconds % 60);
+        if minutes < 60 {
+            write!(f, "{minutes}:{seconds:02}")
+        } else {
+            let (hours, minutes) = (minutes / 60, minutes % 60);
+            write!(f, "{hours}:{minutes:02}:{seconds:02}")
+        }
+    }
+}
+
+impl Standing {
+    /// Writes what was read.
+    fn write_read<W: fmt::Write>(&self, f: &mut fmt::Formatter<W>) -> fmt::Result {
+        let read = Size { bytes: self.read };
+        if self.to_read == 0 {
+            return write!(f, "{read} read");
+        }
+        if self.read > self.to_read {
+            return write!(f, "reading again");
+        }
+        let all = Size {
+            bytes: self.to_read,
+        };
+        write!(f, "{read} of {all} read")
+    }
+
+    /// Writes how many files were put, if it is known how many there are.
+    fn write_put<W: fmt::Write>(&self, f: &mut fmt::Formatter<W>) -> fmt::Result {
+        if self.files == 0 {
+            return Ok(());
+        }
+        let put = Grouped { number: self.put };
+        let files = Grouped { number: self.files };
+        write!(f, ", {put} of {files} files put")
+    }
+}
+
+impl fmt::Display for Standing {
+    fn fmt<W: fmt::Write>(&self, f: &mut fmt::Formatter<W>) -> fmt::Result {
+        self.write_read(f)?;
+        self.write_put(f)?;
+        match self.left {
+            Some(seconds) => write!(f, ", {} left", Time { seconds }),
+            None => Ok(()),
+        }
+    }
+}
+
+/// The shortest time in milliseconds after which the time that is left is told.
+const FIRST_ESTIMATE: u64 = 2000;
+
+/// Returns the seconds that are left of something of which so much was done in this many milliseconds, if
+/// something was done, something is left, and two seconds are over.
+pub fn seconds_left(elapsed: u64, done: u64, all: u64) -> Option<u64> {
+    if elapsed < FIRST_ESTIMATE || done == 0 || all <= done {
+        return None;
+    }
+    let whole = u128::from(elapsed).saturating_mul(u128::from(all - done));
+    u64::try_from(whole / u128::from(done) / 1000).ok()
+}

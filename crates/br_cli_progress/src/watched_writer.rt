@@ -1,0 +1,101 @@
+//! A writer that is watched.
+ghost use Rattle.std.specs.Prelude.{◌≡◌};
+
+use crate::gauge::Gauge;
+use crate::passed_faults::Faults;
+use crate::passed_lines::Lines;
+use br_types::FileKey;
+use std::io::{self, Write};
+
+/// What the text of a planned bootstrap begins with.
+const VOLUME: &[u8] = b"Volume=\"";
+
+/// A writer that writes as another one does, and tells a gauge the files of the manifest. It keeps the keys of
+/// the outcomes, those that are no files, and the bootstrap of a console session, and takes the line of the gauge
+/// from the terminal before it writes. A line `refused N`, which is the answer to a line of the console, is
+/// explained once it is flushed.
+#[derive(Drop)]
+pub struct WatchedWriter<'g, 'r, W> {
+    pub inner: W,
+    gauge: &'g Gauge<'r>,
+    lines: Lines,
+    /// The last text that was written at once and begins as a bootstrap.
+    plan: Vec<u8>,
+}
+
+impl<'g, 'r, W> WatchedWriter<'g, 'r, W> {
+    /// Creates a writer that writes as this one.
+    pub fn new(inner: W, gauge: &'g Gauge<'r>) -> WatchedWriter<'g, 'r, W>
+        ensures { result.inner ≡ inner }
+    {
+        WatchedWriter {
+            inner,
+            gauge,
+            lines: Lines::new(gauge.alloc()),
+            plan: Vec::new(gauge.alloc()),
+        }
+    }
+
+    /// Returns the outcomes that are no files, of the manifest as far as it is written.
+    pub fn faults(&self) -> &Faults {
+        &self.lines.faults
+    }
+
+    /// Returns the keys of the outcomes, of the manifest as far as it is written, unless memory ran out. Nothing is
+    /// kept if nobody reads what the gauge tells.
+    pub fn keys(&self) -> Option<&[FileKey]> {
+        match &self.lines.keys {
+            Some(keys) => Some(keys),
+            None => None,
+        }
+    }
+
+    /// Returns the text of the bootstrap that a console session wrote, if it did and somebody reads what the gauge
+    /// tells.
+    pub fn plan(&self) -> &[u8] {
+        &self.plan
+    }
+}
+
+/// Keeps a text that begins as a bootstrap in place of an earlier one, and tells the gauge what is to be read by it.
+/// One for which memory runs out is not kept.
+fn note_plan(gauge: &Gauge<'_>, plan: &mut Vec<u8>, text: &[u8]) {
+    if text.starts_with(VOLUME) {
+        plan.clear();
+        let _kept = plan.extend_from_slice(text);
+        gauge.expect_volumes(text);
+    }
+}
+
+impl<'g, 'r, W: Write> Write for WatchedWriter<'g, 'r, W> {
+    ghost contents = { λ w. W.contents w.inner };
+
+    fn write(&mut self, buf: &[u8]) -> io::Result<usize> {
+        self.gauge.clear();
+        let written = self.inner.write(buf);
+        if let Ok(len) = &written {
+            if self.gauge.is_watching() {
+                self.lines.pass(self.gauge, buf.get(..*len).unwrap_or(buf));
+            }
+        }
+        written
+    }
+
+    fn flush(&mut self) -> io::Result<()> {
+        self.gauge.clear();
+        let flushed = self.inner.flush();
+        if let Some(number) = self.lines.refused.take() {
+            self.gauge.explain(number);
+        }
+        flushed
+    }
+
+    fn write_all(&mut self, buf: &[u8]) -> io::Result<()> {
+        if self.gauge.is_watching() {
+            self.gauge.clear();
+            self.lines.pass(self.gauge, buf);
+            note_plan(self.gauge, &mut self.plan, buf);
+        }
+        self.inner.write_all(buf)
+    }
+}

@@ -1,0 +1,4 @@
+pub mod TarLaws
+pub mod OwnLaws
+pub mod OriginLaws
+pub mod AskingLaws

@@ -1,0 +1,9 @@
+pub mod AskedTarget
+pub mod TarEnding
+pub mod AbsentCount
+pub mod AdviceLines
+pub mod NarrowedGroups
+pub mod FirstAsking
+pub mod OwnHits
+pub mod AttributePaths
+pub mod Origins

@@ -1,0 +1,24 @@
+use br_cli_common::tell_refusals;
+use std::io;
+
+/// The exit status for a fault of the program's own files and streams.
+pub const BAD_STREAM: u8 = 3;
+
+/// Exit status and refusal line of a run.
+#[derive(Drop)]
+pub struct Ending {
+    pub status: u8,
+    /// The line of the refusal; empty if nothing was refused.
+    pub refusal: Vec<u8>,
+}
+
+impl Ending {
+    /// Prints the line of the refusal to standard error, and to a terminal what it means. Returns the exit
+    /// status.
+    pub fn print(&self, rt: &HostRuntime) -> io::Result<u8> {
+        let refusal = String::from_utf8_lossy(rt.alloc(), &self.refusal)?;
+        eprint!(rt; "{refusal}")?;
+        tell_refusals(rt, &self.refusal)?;
+        Ok(self.status)
+    }
+}

@@ -1,0 +1,39 @@
+//! What the commands deliver to, and what they say beside it: a folder or a tar stream, the gauge
+//! that watches a restore, the words at a terminal and in a log, and the exit status.
+//!
+//! Of outcomes that are no files, `origins` finds the volume and the paths in the attributes. What a
+//! restore leaves unsaid without its options is said at a terminal: copies of paths that are older
+//! than others, indexes without an outcome, and why volumes can't be read.
+#![tactic(auto)]
+
+mod absent_count;
+mod advice_lines;
+mod attribute_paths;
+mod ending;
+mod first_asking;
+mod narrowed_groups;
+mod origin;
+mod own_hits;
+mod restore_io;
+mod searched_hits;
+mod target_folder;
+mod target_tar;
+mod told_outcomes;
+mod told_target;
+mod watched_restore;
+
+pub use absent_count::count_absent;
+pub use advice_lines::{push_absent, push_older, push_origin};
+pub use ending::{BAD_STREAM, Ending};
+pub use origin::{Origin, origins};
+pub use restore_io::RestoreIo;
+pub use target_folder::{HostSink, LeavingSink, ResumingSink, folder_of, leaving_over, sink_over};
+pub use target_tar::{
+    Channel, Extent, Streamed, TarEnd, TarFault, add_tar_end, end_stream, tar_into, tar_onto,
+};
+pub use told_outcomes::{Told, advise, say_volumes, tell_outcomes};
+pub use told_target::{
+    lacks_volumes, log_fault, refuse_place, say_conflicts, say_files, say_nowhere, say_place,
+    say_stop, tell_others,
+};
+pub use watched_restore::{gauge_of, refuse_log};

@@ -1,0 +1,215 @@
+//! What is told of the outcomes of a restore, at a terminal and in a log.
+
+use crate::absent_count::count_absent;
+use crate::advice_lines::{push_absent, push_older, push_origin};
+use crate::origin::{Origin, origins};
+use br_bsr::read_bootstrap;
+use br_cli_common::reason_of_read;
+use br_cli_progress::{Faults, Gauge, WatchedWriter};
+use br_engine::older_copies;
+use br_join::Outcome;
+use br_piece::split;
+use br_types::{Copies, FileKey, Gaps, VolName, Wanted};
+use br_volume::FolderDrive;
+use std::alloc::AllocError;
+use std::io;
+
+/// The number of volumes of which the reasons are told.
+const VOLUMES: usize = 8;
+
+/// The number of outcomes whose lines are told at once.
+const LINES: usize = 256;
+
+/// What a watcher noted of a restore while it ran.
+#[derive(Drop)]
+pub struct Told<'t> {
+    /// The outcomes that are no files.
+    faults: &'t Faults,
+    /// The keys of the outcomes, unless memory ran out.
+    keys: Option<&'t [FileKey]>,
+    /// The text of the bootstrap.
+    bootstrap: &'t [u8],
+}
+
+impl<'t> Told<'t> {
+    /// Returns what a watched writer noted of a restore by the bootstrap in this text.
+    pub fn by<W>(writer: &'t WatchedWriter<'_, '_, W>, bootstrap: &'t [u8]) -> Told<'t> {
+        Told {
+            faults: writer.faults(),
+            keys: writer.keys(),
+            bootstrap,
+        }
+    }
+
+    /// Returns what a watched writer noted of a console session.
+    pub fn of_session<W>(writer: &'t WatchedWriter<'_, '_, W>) -> Told<'t> {
+        Told::by(writer, writer.plan())
+    }
+}
+
+/// Returns where the outcomes come from that are no files. Their attributes are read once more, by a drive of its
+/// own.
+fn origins_of(rt: &HostRuntime, volumes: &str, told: &Told<'_>) -> Result<Vec<Origin>, AllocError> {
+    let keys = told.faults.keys(rt.alloc())?;
+    let Ok(bootstrap) = read_bootstrap(rt.alloc(), told.bootstrap) else {
+        return Ok(Vec::new(rt.alloc()));
+    };
+    let mut drive = FolderDrive::new(rt.alloc(), rt, volumes)?;
+    origins(rt.alloc(), &bootstrap, &keys, &mut drive)
+}
+
+/// Returns the lines of where outcomes come from.
+fn origin_lines(rt: &HostRuntime, origins: &[Origin]) -> Result<Vec<u8>, AllocError> {
+    let mut text = Vec::new(rt.alloc());
+    for origin in origins {
+        push_origin(&mut text, origin)?;
+    }
+    Ok(text)
+}
+
+/// Tells a terminal and the log where outcomes come from, some lines at once. Lines for which memory runs out are not
+/// told.
+///
+/// # Errors
+///
+/// If standard error failed.
+fn tell_origins(rt: &HostRuntime, gauge: &Gauge<'_>, origins: &[Origin]) -> io::Result<()> {
+    for part in origins.chunks(LINES) {
+        if let Ok(lines) = origin_lines(rt, part) {
+            gauge.tell_lines(lines)?;
+        }
+    }
+    Ok(())
+}
+
+/// Tells a terminal and the log the outcomes that are no files in words, and where each of them comes from, by the
+/// volumes in a folder. Where they come from is not told if memory runs out for it.
+///
+/// # Errors
+///
+/// If memory ran out for the words, or standard error failed.
+pub fn tell_outcomes(
+    rt: &HostRuntime,
+    gauge: &Gauge<'_>,
+    volumes: &str,
+    told: &Told<'_>,
+) -> io::Result<()> {
+    if !gauge.is_watching() || told.faults.are_none() {
+        return Ok(());
+    }
+    gauge.tell_faults(told.faults)?;
+    match origins_of(rt, volumes, told) {
+        Ok(origins) => tell_origins(rt, gauge, &origins),
+        Err(_) => Ok(()),
+    }
+}
+
+/// Returns the line that says how many indexes gave no outcome, if some did.
+fn absent_lines(rt: &HostRuntime, told: &Told<'_>) -> Result<Vec<u8>, AllocError> {
+    let mut text = Vec::new(rt.alloc());
+    if let (Some(keys), Ok(bootstrap)) = (told.keys, read_bootstrap(rt.alloc(), told.bootstrap)) {
+        let keys = Vec::from_slice(rt.alloc(), keys)?;
+        push_absent(
+            &mut text,
+            count_absent(rt.alloc(), bootstrap.groups(), keys)?,
+        )?;
+    }
+    Ok(text)
+}
+
+/// Returns the line that says how many files are older copies, if some are.
+fn older_lines(rt: &HostRuntime, outcomes: &[(FileKey, Outcome)]) -> Result<Vec<u8>, AllocError> {
+    let mut text = Vec::new(rt.alloc());
+    push_older(&mut text, &older_copies(rt.alloc(), outcomes)?)?;
+    Ok(text)
+}
+
+/// Returns the number of outcomes that are files.
+fn count_files(outcomes: &[(FileKey, Outcome)]) -> u64 {
+    let mut count: u64 = 0;
+    for (_, outcome) in outcomes {
+        if let Outcome::File(_) = outcome {
+            count = count.saturating_add(1);
+        }
+    }
+    count
+}
+
+/// Tells a terminal and the log what `--complete` and `--newest` would say or change, if they were not given. Notes
+/// how many older copies are left out, if `--newest` was given. The outcomes are those that were to be delivered,
+/// and `conflicts` is the number of files beside them that are left out since they conflict. What memory runs out
+/// for is not told.
+///
+/// # Errors
+///
+/// If standard error failed.
+pub fn advise(
+    rt: &HostRuntime,
+    gauge: &Gauge<'_>,
+    wanted: Wanted,
+    outcomes: &[(FileKey, Outcome)],
+    conflicts: u64,
+    told: &Told<'_>,
+) -> io::Result<()> {
+    if !gauge.is_watching() {
+        return Ok(());
+    }
+    if wanted.gaps == Gaps::Unreported {
+        if let Ok(lines) = absent_lines(rt, told) {
+            gauge.tell_lines(lines)?;
+        }
+    }
+    match wanted.copies {
+        Copies::All => match older_lines(rt, outcomes) {
+            Ok(lines) => gauge.tell_lines(lines),
+            Err(_) => Ok(()),
+        },
+        Copies::Newest => {
+            gauge.note_others(count_files(outcomes).saturating_add(conflicts));
+            Ok(())
+        }
+    }
+}
+
+/// Says why a volume in a folder can't be read, if it can't. Returns true if it said so.
+fn say_volume(
+    rt: &HostRuntime,
+    gauge: &Gauge<'_>,
+    volumes: &str,
+    vol: &VolName,
+) -> io::Result<bool> {
+    match reason_of_read(rt, volumes, vol.bytes())? {
+        Some(reason) => {
+            gauge.say(format!(in rt.alloc(); "  {reason}")?.as_str())?;
+            Ok(true)
+        }
+        None => Ok(false),
+    }
+}
+
+/// Says of the volumes in a folder that the bootstrap names why they can't be read, of the first of those that can't,
+/// after a restore that stopped for want of one.
+///
+/// # Errors
+///
+/// If memory ran out, or standard error failed.
+pub fn say_volumes(
+    rt: &HostRuntime,
+    gauge: &Gauge<'_>,
+    volumes: &str,
+    told: &Told<'_>,
+) -> io::Result<()> {
+    if !gauge.is_watching() {
+        return Ok(());
+    }
+    let Ok(bootstrap) = read_bootstrap(rt.alloc(), told.bootstrap) else {
+        return Ok(());
+    };
+    let mut said: usize = 0;
+    for piece in &split(rt.alloc(), &bootstrap)? {
+        if said < VOLUMES && say_volume(rt, gauge, volumes, &piece.vol)? {
+            said = said.saturating_add(1);
+        }
+    }
+    Ok(())
+}

@@ -1,0 +1,82 @@
+//! Restores that tell a terminal how far they are.
+ghost use Rattle.std.specs.Prelude.{◌≡◌, is_some, length, IfOk};
+
+use crate::ending::BAD_STREAM;
+use br_cli_common::{Progress, is_shown};
+use br_cli_progress::{Gauge, Log, WatchedDrive, WatchedSink, WatchedWriter};
+use br_engine::Outputs;
+use std::alloc::{AllocError, Global};
+use std::io::{self, ErrorKind};
+
+/// Returns the gauge of a restore from volumes in the folder with this path. It shows how far the restore is if that
+/// is asked for and standard error is a terminal, and appends to the file of a log if one is given.
+pub fn gauge_of<'r>(
+    rt: &'r HostRuntime,
+    volumes: &'r str,
+    progress: Progress,
+    log: Option<&str>,
+) -> io::Result<Gauge<'r>> {
+    let log = match log {
+        Some(path) => Some(Log::open(rt, path)?),
+        None => None,
+    };
+    let gauge = Gauge::new(rt, volumes, progress == Progress::Shown && is_shown(rt));
+    Ok(gauge.with_log(log))
+}
+
+/// Prints to standard error that the file of a log can't be opened. Returns the exit status. An error for memory
+/// is returned.
+pub fn refuse_log(rt: &HostRuntime, log: Option<&str>, error: io::Error) -> io::Result<u8> {
+    match log {
+        Some(path) if error.kind() != ErrorKind::OutOfMemory => {
+            eprintln!(rt; "brestore: {path}: {error}")?;
+            Ok(BAD_STREAM)
+        }
+        _ => Err(error),
+    }
+}
+
+/// Returns the drives, each of which is watched.
+pub(crate) fn watched_drives<'g, 'r, D: Drop>(
+    alloc: Global,
+    drives: Vec<D>,
+    gauge: &'g Gauge<'r>,
+) -> Result<Vec<WatchedDrive<'g, 'r, D>>, AllocError>
+    ensures many { IfOk result (λ watched. length watched.items ≡ length drives.items) }
+{
+    let mut watched = Vec::with_capacity(alloc, drives.len())?;
+    for drive in drives {
+        watched.push_reserved(WatchedDrive::new(drive, gauge));
+    }
+    Ok(watched)
+}
+
+/// Returns the outputs, of which the writer is watched.
+pub(crate) fn watched_writer<'g, 'r, W, S>(
+    out: Outputs<W, S>,
+    gauge: &'g Gauge<'r>,
+) -> Outputs<WatchedWriter<'g, 'r, W>, S>
+    ensures sink { result.sink ≡ out.sink }
+{
+    let Outputs { writer, sink } = out;
+    Outputs {
+        writer: WatchedWriter::new(writer, gauge),
+        sink,
+    }
+}
+
+/// Returns the outputs, of which the sink is watched.
+pub(crate) fn watched_sink<'g, 'r, W, S>(
+    out: Outputs<W, S>,
+    gauge: &'g Gauge<'r>,
+) -> Outputs<W, WatchedSink<'g, 'r, S>>
+    ensures writer { result.writer ≡ out.writer }
+    ensures sink { is_some result.sink ≡ is_some out.sink }
+{
+    let Outputs { writer, sink } = out;
+    let sink = match sink {
+        Some(sink) => Some(WatchedSink::new(sink, gauge)),
+        None => None,
+    };
+    Outputs { writer, sink }
+}

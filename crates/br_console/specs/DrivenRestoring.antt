@@ -1,0 +1,39 @@
+-- Restores over a store of volumes.
+use Rattle.std.specs.Prelude.{◌≡◌, ℕ, List, length, map, Option, option_map, Some, None, Result}
+use Rattle.std.specs.List.{AllByRecursion, AllZip}
+use Rattle.br_model.specs.Volume.{Volume}
+use Rattle.br_model.specs.Bootstrap.{Group}
+use Rattle.br_model.specs.Restored.{Planned, planned_in}
+use Rattle.br_volume.specs.Drive.{OnlyGrows}
+use Rattle.br_engine.specs.Restoring.{Told}
+use Rattle.br_engine.specs.Extracting.{OverVolumes}
+use Rattle.br_engine.specs.Delivering.{Delivers}
+use Rattle.br_engine.specs.declared.outputs.RestoreEnd.{RestoreEnd}
+use Rattle.br_engine.specs.declared.fault.ExtractFault.{ExtractFault}
+use Rattle.br_console.specs.declared.driven_store.NamedBootstrap.{NamedBootstrap}
+
+-- the volumes of drives that tell them
+abbrev pub some_shown : List (List Volume) → Told
+some_shown drives = map (λ (shown : List Volume). Some shown) drives
+
+-- The manifest of what a bootstrap gives was written, or there is why not, over all volumes that drives may
+-- be taken to show. There are so many of them, each shows these volumes at first, and they only grow.
+pub record IsRestored (volumes : Option (List Volume)) (count : ℕ) (groups : List Group) (names : Option (List Planned)) (before after : Option (List ℕ))
+    (result : Result RestoreEnd ExtractFault) : Type 0 where
+  pub earlier : Told
+  pub later : Told
+  pub many : length earlier ≡ count
+  pub show : AllByRecursion (λ (shown : Option (List Volume)). shown ≡ volumes) earlier
+  pub grow : AllZip OnlyGrows earlier later
+  pub delivers : Delivers (λ holds. OverVolumes earlier later groups names holds) before after None None result
+
+-- the same of the bootstrap and the names that are wanted
+abbrev pub RestoresWanted : Option (List Volume) → ℕ → NamedBootstrap → Option (List ℕ) → Option (List ℕ) → Result RestoreEnd ExtractFault → Type 0
+RestoresWanted volumes count wanted before after result =
+    IsRestored volumes count wanted.bootstrap.now (option_map planned_in wanted.names) before after result
+
+-- The manifest of what is wanted was written, or there is why not, over all volumes that these drives may be taken to show.
+abbrev pub DeliversWanted : List (List Volume) → List (List Volume) → NamedBootstrap → Option (List ℕ) → Option (List ℕ) → Result RestoreEnd ExtractFault → Type 0
+DeliversWanted earlier later wanted before after result =
+    Delivers (λ holds. OverVolumes (some_shown earlier) (some_shown later) wanted.bootstrap.now (option_map planned_in wanted.names) holds)
+    before after None None result

@@ -1,0 +1,121 @@
+ghost use Rattle.std.specs.Prelude.{◌≡◌, ◌+◌, ◌^◌, ◌<◌, OnOk};
+
+use crate::script_fault::ScriptFault;
+use br_engine::Turns;
+use bstr::ByteSlice;
+use std::io::{BufRead, ErrorKind};
+
+/// The result of reading a line.
+#[derive(Clone, Copy, PartialEq, Eq)]
+pub(crate) enum Reading {
+    /// A line, which is now in the buffer.
+    Line,
+    /// Memory ran out for the line, which is skipped.
+    NoMemory,
+    /// The end of input.
+    End,
+}
+
+impl Reading {
+    /// Returns the result for a line of which something was read.
+    fn begun(self) -> Reading {
+        match self {
+            Reading::End => Reading::Line,
+            _ => self,
+        }
+    }
+}
+
+/// The result of one turn of reading.
+enum Part {
+    /// The turn was interrupted.
+    Nothing,
+    /// Bytes of a line that goes on.
+    More,
+    /// The last bytes of a line, and its LF.
+    LineEnd,
+    InputEnd,
+}
+
+/// The lines of an input. A line ends at LF alone, which the last line may lack.
+#[derive(Drop)]
+pub(crate) struct Lines<R> {
+    reader: R,
+    turns: Turns,
+    number: u64,
+}
+
+/// Appends bytes to a line, up to `most` bytes in all. Returns false if memory ran out.
+fn keep(line: &mut Vec<u8>, part: &[u8], most: usize) -> bool {
+    let room = most.saturating_sub(line.len()).min(part.len());
+    line.extend_from_slice(&part[..room]).is_ok()
+}
+
+impl<R: BufRead> Lines<R> {
+    pub(crate) fn new(reader: R) -> Lines<R> {
+        Lines {
+            reader,
+            turns: Turns::new(),
+            number: 0,
+        }
+    }
+
+    /// Returns the number of the line that was read last, from 1.
+    pub(crate) fn number(&self) -> u64
+        ensures { result ≡ self.now.number }
+    {
+        self.number
+    }
+
+    /// Makes one turn of reading: appends to `line` what the reader has at hand of it, up to `most` bytes in all. Returns false
+    /// beside the result if memory ran out.
+    fn read_part(&mut self, line: &mut Vec<u8>, most: usize) -> Result<(Part, bool), ScriptFault>
+        ensures turn { OnOk result (self.new.turns ≡ self.old.turns + 1) }
+        ensures few { OnOk result (self.old.turns < 2 ^ 40) }
+    {
+        self.turns.take()?;
+        let available = match self.reader.fill_buf() {
+            Ok(available) => available,
+            Err(e) if e.kind() == ErrorKind::Interrupted => return Ok((Part::Nothing, true)),
+            Err(e) => return Err(ScriptFault::Io(e)),
+        };
+        let (part, used, is_kept) = match available.find_byte(b'\n') {
+            Some(at) => (Part::LineEnd, at + 1, keep(line, &available[..at], most)),
+            None if available.is_empty() => (Part::InputEnd, 0, true),
+            None => (Part::More, available.len(), keep(line, available, most)),
+        };
+        self.reader.consume(used);
+        Ok((part, is_kept))
+    }
+
+    /// Reads the next line into `line`, without its LF. Keeps at most `most` bytes of it.
+    pub(crate) fn read(&mut self, line: &mut Vec<u8>, most: usize) -> Result<Reading, ScriptFault>
+        ensures turns { OnOk result (self.old.turns < self.new.turns) }
+        ensures few { OnOk result (self.old.turns < 2 ^ 40) }
+    {
+        line.clear();
+        let (mut most, mut reading) = (most, Reading::End);
+        loop {
+            let (part, is_kept) = self.read_part(line, most)?;
+            if !is_kept {
+                (most, reading) = (0, Reading::NoMemory);
+            }
+            match part {
+                Part::Nothing => {}
+                Part::More => reading = reading.begun(),
+                Part::LineEnd => return Ok(self.counted(reading.begun())),
+                Part::InputEnd => return Ok(self.counted(reading)),
+            }
+        }
+    }
+
+    /// Counts the line that was read, if there was one.
+    fn counted(&mut self, reading: Reading) -> Reading
+        ensures { self.new.turns ≡ self.old.turns }
+    {
+        if reading != Reading::End {
+            self.number = self.number.saturating_add(1);
+        }
+        reading
+    }
+}

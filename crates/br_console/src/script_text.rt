@@ -1,0 +1,115 @@
+//! Texts of several lines in a script: bootstraps, and dialogues with the console.
+ghost use Rattle.std.specs.Prelude.{◌≤◌, OnOk};
+
+use crate::script_fault::ScriptFault;
+use crate::script_input::{Lines, Reading};
+use crate::script_line::MAX_LINE;
+use br_mark::Command;
+use std::alloc::Global;
+use std::io::BufRead;
+
+/// The bytes that are kept of each line of a text: as many as make the line too long in a bootstrap, where
+/// the last may be a CR of the line's end, and in a dialogue. So a line without an end takes no more memory,
+/// and the text is refused as the whole one.
+const MAX_KEPT: usize = MAX_LINE + 2;
+
+/// A text of several lines, as far as a script has it.
+pub(crate) enum Text {
+    /// The whole text.
+    Whole(Vec<u8>),
+    /// The whole text was read, but memory ran out for it.
+    NoMemory,
+    /// The input ended before the text did.
+    Unended,
+}
+
+/// What a text of several lines is.
+#[derive(Clone, Copy, PartialEq, Eq)]
+pub(crate) enum TextKind {
+    /// A bootstrap, which a line `.` ends that is no part of it.
+    Bootstrap,
+    /// A dialogue, which a line `done` or `quit` ends that belongs to it.
+    Dialogue,
+}
+
+/// Tests whether a line ends a dialogue with the console.
+fn ends_dialogue(alloc: Global, line: &[u8]) -> bool {
+    matches!(
+        Command::read(alloc, line),
+        Ok(Command::Done | Command::Quit)
+    )
+}
+
+impl TextKind {
+    /// Tests whether a line is the last of such a text.
+    fn is_last(self, alloc: Global, line: &[u8]) -> bool {
+        match self {
+            TextKind::Bootstrap => line == b".".as_slice(),
+            TextKind::Dialogue => ends_dialogue(alloc, line),
+        }
+    }
+}
+
+/// Appends a line and its LF. Returns false if memory ran out, for this line or its reading.
+fn push_line(text: &mut Vec<u8>, line: &[u8], reading: Reading) -> bool {
+    reading == Reading::Line && text.extend_from_slice(line).is_ok() && text.push(b'\n').is_ok()
+}
+
+/// Returns the text, unless memory ran out for it.
+fn text_of(text: Vec<u8>, has_memory: bool) -> Text {
+    if has_memory {
+        Text::Whole(text)
+    } else {
+        Text::NoMemory
+    }
+}
+
+/// Reads lines up to the last one of a text of this kind, or the end of input. Of a line that is too long
+/// only the front is kept. There is room for the last line from the start: a line that finds no memory is
+/// not kept, so the end of the text would pass unseen. Without that room no line is read.
+pub(crate) fn read_text<R: BufRead>(
+    alloc: Global,
+    lines: &mut Lines<R>,
+    kind: TextKind,
+) -> Result<Text, ScriptFault>
+    ensures { OnOk result (lines.old.turns ≤ lines.new.turns) }
+{
+    let Ok(mut line) = Vec::with_capacity(alloc, MAX_LINE) else {
+        return Ok(Text::NoMemory);
+    };
+    let mut text = Vec::new(alloc);
+    let mut has_memory = true;
+    loop {
+        let reading = lines.read(&mut line, MAX_KEPT)?;
+        if reading == Reading::End {
+            return Ok(Text::Unended);
+        }
+        let is_last = reading == Reading::Line && kind.is_last(alloc, &line);
+        if !is_last || kind == TextKind::Dialogue {
+            has_memory = has_memory && push_line(&mut text, &line, reading);
+        }
+        if is_last {
+            return Ok(text_of(text, has_memory));
+        }
+    }
+}
+
+/// Skips lines up to and with the one that ends a dialogue, or to the end of input. Without memory for
+/// that line no line is skipped.
+pub(crate) fn skip_dialogue<R: BufRead>(
+    alloc: Global,
+    lines: &mut Lines<R>,
+) -> Result<(), ScriptFault>
+    ensures { OnOk result (lines.old.turns ≤ lines.new.turns) }
+{
+    let Ok(mut line) = Vec::with_capacity(alloc, MAX_LINE) else {
+        return Ok(());
+    };
+    loop {
+        match lines.read(&mut line, MAX_KEPT)? {
+            Reading::End => return Ok(()),
+            Reading::Line if ends_dialogue(alloc, &line) => return Ok(()),
+            _ => {}
+        }
+    }
+}

@@ -1,9 +1,0 @@
--- What the options of the commands ask for.
-use Rattle.std.specs.Prelude.{ℕ, Result}
-use Rattle.br_model.specs.Choice.{Request}
-use Rattle.br_options.specs.declared.options.ConsoleOptions.{ConsoleOptions}
-use Rattle.br_request.specs.Asking.{checked_request}
-
--- the request of `console`, or why it is refused
-abbrev pub request_asked : ConsoleOptions → Result Request ℕ
-request_asked given = checked_request given.client.now given.fileset.now given.before.now

@@ -1,4 +1,0 @@
-pub mod Asked
-pub mod Ending
-pub mod Starting
-pub mod Tasks

@@ -1,2 +1,0 @@
-mod CountLaws
-mod GroupLaws

@@ -1,2 +1,0 @@
-pub mod ShiftLaws
-mod CrcExamples

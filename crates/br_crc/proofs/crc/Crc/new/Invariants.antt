@@ -1,6 +1,0 @@
-use Rattle.br_crc.specs.Crc.{AreEntries}
-use Rattle.br_crc.proofs.crc.Crc.new.Given as goal
-
--- the entries so far
-abbrev pub invariant-loop-place : goal.invariant-loop-place
-invariant-loop-place l = AreEntries l.entries.items l.place

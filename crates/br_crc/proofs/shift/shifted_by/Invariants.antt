@@ -1,7 +1,0 @@
-use Rattle.std.proofs.Common.{◌≡◌, ◌-◌}
-use Rattle.br_crc.specs.Crc as model
-use Rattle.br_crc.proofs.shift.shifted_by.Given as goal
-
--- what is left of the bits gives of the register that is left what all give of the first
-abbrev pub invariant-loop : goal.invariant-loop
-invariant-loop l = model.shifted_by (l.bits - l.counter) l.left ≡ model.shifted_by l.fn.bits l.fn.register

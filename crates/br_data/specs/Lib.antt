@@ -1,0 +1,9 @@
+pub mod KeptData
+pub mod StandingHits
+pub mod Rereading
+pub mod KnownBlocks
+pub mod BodyParts
+pub mod BodyWritten
+pub mod Content
+pub mod OverDrives
+pub mod ManyDrives

@@ -1,0 +1,154 @@
+ghost use Rattle.std.specs.Prelude.{◌≡◌, ◌≤◌, ◌<◌, true, Err, None, OnOk, IsOk};
+ghost use Rattle.br_model.specs.Answer.{AnswersAlways};
+ghost use Rattle.br_volume.specs.Drive.{OnlyGrows};
+ghost use Rattle.br_data.specs.KnownBlocks.{IsKnown, IsReady, OfFragment, bytes_of, fragment_of, knows};
+ghost use Rattle.br_data.specs.Rereading.{IsGone};
+ghost use Rattle.br_data.specs.declared.reread_fault.AgainFault.TheVariants.{Changed, Failed};
+
+use crate::data::Data;
+use crate::data_place::FragmentPlace;
+use crate::reread_fault::AgainFault;
+use crate::reread_fragment::{fragment_in, read_again};
+use br_block::Fragment;
+use br_types::VolName;
+use br_volume::Drive;
+use std::alloc::Global;
+use std::marker::Model;
+
+/// The block that was read last, so that fragments of one block cost one read. It is of one drive,
+/// and of no other.
+#[derive(Drop)]
+pub struct Again {
+    /// The bytes of the block, anything if none is known.
+    bytes: Vec<u8>,
+    /// The volume and the address of the block.
+    known: Option<(VolName, u64)>,
+}
+
+impl Model for Again {
+    ghost use Rattle.std.specs.Prelude.{◌≡◌, IfSome, Ok, Option, option_map};
+    ghost use Rattle.br_model.specs.Block.{read_block};
+    ghost use Rattle.br_data.specs.KnownBlocks as model;
+
+    ghost Value = { Option model.KnownBlock };
+
+    ghost view = { λ a. option_map (λ k. record { volume = k.0; address = k.1; bytes = a.bytes.items }) a.known };
+
+    ghost invariant = { λ a. IfSome a.known (λ _. read_block a.bytes.items ≡ Ok a.bytes.items) };
+}
+
+impl Again {
+    /// Returns one that knows no block.
+    pub fn new(alloc: Global) -> Again
+        ensures { result ≡ None }
+    {
+        Again {
+            bytes: Vec::new(alloc),
+            known: None,
+        }
+    }
+
+    /// Returns whether the block of the place was read last.
+    fn knows(&self, place: &FragmentPlace<'_>) -> bool
+        ensures { result ≡ knows place.now self.now }
+    {
+        match &self.known {
+            Some((name, addr)) => name.bytes() == place.vol.bytes() && *addr == place.addr,
+            None => false,
+        }
+    }
+
+    /// Reads the block of the place, unless it was read last. The drive is that of all calls before.
+    ///
+    /// # Errors
+    ///
+    /// `Failed` if the drive failed, `Changed` if there is no block at the address, `Memory` if
+    /// memory runs out. Then no block is known.
+    fn fetch<D: Drive>(
+        &mut self,
+        drive: &mut D,
+        place: &FragmentPlace<'_>,
+    ) -> Result<(), AgainFault>
+        requires known { IsKnown (D.shows drive.old) self.old }
+        ensures known { IsKnown (D.shows drive.new) self.new }
+        ensures fetched { OnOk result (knows place.now self.new ≡ true) }
+        ensures gone { IsGone (D.shows drive.old) place.now.volume place.now.address result }
+        ensures grows { OnlyGrows (D.shows drive.old) (D.shows drive.new) }
+        ensures counted { D.failures drive.old ≤ D.failures drive.new }
+        ensures failed { result ≡ Err Failed → D.failures drive.old < D.failures drive.new }
+    {
+        if self.knows(place) {
+            return Ok(());
+        }
+        self.known = None;
+        let name = place.vol.copy(*self.bytes.allocator())?;
+        read_again(drive, place.vol, place.addr, &mut self.bytes)?;
+        self.known = Some((name, place.addr));
+        Ok(())
+    }
+
+    /// Makes ready to give the bytes of the data, by `bytes_of`: reads the block of the place, unless
+    /// the bytes are held or the block was read last. The drive is that of all calls before.
+    ///
+    /// Over all volumes that the drive shows, whatever else it shows, the bytes are then those that
+    /// were found, if the volumes have these at the place.
+    ///
+    /// # Errors
+    ///
+    /// `Failed` if the drive failed, `Changed` if there is no block at the address, `Memory` if
+    /// memory runs out. There is none if the bytes are held.
+    pub fn prepare<D: Drive>(
+        &mut self,
+        drive: &mut D,
+        place: &FragmentPlace<'_>,
+        found: &Data,
+    ) -> Result<(), AgainFault>
+        requires known { IsKnown (D.shows drive.old) self.old }
+        ensures known { IsKnown (D.shows drive.new) self.new }
+        ensures same { OnOk result (IsReady (D.shows drive.old) place.now found.now self.new) }
+        ensures held { found.now.held ≡ true → IsOk result }
+        ensures gone { result ≡ Err Changed → OfFragment (D.shows drive.old) place.now (λ _. ⊥) }
+        ensures grows { OnlyGrows (D.shows drive.old) (D.shows drive.new) }
+        ensures counted { D.failures drive.old ≤ D.failures drive.new }
+        ensures failed { result ≡ Err Failed → D.failures drive.old < D.failures drive.new }
+    {
+        if found.is_held() {
+            return Ok(());
+        }
+        self.fetch(drive, place)
+    }
+
+    /// Returns the fragment of the block that was read last with this number of fragments before it.
+    ///
+    /// # Errors
+    ///
+    /// `Changed` if there is none.
+    pub fn fragment(&self, ordinal: u32) -> Result<Fragment<'_>, AgainFault>
+        ensures { AnswersAlways (λ f. f) (λ e. e) result (fragment_of self.now ordinal) }
+    {
+        match &self.known {
+            Some(_) => fragment_in(&self.bytes, ordinal),
+            None => Err(AgainFault::Changed),
+        }
+    }
+
+    /// Returns the bytes of the data: those that are held, or those of the fragment of the block
+    /// that was read last with this number of fragments before it.
+    ///
+    /// # Errors
+    ///
+    /// `Changed` if no bytes are held and there is no such fragment, or one of another length.
+    #[tactic(auto, unfolding(crate::specs::KnownBlocks::bytes_of))]
+    pub fn bytes_of<'a>(&'a self, ordinal: u32, found: &'a Data) -> Result<&'a [u8], AgainFault>
+        ensures { AnswersAlways (λ bytes. bytes.now) (λ e. e) result (bytes_of self.now ordinal found.now) }
+    {
+        if let Some(bytes) = found.held() {
+            return Ok(bytes);
+        }
+        let fragment = self.fragment(ordinal)?;
+        if fragment.bytes.len() != found.len() {
+            return Err(AgainFault::Changed);
+        }
+        Ok(fragment.bytes)
+    }
+}

@@ -1,3 +1,0 @@
-pub mod Table
-pub mod Text
-pub mod Rows

@@ -1,3 +1,0 @@
-mod FlagLaws
-mod BackLaws
-pub mod WantedLaws

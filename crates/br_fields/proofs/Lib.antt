@@ -1,3 +1,0 @@
-pub mod SpaceLaws
-pub mod SpellingLaws
-pub mod NumberLaws

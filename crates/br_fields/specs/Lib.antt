@@ -1,3 +1,0 @@
-pub mod Spelling
-pub mod Fault
-pub mod Number

@@ -1,9 +1,0 @@
-use Rattle.std.proofs.Common.{rules, take}
-use Rattle.br_files.proofs.AppendLaws.{appended_is}
-use Rattle.br_files.proofs.mem.MemDiskDisk.write.Goals as goal
-
-pub returns-clause-written : goal.returns-clause-written
-returns-clause-written c = record {
-  files = appended_is c.args.file.now (take c.match-self.n c.args.bytes.now) c.args.self.now.tree.files _ (search rules);
-  others = search rules;
-}

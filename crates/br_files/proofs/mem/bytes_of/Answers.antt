@@ -1,9 +1,0 @@
-use Rattle.std.proofs.Common.{Some, None}
-use Rattle.br_files.proofs.KeptLaws.{found_kept}
-use Rattle.br_files.proofs.mem.bytes_of.Goals as goal
-
-pub returns-in-None : goal.returns-in-None
-returns-in-None c = found_kept c.args.files.now c.args.path.now None c.in-None.ensures
-
-pub returns-in-Some : goal.returns-in-Some
-returns-in-Some c = found_kept c.args.files.now c.args.path.now (Some c.in-Some.file.now) c.in-Some.ensures

@@ -1,8 +1,0 @@
-pub mod Tree
-pub mod Fault
-pub mod Calls
-pub mod Read
-pub mod Append
-pub mod Memory
-pub mod Making
-pub mod MemMaker

@@ -1,3 +1,0 @@
-pub mod FolderLaws
-pub mod FreeLaws
-pub mod StoreLaws

@@ -1,5 +1,0 @@
-use Rattle.br_folder_sink.proofs.WindowLaws.{below_push}
-use Rattle.br_folder_sink.proofs.window.Window.hold.Goals as goal
-
-pub returns-clause-below : goal.returns-clause-below
-returns-clause-below g c = λ n below less. below_push n c.args.self.now.made.items c.push_reserved.new.self.items c.args.one c.push_reserved.ensures.items below less

@@ -1,0 +1,8 @@
+pub mod PlaceLaws
+pub mod KeptLaws
+pub mod AppendLaws
+pub mod ReadLaws
+pub mod MakingLaws
+pub mod EmptyLaws
+pub mod AbsentLaws
+pub mod AlikeLaws

@@ -1,0 +1,91 @@
+ghost use Rattle.std.specs.Prelude.{◌≡◌, ℕ, ◌≤◌, ◌⊎◌, List, [], length, take, Option, None, IfOk, OnErr, OnOk, Err, IsTrue};
+ghost use Rattle.br_fs.specs.Tree.{Tree};
+ghost use Rattle.br_fs.specs.Calls.{IsAbsent, IsFile, IsNoFile, IsNothing, IsFound, IsReadAt, IsSteady, IsTaken};
+ghost use Rattle.br_fs.specs.Calls.{Appends, KeepsFolders};
+ghost use Rattle.br_fs.specs.declared.fault.DiskFault.TheVariants.{Exists, NotFound};
+
+use crate::fault::DiskFault;
+use crate::kind::Found;
+
+/// Files and folders by path. The calls are few and small: each is one call of the system. Reads
+/// and writes may be short. A disk that tells its tree is changed by nobody else, and no two paths
+/// lead to one file.
+pub trait Disk {
+    /// An open file.
+    type File: Drop;
+
+    /// What the disk has, if it tells it. A disk over memory does, that of the system does not.
+    ghost told: { Self → Option Tree };
+
+    /// The path under which a file was opened.
+    ghost path_of: { Self.File → List ℕ };
+
+    /// The number of interrupts to come, if no call fails by itself. None if any may.
+    ghost steady: { Self → Option ℕ };
+
+    /// Returns what is at the path. A link is followed.
+    ///
+    /// # Errors
+    ///
+    /// `NotFound` only if nothing is there, or a link that leads to nothing.
+    fn find(&mut self, path: &str) -> Result<Found, DiskFault>
+        ensures found { IfOk result (λ found. IsFound (told self.new) path.now found.kind found.len) }
+        ensures missing { result ≡ Err NotFound → IsNoFile (told self.new) path.now }
+        ensures never { result ≡ Err NotFound → IsAbsent (told self.new) path.now }
+        ensures reads { result ≡ Err Exists → steady self.old ≡ None }
+        ensures same { told self.new ≡ told self.old }
+        ensures steady { IsSteady (steady self.old) (steady self.new) result };
+
+    /// Opens the file at the path for reading. What is no file, as a pipe, must not be opened.
+    fn open(&mut self, path: &str) -> Result<Self::File, DiskFault>
+        requires file { IsFile (told self.old) path.now }
+        ensures opened { IfOk result (λ file. path_of file ≡ path.now) }
+        ensures missing { result ≡ Err NotFound → IsNoFile (told self.new) path.now }
+        ensures same { told self.new ≡ told self.old }
+        ensures steady { IsSteady (steady self.old) (steady self.new) result };
+
+    /// Opens the file at the path for appending.
+    fn open_to_append(&mut self, path: &str) -> Result<Self::File, DiskFault>
+        requires file { IsFile (told self.old) path.now }
+        ensures opened { IfOk result (λ file. path_of file ≡ path.now) }
+        ensures same { told self.new ≡ told self.old }
+        ensures steady { IsSteady (steady self.old) (steady self.new) result };
+
+    /// Makes an empty file, which only its owner may read and write, and opens it for appending.
+    ///
+    /// # Errors
+    ///
+    /// `Exists` only if something is at the path, even a link. After an error no file is made.
+    fn create(&mut self, path: &str) -> Result<Self::File, DiskFault>
+        ensures opened { IfOk result (λ file. path_of file ≡ path.now) }
+        ensures fresh { OnOk result (IsNothing (told self.old) path.now) }
+        ensures made { OnOk result (Appends path.now [] (told self.old) (told self.new)) }
+        ensures refused { OnErr result (told self.new ≡ told self.old) }
+        ensures taken { result ≡ Err Exists → IsTaken (told self.old) path.now }
+        ensures folders { KeepsFolders (told self.old) (told self.new) }
+        ensures makes { result ≡ Err NotFound → steady self.old ≡ None }
+        ensures steady { IsSteady (steady self.old) (steady self.new) result };
+
+    /// Returns whether the file was opened under this path.
+    fn is_at(&self, file: &Self::File, path: &str) -> bool
+        ensures { IsTrue result → path_of file.now ≡ path.now };
+
+    /// Reads bytes of the file, from this place on, to the front of the buffer. Returns their
+    /// number: at least one if both the file and the buffer have room for one, and maybe fewer than
+    /// there are.
+    fn read_at(&mut self, file: &Self::File, buf: &mut [u8], at: u64) -> Result<usize, DiskFault>
+        ensures fits { IfOk result (λ n. n ≤ length buf.new) }
+        ensures read { IfOk result (λ n. IsReadAt (told self.new) (path_of file.now) at buf.new n) }
+        ensures missing { result ≡ Err NotFound → IsNoFile (told self.new) (path_of file.now) }
+        ensures same { told self.new ≡ told self.old }
+        ensures steady { IsSteady (steady self.old) (steady self.new) result };
+
+    /// Appends the first of the bytes to the file. Returns their number, maybe fewer than all.
+    fn write(&mut self, file: &mut Self::File, bytes: &[u8]) -> Result<usize, DiskFault>
+        ensures fits { IfOk result (λ n. n ≤ length bytes.now) }
+        ensures written { IfOk result (λ n. Appends (path_of file.old) (take n bytes.now) (told self.old) (told self.new)) }
+        ensures refused { OnErr result (told self.new ≡ told self.old) }
+        ensures file { path_of file.new ≡ path_of file.old }
+        ensures some { IfOk result (λ n. n ≡ 0 → (length bytes.now ≡ 0) ⊎ (steady self.old ≡ None)) }
+        ensures steady { IsSteady (steady self.old) (steady self.new) result };
+}

@@ -1,0 +1,212 @@
+//! The files of the system. Each method is one call of std: no clause can say what a disk does.
+ghost use Rattle.std.specs.Prelude.{◌≡◌, true, IfOk};
+ghost use Rattle.std.specs.IoError.{error_kind};
+ghost use Rattle.std.specs.Fs.{asks_append, asks_create_new, asks_write, new_options, with_append, with_read};
+ghost use Rattle.br_fs.specs.Fault.{IsFaultOf};
+
+use crate::disk::Disk;
+use crate::fault::DiskFault;
+use crate::kind::{Found, Kind};
+use crate::maker::FileMaker;
+use crate::path::FilePath;
+use std::alloc::Global;
+use std::fs::{DirBuilder, FileType, OpenOptions};
+use std::io::{ErrorKind, Write};
+use std::marker::Model;
+use std::os::unix::fs::{DirBuilderExt, FileExt, OpenOptionsExt};
+use std::rt::Files;
+use std::{fs, io};
+
+/// A disk of the system.
+#[derive(Drop)]
+pub struct HostDisk<F: Files + Drop> {
+    alloc: Global,
+    files: F,
+}
+
+/// An open file, and the path under which it was opened.
+#[derive(Drop)]
+pub struct HostFile<H: Drop> {
+    path: FilePath,
+    file: H,
+}
+
+impl<H: Drop> Model for HostFile<H> {
+    ghost use Rattle.std.specs.Prelude.{List, ℕ};
+
+    ghost Value = { List ℕ };
+
+    ghost view = { λ f. f.path };
+}
+
+impl<F: Files + Drop> HostDisk<F> {
+    /// Returns the disk over which this handle opens files.
+    pub fn new(alloc: Global, files: F) -> HostDisk<F> {
+        HostDisk { alloc, files }
+    }
+
+    /// Opens the file at the path.
+    fn opened(&self, how: &OpenOptions, path: &str) -> Result<HostFile<F::File>, DiskFault>
+        ensures { IfOk result (λ file. file ≡ path.now) }
+    {
+        let kept = FilePath::new(self.alloc, path.as_bytes())?;
+        let file = how.open(&self.files, path).map_err(fault_of)?;
+        Ok(HostFile { path: kept, file })
+    }
+}
+
+/// Returns the fault of an error of the system.
+pub(crate) fn fault_of(error: io::Error) -> DiskFault
+    ensures { IsFaultOf (error_kind error) result }
+{
+    match error.kind() {
+        ErrorKind::NotFound => DiskFault::NotFound,
+        ErrorKind::AlreadyExists => DiskFault::Exists,
+        ErrorKind::Interrupted => DiskFault::Interrupted,
+        ErrorKind::OutOfMemory => DiskFault::Memory,
+        _ => DiskFault::Failed,
+    }
+}
+
+/// Returns how a file is opened to be read, and for nothing else.
+fn to_read() -> OpenOptions
+    ensures { result ≡ with_read new_options true }
+{
+    let mut how = OpenOptions::new();
+    how.read(true);
+    how
+}
+
+/// Returns how a file that exists is opened to append to it.
+fn to_append() -> OpenOptions
+    ensures { result ≡ with_append new_options true }
+{
+    let mut how = OpenOptions::new();
+    how.append(true);
+    how
+}
+
+/// Returns how a file is made, for its owner alone and only where nothing is.
+fn to_make() -> OpenOptions
+    ensures new { asks_create_new result ≡ true }
+    ensures write { asks_write result ≡ true }
+{
+    let mut how = OpenOptions::new();
+    how.mode(0o600);
+    how.write(true);
+    how.create_new(true);
+    how
+}
+
+/// Returns how a file is made to append to it, for its owner alone and only where nothing is.
+fn to_make_and_append() -> OpenOptions
+    ensures new { asks_create_new result ≡ true }
+    ensures append { asks_append result ≡ true }
+{
+    let mut how = to_make();
+    how.append(true);
+    how
+}
+
+fn kind_of(kind: FileType) -> Kind {
+    if kind.is_file() {
+        Kind::File
+    } else if kind.is_dir() {
+        Kind::Folder
+    } else if kind.is_symlink() {
+        Kind::Link
+    } else {
+        Kind::Other
+    }
+}
+
+impl<F: Files + Drop> Disk for HostDisk<F>
+where
+    F::File: FileExt,
+{
+    ghost use Rattle.std.specs.Prelude.{None};
+
+    type File = HostFile<F::File>;
+
+    ghost told = { λ _. None };
+
+    ghost path_of = { λ file. file };
+
+    ghost steady = { λ _. None };
+
+    fn find(&mut self, path: &str) -> Result<Found, DiskFault> {
+        let metadata = fs::metadata(&self.files, path).map_err(fault_of)?;
+        Ok(Found {
+            kind: kind_of(metadata.file_type()),
+            len: metadata.len(),
+        })
+    }
+
+    fn open(&mut self, path: &str) -> Result<HostFile<F::File>, DiskFault> {
+        self.opened(&to_read(), path)
+    }
+
+    fn open_to_append(&mut self, path: &str) -> Result<HostFile<F::File>, DiskFault> {
+        self.opened(&to_append(), path)
+    }
+
+    fn create(&mut self, path: &str) -> Result<HostFile<F::File>, DiskFault> {
+        self.opened(&to_make_and_append(), path)
+    }
+
+    fn is_at(&self, file: &HostFile<F::File>, path: &str) -> bool {
+        file.path.bytes() == path.as_bytes()
+    }
+
+    fn read_at(
+        &mut self,
+        file: &HostFile<F::File>,
+        buf: &mut [u8],
+        at: u64,
+    ) -> Result<usize, DiskFault> {
+        file.file.read_at(buf, at).map_err(fault_of)
+    }
+
+    fn write(&mut self, file: &mut HostFile<F::File>, bytes: &[u8]) -> Result<usize, DiskFault> {
+        file.file.write(bytes).map_err(fault_of)
+    }
+}
+
+impl<F: Files + Drop> FileMaker for HostDisk<F> {
+    ghost use Rattle.std.specs.Prelude.{None};
+
+    type New = F::File;
+
+    ghost nodes = { λ _. None };
+
+    ghost is_steady = { λ _. ⊥ };
+
+    fn look(&mut self, path: &str) -> Result<Kind, DiskFault> {
+        let metadata = fs::symlink_metadata(&self.files, path).map_err(fault_of)?;
+        Ok(kind_of(metadata.file_type()))
+    }
+
+    fn is_empty(&self, path: &str) -> Result<bool, DiskFault> {
+        let mut entries = fs::read_dir(&(&self.files, self.alloc), path).map_err(fault_of)?;
+        Ok(entries.next().is_none())
+    }
+
+    fn make_folder(&mut self, path: &str) -> Result<(), DiskFault> {
+        let mut how = DirBuilder::new();
+        how.mode(0o700);
+        how.create(&self.files, path).map_err(fault_of)
+    }
+
+    fn make_file(&mut self, path: &str) -> Result<F::File, DiskFault> {
+        to_make().open(&self.files, path).map_err(fault_of)
+    }
+
+    /// Closes the file, by dropping it.
+    fn finish(&mut self, _path: &str, _file: F::File) -> Result<(), DiskFault> {
+        Ok(())
+    }
+
+    fn remove(&mut self, path: &str) -> Result<(), DiskFault> {
+        fs::remove_file(&self.files, path).map_err(fault_of)
+    }
+}

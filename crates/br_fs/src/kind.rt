@@ -1,0 +1,17 @@
+/// What is at a path.
+#[derive(Clone, Copy, Debug, PartialEq, Eq)]
+pub enum Kind {
+    File,
+    Folder,
+    Link,
+    /// A pipe, a socket or a device.
+    Other,
+}
+
+/// What a disk finds at a path.
+#[derive(Clone, Copy, PartialEq, Eq)]
+pub struct Found {
+    pub kind: Kind,
+    /// The number of bytes of a file.
+    pub len: u64,
+}

@@ -1,0 +1,42 @@
+//! Files and folders, by two traits whose clauses say what each call does.
+//!
+//! `Disk` reads files and appends to them. `MemDisk` is a disk over memory, which tells its files,
+//! and `HostDisk` is the system's, as thin as it can be. `read_from` and `append` are generic over
+//! the trait: the first reads just the bytes that the file has, the second appends all bytes or the
+//! first of them.
+//!
+//! `FileMaker` makes files and folders, whose new files can be written side by side. `MemMaker` is
+//! one over memory, and `HostDisk` that of the system. `enter_folder`, `clear_path` and `put_file`
+//! are generic over it.
+//!
+//! `has_alike` says if a file has given bytes, which are known by their number and their MD5
+//! digest. It reads the file in parts. `Comparer` is a maker of files that compares.
+#![tactic(auto)]
+
+mod appending;
+mod comparer;
+mod disk;
+mod fault;
+mod file_digests;
+mod host;
+mod kind;
+mod maker;
+mod making;
+mod mem;
+mod mem_maker;
+mod path;
+mod read;
+
+pub use appending::append;
+pub use comparer::Comparer;
+pub use disk::Disk;
+pub use fault::DiskFault;
+pub use file_digests::has_alike;
+pub use host::{HostDisk, HostFile};
+pub use kind::{Found, Kind};
+pub use maker::FileMaker;
+pub use making::{clear_path, enter_folder, put_file};
+pub use mem::MemDisk;
+pub use mem_maker::{MemMaker, MemNew};
+pub use path::FilePath;
+pub use read::read_from;

@@ -1,0 +1,323 @@
+ghost use Rattle.std.specs.Prelude.{◌≡◌, ℕ, ◌-◌, ◌^◌, ◌<◌, ◌≤◌, List, [], length, take, bytes_eq, find, position, true, false};
+ghost use Rattle.std.specs.Prelude.{Option, option_map, IfOk, OnOk, OnErr, None, Some};
+ghost use Rattle.std.specs.Option.{option_copied};
+ghost use Rattle.br_model.specs.Volume.{volume_bytes};
+ghost use Rattle.br_fs.specs.Calls.{IsNothing, IsPartAt, IsTaken};
+ghost use Rattle.br_fs.specs.Memory.{Held, IsSeen, IsOtherIn, IsIn, files_of, steady_of, with_appended};
+ghost use Rattle.br_fs.specs.Memory.{with_interrupts, with_calls, with_room};
+
+use crate::disk::Disk;
+use crate::fault::DiskFault;
+use crate::kind::{Found, Kind};
+use crate::path::FilePath;
+use std::alloc::{AllocError, Global};
+use std::marker::Model;
+
+/// A disk over memory, for tests. Its reads and writes may be short or interrupted, its calls may
+/// fail from one of them on, and it may be full.
+#[derive(Drop)]
+pub struct MemDisk {
+    alloc: Global,
+    files: Vec<(FilePath, Vec<u8>)>,
+    others: Vec<(FilePath, Kind)>,
+    at_most: usize,
+    interrupts: u64,
+    calls_left: Option<u64>,
+    room: Option<u64>,
+}
+
+impl Model for MemDisk {
+    ghost use Rattle.br_fs.specs.Memory.{Held, files_of};
+
+    ghost Value = { Held };
+
+    ghost view = { λ d. record {
+      tree = record { files = files_of d.files.items; others = d.others.items };
+      interrupts = d.interrupts;
+      calls_left = d.calls_left;
+      room = d.room;
+    } };
+}
+
+impl MemDisk {
+    /// Returns a disk with these files, and with something else at other paths.
+    pub fn new(
+        alloc: Global,
+        files: Vec<(FilePath, Vec<u8>)>,
+        others: Vec<(FilePath, Kind)>,
+    ) -> MemDisk
+        ensures tree { result.tree ≡ record { files = files_of files.items; others = others.items } }
+        ensures steady { steady_of result ≡ Some 0 }
+    {
+        MemDisk {
+            alloc,
+            files,
+            others,
+            at_most: usize::MAX,
+            interrupts: 0,
+            calls_left: None,
+            room: None,
+        }
+    }
+
+    /// Makes reads and writes short: of at most this number of bytes, or of one if it is 0. The
+    /// next of them are interrupted.
+    pub fn shorten(&mut self, at_most: usize, interrupts: u64)
+        ensures { self.new ≡ with_interrupts interrupts self.old }
+    {
+        self.at_most = at_most;
+        self.interrupts = interrupts;
+    }
+
+    /// Makes calls fail after this number of them.
+    pub fn fail_after(&mut self, calls: u64)
+        ensures { self.new ≡ with_calls calls self.old }
+    {
+        self.calls_left = Some(calls);
+    }
+
+    /// Makes the disk full after this number of bytes more.
+    pub fn fill_after(&mut self, room: u64)
+        ensures { self.new ≡ with_room room self.old }
+    {
+        self.room = Some(room);
+    }
+
+    /// Returns the bytes of the file at the path, if there is one.
+    pub fn bytes(&self, path: &str) -> Option<&[u8]>
+        ensures { option_map (λ b. b.now) result ≡ volume_bytes self.now.tree.files path.now }
+    {
+        match bytes_of(&self.files, path.as_bytes()) {
+            None => None,
+            Some(bytes) => Some(bytes),
+        }
+    }
+
+    /// Counts a call. Returns whether it is answered.
+    fn answers(&mut self) -> bool
+        ensures tree { self.new.tree ≡ self.old.tree }
+        ensures interrupts { self.new.interrupts ≡ self.old.interrupts }
+        ensures room { self.new.room ≡ self.old.room }
+        ensures always { self.old.calls_left ≡ None → (self.new.calls_left ≡ None) × (result ≡ true) }
+        ensures stopped { result ≡ false → steady_of self.old ≡ None }
+        ensures counted { (n : ℕ) → self.old.calls_left ≡ Some n → self.new.calls_left ≡ Some (n - 1) }
+    {
+        match self.calls_left {
+            None => true,
+            Some(0) => false,
+            Some(n) => {
+                self.calls_left = Some(n - 1);
+                true
+            }
+        }
+    }
+}
+
+/// Returns the first file at the path.
+fn file_of<'a>(files: &'a [(FilePath, Vec<u8>)], path: &[u8]) -> Option<&'a (FilePath, Vec<u8>)>
+    ensures { option_copied result ≡ find (λ v. bytes_eq v.0 path.now) files.now }
+{
+    files.iter().find(|v| v.0.bytes() == path)
+}
+
+/// Returns the bytes of the first file at the path.
+fn bytes_of<'a>(files: &'a [(FilePath, Vec<u8>)], path: &[u8]) -> Option<&'a Vec<u8>>
+    ensures { option_map (λ b. b.now.items) result ≡ volume_bytes (files_of files.now) path.now }
+{
+    match file_of(files, path) {
+        None => None,
+        Some(file) => Some(&file.1),
+    }
+}
+
+/// Returns what else is at the path.
+fn other_of<'a>(others: &'a [(FilePath, Kind)], path: &[u8]) -> Option<&'a (FilePath, Kind)>
+    ensures { option_copied result ≡ find (λ v. bytes_eq v.0 path.now) others.now }
+{
+    others.iter().find(|v| v.0.bytes() == path)
+}
+
+/// Returns what a call finds that is of this kind. It follows links, which lead to nothing here.
+fn found_of(kind: Kind) -> Option<Found>
+    ensures { IsSeen kind result }
+{
+    match kind {
+        Kind::Folder => Some(Found { kind, len: 0 }),
+        Kind::Other => Some(Found { kind, len: 0 }),
+        Kind::File | Kind::Link => None,
+    }
+}
+
+/// Returns what else than a file is found at the path.
+#[tactic(auto, using(crate::proofs::AbsentLaws::other_seen, crate::proofs::AbsentLaws::none_seen))]
+fn other_in(others: &[(FilePath, Kind)], path: &[u8]) -> Option<Found>
+    ensures { IsOtherIn others.now path.now result }
+{
+    match other_of(others, path) {
+        None => None,
+        Some(other) => found_of(other.1),
+    }
+}
+
+/// Returns what is found at the path.
+#[tactic(auto, using(crate::proofs::AbsentLaws::other_is_in))]
+fn found_in(
+    files: &[(FilePath, Vec<u8>)],
+    others: &[(FilePath, Kind)],
+    path: &[u8],
+) -> Option<Found>
+    ensures { IsIn (record { files = files_of files.now; others = others.now }) path.now result }
+{
+    if let Some(bytes) = bytes_of(files, path) {
+        return Some(Found {
+            kind: Kind::File,
+            len: bytes.len() as u64,
+        });
+    }
+    other_in(others, path)
+}
+
+/// Returns whether something is at the path.
+fn is_taken(files: &[(FilePath, Vec<u8>)], others: &[(FilePath, Kind)], path: &[u8]) -> bool
+    ensures free { result ≡ false → IsNothing (Some (record { files = files_of files.now; others = others.now })) path.now }
+    ensures taken { result ≡ true → IsTaken (Some (record { files = files_of files.now; others = others.now })) path.now }
+{
+    match bytes_of(files, path) {
+        Some(_) => true,
+        None => other_of(others, path).is_some(),
+    }
+}
+
+/// Returns the place of the first file at the path.
+fn position_of(files: &[(FilePath, Vec<u8>)], path: &[u8]) -> Option<usize>
+    ensures { result ≡ position (λ v. bytes_eq v.0 path.now) files.now }
+{
+    files.iter().position(|v| v.0.bytes() == path)
+}
+
+/// Appends bytes to a file, or makes a file of them. A refusal changes nothing.
+fn append_to(
+    alloc: Global,
+    files: &mut Vec<(FilePath, Vec<u8>)>,
+    path: &[u8],
+    bytes: &[u8],
+) -> Result<(), AllocError>
+    ensures ok { OnOk result (files_of files.new.items ≡ with_appended path.now bytes.now (files_of files.old.items)) }
+    ensures err { OnErr result (files_of files.new.items ≡ files_of files.old.items) }
+{
+    match position_of(files, path) {
+        Some(at) => files[at].1.extend_from_slice(bytes),
+        None => {
+            let file = (FilePath::new(alloc, path)?, Vec::from_slice(alloc, bytes)?);
+            files.push(file)?;
+            Ok(())
+        }
+    }
+}
+
+/// Copies bytes from a place on to the front of the buffer: no more than `at_most`, but at least one
+/// if there is one.
+fn copy_part(bytes: &[u8], buf: &mut [u8], at: u64, at_most: usize) -> usize
+    ensures fits { result ≤ length buf.new }
+    ensures part { length bytes.now < 2 ^ 63 → IsPartAt bytes.now at buf.new result }
+{
+    let rest = match bytes.get(at as usize..) {
+        None => return 0,
+        Some(rest) => rest,
+    };
+    let n = rest.len().min(buf.len()).min(at_most.max(1));
+    buf[..n].copy_from_slice(&rest[..n]);
+    n
+}
+
+impl Disk for MemDisk {
+    ghost use Rattle.std.specs.Prelude.{Some};
+
+    type File = FilePath;
+
+    ghost told = { λ d. Some d.tree };
+
+    ghost path_of = { λ file. file };
+
+    ghost steady = { steady_of };
+
+    #[tactic(auto, using(crate::proofs::AbsentLaws::unseen_is_absent))]
+    fn find(&mut self, path: &str) -> Result<Found, DiskFault> {
+        if !self.answers() {
+            return Err(DiskFault::Failed);
+        }
+        match found_in(&self.files, &self.others, path.as_bytes()) {
+            None => Err(DiskFault::NotFound),
+            Some(found) => Ok(found),
+        }
+    }
+
+    fn open(&mut self, path: &str) -> Result<FilePath, DiskFault> {
+        if !self.answers() {
+            return Err(DiskFault::Failed);
+        }
+        Ok(FilePath::new(self.alloc, path.as_bytes())?)
+    }
+
+    fn open_to_append(&mut self, path: &str) -> Result<FilePath, DiskFault> {
+        if !self.answers() {
+            return Err(DiskFault::Failed);
+        }
+        Ok(FilePath::new(self.alloc, path.as_bytes())?)
+    }
+
+    fn create(&mut self, path: &str) -> Result<FilePath, DiskFault> {
+        if !self.answers() {
+            return Err(DiskFault::Failed);
+        }
+        if is_taken(&self.files, &self.others, path.as_bytes()) {
+            return Err(DiskFault::Exists);
+        }
+        let file = FilePath::new(self.alloc, path.as_bytes())?;
+        append_to(self.alloc, &mut self.files, path.as_bytes(), &[])?;
+        Ok(file)
+    }
+
+    fn is_at(&self, file: &FilePath, path: &str) -> bool {
+        file.bytes() == path.as_bytes()
+    }
+
+    fn read_at(&mut self, file: &FilePath, buf: &mut [u8], at: u64) -> Result<usize, DiskFault> {
+        if !self.answers() {
+            return Err(DiskFault::Failed);
+        }
+        if self.interrupts > 0 {
+            self.interrupts -= 1;
+            return Err(DiskFault::Interrupted);
+        }
+        let bytes = match bytes_of(&self.files, file.bytes()) {
+            None => return Err(DiskFault::NotFound),
+            Some(bytes) => bytes,
+        };
+        Ok(copy_part(bytes, buf, at, self.at_most))
+    }
+
+    fn write(&mut self, file: &mut FilePath, bytes: &[u8]) -> Result<usize, DiskFault> {
+        if !self.answers() {
+            return Err(DiskFault::Failed);
+        }
+        if self.interrupts > 0 {
+            self.interrupts -= 1;
+            return Err(DiskFault::Interrupted);
+        }
+        let n = bytes.len().min(self.at_most.max(1));
+        let n = match self.room {
+            None => n,
+            Some(room) => {
+                let taken = (n as u64).min(room);
+                if taken == 0 && n > 0 {
+                    return Err(DiskFault::Failed);
+                }
+                self.room = Some(room - taken);
+                taken as usize
+            }
+        };
+        append_to(self.alloc, &mut self.files, file.bytes(), &bytes[..n])?;
+        Ok(n)
+    }
+}

@@ -1,5 +1,0 @@
-use Rattle.br_history.proofs.StayWholeLaws.{volumes_stay_whole_lem}
-use Rattle.br_history.proofs.facts.volumes_stay_whole.Goals as goal
-
-pub returns : goal.returns
-returns c = volumes_stay_whole_lem

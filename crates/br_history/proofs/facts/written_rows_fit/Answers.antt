@@ -1,5 +1,0 @@
-use Rattle.br_history.proofs.RowFitLaws.{written_rows_fit_lem}
-use Rattle.br_history.proofs.facts.written_rows_fit.Goals as goal
-
-pub returns : goal.returns
-returns c = written_rows_fit_lem

@@ -1,8 +1,0 @@
-use Rattle.std.proofs.Common.{take}
-use Rattle.br_jobs.specs.Filter.{listed}
-use Rattle.br_jobs.specs.Local.{AreLinesIn}
-use Rattle.br_jobs.proofs.listing.list_jobs.Given as goal
-
--- the lines of the jobs so far
-abbrev pub invariant-loop-job : goal.invariant-loop-job
-invariant-loop-job l = AreLinesIn l.zones l.chosen (listed l.filter (take l.job-index l.jobs)) l.text.items

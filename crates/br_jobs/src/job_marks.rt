@@ -1,0 +1,124 @@
+//! The lines of jobs with those marked that are chosen.
+ghost use Rattle.std.specs.Prelude.{IfOk, []};
+ghost use Rattle.br_model.specs.Answer.{Answers};
+ghost use Rattle.br_model.specs.Name.{checked_name};
+ghost use Rattle.br_choose.specs.Wanted.{jobs_of};
+ghost use Rattle.br_jobs.specs.ListingFault.{cause};
+ghost use Rattle.br_jobs.specs.JobMarks as model;
+ghost use Rattle.br_jobs.specs.JobFilter.{listed};
+ghost use Rattle.br_jobs.specs.ListingLine.{AreLines};
+ghost use Rattle.br_jobs.specs.LocalTime.{AreLinesIn};
+ghost use Rattle.br_jobs.specs.JobMarks.{MarksLines, MarksLinesIn};
+
+use crate::job_filter::Filter;
+use crate::job_listing::list_jobs;
+use crate::listing_fault::ListingFault;
+use crate::time_zones::Zones;
+use br_choose::choose;
+use br_history::{History, JobRows};
+use br_types::{Name, NameFault};
+use std::alloc::{AllocError, Global};
+
+/// Reads the name of a client or of a file set.
+#[tactic(auto, unfolding(br_model::specs::Name::checked_name))]
+fn name_of(alloc: Global, text: &str) -> Result<Name, ListingFault>
+    ensures { Answers (λ name. name) cause result (checked_name text.now) }
+{
+    match Name::new(alloc, text.as_bytes()) {
+        Ok(name) => Ok(name),
+        Err(NameFault::Memory) => Err(ListingFault::Memory),
+        Err(NameFault::BadName | NameFault::BadPath) => Err(ListingFault::BadName),
+    }
+}
+
+/// Returns the jobs that are chosen for a client, a file set and a moment.
+#[tactic(auto, unfolding(crate::specs::JobMarks::chosen_for))]
+fn chosen_for<'h>(
+    alloc: Global,
+    history: &'h History,
+    client: &str,
+    fileset: &str,
+    moment: u64,
+) -> Result<Vec<&'h JobRows>, ListingFault>
+    ensures { Answers jobs_of cause result (model.chosen_for history.now client.now fileset.now moment) }
+{
+    let client = name_of(alloc, client)?;
+    let fileset = name_of(alloc, fileset)?;
+    let jobs = choose(alloc, history, &client, &fileset, moment)?;
+    Ok(jobs)
+}
+
+/// Returns the jobs that are marked: those that are chosen if client, file set and moment are given, else
+/// none.
+fn marked<'h>(
+    alloc: Global,
+    history: &'h History,
+    filter: &Filter<'_>,
+) -> Result<Vec<&'h JobRows>, ListingFault>
+    ensures { Answers jobs_of cause result (model.marked history.now filter.now.client filter.now.fileset filter.now.before) }
+{
+    match (filter.client, filter.fileset, filter.before) {
+        (Some(client), Some(fileset), Some(moment)) => {
+            chosen_for(alloc, history, client, fileset, moment)
+        }
+        _ => Ok(Vec::new(alloc)),
+    }
+}
+
+/// Returns the lines of the jobs that the filter lists, with their moments in the given zones, and with those
+/// marked that `console` would choose if client, file set and moment are given.
+///
+/// # Errors
+///
+/// `BadName` for the client, then for the file set; then those of the choice.
+pub fn marked_lines_in(
+    alloc: Global,
+    history: &History,
+    filter: &Filter<'_>,
+    zones: &Zones<'_>,
+) -> Result<Vec<u8>, ListingFault>
+    ensures { MarksLinesIn zones.now history.now filter.now result }
+{
+    let chosen = marked(alloc, history, filter)?;
+    let text = list_jobs(alloc, history.jobs(), filter, zones, &chosen)?;
+    Ok(text)
+}
+
+/// Returns the lines of the jobs that the filter lists, with their moments in the given zones; none is marked.
+pub fn unmarked_lines_in(
+    alloc: Global,
+    history: &History,
+    filter: &Filter<'_>,
+    zones: &Zones<'_>,
+) -> Result<Vec<u8>, AllocError>
+    ensures { IfOk result (λ text. AreLinesIn zones.now [] (listed filter.now history.now) text.items) }
+{
+    list_jobs(alloc, history.jobs(), filter, zones, &[])
+}
+
+/// Returns the lines of the jobs that the filter lists, with their moments in UTC, and with those marked that
+/// `console` would choose if client, file set and moment are given.
+///
+/// # Errors
+///
+/// As those of `marked_lines_in`.
+pub fn marked_lines(
+    alloc: Global,
+    history: &History,
+    filter: &Filter<'_>,
+) -> Result<Vec<u8>, ListingFault>
+    ensures { MarksLines history.now filter.now result }
+{
+    marked_lines_in(alloc, history, filter, &Zones::Utc)
+}
+
+/// Returns the lines of the jobs that the filter lists, with their moments in UTC; none is marked.
+pub fn unmarked_lines(
+    alloc: Global,
+    history: &History,
+    filter: &Filter<'_>,
+) -> Result<Vec<u8>, AllocError>
+    ensures { IfOk result (λ text. AreLines [] (listed filter.now history.now) text.items) }
+{
+    unmarked_lines_in(alloc, history, filter, &Zones::Utc)
+}

@@ -1,0 +1,55 @@
+-- What serving leaves, and what a reply says.
+use Rattle.std.specs.Prelude.{◌≡◌, ℕ, List, [], ◌∷◌, ◌++◌, Result, Ok, Err, Option, Some}
+use Rattle.logbook.specs.Pages.{Book}
+use Rattle.br_model.specs.Job.{JobRows}
+use Rattle.br_history.specs.Saving.{ToCommit}
+use Rattle.br_keeper.specs.Beginnings.{Beginning, last_id}
+use Rattle.br_keeper.specs.Publishing.{Publishing}
+use Rattle.br_keeper.specs.declared.fault.KeeperFault.{KeeperFault}
+use Rattle.br_keeper.specs.Writing.{Shelf}
+use Rattle.br_keeper.specs.Keeping.{Keeping}
+use Rattle.br_keeper.specs.Committing.{Commits}
+use Rattle.br_keeper.specs.Holding.{HoldsJob}
+
+-- the number of the job that was asked for, and the receipt or the refusal
+pub record Replied : Type 0 where
+  pub job : ℕ
+  pub receipt : Result Beginning KeeperFault
+
+-- the list of a receipt; this one if there is no receipt
+abbrev pub book_or : Book → Result Beginning KeeperFault → Book
+book_or book (Ok r) = r.book
+book_or book (Err e) = book
+
+-- the number of the last job of a receipt; this one if there is no receipt
+abbrev pub last_or : ℕ → Result Beginning KeeperFault → Option ℕ
+last_or id (Ok r) = last_id r.log
+last_or id (Err e) = Some id
+
+-- if there is a receipt, it is of this list and of this job
+abbrev pub IsReply : Book → ℕ → Result Beginning KeeperFault → Type 0
+IsReply book id r = (book_or book r ≡ book) × (last_or id r ≡ Some id)
+
+-- the same list with more jobs stored, or none
+abbrev pub HasServed : Publishing → Publishing → Type 0
+HasServed a b = (b.book ≡ a.book) × (b.opening ≡ a.opening) × ((more : List JobRows) × (b.added ≡ a.added ++ more))
+
+-- a commit: the job, its result, and the keeper after it
+pub record Step (C W : Type 0) : Type 0 where
+  pub job : ToCommit
+  pub result : Result Beginning KeeperFault
+  pub after : Keeping C W
+
+module _ {C W : Type 0} (inserts refuses : JobRows → C → C → Type 0) (shelf : Keeping C W → Shelf) where
+  -- the keeper after the job was committed, or refused
+  abbrev pub IsCommit : ToCommit → Keeping C W → Keeping C W → Result Beginning KeeperFault → Type 0
+  IsCommit c old new result = Commits inserts refuses shelf c old new result × HoldsJob refuses shelf c old new result
+
+  -- the keeper after these commits, one after the other
+  abbrev pub AreCommits : List (Step C W) → Keeping C W → Keeping C W → Type 0
+  AreCommits [] old new = new ≡ old
+  AreCommits (step ∷ steps) old new = IsCommit step.job old step.after step.result × AreCommits steps step.after new
+
+  -- the keeper after some commits
+  abbrev pub IsLeftByCommits : Keeping C W → Keeping C W → Type 0
+  IsLeftByCommits old new = (steps : List (Step C W)) × AreCommits steps old new

@@ -1,0 +1,13 @@
+-- What the fields of a publisher mean.
+use Rattle.std.specs.Prelude.{◌≡◌, ◌++◌, MatchOption}
+use Rattle.br_keeper.specs.declared.publisher.Publisher.TheInside.{Inside}
+use Rattle.br_keeper.specs.Beginnings.{head_of}
+use Rattle.br_keeper.specs.Publishing.{Publishing}
+use Rattle.br_keeper.specs.Writers.{Shows, listed, waiting_in}
+
+abbrev pub publisher_view : Inside → Publishing
+publisher_view p = record { book = p.front.book; opening = p.opening.value; published = p.shown.log; added = p.front.log }
+
+abbrev pub IsPublisher : Inside → Type 0
+IsPublisher p = (p.head ≡ head_of p.front.book) × (p.shown.book ≡ p.front.book)
+    × MatchOption p.writer ⊥ (λ w. Shows w (waiting_in w ++ listed p.unsent) p.opening.value p.shown p.front)

@@ -1,0 +1,86 @@
+//! The blocks of a session as they are appended to volumes.
+ghost use Rattle.std.specs.Prelude.{◌≡◌, ◌≤◌};
+ghost use Rattle.br_keeper.specs.Preparing.{seen};
+ghost use Rattle.br_keeper.specs.Writing.{AppendsAllTo, ChecksVolume, ChecksVolumes, WritesBlocksTo};
+
+use crate::fault::KeeperFault;
+use crate::vouched_lengths::{Vouch, enter, grow, is_retired, retire};
+use br_types::VolName;
+use br_volume::VolumeStore;
+use std::alloc::Global;
+
+/// Tests whether a volume may be written to from this length on.
+fn check_volume<W: VolumeStore>(
+    volumes: &mut W,
+    vouches: &[Vouch],
+    vol: &VolName,
+    bytes: u64,
+) -> Result<(), KeeperFault>
+    ensures same { W.holds volumes.new ≡ W.holds volumes.old }
+    ensures counted { W.failures volumes.old ≤ W.failures volumes.new }
+    ensures checked { ChecksVolume vouches.now (W.holds volumes.old) (W.failures volumes.old) (W.failures volumes.new)
+        (vol.now, bytes) result }
+{
+    if is_retired(vouches, vol) {
+        return Err(KeeperFault::RetiredVolume);
+    }
+    match volumes.length(vol) {
+        Ok(length) if length == bytes => Ok(()),
+        Ok(_) => Err(KeeperFault::RetiredVolume),
+        Err(_) => Err(KeeperFault::Volume),
+    }
+}
+
+/// Tests whether all volumes may be written to from these lengths on, one after the other.
+fn check_volumes<W: VolumeStore>(
+    volumes: &mut W,
+    vouches: &[Vouch],
+    starts: &[(VolName, u64)],
+) -> Result<(), KeeperFault>
+    ensures same { W.holds volumes.new ≡ W.holds volumes.old }
+    ensures counted { W.failures volumes.old ≤ W.failures volumes.new }
+    ensures checked { ChecksVolumes vouches.now (W.holds volumes.old) (W.failures volumes.old) (W.failures volumes.new)
+        starts.now result }
+{
+    for start in starts {
+        check_volume(volumes, vouches, &start.0, start.1)?;
+    }
+    Ok(())
+}
+
+/// Appends blocks, each to its volume by one append, until one fails. The length that is vouched
+/// for grows with each. A volume whose append fails is retired.
+fn append_all<W: VolumeStore>(
+    volumes: &mut W,
+    vouches: &mut [Vouch],
+    blocks: &[(VolName, Vec<u8>)],
+) -> Result<(), KeeperFault>
+    ensures { AppendsAllTo W.holds W.failures (seen blocks.now) volumes.old volumes.new vouches.old vouches.new result }
+{
+    for block in blocks {
+        match volumes.append(&block.0, &block.1) {
+            Ok(()) => grow(vouches, &block.0, block.1.len()),
+            Err(_) => {
+                retire(vouches, &block.0);
+                return Err(KeeperFault::Volume);
+            }
+        }
+    }
+    Ok(())
+}
+
+/// Appends blocks to volumes that have just these lengths.
+pub(crate) fn write_blocks<W: VolumeStore>(
+    alloc: Global,
+    volumes: &mut W,
+    vouches: &mut Vec<Vouch>,
+    starts: &[(VolName, u64)],
+    blocks: &[(VolName, Vec<u8>)],
+) -> Result<(), KeeperFault>
+    ensures { WritesBlocksTo W.holds W.failures starts.now (seen blocks.now) volumes.old volumes.new
+        vouches.old.items vouches.new.items result }
+{
+    check_volumes(volumes, vouches, starts)?;
+    enter(alloc, vouches, starts)?;
+    append_all(volumes, vouches, blocks)
+}

@@ -1,5 +1,0 @@
-use Rattle.std.specs.Prelude.{◌≡◌}
-use Rattle.br_keeper_trial.proofs.serving.call.Given as goal
-
-abbrev pub invariant-loop-place : goal.invariant-loop-place
-invariant-loop-place g l = l.session.book ≡ g.K.Naming.book

@@ -1,5 +1,0 @@
-use Rattle.br_keeper_trial.proofs.serving.serve_sessions.Given as goal
-
--- the list of the keeper
-abbrev pub ghosts-serve_both : goal.ghosts-serve_both
-ghosts-serve_both g a = record { book = a.keeper.list.book }

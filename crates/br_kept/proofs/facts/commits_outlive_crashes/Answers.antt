@@ -1,7 +1,0 @@
-use Rattle.br_keeper.specs.Keeping.{shelf_of}
-use Rattle.br_kept.proofs.CrashLaws.{commit_outlives}
-use Rattle.br_kept.proofs.facts.commits_outlive_crashes.Goals as goal
-
-pub returns : goal.returns
-returns g c job old new result is =
-    commit_outlives g.S.Store (shelf_of g.W.VolumeStore.holds g.W.VolumeStore.failures) job old new result is

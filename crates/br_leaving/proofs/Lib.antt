@@ -1,4 +1,0 @@
-pub mod LeavingLaws
-pub mod ApartLaws
-pub mod PassingLaws
-pub mod NotedLaws

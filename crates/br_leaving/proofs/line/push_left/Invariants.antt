@@ -1,7 +1,0 @@
-use Rattle.std.proofs.Common.{◌≡◌, ◌++◌, take}
-use Rattle.br_leaving.specs.Line.{left_lines}
-use Rattle.br_leaving.proofs.line.push_left.Given as goal
-
--- the lines of the paths so far
-abbrev pub invariant-loop-path : goal.invariant-loop-path
-invariant-loop-path l = l.text.items ≡ l.initial.text.items ++ left_lines l.number (take l.path-index l.paths)

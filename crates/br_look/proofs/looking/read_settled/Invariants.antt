@@ -1,5 +1,0 @@
-use Rattle.std.proofs.Common.{◌≡◌}
-use Rattle.br_look.proofs.looking.read_settled.Given as goal
-
-abbrev pub invariant-loop : goal.invariant-loop
-invariant-loop g l = g.O.Sight.told l.sight ≡ g.O.Sight.told l.initial.sight

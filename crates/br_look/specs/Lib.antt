@@ -1,3 +1,0 @@
-pub mod Scene
-pub mod Look
-pub mod Folded

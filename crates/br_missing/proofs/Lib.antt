@@ -1,4 +1,0 @@
-pub mod GapLaws
-pub mod NearLaws
-pub mod MissingLaws
-pub mod CountLaws

@@ -1,3 +1,0 @@
-mod NewestExamples
-pub mod NewestLaws
-pub mod PlannedLaws

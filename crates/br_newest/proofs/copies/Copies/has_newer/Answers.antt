@@ -1,5 +1,0 @@
-use Rattle.std.proofs.Common.{sym, ◌∙◌}
-use Rattle.br_newest.proofs.copies.Copies.has_newer.Goals as goal
-
-pub returns : goal.returns
-returns c copies noted = c.is_beaten.ensures ∙ sym ((c.newest.ensures copies noted).beats c.args.key)

@@ -1,5 +1,0 @@
-use Rattle.br_newest.proofs.NewestLaws.{newest_has_each_path_once_lem}
-use Rattle.br_newest.proofs.laws.newest_has_each_path_once.Goals as goal
-
-pub returns : goal.returns
-returns c = newest_has_each_path_once_lem

@@ -1,3 +1,0 @@
-pub mod OwnLaws
-pub mod OriginLaws
-pub mod AskingLaws

@@ -1,7 +1,0 @@
-use Rattle.std.proofs.Common.{◌≡◌, ◌++◌, drop, map}
-use Rattle.br_origin.specs.Asking.{reaches_from, shown}
-use Rattle.br_origin.proofs.asking.reaches_of.Given as goal
-
--- the ends so far, and those of the ranges that are left
-abbrev pub invariant-loop-range : goal.invariant-loop-range
-invariant-loop-range l = l.reaches.items ++ reaches_from l.greatest (map shown (drop l.range-index l.asked)) ≡ reaches_from 0 (map shown l.asked)

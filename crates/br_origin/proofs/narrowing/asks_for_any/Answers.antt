@@ -1,5 +1,0 @@
-use Rattle.br_missing.proofs.NearLaws.{sorted_are}
-use Rattle.br_origin.proofs.narrowing.asks_for_any.Goals as goal
-
-pub got_of-requires : goal.got_of-requires
-got_of-requires c = sorted_are c.args.keys.now c.requires

@@ -1,8 +1,0 @@
-use Rattle.std.proofs.Common.{◌≡◌, ◌++◌, flat_map}
-use Rattle.br_origin.specs.Own.{hit_among}
-use Rattle.br_origin.proofs.searching.append_among.Given as goal
-
--- the hits so far, and those of the files among the hits that are left
-abbrev pub invariant-loop-hit : goal.invariant-loop-hit
-invariant-loop-hit l =
-    l.hits.items ++ flat_map (hit_among l.keys) l.hit-iterator.rest.items ≡ l.initial.hits.items ++ flat_map (hit_among l.keys) l.fn.batch.hits.items

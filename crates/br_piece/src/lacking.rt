@@ -1,0 +1,136 @@
+ghost use Rattle.std.specs.Prelude.{◌≡◌, ◌++◌, IfOk, OnOk, map};
+ghost use Rattle.std.specs.Int.{is_in_range};
+ghost use Rattle.std.specs.List.{list_any};
+ghost use Rattle.br_model.specs.Bootstrap.{admits as admits_number};
+ghost use Rattle.br_piece.specs.Missing as model;
+ghost use Rattle.br_piece.specs.NearRanges.{AreSorted, asked_indexes, is_asked};
+
+use crate::gaps::gaps_of;
+use crate::near_ranges::near;
+use br_bsr::{Group, Range};
+use br_types::FileKey;
+use std::alloc::{AllocError, Global};
+
+/// A run of indexes that a group of a bootstrap asks for, and of which there is no file.
+#[derive(Clone, Copy, Debug, PartialEq, Eq)]
+pub struct Gap {
+    /// The place of the group in its bootstrap, from 0 on.
+    pub group: usize,
+    pub indexes: Range,
+}
+
+fn contains_any(ranges: &[Range], number: u64) -> bool
+    ensures { result ≡ list_any (λ r. is_in_range r.low r.high number) ranges.now }
+{
+    ranges.iter().any(|range| range.contains(number))
+}
+
+/// Returns if the ranges admit the number: one of them contains it, or there is none.
+pub(crate) fn admits(ranges: &[Range], number: u64) -> bool
+    ensures { result ≡ admits_number ranges.now number }
+{
+    ranges.is_empty() || contains_any(ranges, number)
+}
+
+/// Returns if the group asks for the file by the range.
+pub(crate) fn asks_for(group: &Group, range: Range, key: FileKey) -> bool
+    ensures { result ≡ is_asked group.now range key }
+{
+    admits(&group.session_ids, u64::from(key.session.id))
+        && admits(&group.session_times, u64::from(key.session.time))
+        && range.contains(u64::from(key.index.get()))
+}
+
+/// Returns the indexes of the files that the group asks for by the range.
+fn asked_in(
+    alloc: Global,
+    keys: &[FileKey],
+    group: &Group,
+    range: Range,
+) -> Result<Vec<u32>, AllocError>
+    ensures { IfOk result (λ indexes. indexes.items ≡ asked_indexes group.now range keys.now) }
+{
+    keys.iter()
+        .filter(|key| asks_for(group, range, **key))
+        .map(|key| key.index.get())
+        .collect(alloc)
+}
+
+/// Returns the runs of the range's indexes of which there is no file.
+fn missing_in(
+    alloc: Global,
+    keys: &[FileKey],
+    group: &Group,
+    range: Range,
+) -> Result<Vec<Range>, AllocError>
+    requires { AreSorted keys.now }
+    ensures { IfOk result (λ runs. runs.items ≡ model.missing_in group.now keys.now range) }
+{
+    let mut indexes = asked_in(alloc, near(keys, group, range), group, range)?;
+    indexes.sort_unstable();
+    gaps_of(alloc, range, &indexes)
+}
+
+/// Appends the runs of indexes as those of a group.
+fn push_runs(found: &mut Vec<Gap>, group: usize, runs: &[Range]) -> Result<(), AllocError>
+    ensures { OnOk result (found.new.items ≡ found.old.items ++ map (model.in_group group) runs.now) }
+{
+    for run in runs {
+        found.push(Gap {
+            group,
+            indexes: *run,
+        })?;
+    }
+    Ok(())
+}
+
+/// Appends the runs of a group, one of its ranges after the other.
+fn push_group(
+    alloc: Global,
+    keys: &[FileKey],
+    place: usize,
+    group: &Group,
+    found: &mut Vec<Gap>,
+) -> Result<(), AllocError>
+    requires { AreSorted keys.now }
+    ensures { OnOk result (found.new.items ≡ found.old.items ++ model.missing_at keys.now (place, group.now)) }
+{
+    for range in &group.indexes {
+        let runs = missing_in(alloc, keys, group, *range)?;
+        push_runs(found, place, &runs)?;
+    }
+    Ok(())
+}
+
+/// Returns the runs of all groups, one group after the other.
+#[tactic(auto, unfolding(crate::specs::Missing::missing))]
+pub(crate) fn missing_of(
+    alloc: Global,
+    groups: &[Group],
+    keys: &[FileKey],
+) -> Result<Vec<Gap>, AllocError>
+    requires { AreSorted keys.now }
+    ensures { IfOk result (λ found. found.items ≡ model.missing groups.now keys.now) }
+{
+    let mut found = Vec::new(alloc);
+    for (place, group) in groups.iter().enumerate() {
+        push_group(alloc, keys, place, group, &mut found)?;
+    }
+    Ok(found)
+}
+
+/// Returns the indexes that the groups of a bootstrap ask for by their ranges of FileIndex, and of which
+/// none of these files is, of a session that the group admits. They are runs that are as long as can be,
+/// one group and one of its ranges after the other. A group without FileIndex asks for none.
+///
+/// The files may come in any order.
+pub fn missing(
+    alloc: Global,
+    groups: &[Group],
+    mut keys: Vec<FileKey>,
+) -> Result<Vec<Gap>, AllocError>
+    ensures { IfOk result (λ found. found.items ≡ model.missing groups.now keys.items) }
+{
+    keys.sort_unstable();
+    missing_of(alloc, groups, &keys)
+}

@@ -1,4 +1,0 @@
-pub mod Adding
-pub mod Fronts
-pub mod Leading
-pub mod Shows

@@ -1,6 +1,0 @@
-use Rattle.sqlite_store.specs.FileStore.{view}
-use Rattle.sqlite_trees.proofs.Doubt.{clean_of}
-use Rattle.br_raw.proofs.path.open_from.Goals as goal
-
-pub returns-in-Ok : goal.returns-in-Ok
-returns-in-Ok g c = λ clean. (c.in-Ok.ensures.ok (clean_of (view c.in-Ok.store).is_clean clean)).fresh

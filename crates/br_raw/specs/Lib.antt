@@ -1,2 +1,0 @@
-pub mod Folded
-pub mod Premises

@@ -1,3 +1,0 @@
-pub mod OverLaws
-mod ManyLaws
-pub mod GoOnLaws

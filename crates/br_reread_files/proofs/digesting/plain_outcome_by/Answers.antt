@@ -1,0 +1,18 @@
+use Rattle.std.proofs.Common.{List, [], ap, ◌∙◌}
+use Rattle.br_model.specs.Meaning.{Hit}
+use Rattle.br_model.specs.Restored.{outcome_of}
+use Rattle.br_records.specs.Records.{fragments}
+use Rattle.br_reread_files.proofs.DigestingLaws.{all_of_file, whole_read}
+use Rattle.br_reread_files.proofs.digesting.plain_outcome_by.Goals as goal
+
+pub finish-requires : goal.finish-requires
+finish-requires g c =
+    let whole =
+    whole_read c.standing_stays.ensures c.args.many.now _ [] c.args.hits.now _ _ _ c.open.ensures.on c.in_ok-file.ensures.read c.in_ok-digest_rest.ensures.digested in
+    (all_of_file c.args.many.now c.args.key c.args.hits.now _ c.requires whole, whole.digested)
+
+pub returns-clause-made : goal.returns-clause-made
+returns-clause-made g c = λ given.
+    let whole =
+    whole_read c.standing_stays.ensures c.args.many.now _ [] c.args.hits.now _ _ _ c.open.ensures.on c.in_ok-file.ensures.read c.in_ok-digest_rest.ensures.digested in
+    c.in_ok-outcome.ensures ∙ ap (λ (hs : List Hit). outcome_of c.args.key (fragments hs)) (whole.same given)

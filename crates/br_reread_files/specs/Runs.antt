@@ -1,0 +1,39 @@
+-- Files by their hits, and how many of them are made.
+use Rattle.std.specs.Prelude.{◌≡◌, ◌++◌, ℕ, List, length, map, take, Option}
+use Rattle.std.specs.List.{AllByRecursion}
+use Rattle.br_model.specs.Meaning.{Hit}
+use Rattle.br_model.specs.Name.{FileKey}
+use Rattle.br_model.specs.Restored.{Restored}
+use Rattle.br_data.specs.ManyDrives.{RereadingMany}
+use Rattle.br_join.specs.Outcome.{restored}
+use Rattle.br_join.specs.Runs.{file_of_run}
+use Rattle.br_join.specs.declared.item.Outcome.{Outcome}
+use Rattle.br_reread_parts.specs.Given.{GivesHits}
+
+-- the hits of one file, and the path under which the file was planned, if it was
+pub record Run : Type 0 where
+  pub key : FileKey
+  pub path : Option (List ℕ)
+  pub hits : List Hit
+
+-- the file that the hits make
+abbrev pub file_of : Run → Restored
+file_of r = file_of_run r.key r.path r.hits
+
+-- the hits of the run are some of these, one after another
+pub record IsPart (all : List Hit) (r : Run) : Type 0 where
+  pub before : List Hit
+  pub after : List Hit
+  pub joined : before ++ (r.hits ++ after) ≡ all
+
+-- the bytes of all hits of the files are given as they were found
+abbrev pub GivesRuns : RereadingMany → List Run → Type 0
+GivesRuns many runs = AllByRecursion (λ (r : Run). GivesHits many r.hits) runs
+
+-- these are the first of the files
+abbrev pub AreFirst : List Run → List Restored → Type 0
+AreFirst runs made = made ≡ map file_of (take (length made) runs)
+
+-- the files that are made stay the first ones, if the bytes of all hits are given as they were found
+abbrev pub StayFirst : RereadingMany → List Run → List (FileKey × Outcome) → List (FileKey × Outcome) → Type 0
+StayFirst many runs before after = GivesRuns many runs → AreFirst runs (map restored before) → AreFirst runs (map restored after)

@@ -1,0 +1,60 @@
+-- Two files that are put side by side, or one after the other.
+use Rattle.std.specs.Prelude.{◌≡◌, ℕ, List, [], ◌∷◌, Option, Some, None}
+use Rattle.br_model.specs.File.{Item}
+use Rattle.br_model.specs.Meaning.{Hit}
+use Rattle.br_model.specs.Name.{FileKey}
+use Rattle.br_data.specs.ManyDrives.{RereadingMany}
+use Rattle.br_sink.specs.FileParts.{AreAlike, with_bytes}
+use Rattle.br_sink.specs.Sink.{HasMore}
+use Rattle.br_sink.specs.declared.file_parts.PartsFault.TheVariants.{Fault}
+use Rattle.br_sink.specs.declared.two_parts.TwoPut.{TwoPut}
+use Rattle.br_sink.specs.declared.two_parts.TwoPut.TheVariants as put
+use Rattle.br_reread_parts.specs.FileParts.{PutsAlike}
+use Rattle.br_reread_files.specs.FileParts.{GivesItem}
+use Rattle.br_reread_files.specs.declared.two_files.KeyedItem.{KeyedItem}
+use Rattle.br_reread_files.specs.declared.two_files.TwoDone.{TwoDone}
+use Rattle.br_reread_files.specs.declared.two_files.TwoDone.TheVariants.{Both, One, Neither}
+
+-- the outcome without the bytes
+abbrev pub done_as : TwoPut → TwoDone
+done_as (put.Both x y) = Both
+done_as (put.One x why) = One why
+done_as (put.Neither why) = Neither why
+
+-- Two files like these were put. They are these, if their bytes are given.
+pub record PutsBoth (given : Type 0) (one other : Item) (had has : Option (List Item)) : Type 0 where
+  pub first : List ℕ
+  pub second : List ℕ
+  pub alike : AreAlike first one.bytes × AreAlike second other.bytes
+  pub same : given → (first ≡ one.bytes) × (second ≡ other.bytes)
+  pub more : HasMore (with_bytes one first ∷ with_bytes other second ∷ []) had has
+
+-- both files were put, or the first alone, or neither
+abbrev pub PutsTwo : TwoDone → Type 0 → Item → Item → Option (List Item) → Option (List Item) → Type 0
+PutsTwo Both given one other had has = PutsBoth given one other had has
+PutsTwo (One why) given one other had has = PutsAlike given one had has
+PutsTwo (Neither why) given one other had has = has ≡ had
+
+-- the same, if anything was tried
+abbrev pub PutsAny : Option TwoDone → Type 0 → Item → Item → Option (List Item) → Option (List Item) → Type 0
+PutsAny (Some done) given one other had has = PutsTwo done given one other had has
+PutsAny None given one other had has = has ≡ had
+
+-- the sink failed to put one of the files
+abbrev pub FailsEither : TwoDone → Type 0
+FailsEither Both = ⊥
+FailsEither (One why) = why ≡ Fault
+FailsEither (Neither why) = why ≡ Fault
+
+-- the same, if anything was tried
+abbrev pub FailsAny : Option TwoDone → Type 0
+FailsAny (Some done) = FailsEither done
+FailsAny None = ⊥
+
+-- the hits are read again as they were found, and those with the two keys make the two files
+abbrev pub GivesBoth : RereadingMany → List Hit → FileKey → FileKey → Item → Item → Type 0
+GivesBoth many hits key later one other = GivesItem many hits key one × GivesItem many hits later other
+
+-- so are those of these two, by their keys
+abbrev pub GivesKeyed : RereadingMany → List Hit → KeyedItem → KeyedItem → Type 0
+GivesKeyed many hits one other = GivesBoth many hits one.key other.key one.item.now other.item.now

@@ -1,0 +1,255 @@
+ghost use Rattle.std.specs.Prelude.{◌≡◌, ◌<◌, ◌≤◌, ◌==◌, length, map, nat_abs, Err, OnErr, OnOk, IfOk};
+ghost use Rattle.std.specs.List.{AllZip, list_any};
+ghost use Rattle.br_data.specs.declared.reread_fault.AgainFault.TheVariants.{Failed};
+ghost use Rattle.br_model.specs.Meaning as meaning;
+ghost use Rattle.br_model.specs.Meaning.{hits_of};
+ghost use Rattle.br_join.specs.Outcome.{restored};
+ghost use Rattle.br_data.specs.ManyDrives.{GoOn, HaveFailed};
+ghost use Rattle.br_join.specs.Runs.{files_of};
+ghost use Rattle.br_sink.specs.Delivery.{items_in};
+ghost use Rattle.br_reread_files.specs.Again.{AreSameIfGiven, IsLike};
+ghost use Rattle.br_sink.specs.declared.file_parts.PartsFault.TheVariants.{Fault};
+ghost use Rattle.br_reread_parts.specs.FileParts.{PutsAlike};
+ghost use Rattle.br_reread_files.specs.FileParts.{GivesItem};
+ghost use Rattle.br_reread_parts.specs.Given.{GivesHits};
+ghost use Rattle.br_reread_files.specs.TwoFiles.{FailsAny, FailsEither, GivesKeyed, PutsAny, PutsTwo};
+
+use crate::files_once_more::made_once_more;
+use crate::light_hits::lightened;
+use crate::making::files_by;
+use crate::putting::{has_sparse_data, is_plain, put_whole};
+use crate::two_files::{KeyedItem, TwoDone, plain_run, put_two};
+use br_data::{AgainFault, OverMany, standing_stays};
+use br_join::{Item, Joiner, Outcome};
+use br_match::Hit;
+use br_records::around;
+use br_reread_parts::{PlainFile, put_plain};
+use br_sink::{PartsFault, Sink};
+use br_types::{FileKey, Names};
+use br_volume::Drive;
+use std::alloc::{AllocError, Global};
+use std::marker::Model;
+use std::thread::Threads;
+
+/// The hits of a restore, in order of file and place, and the names of its plan, if it has one.
+#[derive(Drop)]
+pub struct Gathered {
+    hits: Vec<Hit>,
+    names: Option<Names>,
+}
+
+impl Model for Gathered {
+    ghost use Rattle.br_records.specs.Runs.{AreListed};
+    ghost use Rattle.br_reread_files.specs.Code.{coded_gathered};
+    ghost use Rattle.br_reread_files.specs.Gathered as model;
+
+    ghost Value = { model.Gathered };
+
+    ghost coded = { coded_gathered };
+
+    ghost view = { λ g. record { hits = g.hits.items; names = g.names } };
+
+    ghost invariant = { λ g. AreListed g.hits.items };
+}
+
+impl Gathered {
+    /// Returns what the joiner took.
+    ///
+    /// # Errors
+    ///
+    /// `AllocError` if memory runs out. Then what it took is lost.
+    pub fn of(joiner: Joiner) -> Result<Gathered, AllocError>
+        ensures hits { IfOk result (λ g. hits_of g.hits ≡ joiner.hits) }
+        ensures names { IfOk result (λ g. g.names ≡ joiner.names) }
+    {
+        let (hits, names) = joiner.into_hits()?;
+        Ok(Gathered { hits, names })
+    }
+
+    /// Returns the same, without the data in memory that are bytes of files: they are read again each
+    /// time. Attributes and digests stay.
+    pub fn let_go(self) -> Gathered
+        ensures { result ≡ self }
+    {
+        Gathered {
+            hits: lightened(self.hits),
+            names: self.names,
+        }
+    }
+
+    /// Returns whether some of the data are sparse.
+    pub fn has_sparse_data(&self) -> bool
+        ensures { result ≡ list_any (λ (h : meaning.Hit). nat_abs h.fragment.stream == 6) self.now.hits }
+    {
+        has_sparse_data(&self.hits)
+    }
+
+    /// Makes the files, in order of key: the planned ones if there is a plan, else those that were found.
+    /// Each drive makes some of them, in a thread of its own. It has the data of at most two windows in memory,
+    /// each of about 1 MiB, of which another thread digests the one, or those of a file that has sparse data. The
+    /// bytes of the file are not kept.
+    ///
+    /// # Errors
+    ///
+    /// Those of `many`, and `Memory` if memory runs out. Of several it is the first in order of the files.
+    pub fn files<D: Drive + Send>(
+        &self,
+        rt: &(impl Threads + Sync),
+        alloc: Global,
+        many: &mut OverMany<'_, D>,
+    ) -> Result<Vec<(FileKey, Outcome)>, AgainFault>
+        ensures files { IfOk result (λ made. GivesHits many.old self.now.hits → map restored made.items ≡ files_of self.now.hits self.now.names) }
+        ensures on { GoOn many.old many.new }
+        ensures failed { result ≡ Err Failed → HaveFailed many.old many.new }
+    {
+        files_by(rt, alloc, many, &self.hits, self.names.as_ref())
+    }
+
+    /// Makes the files among these outcomes once more, in their order, and passes over the faults. Their
+    /// data are in memory together. Each file is like the one that it is made for: their paths, numbers,
+    /// links and lengths are the same, and the digests of their bytes.
+    ///
+    /// # Errors
+    ///
+    /// Those of `many`, `Changed` if a file is not like the one that it is made for, and `Memory` if
+    /// memory runs out. There is none if there is no file among the outcomes.
+    pub fn again<D: Drive>(
+        &self,
+        alloc: Global,
+        many: &mut OverMany<'_, D>,
+        outcomes: &[(FileKey, Outcome)],
+    ) -> Result<Vec<(FileKey, Outcome)>, AgainFault>
+        ensures like { IfOk result (λ made. AllZip IsLike (items_in made.items) (items_in outcomes.now)) }
+        ensures same { IfOk result (λ made. AreSameIfGiven many.old self.now.hits outcomes.now made.items) }
+        ensures some { OnErr result (0 < length (items_in outcomes.now)) }
+        ensures on { GoOn many.old many.new }
+        ensures failed { result ≡ Err Failed → HaveFailed many.old many.new }
+    {
+        made_once_more(alloc, many, &self.hits, outcomes)
+    }
+
+    /// Puts a file like this one, made of the hits with its key, into a sink. Their paths, numbers, links and
+    /// lengths are the same, and the digests of their bytes. The data are read again while it is put: at most two
+    /// windows of them are in memory, each of about 4 MiB, of which another thread digests the one. A file with
+    /// sparse data is in memory as a whole.
+    ///
+    /// # Errors
+    ///
+    /// The sink has what it had; one that does not tell its files may hold a part of this one.
+    ///
+    /// - `NoDriveLeft` if no drive is left that gives such data.
+    /// - `Fault` if the sink failed.
+    /// - `Memory` if memory ran out.
+    pub fn put_by_parts<D: Drive, S: Sink>(
+        &self,
+        rt: &impl Threads,
+        alloc: Global,
+        many: &mut OverMany<'_, D>,
+        key: FileKey,
+        item: &Item,
+        sink: &mut S,
+    ) -> Result<(), PartsFault>
+        ensures put { OnOk result (PutsAlike (GivesItem many.old self.now.hits key item.now) item.now (S.has sink.old) (S.has sink.new)) }
+        ensures refused { OnErr result (S.has sink.new ≡ S.has sink.old) }
+        ensures counted { S.failures sink.old ≤ S.failures sink.new }
+        ensures failed { result ≡ Err Fault → S.failures sink.old < S.failures sink.new }
+        ensures on { GoOn many.old many.new }
+    {
+        let (_, run, _) = around(&self.hits, key);
+        if !is_plain(item.kind, run) {
+            return put_whole(alloc, many, &self.hits, key, item, sink);
+        }
+        put_plain(rt, alloc, many, run, item, sink)
+    }
+
+    /// Puts two files like these side by side, if no data of either are sparse. Returns `None`, and the sink has what
+    /// it had, if some are, or if the sink does not put these two so.
+    #[tactic(auto, using(br_data::proofs::GoOnLaws::go_itself))]
+    fn put_side_by_side<D: Drive, S: Sink>(
+        &self,
+        rt: &impl Threads,
+        alloc: Global,
+        many: &mut OverMany<'_, D>,
+        one: &KeyedItem<'_>,
+        other: &KeyedItem<'_>,
+        sink: &mut S,
+    ) -> Option<TwoDone>
+        ensures put { PutsAny result (GivesKeyed many.old self.now.hits one.now other.now) one.now.item.now other.now.item.now
+            (S.has sink.old) (S.has sink.new) }
+        ensures counted { S.failures sink.old ≤ S.failures sink.new }
+        ensures failed { FailsAny result → S.failures sink.old < S.failures sink.new }
+        ensures on { GoOn many.old many.new }
+    {
+        let Some(run) = plain_run(&self.hits, one.key, one.item) else {
+            return None;
+        };
+        let Some(more) = plain_run(&self.hits, other.key, other.item) else {
+            return None;
+        };
+        let first = PlainFile {
+            hits: run,
+            item: one.item,
+        };
+        let second = PlainFile {
+            hits: more,
+            item: other.item,
+        };
+        put_two(rt, alloc, many, &first, &second, sink)
+    }
+
+    /// Puts two files like these, one after the other.
+    #[tactic(auto, using(br_data::proofs::GoOnLaws::go_more))]
+    fn put_one_by_one<D: Drive, S: Sink>(
+        &self,
+        rt: &impl Threads,
+        alloc: Global,
+        many: &mut OverMany<'_, D>,
+        one: &KeyedItem<'_>,
+        other: &KeyedItem<'_>,
+        sink: &mut S,
+    ) -> TwoDone
+        ensures put { PutsTwo result (GivesKeyed many.old self.now.hits one.now other.now) one.now.item.now other.now.item.now
+            (S.has sink.old) (S.has sink.new) }
+        ensures counted { S.failures sink.old ≤ S.failures sink.new }
+        ensures failed { FailsEither result → S.failures sink.old < S.failures sink.new }
+        ensures on { GoOn many.old many.new }
+    {
+        standing_stays();
+        if let Err(why) = self.put_by_parts(rt, alloc, many, one.key, one.item, sink) {
+            return TwoDone::Neither(why);
+        }
+        match self.put_by_parts(rt, alloc, many, other.key, other.item, sink) {
+            Ok(()) => TwoDone::Both,
+            Err(why) => TwoDone::One(why),
+        }
+    }
+
+    /// Puts two files like these, made of the hits with their keys, into a sink, as `put_by_parts` does: side by side,
+    /// if no data of either are sparse and the sink puts these two so, else one after the other. Side by side, two other
+    /// threads digest, and at most two windows of each file are in memory.
+    ///
+    /// The two have different paths, and neither is below the other: a caller sees to that. If the first can't be put,
+    /// neither is. A sink that does not tell its files may hold a part of a file that was not put.
+    #[tactic(auto, using(br_data::proofs::GoOnLaws::go_more))]
+    pub fn put_two_by_parts<D: Drive, S: Sink>(
+        &self,
+        rt: &impl Threads,
+        alloc: Global,
+        many: &mut OverMany<'_, D>,
+        one: &KeyedItem<'_>,
+        other: &KeyedItem<'_>,
+        sink: &mut S,
+    ) -> TwoDone
+        ensures put { PutsTwo result (GivesKeyed many.old self.now.hits one.now other.now) one.now.item.now other.now.item.now
+            (S.has sink.old) (S.has sink.new) }
+        ensures counted { S.failures sink.old ≤ S.failures sink.new }
+        ensures failed { FailsEither result → S.failures sink.old < S.failures sink.new }
+        ensures on { GoOn many.old many.new }
+    {
+        standing_stays();
+        if let Some(done) = self.put_side_by_side(rt, alloc, many, one, other, sink) {
+            return done;
+        }
+        self.put_one_by_one(rt, alloc, many, one, other, sink)
+    }
+}

@@ -1,0 +1,29 @@
+//! Hits whose data are read again each time.
+ghost use Rattle.std.specs.Prelude.{◌≡◌};
+
+use br_match::Hit;
+use br_reread_parts::DATA;
+
+/// The stream of sparse data.
+pub(crate) const SPARSE_DATA: u32 = 6;
+
+/// Lets the data of a hit go if they are bytes of a file.
+fn lighten(hit: &mut Hit)
+    ensures { hit.new ≡ hit.old }
+{
+    let stream = hit.stream.unsigned_abs();
+    if stream == DATA || stream == SPARSE_DATA {
+        hit.data.let_go();
+    }
+}
+
+/// Lets the data go that are bytes of a file. As contracts see them the hits are the same.
+pub(crate) fn lightened(hits: Vec<Hit>) -> Vec<Hit>
+    ensures { result.items ≡ hits.items }
+{
+    let mut light = hits;
+    for i in 0..light.len() {
+        lighten(&mut light[i]);
+    }
+    light
+}

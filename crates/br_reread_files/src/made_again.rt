@@ -1,0 +1,52 @@
+//! A file that is made of hits whose data are read again if they were let go.
+ghost use Rattle.std.specs.Prelude.{◌≡◌, ◌∷◌, ◌++◌, [], map, Err, IfOk, OnErr, OnOk};
+ghost use Rattle.std.specs.List.{AllByRecursion};
+ghost use Rattle.std.specs.Option.{option_copied};
+ghost use Rattle.br_data.specs.declared.reread_fault.AgainFault.TheVariants.{Failed};
+ghost use Rattle.br_model.specs.Meaning as meaning;
+ghost use Rattle.br_reread_parts.specs.Given.{GivesHits};
+ghost use Rattle.br_join.specs.Outcome.{restored};
+ghost use Rattle.br_data.specs.ManyDrives.{GoOn, HaveFailed};
+ghost use Rattle.br_join.specs.Runs.{file_of_run};
+
+use crate::digesting::digested_by;
+use br_data::{AgainFault, OverMany};
+use br_join::{Outcome, named};
+use br_match::Hit;
+use br_types::{FileKey, Path};
+use br_volume::Drive;
+use std::alloc::{AllocError, Global};
+use std::thread::Threads;
+
+/// Appends a file.
+pub(crate) fn push_file(
+    files: &mut Vec<(FileKey, Outcome)>,
+    key: FileKey,
+    outcome: Outcome,
+) -> Result<(), AllocError>
+    ensures pushed { OnOk result (map restored files.new.items ≡ map restored files.old.items ++ restored (key, outcome) ∷ []) }
+    ensures kept { OnErr result (map restored files.new.items ≡ map restored files.old.items) }
+{
+    files.push((key, outcome))?;
+    Ok(())
+}
+
+/// Makes the file with these hits, under its planned path, if it has one. Its bytes are not in memory
+/// after that.
+pub(crate) fn file_by<D: Drive>(
+    rt: &impl Threads,
+    alloc: Global,
+    many: &mut OverMany<'_, D>,
+    key: FileKey,
+    path: Option<&Path>,
+    hits: &[Hit],
+) -> Result<Outcome, AgainFault>
+    requires { AllByRecursion (λ (h : meaning.Hit). h.key ≡ key) hits.now }
+    ensures made { IfOk result (λ outcome. GivesHits many.old hits.now
+        → restored (key, outcome) ≡ file_of_run key (option_copied path.entry) hits.now) }
+    ensures on { GoOn many.old many.new }
+    ensures failed { result ≡ Err Failed → HaveFailed many.old many.new }
+{
+    let outcome = digested_by(rt, alloc, many, key, hits)?;
+    Ok(named(path, outcome))
+}

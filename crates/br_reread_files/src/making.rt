@@ -1,0 +1,69 @@
+//! The files of hits, made by one drive or by several side by side.
+ghost use Rattle.std.specs.Prelude.{◌≡◌, map, Err, IfOk};
+ghost use Rattle.std.specs.Option.{option_copied};
+ghost use Rattle.br_data.specs.declared.reread_fault.AgainFault.TheVariants.{Failed};
+ghost use Rattle.br_join.specs.Outcome.{restored};
+ghost use Rattle.br_records.specs.Runs.{AreListed};
+ghost use Rattle.br_join.specs.Runs.{files_of};
+ghost use Rattle.br_data.specs.ManyDrives.{GoOn, HaveFailed};
+ghost use Rattle.br_reread_parts.specs.Given.{GivesHits};
+ghost use Rattle.br_reread_files.specs.Runs.{GivesRuns, file_of};
+
+use crate::file_pairs::make_by_two;
+use crate::runs::{Run, runs_of};
+use crate::sharing::made_side_by_side;
+use br_data::{AgainFault, OverMany};
+use br_join::Outcome;
+use br_match::Hit;
+use br_types::{FileKey, Names};
+use br_volume::Drive;
+use std::alloc::Global;
+use std::thread::Threads;
+
+/// Makes the files: side by side, if there are several drives and several files. One drive makes two long
+/// files side by side, if one comes after the other.
+///
+/// # Errors
+///
+/// Those of `many`, and `Memory` if memory runs out.
+fn made_of<D: Drive + Send>(
+    rt: &(impl Threads + Sync),
+    alloc: Global,
+    many: &mut OverMany<'_, D>,
+    runs: &[Run<'_>],
+) -> Result<Vec<(FileKey, Outcome)>, AgainFault>
+    ensures files { IfOk result (λ made. GivesRuns many.old runs.now → map restored made.items ≡ map file_of runs.now) }
+    ensures on { GoOn many.old many.new }
+    ensures failed { result ≡ Err Failed → HaveFailed many.old many.new }
+{
+    if many.count() > 1 && runs.len() > 1 {
+        return made_side_by_side(rt, alloc, many, runs);
+    }
+    let mut made = Vec::new(alloc);
+    make_by_two(rt, alloc, many, runs, &mut made)?;
+    Ok(made)
+}
+
+/// Makes the files of sorted hits: the planned ones if there is a plan, else those that were found.
+/// Each of several drives has the data of one file at a time in memory, and one drive those of two.
+///
+/// # Errors
+///
+/// Those of `many`, and `Memory` if memory runs out.
+#[tactic(auto, using(br_data::proofs::GoOnLaws::go_itself))]
+pub(crate) fn files_by<D: Drive + Send>(
+    rt: &(impl Threads + Sync),
+    alloc: Global,
+    many: &mut OverMany<'_, D>,
+    hits: &[Hit],
+    names: Option<&Names>,
+) -> Result<Vec<(FileKey, Outcome)>, AgainFault>
+    requires { AreListed hits.now }
+    ensures files { IfOk result (λ made. GivesHits many.old hits.now → map restored made.items ≡ files_of hits.now
+        (option_copied names.entry)) }
+    ensures on { GoOn many.old many.new }
+    ensures failed { result ≡ Err Failed → HaveFailed many.old many.new }
+{
+    let runs = runs_of(alloc, hits, names)?;
+    made_of(rt, alloc, many, &runs)
+}

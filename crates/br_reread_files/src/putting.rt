@@ -1,0 +1,67 @@
+//! A file that is put into a sink part by part.
+ghost use Rattle.std.specs.Prelude.{◌≡◌, ◌<◌, ◌≤◌, ◌==◌, true, false, nat_abs, Err, OnErr, OnOk};
+ghost use Rattle.std.specs.List.{list_any};
+ghost use Rattle.br_model.specs.File as file;
+ghost use Rattle.br_model.specs.Meaning as meaning;
+ghost use Rattle.br_records.specs.Runs.{AreListed};
+ghost use Rattle.br_data.specs.ManyDrives.{GoOn};
+ghost use Rattle.br_sink.specs.declared.file_parts.PartsFault.TheVariants.{Fault};
+ghost use Rattle.br_reread_parts.specs.FileParts.{PutsAlike};
+ghost use Rattle.br_reread_files.specs.FileParts.{GivesItem};
+
+use crate::files_once_more::item_once_more;
+use crate::light_hits::SPARSE_DATA;
+use br_data::{AgainFault, OverMany};
+use br_join::Item;
+use br_match::Hit;
+use br_sink::{PartsFault, Sink};
+use br_types::FileKey;
+use br_volume::Drive;
+use std::alloc::Global;
+
+/// Returns whether some of the data are sparse.
+pub(crate) fn has_sparse_data(hits: &[Hit]) -> bool
+    ensures { result ≡ list_any (λ (h : meaning.Hit). nat_abs h.fragment.stream == 6) hits.now }
+{
+    hits.iter()
+        .any(|hit| hit.stream.unsigned_abs() == SPARSE_DATA)
+}
+
+/// Returns whether a file of this type has the plain data of the hits as its bytes. Types 2 and 3
+/// have bytes.
+pub(crate) fn is_plain(kind: u32, hits: &[Hit]) -> bool
+    ensures kind { result ≡ true → file.has_bytes kind ≡ true }
+    ensures none { result ≡ true → list_any (λ (h : meaning.Hit). nat_abs h.fragment.stream == 6) hits.now ≡ false }
+{
+    (kind == 2 || kind == 3) && !has_sparse_data(hits)
+}
+
+/// Makes the file once more in memory, and puts it into a sink.
+///
+/// # Errors
+///
+/// As `Gathered::put_by_parts`.
+pub(crate) fn put_whole<D: Drive, S: Sink>(
+    alloc: Global,
+    many: &mut OverMany<'_, D>,
+    hits: &[Hit],
+    key: FileKey,
+    item: &Item,
+    sink: &mut S,
+) -> Result<(), PartsFault>
+    requires { AreListed hits.now }
+    ensures put { OnOk result (PutsAlike (GivesItem many.old hits.now key item.now) item.now (S.has sink.old) (S.has sink.new)) }
+    ensures refused { OnErr result (S.has sink.new ≡ S.has sink.old) }
+    ensures counted { S.failures sink.old ≤ S.failures sink.new }
+    ensures failed { result ≡ Err Fault → S.failures sink.old < S.failures sink.new }
+    ensures on { GoOn many.old many.new }
+{
+    match item_once_more(alloc, many, hits, key, item) {
+        Ok(made) => {
+            sink.put(&made)?;
+            Ok(())
+        }
+        Err(AgainFault::Memory) => Err(PartsFault::Memory),
+        Err(AgainFault::Failed | AgainFault::Changed) => Err(PartsFault::NoDriveLeft),
+    }
+}

@@ -1,0 +1,14 @@
+-- A file that is put part by part.
+use Rattle.std.proofs.Common.{List, Option, Result, Ok, Err}
+use Rattle.std.specs.Prelude.{OnOk}
+use Rattle.br_model.specs.File.{Item}
+use Rattle.br_reread_parts.specs.FileParts.{PutsAlike}
+
+-- a file like this one, if more is given
+pub puts_if : (given less : Type 0) (item : Item) (had has : Option (List Item)) → (given → less) → PutsAlike less item had has → PutsAlike given item had has
+puts_if given less item had has so puts = record { bytes = puts.bytes; alike = puts.alike; same = λ g. puts.same (so g); more = puts.more }
+
+-- what follows for a call that was taken
+pub ok_weaker : {A E P Q : Type 0} (r : Result A E) → (P → Q) → OnOk r P → OnOk r Q
+ok_weaker (Ok x) so p = so p
+ok_weaker (Err e) so p = tt

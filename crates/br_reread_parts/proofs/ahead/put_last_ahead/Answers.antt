@@ -1,0 +1,17 @@
+use Rattle.std.proofs.Common.{◌≡◌, ◌+◌, ◌++◌, List, length, ap, subst, ◌∙◌}
+use Rattle.std.specs.Io.KnownBytes.{Appends}
+use Rattle.br_data.specs.KeptData.{Kept}
+use Rattle.br_reread_parts.specs.Windows.{data_bytes}
+use Rattle.br_reread_parts.proofs.StepLaws.{last_put}
+use Rattle.br_reread_parts.proofs.ahead.put_last_ahead.Goals as goal
+
+pub returns-clause-put : goal.returns-clause-put
+returns-clause-put g c =
+    let had = g.W.Write.contents c.args.writer.now in
+    let has = g.W.Write.contents c.write_window.new.writer in
+    let done = c.in_ok-write_window.ensures in
+    λ many none.
+    last_put many had has _ _ _ none
+    (c.in_ok-digest_window.ensures ∙ ap (λ (found : List Kept). c.args.reading.now ++ data_bytes found) c.deref.ensures.value)
+    (subst (λ (found : List Kept). c.write_window.new.left + length (data_bytes found) ≡ c.args.ahead.now.left) c.deref-2.ensures.value done.left)
+    (subst (λ (found : List Kept). Appends had has (data_bytes found)) c.deref-2.ensures.value done.written)

@@ -1,0 +1,40 @@
+-- Two files of which the plain data are read again and written side by side.
+use Rattle.std.specs.Prelude.{◌≡◌, ℕ, List, Option, Some, None, Result, Ok, Err, ⊤}
+use Rattle.br_model.specs.File.{Item}
+use Rattle.br_model.specs.Meaning.{Hit}
+use Rattle.br_data.specs.ManyDrives.{RereadingMany}
+use Rattle.br_sink.specs.FileParts.{AreAlike}
+use Rattle.br_sink.specs.declared.file_parts.PartsFault.{PartsFault}
+use Rattle.br_sink.specs.declared.two_parts.TwoPut.{TwoPut}
+use Rattle.br_sink.specs.declared.two_parts.TwoPut.TheVariants.{Both, One, Neither}
+use Rattle.br_reread_parts.specs.FileParts.{GivesFile}
+use Rattle.br_reread_parts.specs.declared.both.PlainFile.{PlainFile}
+
+-- the hits of both files are read again as they were found, and their plain data are the bytes of the files
+abbrev pub GivesTwo : RereadingMany → List Hit → List Hit → Item → Item → Type 0
+GivesTwo many hits more one other = GivesFile many hits one × GivesFile many more other
+
+-- so are those of these two
+abbrev pub GivesPlain : RereadingMany → PlainFile → PlainFile → Type 0
+GivesPlain many one other = GivesTwo many one.hits.now other.hits.now one.item.now other.item.now
+
+-- these are the bytes that were read, as many as the item has, with the same digest
+abbrev pub AreRead : List ℕ → List ℕ → Item → Type 0
+AreRead bytes read item = (bytes ≡ read) × AreAlike bytes item.bytes
+
+-- The second file failed with this fault, or none, and the first was put with these bytes. What was read of the
+-- second is put, too, if it is like the item.
+abbrev pub EndsAs : TwoPut → Option PartsFault → List ℕ → List ℕ → Item → Type 0
+EndsAs (Both x y) None bytes read other = (x ≡ bytes) × AreRead y read other
+EndsAs (Both x y) (Some _) bytes read other = ⊥
+EndsAs (One x why) fault bytes read other = x ≡ bytes
+EndsAs (Neither why) fault bytes read other = ⊥
+
+-- what was read of two files is put if it is like the items
+abbrev pub ComesOf : TwoPut → Result (Option PartsFault) PartsFault → List ℕ → List ℕ → Item → Item → Type 0
+ComesOf (Both x y) (Ok None) first second one other = AreRead x first one × AreRead y second other
+ComesOf (Both x y) (Ok (Some _)) first second one other = ⊥
+ComesOf (Both x y) (Err _) first second one other = ⊥
+ComesOf (One x why) (Ok fault) first second one other = AreRead x first one
+ComesOf (One x why) (Err _) first second one other = ⊥
+ComesOf (Neither why) put first second one other = ⊤

@@ -1,0 +1,178 @@
+//! What reads the data of two files again, side by side, while both are put.
+ghost use Rattle.std.specs.Prelude.{◌≡◌, None, Ok};
+ghost use Rattle.br_data.specs.ManyDrives.{GoOn};
+ghost use Rattle.br_sink.specs.TwoParts.{AreTwoAlike, AreTwoSame, WritesTwo};
+ghost use Rattle.br_reread_parts.specs.TwoParts.{ComesOf, EndsAs, GivesTwo};
+
+use crate::ahead::finish;
+use crate::both::{BothRead, PlainFile, open_two, put_both};
+use br_data::{OverMany, Reading, standing_stays};
+use br_join::{FileBytes, Item};
+use br_match::Hit;
+use br_sink::{PartsFault, TwoParts, TwoPut};
+use br_volume::Drive;
+use std::alloc::Global;
+use std::io::Write;
+use std::thread::Threads;
+
+/// Returns what became of two files, of which the first was put with these bytes, and the second read to its end.
+fn after_both(alloc: Global, one: FileBytes, reading: Reading, other: &Item) -> TwoPut
+    ensures { EndsAs result None one reading other.now }
+{
+    match finish(alloc, reading, other) {
+        Ok(bytes) => TwoPut::Both { one, other: bytes },
+        Err(why) => TwoPut::One { one, why },
+    }
+}
+
+/// Returns what became of two files, of which the first was put with these bytes. The second failed with this fault,
+/// or was read to its end.
+fn after_first(
+    alloc: Global,
+    one: FileBytes,
+    fault: Option<PartsFault>,
+    reading: Reading,
+    other: &Item,
+) -> TwoPut
+    ensures { EndsAs result fault one reading other.now }
+{
+    match fault {
+        Some(why) => TwoPut::One { one, why },
+        None => after_both(alloc, one, reading, other),
+    }
+}
+
+/// Returns what became of two files, of which the first was read to its end. The second failed with this fault, or
+/// was read to its end.
+fn after_reading(
+    alloc: Global,
+    read: BothRead,
+    fault: Option<PartsFault>,
+    one: &Item,
+    other: &Item,
+) -> TwoPut
+    ensures { ComesOf result (Ok fault) read.one read.other one.now other.now }
+{
+    let BothRead {
+        one: first,
+        other: second,
+    } = read;
+    match finish(alloc, first, one) {
+        Ok(bytes) => after_first(alloc, bytes, fault, second, other),
+        Err(why) => TwoPut::Neither { why },
+    }
+}
+
+/// Returns what became of two files after what could be read of them was written.
+fn two_put(
+    alloc: Global,
+    read: BothRead,
+    put: Result<Option<PartsFault>, PartsFault>,
+    one: &Item,
+    other: &Item,
+) -> TwoPut
+    ensures { ComesOf result put read.one read.other one.now other.now }
+{
+    match put {
+        Ok(fault) => after_reading(alloc, read, fault, one, other),
+        Err(why) => TwoPut::Neither { why },
+    }
+}
+
+/// The hits of two files without sparse data, in order of place, and the drives that read them again.
+#[derive(Drop)]
+pub(crate) struct BothParts<'h, 'b, D: Drive, R> {
+    rt: &'h R,
+    alloc: Global,
+    one: &'h [Hit],
+    other: &'h [Hit],
+    many: OverMany<'b, D>,
+}
+
+impl<'h, 'b, D: Drive, R: Threads> BothParts<'h, 'b, D, R> {
+    /// Returns those of the files with these hits.
+    pub(crate) fn new(
+        rt: &'h R,
+        alloc: Global,
+        one: &'h [Hit],
+        other: &'h [Hit],
+        many: OverMany<'b, D>,
+    ) -> BothParts<'h, 'b, D, R>
+        ensures one { result.one.now ≡ one.now }
+        ensures other { result.other.now ≡ other.now }
+        ensures many { result.many ≡ many.entry }
+    {
+        BothParts {
+            rt,
+            alloc,
+            one,
+            other,
+            many,
+        }
+    }
+
+    /// Returns what reads the data again.
+    pub(crate) fn into_many(self) -> OverMany<'b, D>
+        ensures { result ≡ self.entry.many }
+    {
+        self.many
+    }
+
+    /// Writes the plain data of two files, each if they are as many bytes as those of its item and have the same
+    /// digest.
+    fn write_two<W: Write>(
+        &mut self,
+        one: &Item,
+        other: &Item,
+        first: &mut W,
+        second: &mut W,
+    ) -> TwoPut
+        ensures written { WritesTwo one.now other.now (W.contents first.old) (W.contents first.new) (W.contents second.old)
+            (W.contents second.new) result }
+        ensures alike { AreTwoAlike one.now other.now result }
+        ensures same { GivesTwo self.old.many self.old.one.now self.old.other.now one.now other.now → AreTwoSame one.now other.now result }
+        ensures on { GoOn self.old.many self.new.many }
+    {
+        standing_stays();
+        let one_file = PlainFile {
+            hits: self.one,
+            item: one,
+        };
+        let other_file = PlainFile {
+            hits: self.other,
+            item: other,
+        };
+        let mut next = match open_two(self.alloc, &mut self.many, &one_file, &other_file) {
+            Ok(next) => next,
+            Err(why) => return TwoPut::Neither { why },
+        };
+        let mut read = BothRead {
+            one: Reading::new(),
+            other: Reading::new(),
+        };
+        let put = put_both(self.rt, &mut self.many, &mut read, &mut next, first, second);
+        two_put(self.alloc, read, put, one, other)
+    }
+}
+
+impl<'h, 'b, D: Drive, R: Threads> TwoParts for BothParts<'h, 'b, D, R> {
+    ghost use Rattle.br_data.specs.ManyDrives.{GoOn};
+    ghost use Rattle.br_data.proofs.GoOnLaws.{go_itself};
+    ghost use Rattle.br_reread_parts.specs.TwoParts.{GivesTwo};
+
+    ghost gives = { λ p one other. GivesTwo p.many p.one.now p.other.now one other };
+
+    ghost goes_on = { λ p q. GoOn p.many q.many };
+
+    fn write_both<W: Write>(
+        &mut self,
+        one: &Item,
+        other: &Item,
+        first: &mut W,
+        second: &mut W,
+    ) -> TwoPut {
+        self.write_two(one, other, first, second)
+    }
+
+    ghost stays = { λ p. go_itself p.many };
+}

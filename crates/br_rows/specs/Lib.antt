@@ -1,5 +1,0 @@
-pub mod Fault
-pub mod Decode
-pub mod Rows
-pub mod Load
-pub mod Inserted

@@ -1,3 +1,0 @@
-pub mod ChoiceLaws
-pub mod DeskLaws
-pub mod DialogueLaws

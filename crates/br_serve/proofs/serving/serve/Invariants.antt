@@ -1,8 +1,0 @@
-use Rattle.br_keeper.specs.Keeping.{shelf_of}
-use Rattle.br_serve.specs.Served.{HasServed, IsLeftByCommits}
-use Rattle.br_serve.proofs.serving.serve.Given as goal
-
-abbrev pub invariant-loop : goal.invariant-loop
-invariant-loop g l =
-    IsLeftByCommits g.C.JobStore.inserts g.C.JobStore.refuses (shelf_of g.W.VolumeStore.holds g.W.VolumeStore.failures) l.fn.keeper l.keeper
-    × HasServed l.fn.keeper.list l.keeper.list

@@ -1,2 +1,0 @@
-pub mod ScriptEnding
-pub mod Serving

@@ -1,0 +1,12 @@
+//! What is kept of a delivery that leaves out conflicts.
+ghost use Rattle.br_sink.specs.ConflictsApart.{ApartStayWhole, KeptAreApart};
+
+/// No two of the files that are kept conflict.
+pub fn kept_are_apart()
+    ensures { KeptAreApart }
+{}
+
+/// If no two files conflict, none is left out.
+pub fn apart_stay_whole()
+    ensures { ApartStayWhole }
+{}

@@ -1,0 +1,424 @@
+-- What is left below a folder while files are put, some of which are held open.
+use Rattle.std.proofs.Common.{◌≡◌, ℕ, ◌<◌, ◌≤◌, ◌+◌, ◌⊎◌, Bool, true, false, cond, Option, Some, None, Ok, List, [], ◌∷◌, ◌++◌, length, get_or, set, take, drop, inl, inr, refl, ap, sym, subst, ◌∙◌, arith}
+use Rattle.std.specs.Prelude.{◌&&◌, bytes_eq, suc}
+use Rattle.std.specs.List.{AllByRecursion}
+use Rattle.std.proofs.lemmas.List.{drop-set-lt, drop_all, drop_more, map-append, take_all, take_more_set}
+use Rattle.std.proofs.lemmas.List.Sums.{fold-append}
+use Rattle.std.proofs.lemmas.Slice.Eq.{bytes_eq-Decides}
+use Rattle.std.specs.Io.KnownBytes.{Appends}
+use Rattle.br_model.specs.File.{Item, has_bytes}
+use Rattle.br_fs.specs.Making.{Nodes, Node, Bytes, Opened, AreSet, IsFinished, IsFree, MakesFile, node_at}
+use Rattle.br_sink_folder.specs.Below.{AddsFolders, IsNewFolder, KeepsOutside, PutsBelow}
+use Rattle.br_sink_folder.specs.FolderSink.{PutsItem}
+use Rattle.br_sink_folder.specs.Held.{AppendsSome, AreAnswered, AreLast, FinishesOne, FinishesSome, HaveOwnPaths, Holds, HoldsOver, IsLeft, IsNew, IsOpenWith, IsWritten, LeavesFiles, MakesOne, NoneAt, WritesEach, WritesOne, bytes_after, bytes_put, items_of}
+use Rattle.br_sink_folder.specs.declared.window.Made.{Made}
+use Rattle.br_sink_folder.proofs.BelowLaws.{adds_both, differs}
+
+-- what is at one path after one more change
+
+pub folder_left : (root path : List ℕ) (was : Option (List ℕ)) (a b c : Nodes) → IsLeft root path was a b
+    → (node_at c path ≡ node_at b path) ⊎ IsNewFolder root path b c → IsLeft root path was a c
+folder_left root path (Some bytes) a b c left (inl same) = same ∙ left
+folder_left root path (Some bytes) a b c left (inr (below, free, is)) = let never : None ≡ Some (Bytes bytes) = sym free ∙ left in absurd cc
+folder_left root path None a b c left added = adds_both root path a b c left added
+
+pub still_opened : (root path : List ℕ) (n : ℕ) (b c : Nodes) → node_at b path ≡ Some (Opened n)
+    → (node_at c path ≡ node_at b path) ⊎ IsNewFolder root path b c → node_at c path ≡ Some (Opened n)
+still_opened root path n b c is (inl same) = same ∙ is
+still_opened root path n b c is (inr (below, free, folder)) = let never : None ≡ Some (Opened n) = sym free ∙ is in absurd cc
+
+pub set_own : (path : List ℕ) (node : Option Node) (b c : Nodes) → AreSet path node b c → node_at c path ≡ node
+set_own path node b c set = set path ∙ ap (λ (t : Bool). cond t node (node_at b path)) ((bytes_eq-Decides path path).1 refl)
+
+pub set_apart : (path other : List ℕ) (node : Option Node) (b c : Nodes) → AreSet path node b c → (path ≡ other → ⊥)
+    → node_at c other ≡ node_at b other
+set_apart path other node b c set apart =
+    set other ∙ ap (λ (t : Bool). cond t node (node_at b other)) (differs path other apart (bytes_eq path other) refl)
+
+pub apart_if : (path other : List ℕ) → bytes_eq path other ≡ false → path ≡ other → ⊥
+apart_if path other none is = let never : true ≡ false = sym ((bytes_eq-Decides path other).1 is) ∙ none in absurd cc
+
+-- the bytes of a path after one more item was put
+
+put_more : (root path : List ℕ) (items : List Item) (item : Item)
+    → bytes_put root (items ++ item ∷ []) path ≡ bytes_after root path (bytes_put root items path) item
+put_more root path items item = fold-append (bytes_after root path) None items (item ∷ [])
+
+pub put_apart : (root path : List ℕ) (items : List Item) (item : Item) → (root ++ item.path ≡ path → ⊥)
+    → bytes_put root (items ++ item ∷ []) path ≡ bytes_put root items path
+put_apart root path items item apart =
+    put_more root path items item
+    ∙ ap (λ (t : Bool). cond (t && has_bytes item.kind) (Some item.bytes) (bytes_put root items path))
+    (differs (root ++ item.path) path apart (bytes_eq (root ++ item.path) path) refl)
+
+pub put_own : (root : List ℕ) (items : List Item) (item : Item) → has_bytes item.kind ≡ true
+    → bytes_put root (items ++ item ∷ []) (root ++ item.path) ≡ Some item.bytes
+put_own root items item has =
+    let path : List ℕ = root ++ item.path in
+    put_more root path items item
+    ∙ ap (λ (t : Bool). cond (t && has_bytes item.kind) (Some item.bytes) (bytes_put root items path)) ((bytes_eq-Decides path path).1 refl)
+    ∙ ap (λ (t : Bool). cond t (Some item.bytes) (bytes_put root items path)) has
+
+none_if : (t : Bool) → t && false ≡ false
+none_if true = refl
+none_if false = refl
+
+put_none : (root path : List ℕ) (items : List Item) (item : Item) → has_bytes item.kind ≡ false
+    → bytes_put root (items ++ item ∷ []) path ≡ bytes_put root items path
+put_none root path items item none =
+    put_more root path items item
+    ∙ ap (λ (t : Bool). cond (bytes_eq (root ++ item.path) path && t) (Some item.bytes) (bytes_put root items path)) none
+    ∙ ap (λ (t : Bool). cond t (Some item.bytes) (bytes_put root items path)) (none_if (bytes_eq (root ++ item.path) path))
+
+-- lists with one more at the end
+
+pub all_front : {A : Type 0} (P : A → Type 0) (xs : List A) (x : A) → AllByRecursion P (xs ++ x ∷ []) → AllByRecursion P xs
+all_front P [] x all = tt
+all_front P (y ∷ xs) x all = (all.0, all_front P xs x all.1)
+
+pub all_end : {A : Type 0} (P : A → Type 0) (xs : List A) (x : A) → AllByRecursion P (xs ++ x ∷ []) → P x
+all_end P [] x all = all.0
+all_end P (y ∷ xs) x all = all_end P xs x all.1
+
+pub all_more : {A : Type 0} (P : A → Type 0) (xs : List A) (x : A) → AllByRecursion P xs → P x → AllByRecursion P (xs ++ x ∷ [])
+all_more P [] x all is = (is, tt)
+all_more P (y ∷ xs) x all is = (all.0, all_more P xs x all.1 is)
+
+own_more : (root : List ℕ) (its : List Item) (item : Item) → HaveOwnPaths root its → NoneAt root (root ++ item.path) its
+    → HaveOwnPaths root (its ++ item ∷ [])
+own_more root [] item own none = (tt, tt)
+own_more root (x ∷ its) item own none =
+    (all_more (λ (i : Item). root ++ i.path ≡ root ++ x.path → ⊥) its item own.0 (λ is. none.0 (sym is)), own_more root its item own.1 none.1)
+
+last_apart : (root : List ℕ) (items its : List Item) (item : Item) → AreLast root items its → NoneAt root (root ++ item.path) its
+    → AreLast root (items ++ item ∷ []) its
+last_apart root items [] item last none = tt
+last_apart root items (x ∷ its) item last none =
+    (put_apart root (root ++ x.path) items item (λ is. none.0 (sym is)) ∙ last.0, last_apart root items its item last.1 none.1)
+
+last_none : (root : List ℕ) (items its : List Item) (item : Item) → AreLast root items its → has_bytes item.kind ≡ false
+    → AreLast root (items ++ item ∷ []) its
+last_none root items [] item last no_bytes = tt
+last_none root items (x ∷ its) item last no_bytes =
+    (put_none root (root ++ x.path) items item no_bytes ∙ last.0, last_none root items its item last.1 no_bytes)
+
+module _ {W : Type 0} (contents : W → Option (List ℕ)) (root : List ℕ) where
+  -- files that are open stay so where their paths are not changed
+
+  open_still : (bytes : List ℕ) (b c : Nodes) (m : Made W) → IsOpenWith contents root bytes b m
+      → (node_at c (root ++ m.item.now.path) ≡ node_at b (root ++ m.item.now.path)) ⊎ IsNewFolder root (root ++ m.item.now.path) b c
+      → IsOpenWith contents root bytes c m
+  open_still bytes b c m o added = (o.0, o.1, o.2, o.3, still_opened root (root ++ m.item.now.path) o.1 b c o.4 added)
+
+  new_folders : (b c : Nodes) (made : List (Made W))
+      → ((path : List ℕ) → (node_at c path ≡ node_at b path) ⊎ IsNewFolder root path b c)
+      → AllByRecursion (IsNew contents root b) made → AllByRecursion (IsNew contents root c) made
+  new_folders b c [] added each = tt
+  new_folders b c (m ∷ made) added each =
+      (open_still [] b c m each.0 (added (root ++ m.item.now.path)), new_folders b c made added each.1)
+
+  new_set : (path : List ℕ) (node : Option Node) (b c : Nodes) (made : List (Made W)) → AreSet path node b c
+      → NoneAt root path (items_of made) → AllByRecursion (IsNew contents root b) made → AllByRecursion (IsNew contents root c) made
+  new_set path left b c [] set none each = tt
+  new_set path left b c (m ∷ made) set none each =
+      (open_still [] b c m each.0 (inl (set_apart path (root ++ m.item.now.path) left b c set (λ is. none.0 (sym is)))), new_set path left b c made set none.1 each.1)
+
+  written_set : (path : List ℕ) (node : Option Node) (b c : Nodes) (made : List (Made W)) → AreSet path node b c
+      → NoneAt root path (items_of made) → AllByRecursion (IsWritten contents root b) made → AllByRecursion (IsWritten contents root c) made
+  written_set path left b c [] set none each = tt
+  written_set path left b c (m ∷ made) set none each = (
+    (λ ok. open_still m.item.now.bytes b c m (each.0 ok) (inl (set_apart path (root ++ m.item.now.path) left b c set (λ is. none.0 (sym is))))),
+    written_set path left b c made set none.1 each.1,
+  )
+
+  -- where nothing is, no file is open
+  none_open : (path : List ℕ) (b : Nodes) (made : List (Made W)) → node_at b path ≡ None → AllByRecursion (IsNew contents root b) made
+      → NoneAt root path (items_of made)
+  none_open path b [] free each = tt
+  none_open path b (m ∷ made) free each = (
+    (λ is. let never : Some (Opened each.0.1) ≡ None = sym each.0.4 ∙ ap (λ (p : List ℕ). node_at b p) is ∙ free in absurd cc),
+    none_open path b made free each.1,
+  )
+
+  -- folders are made
+
+  folders : (items : List Item) (made : List (Made W)) (a b c : Nodes) → Holds (IsNew contents root) root items made a b
+      → ((path : List ℕ) → (node_at c path ≡ node_at b path) ⊎ IsNewFolder root path b c)
+      → Holds (IsNew contents root) root items made a c
+  folders items made a b c h added = record {
+    rest = λ path none. folder_left root path (bytes_put root items path) a b c (h.rest path none) (added path);
+    apart = h.apart;
+    last = h.last;
+    each = new_folders b c made added h.each;
+  }
+
+  pub over_folders : (items : List Item) (made : List (Made W)) (a b c : Option Nodes)
+      → HoldsOver (IsNew contents root) root items made a b → AddsFolders root b c → HoldsOver (IsNew contents root) root items made a c
+  over_folders items made None None None h added = tt
+  over_folders items made None None (Some c) h added = absurd added
+  over_folders items made None (Some b) c h added = absurd h
+  over_folders items made (Some a) None c h added = absurd h
+  over_folders items made (Some a) (Some b) None h added = absurd added
+  over_folders items made (Some a) (Some b) (Some c) h added = folders items made a b c h added
+
+  -- what has no bytes is put
+
+  without : (items : List Item) (made : List (Made W)) (item : Item) (a b : Nodes) → has_bytes item.kind ≡ false
+      → Holds (IsNew contents root) root items made a b → Holds (IsNew contents root) root (items ++ item ∷ []) made a b
+  without items made item a b none h = record {
+    rest = λ path free. subst (λ (was : Option (List ℕ)). IsLeft root path was a b) (sym (put_none root path items item none)) (h.rest path free);
+    apart = h.apart;
+    last = last_none root items (items_of made) item h.last none;
+    each = h.each;
+  }
+
+  pub over_without : (items : List Item) (made : List (Made W)) (item : Item) (a b : Option Nodes) → has_bytes item.kind ≡ false
+      → HoldsOver (IsNew contents root) root items made a b → HoldsOver (IsNew contents root) root (items ++ item ∷ []) made a b
+  over_without items made item None None none h = tt
+  over_without items made item None (Some b) none h = absurd h
+  over_without items made item (Some a) None none h = absurd h
+  over_without items made item (Some a) (Some b) none h = without items made item a b none h
+
+  -- a new file is held
+
+  one_more : (items : List Item) (made : List (Made W)) (m : Made W) (file : W) (n : ℕ) (a b c : Nodes) → has_bytes m.item.now.kind ≡ true
+      → Holds (IsNew contents root) root items made a b → node_at b (root ++ m.item.now.path) ≡ None
+      → m.file ≡ Some file → contents file ≡ Some (n ∷ []) → AreSet (root ++ m.item.now.path) (Some (Opened n)) b c
+      → Holds (IsNew contents root) root (items ++ m.item.now ∷ []) (made ++ m ∷ []) a c
+  one_more items made m file n a b c has h free is new set =
+      let item : Item = m.item.now in
+      let path : List ℕ = root ++ item.path in
+      let none = none_open path b made free h.each in
+      let all : items_of (made ++ m ∷ []) ≡ items_of made ++ item ∷ [] = map-append (λ (o : Made W). o.item.now) made (m ∷ []) in
+      record {
+        rest = λ other apart.
+            let away = subst (NoneAt root other) all apart in
+            let front = all_front (λ (i : Item). root ++ i.path ≡ other → ⊥) (items_of made) item away in
+            let differ = all_end (λ (i : Item). root ++ i.path ≡ other → ⊥) (items_of made) item away in
+            subst (λ (was : Option (List ℕ)). IsLeft root other was a c) (sym (put_apart root other items item differ))
+            (folder_left root other (bytes_put root items other) a b c (h.rest other front) (inl (set_apart path other (Some (Opened n)) b c set differ)));
+        apart = subst (HaveOwnPaths root) (sym all) (own_more root (items_of made) item h.apart none);
+        last =
+            subst (AreLast root (items ++ item ∷ [])) (sym all)
+            (all_more (λ (i : Item). bytes_put root (items ++ item ∷ []) (root ++ i.path) ≡ Some i.bytes) (items_of made) item
+            (last_apart root items (items_of made) item h.last none) (put_own root items item has));
+        each =
+            all_more (IsNew contents root c) made m (new_set path (Some (Opened n)) b c made set none h.each)
+            (file, n, is, new, set_own path (Some (Opened n)) b c set);
+      }
+
+  more_over : (items : List Item) (made : List (Made W)) (m : Made W) (file : W) (a b c : Option Nodes) → has_bytes m.item.now.kind ≡ true
+      → HoldsOver (IsNew contents root) root items made a b → IsFree b (root ++ m.item.now.path)
+      → m.file ≡ Some file → MakesFile (root ++ m.item.now.path) (contents file) b c
+      → HoldsOver (IsNew contents root) root (items ++ m.item.now ∷ []) (made ++ m ∷ []) a c
+  more_over items made m file None None None has h free is new = tt
+  more_over items made m file None None (Some c) has h free is new = absurd new
+  more_over items made m file None (Some b) c has h free is new = absurd h
+  more_over items made m file (Some a) None c has h free is new = absurd h
+  more_over items made m file (Some a) (Some b) None has h free is new = absurd new
+  more_over items made m file (Some a) (Some b) (Some c) has h free is new =
+      one_more items made m file new.0 a b c has h free is new.1 new.2
+
+  pub over_more : (items : List Item) (made after : List (Made W)) (m : Made W) (item : Item) (a b c : Option Nodes) → m.item.now ≡ item
+      → after ≡ made ++ m ∷ [] → has_bytes item.kind ≡ true → HoldsOver (IsNew contents root) root items made a b
+      → MakesOne contents root m b c → HoldsOver (IsNew contents root) root (items ++ item ∷ []) after a c
+  over_more items made after m item a b c same is has h new =
+      subst (λ (i : Item). HoldsOver (IsNew contents root) root (items ++ i ∷ []) after a c) same
+      (subst (λ (l : List (Made W)). HoldsOver (IsNew contents root) root (items ++ m.item.now ∷ []) l a c) (sym is)
+      (more_over items made m new.0 a new.1 c (ap (λ (i : Item). has_bytes i.kind) same ∙ has) (over_folders items made a b new.1 h new.3) new.4 new.2 new.5))
+
+  -- the files are written
+
+  known : (n : ℕ) (bytes : List ℕ) (later : Option (List ℕ)) → Appends (Some (n ∷ [])) later bytes → later ≡ Some (n ∷ bytes)
+  known n bytes None more = absurd more
+  known n bytes (Some ys) more = ap (λ (l : List ℕ). Some l) more
+
+  appended : (file : W) (later : Option W) (n : ℕ) (bytes : List ℕ) → contents file ≡ Some (n ∷ []) → AppendsSome contents (Some file) later bytes
+      → (f : W) × (later ≡ Some f) × (contents f ≡ Some (n ∷ bytes))
+  appended file None n bytes is more = absurd more
+  appended file (Some f) n bytes is more = (f, refl, known n bytes (contents f) (rw is at more))
+
+  written_one : (b : Nodes) (old new : Made W) → IsNew contents root b old → WritesOne contents old new → IsWritten contents root b new
+  written_one b old new o w = λ ok.
+      let more : AppendsSome contents (Some o.0) new.file old.item.now.bytes = rw o.2 at (w.bytes ok) in
+      let f = appended o.0 new.file o.1 old.item.now.bytes o.3 more in
+      (f.0, o.1, f.1, f.2 ∙ ap (λ (i : Item). Some (o.1 ∷ i.bytes)) (sym w.item), ap (λ (i : Item). node_at b (root ++ i.path)) w.item ∙ o.4)
+
+  written_all : (b : Nodes) (old new : List (Made W)) → length new ≡ length old → WritesEach contents old new
+      → AllByRecursion (IsNew contents root b) old → AllByRecursion (IsWritten contents root b) new
+  written_all b [] [] len w each = tt
+  written_all b [] (y ∷ ys) len w each = absurd (omega (arith, len))
+  written_all b (x ∷ xs) [] len w each = absurd (omega (arith, len))
+  written_all b (x ∷ xs) (y ∷ ys) len w each = (
+    written_one b x y each.0 (w 0 x (omega arith)),
+    written_all b xs ys (omega (arith, len)) (λ i d low. w (suc i) d (omega (arith, low))) each.1,
+  )
+
+  items_same : (old new : List (Made W)) → length new ≡ length old → WritesEach contents old new → items_of new ≡ items_of old
+  items_same [] [] len w = refl
+  items_same [] (y ∷ ys) len w = absurd (omega (arith, len))
+  items_same (x ∷ xs) [] len w = absurd (omega (arith, len))
+  items_same (x ∷ xs) (y ∷ ys) len w =
+      let first : WritesOne contents x y = w 0 x (omega arith) in
+      let more = items_same xs ys (omega (arith, len)) (λ i d low. w (suc i) d (omega (arith, low))) in
+      ap (λ (i : Item). i ∷ items_of ys) first.item ∙ ap (λ (l : List Item). x.item.now ∷ l) more
+
+  pub over_written : (items : List Item) (old new : List (Made W)) (a b : Option Nodes) → length new ≡ length old → WritesEach contents old new
+      → HoldsOver (IsNew contents root) root items old a b → HoldsOver (IsWritten contents root) root items new a b
+  over_written items old new None None len w h = tt
+  over_written items old new None (Some b) len w h = absurd h
+  over_written items old new (Some a) None len w h = absurd h
+  over_written items old new (Some a) (Some b) len w h =
+      let same : items_of new ≡ items_of old = items_same old new len w in
+      record {
+        rest = λ path none. h.rest path (subst (NoneAt root path) same none);
+        apart = subst (HaveOwnPaths root) (sym same) h.apart;
+        last = subst (AreLast root items) (sym same) h.last;
+        each = written_all b old new len w h.each;
+      }
+
+  -- one of them is finished
+
+  finished_at : (items : List Item) (m : Made W) (made : List (Made W)) (a b c : Nodes) → Holds (IsWritten contents root) root items (m ∷ made) a b
+      → AreSet (root ++ m.item.now.path) (Some (Bytes m.item.now.bytes)) b c → (path : List ℕ) → NoneAt root path (items_of made)
+      → (same : Bool) → bytes_eq (root ++ m.item.now.path) path ≡ same → IsLeft root path (bytes_put root items path) a c
+  finished_at items m made a b c h set path none true same =
+      let own : List ℕ = root ++ m.item.now.path in
+      let is : own ≡ path = (bytes_eq-Decides own path).0 same in
+      subst (λ (p : List ℕ). IsLeft root p (bytes_put root items p) a c) is
+      (subst (λ (was : Option (List ℕ)). IsLeft root own was a c) (sym h.last.0) (set_own own (Some (Bytes m.item.now.bytes)) b c set))
+  finished_at items m made a b c h set path none false same =
+      let own : List ℕ = root ++ m.item.now.path in
+      let differ = apart_if own path same in
+      folder_left root path (bytes_put root items path) a b c (h.rest path (differ, none))
+      (inl (set_apart own path (Some (Bytes m.item.now.bytes)) b c set differ))
+
+  finished_one : (items : List Item) (m : Made W) (made : List (Made W)) (a b c : Nodes) → Holds (IsWritten contents root) root items (m ∷ made) a b
+      → AreSet (root ++ m.item.now.path) (Some (Bytes m.item.now.bytes)) b c → Holds (IsWritten contents root) root items made a c
+  finished_one items m made a b c h set = record {
+    rest = λ path none. finished_at items m made a b c h set path none (bytes_eq (root ++ m.item.now.path) path) refl;
+    apart = h.apart.1;
+    last = h.last.1;
+    each = written_set (root ++ m.item.now.path) (Some (Bytes m.item.now.bytes)) b c made set h.apart.0 h.each.1;
+  }
+
+  bytes_same : (n k : ℕ) (xs ys : List ℕ) → Some (n ∷ xs) ≡ Some (k ∷ ys) → xs ≡ ys
+  bytes_same n k xs ys is = cc
+
+  finish_sets : (m : Made W) (b c : Nodes) → m.answer ≡ Ok tt → IsWritten contents root b m
+      → FinishesSome contents (root ++ m.item.now.path) m.file (Some b) (Some c) → AreSet (root ++ m.item.now.path) (Some (Bytes m.item.now.bytes)) b c
+  finish_sets m b c ok written put =
+      let o = written ok in
+      let path : List ℕ = root ++ m.item.now.path in
+      let done : IsFinished path (contents o.0) (Some b) (Some c) = rw o.2 at put in
+      let file = done (o.1, m.item.now.bytes, o.3, o.4) in
+      subst (λ (bytes : List ℕ). AreSet path (Some (Bytes bytes)) b c) (bytes_same file.0 o.1 file.1 m.item.now.bytes (sym file.2 ∙ o.3)) file.3
+
+  pub over_finished : (items : List Item) (m : Made W) (made : List (Made W)) (a b c : Option Nodes) → m.answer ≡ Ok tt
+      → FinishesSome contents (root ++ m.item.now.path) m.file b c → KeepsOutside root b c
+      → HoldsOver (IsWritten contents root) root items (m ∷ made) a b → HoldsOver (IsWritten contents root) root items made a c
+  over_finished items m made None None None ok put kept h = tt
+  over_finished items m made None None (Some c) ok put kept h = absurd kept
+  over_finished items m made None (Some b) c ok put kept h = absurd h
+  over_finished items m made (Some a) None c ok put kept h = absurd h
+  over_finished items m made (Some a) (Some b) None ok put kept h = absurd kept
+  over_finished items m made (Some a) (Some b) (Some c) ok put kept h =
+      finished_one items m made a b c h (finish_sets m b c ok h.each.0 put)
+
+  -- none is held
+
+  pub over_end : (items : List Item) (a b : Option Nodes) → HoldsOver (IsWritten contents root) root items [] a b → LeavesFiles root items a b
+  over_end items None None h = tt
+  over_end items None (Some b) h = absurd h
+  over_end items (Some a) None h = absurd h
+  over_end items (Some a) (Some b) h = λ path. h.rest path tt
+
+  pub over_again : (items : List Item) (made : List (Made W)) (a b : Option Nodes) → made ≡ [] → LeavesFiles root items a b
+      → HoldsOver (IsNew contents root) root items made a b
+  over_again items made None None none h = tt
+  over_again items made None (Some b) none h = absurd h
+  over_again items made (Some a) None none h = absurd h
+  over_again items made (Some a) (Some b) none h =
+      subst (λ (l : List (Made W)). Holds (IsNew contents root) root items l a b) (sym none)
+      (record { rest = λ path free. h path; apart = tt; last = tt; each = tt })
+
+  -- a loop that finishes them one by one: what is held is what it has not come to
+
+  pub held_step : (items : List Item) (made : List (Made W)) (i : ℕ) (old new : Made W) (nodes b c : Option Nodes) → i < length made
+      → old ≡ get_or made i old → FinishesOne contents root old new b c → KeepsOutside root b c
+      → (AreAnswered (take i made) → HoldsOver (IsWritten contents root) root items (drop i made) nodes b)
+      → AreAnswered (take (i + 1) (set made i new)) → HoldsOver (IsWritten contents root) root items (drop (i + 1) (set made i new)) nodes c
+  held_step items made i old new nodes b c low is finishes kept held answered =
+      let away = subst (λ (l : List (Made W)). AreAnswered l) (take_more_set made i new low) answered in
+      let front = all_front (λ (m : Made W). m.answer ≡ Ok tt) (take i made) new away in
+      let done = finishes (all_end (λ (m : Made W). m.answer ≡ Ok tt) (take i made) new away) in
+      let left : drop i made ≡ old ∷ drop (i + 1) made = drop_more made i old low ∙ ap (λ (o : Made W). o ∷ drop (i + 1) made) (sym is) in
+      let now : HoldsOver (IsWritten contents root) root items (old ∷ drop (i + 1) made) nodes b =
+      subst (λ (l : List (Made W)). HoldsOver (IsWritten contents root) root items l nodes b) left (held front) in
+      subst (λ (l : List (Made W)). HoldsOver (IsWritten contents root) root items l nodes c) (sym (drop-set-lt (i + 1) made i new (omega arith)))
+      (over_finished items old (drop (i + 1) made) nodes b c done.0 done.1 kept now)
+
+  pub held_end : (items : List Item) (made : List (Made W)) (i : ℕ) (nodes c : Option Nodes) → length made ≤ i
+      → (AreAnswered (take i made) → HoldsOver (IsWritten contents root) root items (drop i made) nodes c)
+      → AreAnswered made → LeavesFiles root items nodes c
+  held_end items made i nodes c past held answered =
+      over_end items nodes c (subst (λ (l : List (Made W)). HoldsOver (IsWritten contents root) root items l nodes c) (drop_all i made past)
+      (held (subst (λ (l : List (Made W)). AreAnswered l) (sym (take_all i made past)) answered)))
+
+-- nothing was put yet
+pub leaves_nothing : (root : List ℕ) (nodes : Option Nodes) → LeavesFiles root [] nodes nodes
+leaves_nothing root None = tt
+leaves_nothing root (Some a) = λ path. inl refl
+
+-- a file is put alone, while none is held
+
+alone : (root : List ℕ) (items : List Item) (item : Item) (a b c d : Nodes) → has_bytes item.kind ≡ true
+    → ((path : List ℕ) → IsLeft root path (bytes_put root items path) a b)
+    → ((path : List ℕ) → (node_at c path ≡ node_at b path) ⊎ IsNewFolder root path b c) → AreSet (root ++ item.path) (Some (Bytes item.bytes)) c d
+    → (path : List ℕ) (same : Bool) → bytes_eq (root ++ item.path) path ≡ same → IsLeft root path (bytes_put root (items ++ item ∷ []) path) a d
+alone root items item a b c d has left added set path true same =
+    let own : List ℕ = root ++ item.path in
+    let is : own ≡ path = (bytes_eq-Decides own path).0 same in
+    subst (λ (p : List ℕ). IsLeft root p (bytes_put root (items ++ item ∷ []) p) a d) is
+    (subst (λ (was : Option (List ℕ)). IsLeft root own was a d) (sym (put_own root items item has)) (set_own own (Some (Bytes item.bytes)) c d set))
+alone root items item a b c d has left added set path false same =
+    let own : List ℕ = root ++ item.path in
+    let differ = apart_if own path same in
+    subst (λ (was : Option (List ℕ)). IsLeft root path was a d) (sym (put_apart root path items item differ))
+    (folder_left root path (bytes_put root items path) a c d (folder_left root path (bytes_put root items path) a b c (left path) (added path))
+    (inl (set_apart own path (Some (Bytes item.bytes)) c d set differ)))
+
+leaves_file : (root : List ℕ) (items : List Item) (item : Item) (a b d : Option Nodes) → has_bytes item.kind ≡ true
+    → LeavesFiles root items a b → PutsBelow root item.path item.bytes b d → LeavesFiles root (items ++ item ∷ []) a d
+leaves_file root items item None None None has left (c, added, put) = tt
+leaves_file root items item None None (Some d) has left (None, added, put) = absurd put.1
+leaves_file root items item None None (Some d) has left (Some c, added, put) = absurd added
+leaves_file root items item None (Some b) d has left put = absurd left
+leaves_file root items item (Some a) None d has left put = absurd left
+leaves_file root items item (Some a) (Some b) d has left (None, added, put) = absurd added
+leaves_file root items item (Some a) (Some b) None has left (Some c, added, put) = absurd put.1
+leaves_file root items item (Some a) (Some b) (Some d) has left (Some c, added, put) =
+    λ path. alone root items item a b c d has left added put.1 path (bytes_eq (root ++ item.path) path) refl
+
+-- folders are made, and no file with bytes
+leaves_folders : (root : List ℕ) (items : List Item) (item : Item) (a b c : Option Nodes) → has_bytes item.kind ≡ false
+    → LeavesFiles root items a b → AddsFolders root b c → LeavesFiles root (items ++ item ∷ []) a c
+leaves_folders root items item None None None none left added = tt
+leaves_folders root items item None None (Some c) none left added = absurd added
+leaves_folders root items item None (Some b) c none left added = absurd left
+leaves_folders root items item (Some a) None c none left added = absurd left
+leaves_folders root items item (Some a) (Some b) None none left added = absurd added
+leaves_folders root items item (Some a) (Some b) (Some c) none left added = λ path.
+    subst (λ (was : Option (List ℕ)). IsLeft root path was a c) (sym (put_none root path items item none))
+    (folder_left root path (bytes_put root items path) a b c (left path) (added path))
+
+leaves_by : (root : List ℕ) (items : List Item) (item : Item) (a b c : Option Nodes) (has : Bool) → has_bytes item.kind ≡ has
+    → LeavesFiles root items a b → PutsItem root item b c → (has_bytes item.kind ≡ false → AddsFolders root b c)
+    → LeavesFiles root (items ++ item ∷ []) a c
+leaves_by root items item a b c true has left put folders = leaves_file root items item a b c has left (put has)
+leaves_by root items item a b c false has left put folders = leaves_folders root items item a b c has left (folders has)
+
+-- an item is put alone
+pub leaves_item : (root : List ℕ) (items : List Item) (item : Item) (a b c : Option Nodes) → LeavesFiles root items a b
+    → PutsItem root item b c → (has_bytes item.kind ≡ false → AddsFolders root b c) → LeavesFiles root (items ++ item ∷ []) a c
+leaves_item root items item a b c left put folders = leaves_by root items item a b c (has_bytes item.kind) refl left put folders

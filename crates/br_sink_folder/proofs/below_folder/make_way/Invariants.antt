@@ -1,0 +1,9 @@
+use Rattle.br_sink_folder.specs.Below.{AddsFolders}
+use Rattle.br_sink_folder.proofs.below_folder.make_way.Given as goal
+
+-- nothing but folders was made
+abbrev pub invariant-loop-at : goal.invariant-loop-at
+invariant-loop-at g l =
+    record {
+      added : AddsFolders l.root (g.M.FileMaker.nodes l.initial.maker) (g.M.FileMaker.nodes l.maker);
+    }

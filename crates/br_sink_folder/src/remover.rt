@@ -1,0 +1,74 @@
+//! Files that are removed again after a delivery has stopped.
+ghost use Rattle.std.specs.Prelude.{ℕ, List, ◌++◌, OnOk, OnErr};
+ghost use Rattle.br_fs.specs.Making.{IsBelow};
+ghost use Rattle.br_sink_folder.specs.Below.{KeepsOutside};
+ghost use Rattle.br_sink_folder.specs.Removed.{ChangesOne, HasNoFile, IsRemoved, MakesNoFile};
+
+use crate::below_folder::{make_way, remove};
+use crate::target_path::known_path_of;
+use br_fs::FileMaker;
+use br_join::Item;
+use br_sink::SinkFault;
+use std::alloc::Global;
+
+/// A maker of files that removes them again.
+///
+/// No maker says what it means that a removal was refused. So a function over any remover can only
+/// meet "no file is at the path, or its removal was refused" by trying to remove it. Each maker is
+/// one.
+pub(crate) trait Remover: FileMaker {
+    ghost use Rattle.std.specs.Prelude.{⊤};
+
+    /// What is at this path could not be removed.
+    ghost is_refused: { List ℕ → Type 0 } = { λ _. ⊤ };
+
+    /// Removes the file at a path below the folder. The names on its way are tested anew.
+    fn take_away(&mut self, root: &str, path: &str) -> Result<(), SinkFault>
+        requires below { IsBelow root.now path.now }
+        ensures removed { OnOk result (HasNoFile path.now (Self.nodes self.new)) }
+        ensures refused { OnErr result (is_refused path.now) }
+        ensures others { MakesNoFile (Self.nodes self.old) (Self.nodes self.new) }
+        ensures rest { ChangesOne root.now path.now (Self.nodes self.old) (Self.nodes self.new) }
+        ensures outside { KeepsOutside root.now (Self.nodes self.old) (Self.nodes self.new) };
+
+    /// Removes the file of an item below the folder.
+    fn take_item_away(&mut self, alloc: Global, root: &str, item: &Item) -> Result<(), SinkFault>
+        ensures removed { OnOk result (HasNoFile (root.now ++ item.now.path) (Self.nodes self.new)) }
+        ensures refused { OnErr result (is_refused (root.now ++ item.now.path)) }
+        ensures others { MakesNoFile (Self.nodes self.old) (Self.nodes self.new) }
+        ensures outside { KeepsOutside root.now (Self.nodes self.old) (Self.nodes self.new) };
+}
+
+impl<M: FileMaker> Remover for M {
+    #[tactic(auto, using(crate::proofs::BelowLaws::outside_added, crate::proofs::BelowLaws::outside_then, crate::proofs::RemovalLaws::no_file_then, crate::proofs::RemovalLaws::no_file_added, crate::proofs::RemovalLaws::changes_added, crate::proofs::RemovalLaws::changes_then))]
+    fn take_away(&mut self, root: &str, path: &str) -> Result<(), SinkFault> {
+        make_way(self, root, path)?;
+        remove(self, path)
+    }
+
+    #[tactic(auto, using(crate::proofs::BelowLaws::outside_same, crate::proofs::RemovalLaws::no_file_same))]
+    fn take_item_away(&mut self, alloc: Global, root: &str, item: &Item) -> Result<(), SinkFault> {
+        let path = known_path_of(alloc, root, item)?;
+        self.take_away(root, path.as_str())
+    }
+}
+
+/// Removes the file at a path below the folder again, as far as that works.
+pub(crate) fn take_back<M: Remover>(maker: &mut M, root: &str, path: &str)
+    requires below { IsBelow root.now path.now }
+    ensures removed { IsRemoved M.is_refused (M.nodes maker.new) path.now }
+    ensures others { MakesNoFile (M.nodes maker.old) (M.nodes maker.new) }
+    ensures rest { ChangesOne root.now path.now (M.nodes maker.old) (M.nodes maker.new) }
+    ensures outside { KeepsOutside root.now (M.nodes maker.old) (M.nodes maker.new) }
+{
+    let _ = maker.take_away(root, path);
+}
+
+/// Removes the file of an item again, as far as that works.
+pub(crate) fn take_item_back<M: Remover>(alloc: Global, maker: &mut M, root: &str, item: &Item)
+    ensures removed { IsRemoved M.is_refused (M.nodes maker.new) (root.now ++ item.now.path) }
+    ensures others { MakesNoFile (M.nodes maker.old) (M.nodes maker.new) }
+    ensures outside { KeepsOutside root.now (M.nodes maker.old) (M.nodes maker.new) }
+{
+    let _ = maker.take_item_away(alloc, root, item);
+}

@@ -1,0 +1,77 @@
+//! Files of the system.
+
+use crate::shown::shown;
+use br_fs::{DiskFault, FileMaker, HostDisk, clear_path, enter_folder, put_file};
+use br_test_support::Case;
+use std::os::unix::fs::{PermissionsExt, symlink};
+use std::{fs, io};
+
+/// Makes or removes what a step says.
+fn change<M: FileMaker>(
+    maker: &mut M,
+    word: &str,
+    path: &str,
+    bytes: &[u8],
+) -> Result<(), DiskFault> {
+    match word {
+        "enter" => enter_folder(maker, path),
+        "clear" => clear_path(maker, path),
+        "put" => put_file(maker, path, bytes),
+        "folder" => maker.make_folder(path),
+        "file" => match maker.make_file(path) {
+            Ok(_file) => Ok(()),
+            Err(fault) => Err(fault),
+        },
+        _ => maker.remove(path),
+    }
+}
+
+/// Does a step by the trait alone, and prints what that gave.
+fn make<M: FileMaker>(case: &mut Case, maker: &mut M, word: &str, path: &str, bytes: &[u8]) {
+    match word {
+        "look" => shown(case, &maker.look(path)),
+        "empty" => shown(case, &maker.is_empty(path)),
+        _ => shown(case, &change(maker, word, path, bytes)),
+    }
+}
+
+/// Makes a link to a path, removes a folder with all that is in it, or prints the permissions or the bytes of a file,
+/// without a maker.
+fn ask(rt: &HostRuntime, case: &mut Case, word: &str, path: &str, target: &str) -> io::Result<()> {
+    match word {
+        "link" => symlink(rt, target, path),
+        "gone" => fs::remove_dir_all(rt, path),
+        "mode" => {
+            let mode = fs::metadata(rt, path)?.permissions().mode() % 512;
+            shown(case, &(mode / 64 * 100 + mode % 64 / 8 * 10 + mode % 8));
+            Ok(())
+        }
+        _ => {
+            case.bytes(&fs::read(rt, path)?);
+            case.text(" ");
+            Ok(())
+        }
+    }
+}
+
+/// Does a step as `WORD:PATH` or `WORD:PATH:TEXT` says.
+fn step(rt: &HostRuntime, case: &mut Case, field: &str) {
+    let (word, rest) = case.split(field, ':');
+    let (path, text) = rest.split_once(':').unwrap_or((rest, "-"));
+    if matches!(word, "link" | "gone" | "mode" | "read") {
+        if ask(rt, case, word, path, text).is_err() {
+            case.fail("the system refused a step");
+        }
+        return;
+    }
+    let bytes = case.bytes_of(text);
+    let mut maker = HostDisk::new(case.alloc(), rt);
+    make(case, &mut maker, word, path, &bytes);
+}
+
+/// Does steps one after the other.
+pub(crate) fn run(rt: &HostRuntime, case: &mut Case, steps: &[&str]) {
+    for field in steps {
+        step(rt, case, field);
+    }
+}

@@ -1,0 +1,124 @@
+//! What is told of a restore while it runs, what passes a writer that is watched, and why a file could not be
+//! written or read.
+use crate::refusal_rows::{self, number_of};
+use br_cli_common::{reason_of_file, reason_of_folder, reason_of_new_file, reason_of_read};
+use br_cli_progress::{Faults, Gauge, Log, Standing, WatchedWriter, push_key, seconds_left};
+use br_test_support::Case;
+use br_types::push_number;
+use std::alloc::{AllocError, Global};
+use std::io::{self, Write};
+
+/// Appends the reason why a file could not be written into the folder `into` or read from it, or why a folder or a
+/// new file with this name is not taken.
+fn push_reason(
+    text: &mut Vec<u8>,
+    rt: &HostRuntime,
+    way: &str,
+    name: &str,
+    path: &[u8],
+) -> io::Result<()> {
+    let reason = match way {
+        "file" => Some(reason_of_file(rt, "into", path)?),
+        "read" => reason_of_read(rt, "into", path)?,
+        "folder" => Some(reason_of_folder(rt, name)?),
+        _ => Some(reason_of_new_file(rt, name)?),
+    };
+    match reason {
+        Some(reason) => write!(text, "{reason}"),
+        None => Ok(()),
+    }
+}
+
+/// Appends the keys of the outcomes that are no files, each in a line.
+fn push_keys(text: &mut Vec<u8>, alloc: Global, faults: &Faults) -> Result<(), AllocError> {
+    for key in &faults.keys(alloc)? {
+        push_key(text, *key)?;
+        text.extend_from_slice(b"\n")?;
+    }
+    Ok(())
+}
+
+/// Writes lines in parts of this length.
+fn write_parts(
+    writer: &mut WatchedWriter<'_, '_, Vec<u8>>,
+    len: usize,
+    lines: &[u8],
+) -> io::Result<()> {
+    if len > 0 {
+        for part in lines.chunks(len) {
+            writer.write_all(part)?;
+        }
+    }
+    Ok(())
+}
+
+/// Tells the outcomes that passed a writer. Appends the number of keys that are kept, the keys of the outcomes that are
+/// no files, and the bootstrap that is kept.
+fn push_passed(
+    text: &mut Vec<u8>,
+    alloc: Global,
+    gauge: &Gauge<'_>,
+    writer: &WatchedWriter<'_, '_, Vec<u8>>,
+) -> io::Result<()> {
+    gauge.note_put(1);
+    gauge.tell_faults(writer.faults())?;
+    gauge.tell_end()?;
+    let keys = match writer.keys() {
+        Some(keys) => keys.len(),
+        None => 0,
+    };
+    push_number(text, keys as u64)?;
+    text.extend_from_slice(b"\n")?;
+    push_keys(text, alloc, writer.faults())?;
+    text.extend_from_slice(writer.plan())?;
+    Ok(())
+}
+
+/// Writes lines, in parts of this length, to a writer that is watched and has a log, and appends what passed.
+fn pass(
+    text: &mut Vec<u8>,
+    rt: &HostRuntime,
+    log: &str,
+    len: usize,
+    lines: &[u8],
+) -> io::Result<()> {
+    let gauge = Gauge::new(rt, "", false).with_log(Some(Log::open(rt, log)?));
+    let mut writer = WatchedWriter::new(Vec::new(rt.alloc()), &gauge);
+    write_parts(&mut writer, len, lines)?;
+    push_passed(text, rt.alloc(), &gauge, &writer)
+}
+
+/// Runs a step. Of one that is told here it prints the text.
+pub(crate) fn run(case: &mut Case, rt: &HostRuntime, step: &[&str]) {
+    let mut text = Vec::new(case.alloc());
+    let is_made = match step {
+        ["reason", way, path] => {
+            let bytes = case.bytes_of(path);
+            push_reason(&mut text, rt, way, path, &bytes).is_ok()
+        }
+        ["standing", read, to_read, put, files, left] => {
+            let standing = Standing {
+                read: case.u64_of(read),
+                to_read: case.u64_of(to_read),
+                put: case.u64_of(put),
+                files: case.u64_of(files),
+                left: number_of(case, left),
+            };
+            write!(text, "{standing}").is_ok()
+        }
+        ["left", elapsed, done, all] => {
+            let left = seconds_left(case.u64_of(elapsed), case.u64_of(done), case.u64_of(all));
+            write!(text, "{left:?}").is_ok()
+        }
+        ["pass", log, len, lines] => {
+            let len = case.u64_of(len) as usize;
+            let lines = case.text_of(lines);
+            pass(&mut text, rt, log, len, &lines).is_ok()
+        }
+        _ => return refusal_rows::run(case, rt, step),
+    };
+    if !is_made {
+        case.fail("a text is not made");
+    }
+    case.lines(&text);
+}

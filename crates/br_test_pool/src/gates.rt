@@ -1,0 +1,75 @@
+//! Gates that hold pieces until others have come so far.
+
+use br_pool::Gate;
+use br_test_support::Case;
+use std::sync::atomic::{AtomicU64, Ordering};
+use std::thread;
+use std::time::{Clock, Duration};
+
+/// More than any number of pieces. It is seen once a piece was held in vain, and then none is held.
+const IN_VAIN: u64 = 1 << 40;
+
+/// A gate that holds a piece until `count` others were read, or each piece until `count` have entered. It counts the
+/// pieces for which that came.
+#[derive(Drop)]
+pub(crate) struct Holding<'r, C: Clock> {
+    clock: &'r C,
+    /// The piece that is held; each is if there is none.
+    piece: Option<u32>,
+    count: u64,
+    seen: AtomicU64,
+    held: AtomicU64,
+}
+
+/// Makes the gate of a field: `open`, `one:PIECE` for one that holds a piece until two others were read, or
+/// `all:COUNT`.
+pub(crate) fn gate_of<'r, C: Clock>(case: &mut Case, clock: &'r C, field: &str) -> Holding<'r, C> {
+    let (piece, count) = match field.split_once(':') {
+        Some(("one", piece)) => (Some(case.u32_of(piece)), 2),
+        Some((_, count)) => (None, case.u64_of(count)),
+        None => (Some(u32::MAX), 0),
+    };
+    Holding {
+        clock,
+        piece,
+        count,
+        seen: AtomicU64::new(0),
+        held: AtomicU64::new(0),
+    }
+}
+
+/// Prints the number of the pieces that were held, if there are some.
+pub(crate) fn push_held<C: Clock>(case: &mut Case, gate: &Holding<'_, C>) {
+    let held = gate.held.load(Ordering::SeqCst);
+    if held > 0 {
+        case.number(held);
+        case.text(" held");
+    }
+}
+
+impl<C: Clock> Gate for Holding<'_, C> {
+    fn enter(&self, number: u32) {
+        if self.piece.is_none() {
+            self.seen.fetch_add(1, Ordering::SeqCst);
+        } else if self.piece != Some(number) {
+            return;
+        }
+        for _look in 0..10_000 {
+            let seen = self.seen.load(Ordering::SeqCst);
+            if seen == self.count {
+                self.held.fetch_add(1, Ordering::SeqCst);
+            }
+            if seen >= self.count {
+                return;
+            }
+            thread::sleep(self.clock, Duration::from_millis(1));
+        }
+        self.seen.store(IN_VAIN, Ordering::SeqCst);
+    }
+
+    fn leave(&self, _number: u32) {
+        if self.piece.is_some() {
+            self.seen.fetch_add(1, Ordering::SeqCst);
+        }
+    }
+}

@@ -1,0 +1,136 @@
+//! Runs rows over pools of drives, of which some fail, grow or change, over restores by them, over
+//! the stream of tar, and over the machine of restores and backups on given events. It prints the
+//! rows that gave something else than wanted.
+#![tactic(auto)]
+
+mod drives;
+mod gates;
+mod machine;
+mod pools;
+mod restores;
+mod shelf;
+mod streams;
+mod tar;
+
+use br_test_support::{Calls, Case, fields_of, run_rows};
+use shelf::Shelf;
+use std::alloc::Global;
+use std::io;
+use std::sync::Wait;
+use std::thread::Threads;
+use std::time::Clock;
+
+/// Does what a call says, with this number for a field `k`, and prints what it gave.
+fn call<R: Clock + Threads + Wait + Sync>(
+    case: &mut Case,
+    threads: &R,
+    shelf: &Shelf,
+    k: u64,
+    fields: &[&str],
+) {
+    match fields {
+        ["pool", gate, drives, text] => pools::run(
+            case,
+            threads,
+            shelf,
+            k,
+            [*gate, *drives, *text],
+        ),
+        ["stream", call @ ..] => streams::run(case, threads, shelf, k, call),
+        ["restore", room, sink, drives, text] => {
+            restores::run(case, threads, shelf, k, [*room, *sink, *drives, *text]);
+        }
+        ["machine", call @ ..] => machine::run(case, threads, shelf, call),
+        ["tar", way, files @ ..] => tar::run(case, threads, shelf, way, files),
+        _ => case.fail("there is no such call"),
+    }
+}
+
+/// Prints what a call gives, or the name of that text.
+fn named<R: Clock + Threads + Wait + Sync>(
+    case: &mut Case,
+    threads: &R,
+    shelf: &Shelf,
+    k: u64,
+    fields: &[&str],
+) {
+    let mut own = Case::new(case.alloc());
+    call(&mut own, threads, shelf, k, fields);
+    if let Some(fault) = own.fault() {
+        case.fail(fault);
+    }
+    shelf.push_gave(case, own.gave().trim_ascii_end());
+}
+
+/// Prints what a call gives with each of these numbers for a field `k`: the first number of those that give the
+/// same, and what they give.
+fn each<R: Clock + Threads + Wait + Sync>(
+    case: &mut Case,
+    threads: &R,
+    shelf: &Shelf,
+    [from, to]: [&str; 2],
+    fields: &[&str],
+) {
+    let (from, to) = (case.u64_of(from), case.u64_of(to));
+    let mut last = Case::new(case.alloc());
+    for k in from..=to {
+        let mut next = Case::new(case.alloc());
+        named(&mut next, threads, shelf, k, fields);
+        if let Some(fault) = next.fault() {
+            case.fail(fault);
+        }
+        if next.gave() != last.gave() {
+            case.number(k);
+            case.text(": ");
+            let done = case.out().extend_from_slice(next.gave());
+            case.done(done);
+            case.text(" ");
+        }
+        last = next;
+    }
+}
+
+/// Runs a row.
+fn run<R: Clock + Threads + Wait + Sync>(
+    case: &mut Case,
+    threads: &R,
+    shelf: &mut Shelf,
+    fields: &[&str],
+) {
+    match fields {
+        ["text", name, text] => shelf.add_text(case, name, text),
+        ["volumes", volumes @ ..] => shelf.set_volumes(case, volumes),
+        ["each", from, to, call @ ..] => each(case, threads, shelf, [*from, *to], call),
+        call => named(case, threads, shelf, 0, call),
+    }
+}
+
+/// The calls over pools of drives. The rows of each name begin with an empty shelf.
+#[derive(Drop)]
+struct DrivePools<'r, R> {
+    threads: &'r R,
+    alloc: Global,
+    shelf: Shelf,
+}
+
+impl<R: Clock + Threads + Wait + Sync> Calls for DrivePools<'_, R> {
+    fn begin(&mut self) {
+        self.shelf = Shelf::new(self.alloc);
+    }
+
+    fn run(&mut self, case: &mut Case, call: &str) {
+        if let Some(fields) = fields_of(case, call) {
+            run(case, self.threads, &mut self.shelf, &fields);
+        }
+    }
+}
+
+fn main(rt: HostRuntime) -> io::Result<()> {
+    let text = io::read_to_string(rt.alloc(), rt.reader())?;
+    let mut calls = DrivePools {
+        threads: &rt,
+        alloc: rt.alloc(),
+        shelf: Shelf::new(rt.alloc()),
+    };
+    run_rows(&rt, &mut calls, text.as_str())
+}

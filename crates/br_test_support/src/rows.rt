@@ -1,0 +1,129 @@
+use crate::Case;
+use std::alloc::{AllocError, Global};
+use std::io::{self, Write};
+
+/// A row: what it says to do, and what that has to give.
+#[derive(Clone, Copy)]
+struct Row<'l> {
+    call: &'l str,
+    wanted: &'l str,
+}
+
+/// The rows so far: the name of those that are read now, how many there are, and how many hold.
+#[derive(Drop)]
+struct Rows {
+    name: String,
+    count: u64,
+    held: u64,
+}
+
+/// What a program does with the calls of its rows.
+pub trait Calls {
+    /// Begins rows with another name.
+    fn begin(&mut self);
+
+    /// Does what a call says, and prints what it gave into the case.
+    fn run(&mut self, case: &mut Case, call: &str);
+}
+
+/// Returns the fields of a call, of which the first is its name. Marks the row as failed if memory
+/// ran out.
+pub fn fields_of<'c>(case: &mut Case, call: &'c str) -> Option<Vec<&'c str>> {
+    match call.split(' ').collect(case.alloc()) {
+        Ok(fields) => Some(fields),
+        Err(AllocError) => {
+            case.fail("out of memory");
+            None
+        }
+    }
+}
+
+/// Splits a line into what it says to do and what that has to give.
+fn row_of(line: &str) -> Row<'_> {
+    match line.split_once(" = ") {
+        Some((call, wanted)) => Row { call, wanted },
+        None => Row {
+            call: line.strip_suffix(" =").unwrap_or(line),
+            wanted: "",
+        },
+    }
+}
+
+impl Rows {
+    /// Makes a count of rows that have no name yet.
+    fn new(alloc: Global) -> Rows {
+        Rows {
+            name: String::new(alloc),
+            count: 0,
+            held: 0,
+        }
+    }
+
+    /// Prints how many of the rows with this name hold, if there are any.
+    fn end<R: Print>(&self, rt: &R) -> io::Result<()> {
+        if self.count == 0 {
+            return Ok(());
+        }
+        println!(rt; "{}: {} of {} rows hold", self.name, self.held, self.count)
+    }
+
+    /// Begins rows with another name.
+    fn begin<R: Print + AllocGlobal>(&mut self, rt: &R, name: &str) -> io::Result<()> {
+        self.end(rt)?;
+        *self = Rows::new(rt.alloc());
+        self.name.push_str(name)?;
+        Ok(())
+    }
+
+    /// Counts a row, and prints it if it failed or gave something else than wanted. Blanks at the
+    /// end do not count.
+    fn compare<R: Print>(&mut self, rt: &R, row: Row<'_>, case: &Case) -> io::Result<()> {
+        self.count = self.count.saturating_add(1);
+        if case.fault().is_none() && case.gave().trim_ascii_end() == row.wanted.as_bytes() {
+            self.held = self.held.saturating_add(1);
+            return Ok(());
+        }
+        println!(rt; "wrong: {} = {}", row.call, row.wanted)?;
+        print!(rt; " gave: ")?;
+        io::writer(rt).write_all(case.gave())?;
+        println!(rt; "")?;
+        match case.fault() {
+            Some(fault) => println!(rt; " failed: {fault}"),
+            None => Ok(()),
+        }
+    }
+}
+
+/// Runs the row of a line, if it has one.
+fn run_line<R: Print + AllocGlobal, C: Calls>(
+    rt: &R,
+    calls: &mut C,
+    rows: &mut Rows,
+    line: &str,
+) -> io::Result<()> {
+    if let Some(name) = line.strip_prefix("## ") {
+        calls.begin();
+        return rows.begin(rt, name);
+    }
+    if line.is_empty() || line.starts_with('#') {
+        return Ok(());
+    }
+    let row = row_of(line.trim_ascii_end());
+    let mut case = Case::new(rt.alloc());
+    calls.run(&mut case, row.call);
+    rows.compare(rt, row, &case)
+}
+
+/// Runs the rows of a text. Prints those that gave something else than wanted, and after the rows of
+/// each name how many of them hold.
+pub fn run_rows<R: Print + AllocGlobal, C: Calls>(
+    rt: &R,
+    calls: &mut C,
+    text: &str,
+) -> io::Result<()> {
+    let mut rows = Rows::new(rt.alloc());
+    for line in text.lines() {
+        run_line(rt, calls, &mut rows, line)?;
+    }
+    rows.end(rt)
+}

@@ -1,0 +1,46 @@
+//! What a restore does beside the plain one: of several copies, at missing indexes, at a file that
+//! can't be put, and with a folder that holds files already.
+
+/// Which files are delivered, if a bootstrap selects several copies of a path.
+#[derive(Clone, Copy, Debug, PartialEq, Eq)]
+pub enum Copies {
+    /// All copies, in the order of the manifest.
+    All,
+    /// The newest copy of each path.
+    Newest,
+}
+
+/// What is printed of the indexes that a bootstrap asks for and that gave no outcome.
+#[derive(Clone, Copy, Debug, PartialEq, Eq)]
+pub enum Gaps {
+    /// Nothing.
+    Unreported,
+    /// A line for each run of them.
+    Reported,
+}
+
+/// What a delivery does at a file that can't be put.
+#[derive(Clone, Copy, Debug, PartialEq, Eq)]
+pub enum Stops {
+    /// It stops.
+    AtFirst,
+    /// It leaves the file out and goes on.
+    Never,
+}
+
+/// What the folder that files are put into may hold before.
+#[derive(Clone, Copy, Debug, PartialEq, Eq)]
+pub enum Start {
+    /// Nothing.
+    Empty,
+    /// What a restore that was cut off has put there.
+    Resumed,
+}
+
+/// What `extract` does beside what each restore does.
+#[derive(Clone, Copy, Debug, PartialEq, Eq)]
+pub struct Wanted {
+    pub copies: Copies,
+    pub gaps: Gaps,
+    pub stops: Stops,
+}

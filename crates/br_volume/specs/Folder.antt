@@ -1,0 +1,81 @@
+-- Volumes in a folder of a disk.
+use Rattle.std.specs.Prelude.{◌≡◌, ℕ, ◌⊎◌, ◌+◌, ◌<◌, if◌then◌else◌, List, [], ◌∷◌, ◌++◌, length, take, drop, flat_map, bytes_eq, Option, Some, None, option_map, Result, Ok, Err, ⊤}
+use Rattle.br_model.specs.Volume.{Volume}
+use Rattle.br_fs.specs.Tree.{Tree}
+use Rattle.br_fs.specs.Calls.{Appends, HasFile, IsNothing}
+use Rattle.br_volume.specs.Drive.{bytes_from, bytes_got}
+use Rattle.br_volume.specs.Store.{AppendsTo, AppendsInPartTo}
+use Rattle.br_fs.specs.declared.fault.DiskFault.{DiskFault}
+use Rattle.br_fs.specs.declared.fault.DiskFault.TheVariants as disk
+use Rattle.br_volume.specs.declared.drive.Got.{Got}
+use Rattle.br_volume.specs.declared.drive.Got.TheVariants.{Block, End}
+use Rattle.br_volume.specs.declared.fault.DriveFault.{DriveFault}
+use Rattle.br_volume.specs.declared.fault.DriveFault.TheVariants.{Memory, Fault, UnknownVolume}
+
+-- the drive's fault for that of its disk
+abbrev pub drive_fault : DiskFault → DriveFault
+drive_fault disk.NotFound = UnknownVolume
+drive_fault disk.Memory = Memory
+drive_fault disk.Exists = Fault
+drive_fault disk.Interrupted = Fault
+drive_fault disk.Failed = Fault
+
+-- a drive or a store over a folder: what its disk tells, the folder's path, and the number of failed
+-- calls
+pub record InFolder : Type 0 where
+  pub told : Option Tree
+  pub path : List ℕ
+  pub failures : ℕ
+
+-- the path of a volume's file: the folder's, a slash, and the volume's name
+abbrev pub file_path : List ℕ → List ℕ → List ℕ
+file_path folder volume = folder ++ 47 ∷ volume
+
+-- a file below a folder as a volume, whose name is the path from the folder on
+abbrev pub volume_in : List ℕ → Volume → List Volume
+volume_in folder f =
+    if bytes_eq (take (length folder + 1) f.name) (folder ++ 47 ∷ [])
+    then record { name = drop (length folder + 1) f.name; bytes = f.bytes } ∷ [] else []
+
+-- the volumes of a folder: the files below it
+abbrev pub volumes_in : List ℕ → List Volume → List Volume
+volumes_in folder files = flat_map (volume_in folder) files
+
+-- the volumes of a folder of a disk, if the disk tells its files
+abbrev pub volumes_told : List ℕ → Option Tree → Option (List Volume)
+volumes_told folder told = option_map (λ (tree : Tree). volumes_in folder tree.files) told
+
+-- if the disk tells its files, a file is at the path, and what was got are its next bytes
+abbrev pub HasBlock : Option Tree → List ℕ → ℕ → ℕ → List ℕ → Got → Type 0
+HasBlock told path address size buffer got =
+    HasFile told path (λ bytes. bytes_got buffer got ≡ bytes_from bytes address size)
+
+-- what was read, cut to a block of this size: none is the end
+abbrev pub IsCut : ℕ → List ℕ → List ℕ → Got → Type 0
+IsCut size was now End = (was ≡ []) × (now ≡ [])
+IsCut size was now (Block n) = (0 < length was) × (now ≡ take size was) × (n ≡ length now)
+
+-- the file at the path is there to be appended to, or an empty one was made
+abbrev pub IsReady : List ℕ → Option Tree → Option Tree → Type 0
+IsReady path earlier later = (later ≡ earlier) ⊎ Appends path [] earlier later
+
+-- If the disk tells that nothing is at the path, and does not fail by itself and is not interrupted, no
+-- call is refused there but for want of memory.
+abbrev pub IsKnownFree : Option ℕ → Option Tree → List ℕ → Type 0
+IsKnownFree steady None path = ⊥
+IsKnownFree steady (Some tree) path = (steady ≡ Some 0) × IsNothing (Some tree) path
+
+-- the search for a file where nothing is gives none, unless memory runs out, and the disk stays so
+abbrev pub FindsNone : Option ℕ → Result ℕ DriveFault → Type 0
+FindsNone steady (Ok n) = ⊥
+FindsNone steady (Err UnknownVolume) = steady ≡ Some 0
+FindsNone steady (Err Memory) = ⊤
+FindsNone steady (Err Fault) = ⊥
+
+-- a store over the folder appended the bytes to a volume, or at most the first of them
+abbrev pub AppendsBelow : List ℕ → List ℕ → List ℕ → Option Tree → Option Tree → Type 0
+AppendsBelow folder volume bytes earlier later = AppendsTo volume bytes (volumes_told folder earlier) (volumes_told folder later)
+
+abbrev pub AppendsInPartBelow : List ℕ → List ℕ → List ℕ → Option Tree → Option Tree → Type 0
+AppendsInPartBelow folder volume bytes earlier later =
+    AppendsInPartTo volume bytes (volumes_told folder earlier) (volumes_told folder later)

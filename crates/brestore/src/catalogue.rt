@@ -1,0 +1,167 @@
+//! The catalogues in the files of SQLite.
+
+ghost use Rattle.std.specs.Prelude.{◌≡◌, IfOk};
+ghost use Rattle.sqlite.specs.Files.{over_files};
+ghost use Rattle.sqlite.specs.Steps.{IsFresh};
+ghost use Rattle.sqlite_store.specs.FileStore.{view};
+ghost use Rattle.sqlite_trees.specs.View.{IsClean};
+ghost use Rattle.br_catalog_rows.specs.Fault.{fault_number};
+ghost use Rattle.br_store.specs.Calls.{IsJustOpened};
+ghost use Rattle.br_store.specs.Look.{look_number};
+ghost use Rattle.br_keeper.specs.Catalogue.{catalogue_number};
+
+use br_history::History;
+use br_keeper::{Catalogue, CatalogueFault};
+use br_store::{HostSight, LookFault, Store, StoreFault, StoredJobs, fold, look};
+use sqlite::{Alter, Connection, File, FileStore};
+use std::alloc::Global;
+
+/// Returns why the file of a catalogue was not shown as a fault of a catalogue.
+fn look_fault(fault: LookFault) -> CatalogueFault
+    ensures { catalogue_number result ≡ look_number fault }
+{
+    match fault {
+        LookFault::Memory => CatalogueFault::Memory,
+        LookFault::InUse | LookFault::Unreadable | LookFault::Database(_) => {
+            CatalogueFault::Unreadable
+        }
+    }
+}
+
+/// Returns the fault of a catalogue's file as one of a catalogue.
+fn catalogue_fault(fault: StoreFault) -> CatalogueFault
+    ensures { catalogue_number result ≡ fault_number fault }
+{
+    match fault {
+        StoreFault::Memory => CatalogueFault::Memory,
+        StoreFault::Store(_) => CatalogueFault::Unreadable,
+        StoreFault::BadCatalogue => CatalogueFault::BadCatalogue,
+        StoreFault::OldCatalogue => CatalogueFault::OldCatalogue,
+    }
+}
+
+/// Opens the catalogue in a file, or makes one without jobs in a file that is empty or not there.
+fn open(rt: &HostRuntime, db: &str) -> Result<Store<FileStore<File>>, StoreFault> {
+    let conn = open_file(rt, db)?;
+    Store::open(rt.alloc(), conn)
+}
+
+/// Loads the jobs of a catalogue.
+fn load_from<S: Alter + Drop>(alloc: Global, conn: Connection<S>) -> Result<History, StoreFault>
+    requires { IsJustOpened S.Store conn }
+{
+    Store::open(alloc, conn)?.load_history()
+}
+
+/// Loads the jobs in the file of a catalogue. Only reads the file.
+fn load(rt: &HostRuntime, db: &str) -> Result<History, CatalogueFault> {
+    let mut sight = HostSight::new(rt, db).map_err(look_fault)?;
+    match look(rt.alloc(), &mut sight) {
+        Ok(conn) => load_from(rt.alloc(), conn).map_err(catalogue_fault),
+        Err(fault) => Err(look_fault(fault)),
+    }
+}
+
+/// Puts all that was committed to a catalogue into its file.
+fn close(conn: Connection<FileStore<File>>) -> Result<(), CatalogueFault> {
+    match fold(conn) {
+        Ok(_files) => Ok(()),
+        Err(fault) => Err(look_fault(fault)),
+    }
+}
+
+/// Opens the database in a file.
+fn open_file(rt: &HostRuntime, db: &str) -> Result<Connection<FileStore<File>>, StoreFault>
+    ensures { IfOk result (λ c. IsJustOpened over_files c) }
+{
+    Ok(Connection::open(rt, db)?)
+}
+
+/// Returns why a file that `migrate` takes for no catalogue of version 1 is refused: its rows may not obey its tables.
+fn refusal_of(rt: &HostRuntime, db: &str) -> CatalogueFault {
+    match open_file(rt, db) {
+        Ok(conn) => {
+            let _closed = close(conn);
+            CatalogueFault::BadCatalogue
+        }
+        Err(fault) => catalogue_fault(fault),
+    }
+}
+
+/// Opens the store in a file, without a test of its rows.
+fn open_store(rt: &HostRuntime, db: &str) -> Result<FileStore<File>, CatalogueFault>
+    ensures { IfOk result (λ store. IsClean (view store) → IsFresh (view store)) }
+{
+    match br_catalog_migrate::open(rt, db) {
+        Ok(store) => Ok(store),
+        Err(_error) => Err(CatalogueFault::Unreadable),
+    }
+}
+
+/// Puts all that was committed into the file, and shuts it.
+fn end(store: FileStore<File>) -> Result<(), CatalogueFault> {
+    match br_catalog_migrate::fold(store) {
+        Ok(_files) => Ok(()),
+        Err(_error) => Err(CatalogueFault::Unreadable),
+    }
+}
+
+/// Makes the catalogue of version 1 in a file one of version 2. Returns the number of its jobs. Afterwards the file alone is the
+/// catalogue, also if it was refused.
+fn migrate(rt: &HostRuntime, db: &str) -> Result<u64, CatalogueFault> {
+    let mut store = open_store(rt, db)?;
+    let migrated = br_catalog_migrate::migrate(rt.alloc(), &mut store);
+    let ended = end(store);
+    match migrated {
+        Ok(jobs) => ended.map(|()| jobs),
+        Err(StoreFault::BadCatalogue) => Err(refusal_of(rt, db)),
+        Err(fault) => Err(catalogue_fault(fault)),
+    }
+}
+
+/// The catalogues in the files of SQLite.
+#[derive(Drop)]
+pub struct CatalogueFiles<'r> {
+    rt: &'r HostRuntime,
+}
+
+impl<'r> CatalogueFiles<'r> {
+    /// Creates the catalogues in the files of the system.
+    pub fn new(rt: &'r HostRuntime) -> CatalogueFiles<'r> {
+        CatalogueFiles { rt }
+    }
+}
+
+impl Catalogue for CatalogueFiles<'_> {
+    ghost use Rattle.std.specs.Prelude.{None, ⊤};
+
+    type Jobs = StoredJobs<FileStore<File>>;
+
+    ghost jobs_at = { λ _ _. None };
+
+    ghost opens = { λ _ _ _. ⊤ };
+
+    ghost closes = { λ _ _. ⊤ };
+
+    ghost migrates = { λ _ _ _. ⊤ };
+
+    fn open(&self, db: &str) -> Result<StoredJobs<FileStore<File>>, CatalogueFault> {
+        match open(self.rt, db) {
+            Ok(store) => Ok(StoredJobs::new(store)),
+            Err(fault) => Err(catalogue_fault(fault)),
+        }
+    }
+
+    fn close(&self, jobs: StoredJobs<FileStore<File>>) -> Result<(), CatalogueFault> {
+        close(jobs.into_store().into_connection())?;
+        Ok(())
+    }
+
+    fn load(&self, db: &str) -> Result<History, CatalogueFault> {
+        load(self.rt, db)
+    }
+
+    fn migrate(&self, db: &str) -> Result<u64, CatalogueFault> {
+        migrate(self.rt, db)
+    }
+}
