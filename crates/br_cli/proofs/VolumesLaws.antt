@@ -8,22 +8,17 @@ use Rattle.br_model.specs.Restored.{Planned}
 use Rattle.br_volume.specs.Drive.{OnlyGrows}
 use Rattle.br_volume.specs.Folder.{InFolder, volumes_told}
 use Rattle.br_fs.specs.Tree.{Tree}
-use Rattle.br_pool.specs.Pool.{StayInPlace}
 use Rattle.br_engine.specs.Restoring.{Told}
-use Rattle.br_engine.specs.Extracting.{OverVolumes}
-use Rattle.br_engine.specs.Delivering.{Delivers}
-use Rattle.br_engine.specs.declared.outputs.RestoreEnd.{RestoreEnd}
+use Rattle.br_engine.specs.declared.restore_end.RestoreEnd.{RestoreEnd}
 use Rattle.br_engine.specs.declared.fault.ExtractFault.{ExtractFault}
 use Rattle.br_engine.specs.declared.fault.ExtractFault.TheVariants.{Memory}
-use Rattle.br_console.specs.DrivenRestoring.{IsRestored}
+use Rattle.br_console.specs.DrivenRestoring.{IsRestored, RestoredBy, RestoresWanted}
+use Rattle.br_console.specs.declared.driven_store.DrivenRestore.{DrivenRestore}
 use Rattle.br_volume.specs.HostDrives.{AreUntold}
 
 -- what a drive over a folder shows
 abbrev shown_in : InFolder → Option (List Volume)
 shown_in drive = volumes_told drive.path drive.told
-
-abbrev failures_of : InFolder → ℕ
-failures_of drive = drive.failures
 
 all_shown : (drives : List InFolder) → AreUntold drives → AllByRecursion (λ (shown : Option (List Volume)). shown ≡ None) (map shown_in drives)
 all_shown [] untold = tt
@@ -34,26 +29,16 @@ as_many : (drives : List InFolder) → length (map shown_in drives) ≡ length d
 as_many [] = refl
 as_many (d ∷ drives) = ap (λ n. suc n) (as_many drives)
 
--- drives that stay in their places only grow
-grown : (old new : List InFolder) → StayInPlace shown_in failures_of old new → AllZip OnlyGrows (map shown_in old) (map shown_in new)
-grown [] [] z = tt
-grown [] (n ∷ new) z = absurd z
-grown (o ∷ old) [] z = absurd z
-grown (o ∷ old) (n ∷ new) z = (z.0.0, grown old new z.1)
-
 -- a restore by drives over a folder of the system, which tell no volumes
-pub restored_untold : (count : ℕ) (groups : List Group) (names : Option (List Planned)) (before after : Option (List ℕ))
-    (result : Result RestoreEnd ExtractFault) (old new : List InFolder) → length old ≡ count → AreUntold old
-    → StayInPlace shown_in failures_of old new
-    → Delivers (λ holds. OverVolumes (map shown_in old) (map shown_in new) groups names holds) before after None None result
-    → IsRestored None count groups names before after result
-restored_untold count groups names before after result old new many untold stay delivers = record {
-  earlier = map shown_in old;
-  later = map shown_in new;
-  many = as_many old ∙ many;
-  show = all_shown old untold;
-  grow = grown old new stay;
-  delivers = delivers;
+pub restored_untold : (wanted : DrivenRestore) (before after : Option (List ℕ)) (result : Result RestoreEnd ExtractFault) (drives : List InFolder)
+    → length drives ≡ wanted.drives → AreUntold drives → RestoredBy (map shown_in drives) wanted before after result → RestoresWanted None wanted before after result
+restored_untold wanted before after result drives many untold by = record {
+  earlier = map shown_in drives;
+  later = by.later;
+  many = as_many drives ∙ many;
+  show = all_shown drives untold;
+  grow = by.grow;
+  delivers = by.delivers;
 }
 
 -- so many drives that tell no volumes

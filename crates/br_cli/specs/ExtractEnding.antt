@@ -3,12 +3,12 @@ use Rattle.std.specs.Prelude.{ℕ, Bool, ◌&&◌, List, [], map, Option, Some, 
 use Rattle.br_model.specs.File.{Item}
 use Rattle.br_model.specs.Text.{is_empty}
 use Rattle.br_engine.specs.Fault.{fault_text}
-use Rattle.br_engine.specs.declared.outputs.RestoreEnd.{RestoreEnd}
-use Rattle.br_engine.specs.declared.outputs.RestoreEnd.TheVariants.{AllFiles, SomeFaults, Stopped}
+use Rattle.br_engine.specs.declared.restore_end.RestoreEnd.{RestoreEnd}
+use Rattle.br_engine.specs.declared.restore_end.RestoreEnd.TheVariants.{AllFiles, SomeFaults, Stopped}
 use Rattle.br_engine.specs.declared.fault.ExtractFault.{ExtractFault}
 use Rattle.br_engine.specs.declared.fault.ExtractFault.TheVariants.{Io, NoEnd}
-use Rattle.br_engine.specs.WantedRestore.{done_lines}
-use Rattle.br_engine.specs.declared.wanted_restore.Extracted.{Extracted}
+use Rattle.br_engine.specs.Restores.{done_lines}
+use Rattle.br_engine.specs.declared.extracted.Extracted.{Extracted}
 use Rattle.br_sink.specs.KeepGoing.{InLeaving}
 use Rattle.br_cli_target.specs.declared.target_tar.Extent.{Extent}
 use Rattle.br_cli_target.specs.declared.target_tar.Extent.TheVariants.{All, Part}

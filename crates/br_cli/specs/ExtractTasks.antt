@@ -1,36 +1,46 @@
--- What `extract` carries out: a bootstrap, over drives and outputs.
-use Rattle.std.specs.Prelude.{ℕ, List, map, Option, Some, option_map, Result}
-use Rattle.br_model.specs.Volume.{Volume}
-use Rattle.br_model.specs.File.{Item}
-use Rattle.br_engine.specs.Delivering.{in_sink}
-use Rattle.br_engine.specs.Extracting.{OverText}
+-- What `extract` carries out: a bootstrap, over drives, a writer and a sink.
+use Rattle.std.specs.Prelude.{◌≡◌, ℕ, List, map, Option, None, option_map, Result, Ok, Err}
+use Rattle.std.specs.declared.io.Write as write
+use Rattle.br_volume.specs.declared.drive.Drive as drive
+use Rattle.br_bsr.specs.declared.fault.BsrFault.{BsrFault}
+use Rattle.br_engine.specs.Extracting.{OverVolumes}
 use Rattle.br_engine.specs.Outputs.{InSink}
+use Rattle.br_engine.specs.Restores.{Change, Extracts, Seen}
+use Rattle.br_engine.specs.WantedOutcomes.{reported}
+use Rattle.br_engine.specs.declared.extracted.Extracted.{Extracted}
 use Rattle.br_engine.specs.declared.fault.ExtractFault.{ExtractFault}
-use Rattle.br_engine.specs.WantedRestore.{Extracts, ExtractsText}
-use Rattle.br_engine.specs.WantedOutcomes.{IsReport}
-use Rattle.br_engine.specs.declared.wanted_restore.Extracted.{Extracted}
+use Rattle.br_engine.specs.declared.fault.ExtractFault.TheVariants.{Bootstrap}
+use Rattle.br_engine.specs.declared.restore.Restore.{Restore}
+use Rattle.br_engine.specs.declared.restore_order.ReadBootstrap.{ReadBootstrap}
+use Rattle.br_types.specs.declared.wanted.Wanted.{Wanted}
 use Rattle.br_cli_progress.specs.declared.watched_sink.WatchedSink.{WatchedSink}
 use Rattle.br_sink_tar.specs.Stream.{InTar}
 use Rattle.br_cli.specs.ExtractEnding.{extent}
 use Rattle.br_cli_target.specs.TarEnding.{StreamHolds, told_inside}
-use Rattle.br_cli_target.specs.declared.restore_io.RestoreIo.{RestoreIo}
 use Rattle.br_cli_target.specs.declared.target_tar.Streamed.{Streamed}
 use Rattle.br_cli.specs.declared.extract_command.Extraction.{Extraction}
 
--- the manifest of the files that the bootstrap gives over the drives, what became of those of them that are wanted in the sink, and what is
--- reported as missing; or why there is none
-abbrev pub ExtractsTo : {D W S : Type 0} → (D → Option (List Volume)) → (W → Option (List ℕ)) → (S → Option (List Item))
-    → Extraction → RestoreIo D W S → RestoreIo D W S → Result Extracted ExtractFault → Type 0
-ExtractsTo shows contents has e before after result =
-    ExtractsText shows contents has before.drives.items after.drives.items before.out after.out e.bootstrap.text.items e.wanted result
+-- The manifest of the files that the bootstrap gives over the drives, what became of those of them that are wanted in the sink, and what is
+-- reported as missing; or why there is none. If the text of the bootstrap is refused, that is returned, and nothing was read or written.
+abbrev pub ExtractsRead : Result ReadBootstrap BsrFault → Wanted → Change → Result Extracted ExtractFault → Type 0
+ExtractsRead (Ok read) wanted seen result =
+    Extracts wanted (λ holds. OverVolumes seen.old.told seen.new.told read.bootstrap None holds) (λ rs lines. lines ≡ reported wanted.gaps read.bootstrap read.counts.items rs)
+    seen.old.written seen.new.written seen.old.has seen.new.has result
+ExtractsRead (Err fault) wanted seen result = (result ≡ Err (Bootstrap fault)) × (seen.new ≡ seen.old)
 
--- The manifest of the files that the bootstrap gives over the drives, what the sink was told of those of them that are wanted, and what is
--- reported as missing; or why there is no manifest. The stream of the sink is that of what it was told, and has an end if all files were
--- put and it could be written.
-abbrev pub StreamsTo : {D W T : Type 0} → (D → Option (List Volume)) → (W → Option (List ℕ)) → (T → Option (List ℕ))
-    → Extraction → RestoreIo D W (WatchedSink InTar) → RestoreIo D W (WatchedSink InTar) → Streamed (Result Extracted ExtractFault) T → Type 0
-StreamsTo shows contents holds e before after s =
+-- the same of an extraction
+abbrev pub ExtractsTo : Extraction → Change → Result Extracted ExtractFault → Type 0
+ExtractsTo e seen result = ExtractsRead e.bootstrap.read e.wanted seen result
+
+-- what is seen of a restore into a tar stream, and of its writer, where the sink has these files
+abbrev pub with_stream : {D W : Type 0} → drive.Ghosts D → write.Ghosts W → Restore D (WatchedSink InTar) × W → InSink → Seen
+with_stream drives writer at has = record { told = map drives.shows at.0.drives.items; written = writer.contents at.1; has = has }
+
+-- The extraction was carried out, with what the sink was told of the files. The stream of the sink is that of what it was told, and has an
+-- end if all files were put and it could be written.
+abbrev pub StreamsTo : {D W T : Type 0} → drive.Ghosts D → write.Ghosts W → (T → Option (List ℕ)) → Extraction
+    → Restore D (WatchedSink InTar) × W → Restore D (WatchedSink InTar) × W → Streamed (Result Extracted ExtractFault) T → Type 0
+StreamsTo drives writer holds e before after s =
     (now : InSink)
-    × Extracts e.wanted (λ given. OverText (Some e.bootstrap.text.items) (map shows before.drives.items) (map shows after.drives.items) given)
-    (IsReport e.wanted.gaps e.bootstrap.text.items) (contents before.out.writer) (contents after.out.writer) (in_sink told_inside before.out) now s.run
+    × ExtractsTo e (record { old = with_stream drives writer before (option_map told_inside before.0.sink); new = with_stream drives writer after now }) s.run
     × StreamHolds (extent s.run) now s.end (option_map holds s.writer)

@@ -8,11 +8,11 @@ ghost use Rattle.br_model.specs.Meaning.{pieces_of};
 ghost use Rattle.br_cli.specs.CheckCommand.{ChecksFor, ChecksTask, HasSums, checked_status, run_refusal, run_status};
 
 use crate::extract_command::{BootstrapFile, ExtractStartFault, refuse, report_stream};
-use br_bsr::{Bootstrap, counts_of, read_bootstrap};
+use br_bsr::Bootstrap;
 use br_check::{Checked, check, push_checksums};
 use br_cli_common::{CLEAN, CheckOptions, Checksums, REFUSED};
 use br_cli_target::{BAD_STREAM, Ending};
-use br_engine::{ExtractFault, Flush, show};
+use br_engine::{ExtractFault, Flush, ReadBootstrap, show};
 use br_volume::{Drive, FolderDrive, HostDrive};
 use std::alloc::{AllocError, Global};
 use std::io;
@@ -66,23 +66,21 @@ fn with_checksums<D: Drive>(
 }
 
 /// Checks a bootstrap over the volumes of a drive, and the checksums of its blocks if they are to be
-/// compared. The counts are those of its groups. The memory is that of a restore which holds at most `budget` bytes
-/// of data.
+/// compared. The memory is that of a restore which holds at most `budget` bytes of data.
 fn checked_for<D: Drive>(
     alloc: Global,
-    bootstrap: &Bootstrap,
-    counts: &[Option<u64>],
+    read: &ReadBootstrap,
     budget: u64,
     drive: &mut D,
     checksums: Checksums,
 ) -> Result<Checked, AllocError>
-    ensures checked { IfOk result (ChecksFor D.shows D.failures drive.old drive.new bootstrap.now counts.now budget checksums) }
+    ensures checked { IfOk result (ChecksFor D.Drive drive.old drive.new read.now budget checksums) }
     ensures grows { OnlyGrows (D.shows drive.old) (D.shows drive.new) }
 {
-    let checked = check(alloc, bootstrap, counts, budget, drive)?;
+    let checked = check(alloc, &read.bootstrap, &read.counts, budget, drive)?;
     match checksums {
         Checksums::Passed => Ok(checked),
-        Checksums::Compared => with_checksums(alloc, checked, bootstrap, drive),
+        Checksums::Compared => with_checksums(alloc, checked, &read.bootstrap, drive),
     }
 }
 
@@ -129,16 +127,17 @@ pub fn check_over<D: Drive, W: Flush>(
     task: &mut CheckTask<'_, D>,
     writer: &mut W,
 ) -> Result<u8, ExtractFault>
-    ensures checks { ChecksTask D.shows D.failures W.contents task.old task.new writer.old writer.new result }
+    ensures checks { ChecksTask D.Drive W.Write (task.old, writer.old) (task.new, writer.new) result }
     ensures grows { OnlyGrows (D.shows task.old.drive) (D.shows task.new.drive) }
     ensures flushed { OnOk result (W.is_flushed writer.new) }
 {
-    let bootstrap = read_bootstrap(alloc, task.bootstrap.text())?;
-    let counts = counts_of(alloc, task.bootstrap.text())?;
+    let read = match &task.bootstrap.read {
+        Ok(read) => read,
+        Err(fault) => return Err(ExtractFault::Bootstrap(*fault)),
+    };
     let checked = checked_for(
         alloc,
-        &bootstrap,
-        &counts,
+        read,
         task.memory,
         &mut task.drive,
         task.checksums,

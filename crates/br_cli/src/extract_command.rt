@@ -6,18 +6,21 @@ ghost use Rattle.br_volume.specs.HostDrives.{AreOver};
 ghost use Rattle.br_cli_target.specs.AskedTarget.{folder_asked, stream_asked};
 ghost use Rattle.br_cli.specs.ExtractEnding.{done_status, extent, failed_paths, is_whole, run_refusal, run_status};
 ghost use Rattle.br_cli_target.specs.TarEnding.{IsShown};
+ghost use Rattle.br_engine.specs.Restores.{change};
 ghost use Rattle.br_cli.specs.ExtractTasks.{ExtractsTo, StreamsTo};
 
 use br_cli_common::{CLEAN, ExtractOptions, REFUSED, Target, refuse_start};
-use br_cli_progress::{Gauge, WatchedSink};
+use br_bsr::{Bootstrap, BsrFault};
+use br_cli_progress::{Gauge, WatchedSink, WatchedWriter};
 use br_cli_target::{
-    BAD_STREAM, Channel, Ending, Extent, LeavingSink, RestoreIo, Streamed, TarEnd, TarFault, Told,
+    BAD_STREAM, Channel, Ending, Extent, LeavingSink, Streamed, TarEnd, TarFault, Told,
     add_tar_end, advise, end_stream, folder_of, gauge_of, lacks_volumes, leaving_over, log_fault,
-    refuse_log, refuse_place, say_conflicts, say_files, say_nowhere, say_stop, say_volumes,
-    tar_into, tar_onto, tell_others, tell_outcomes,
+    refuse_log, refuse_place, restore_over, say_conflicts, say_files, say_nowhere, say_stop,
+    say_volumes, tar_into, tar_onto, tell_others, tell_outcomes, with_watched_drives,
+    with_watched_sink,
 };
 use br_engine::{
-    Budget, ExtractFault, Extracted, Flush, Outputs, RestoreEnd, extract_wanted, read_text,
+    ExtractFault, Extracted, Flush, ReadBootstrap, Restore, RestoreEnd, RestoreOrder, read_text,
 };
 use br_sink::{Leaving, Sink};
 use br_sink_folder::FolderFault;
@@ -152,11 +155,11 @@ fn report(
     Ok(status)
 }
 
-/// The text of a bootstrap, and the path of the file that has it.
+/// The bootstrap in a file, or why its text is refused, and the path of the file.
 #[derive(Drop)]
 pub(crate) struct BootstrapFile<'p> {
     path: &'p str,
-    text: Vec<u8>,
+    pub(crate) read: Result<ReadBootstrap, BsrFault>,
 }
 
 impl<'p> BootstrapFile<'p> {
@@ -169,14 +172,18 @@ impl<'p> BootstrapFile<'p> {
     {
         let mut file = File::open(rt, path)?;
         let text = read_text(rt.alloc(), &mut file)?;
-        Ok(BootstrapFile { path, text })
+        Ok(BootstrapFile {
+            path,
+            read: ReadBootstrap::read(rt.alloc(), &text),
+        })
     }
 
-    /// Returns the text of the file.
-    pub(crate) fn text(&self) -> &[u8]
-        ensures { result.now ≡ self.now.text.items }
-    {
-        &self.text
+    /// Returns the bootstrap, if the text is not refused.
+    fn bootstrap(&self) -> Option<&Bootstrap> {
+        match &self.read {
+            Ok(read) => Some(&read.bootstrap),
+            Err(_) => None,
+        }
     }
 }
 
@@ -233,50 +240,49 @@ pub struct Extraction<'p> {
 }
 
 /// What `extract` restores, and by what means.
-type ExtractSetup<'r, 'p, W, S> = (Extraction<'p>, RestoreIo<HostDrive<'r>, W, S>);
+type ExtractSetup<'r, 'p, S> = (Extraction<'p>, Restore<HostDrive<'r>, S>);
 
 /// Makes all that is there before a drive is asked, to deliver into a folder if there is one. The folder
 /// is tested (81) before the bootstrap is read. The gauge is told of the files that are put.
-pub fn set_up_extract<'g, 'r, 'p, W: Drop>(
+pub fn set_up_extract<'g, 'r, 'p>(
     rt: &'r HostRuntime,
     gauge: &'g Gauge<'r>,
     given: &ExtractOptions<'p>,
-    writer: W,
-) -> Result<ExtractSetup<'r, 'p, W, LeavingSink<'g, 'r>>, ExtractStartFault>
+) -> Result<ExtractSetup<'r, 'p, LeavingSink<'g, 'r>>, ExtractStartFault>
     ensures bootstrap { IfOk result (λ setup. setup.0.bootstrap.path.now ≡ given.now.bsr.now) }
     ensures wanted { IfOk result (λ setup. setup.0.wanted ≡ given.now.wanted) }
-    ensures memory { IfOk result (λ setup. setup.1.memory ≡ given.now.memory) }
-    ensures into { IfOk result (λ setup. option_map (λ s. s.inner.inner.folder.path) setup.1.out.sink ≡ folder_asked given.now.target) }
-    ensures start { IfOk result (λ setup. IfSome setup.1.out.sink (λ s. s.inner.inner.start ≡ given.now.start)) }
-    ensures stops { IfOk result (λ setup. IfSome setup.1.out.sink (λ s. s.stops ≡ given.now.wanted.stops)) }
+    ensures memory { IfOk result (λ setup. setup.1.budget.room ≡ given.now.memory) }
+    ensures into { IfOk result (λ setup. option_map (λ s. s.inner.inner.folder.path) setup.1.sink ≡ folder_asked given.now.target) }
+    ensures start { IfOk result (λ setup. IfSome setup.1.sink (λ s. s.inner.inner.start ≡ given.now.start)) }
+    ensures stops { IfOk result (λ setup. IfSome setup.1.sink (λ s. s.stops ≡ given.now.wanted.stops)) }
     ensures drives { IfOk result (λ setup. length setup.1.drives.items ≡ given.now.drives) }
     ensures volumes { IfOk result (λ setup. AreOver given.now.volumes.now setup.1.drives.items) }
 {
     let into = folder_of(given.target);
     let sink = leaving_over(rt, gauge, given.wanted.stops, given.start, into)?;
-    set_up_over(rt, given, Outputs { writer, sink })
+    set_up_over(rt, given, sink)
 }
 
-/// Makes what else is there before a drive is asked, beside the outputs.
-fn set_up_over<'r, 'p, W: Drop, S: Drop>(
+/// Makes what else is there before a drive is asked, beside the sink.
+fn set_up_over<'r, 'p, S: Drop>(
     rt: &'r HostRuntime,
     given: &ExtractOptions<'p>,
-    out: Outputs<W, S>,
-) -> Result<ExtractSetup<'r, 'p, W, S>, ExtractStartFault>
+    sink: Option<S>,
+) -> Result<ExtractSetup<'r, 'p, S>, ExtractStartFault>
     ensures bootstrap { IfOk result (λ setup. setup.0.bootstrap.path.now ≡ given.now.bsr.now) }
     ensures wanted { IfOk result (λ setup. setup.0.wanted ≡ given.now.wanted) }
-    ensures memory { IfOk result (λ setup. setup.1.memory ≡ given.now.memory) }
-    ensures out { IfOk result (λ setup. setup.1.out ≡ out) }
+    ensures memory { IfOk result (λ setup. setup.1.budget.room ≡ given.now.memory) }
+    ensures sink { IfOk result (λ setup. setup.1.sink ≡ sink) }
     ensures drives { IfOk result (λ setup. length setup.1.drives.items ≡ given.now.drives) }
     ensures volumes { IfOk result (λ setup. AreOver given.now.volumes.now setup.1.drives.items) }
 {
     let bootstrap = BootstrapFile::read(rt, given.bsr)?;
-    let io = RestoreIo::over(rt, given.volumes, given.drives, given.memory, out)?;
+    let restore = restore_over(rt, given.volumes, given.drives, given.memory, sink)?;
     let extraction = Extraction {
         bootstrap,
         wanted: given.wanted,
     };
-    Ok((extraction, io))
+    Ok((extraction, restore))
 }
 
 /// Prints why no restore began to standard error. Returns the exit status.
@@ -327,29 +333,28 @@ fn left_out<S: Sink + Drop>(sink: &Option<Leaving<S>>) -> &[Path]
 }
 
 /// Restores. The manifest goes to the writer, and then the files that are wanted into the sink, if there
-/// is one.
+/// is one. If the text of the bootstrap is refused, nothing is read.
 pub fn extract_over<D: Drive + Send, W: Flush, S: Sink>(
     threads: &(impl Threads + Wait + Sync),
-    alloc: Global,
     extraction: &Extraction<'_>,
-    io: &mut RestoreIo<D, W, S>,
+    restore: &mut Restore<D, S>,
+    writer: &mut W,
 ) -> Result<Extracted, ExtractFault>
-    requires drives { AreDrives io.old.drives.items }
-    ensures delivers { ExtractsTo D.shows W.contents S.has extraction.now io.old io.new result }
-    ensures flushed { IfOk result (λ _. W.is_flushed io.new.out.writer) }
+    requires drives { AreDrives restore.old.drives.items }
+    ensures extracts { ExtractsTo extraction.now (change D.Drive W.Write S.Sink (restore.old, writer.old) (restore.new, writer.new)) result }
+    ensures flushed { IfOk result (λ _. W.is_flushed writer.new) }
 {
-    let budget = Budget {
-        alloc,
-        room: io.memory,
-    };
-    extract_wanted(
-        threads,
-        budget,
-        extraction.bootstrap.text(),
-        extraction.wanted,
-        &mut io.drives,
-        &mut io.out,
-    )
+    match &extraction.bootstrap.read {
+        Ok(read) => {
+            let order = RestoreOrder {
+                asked: read.counted(),
+                names: None,
+                wanted: extraction.wanted,
+            };
+            restore.run(threads, order, writer)
+        }
+        Err(fault) => Err(ExtractFault::Bootstrap(*fault)),
+    }
 }
 
 /// Returns how many of the wanted files a run put into its sink.
@@ -371,18 +376,18 @@ fn extent_of(run: &Result<Extracted, ExtractFault>) -> Extent
 /// to the writer before.
 fn extract_stream<D: Drive + Send, W: Flush, T: Flush + Drop>(
     threads: &(impl Threads + Wait + Sync),
-    alloc: Global,
     extraction: &Extraction<'_>,
-    io: &mut RestoreIo<D, W, WatchedSink<'_, '_, TarSink<T>>>,
+    restore: &mut Restore<D, WatchedSink<'_, '_, TarSink<T>>>,
+    writer: &mut W,
 ) -> Streamed<Result<Extracted, ExtractFault>, T>
-    requires drives { AreDrives io.old.drives.items }
-    requires sink { IsSome io.old.out.sink }
-    ensures streams { StreamsTo D.shows W.contents T.contents extraction.now io.old io.new result }
-    ensures flushed { IfOk result.run (λ _. W.is_flushed io.new.out.writer) }
+    requires drives { AreDrives restore.old.drives.items }
+    requires sink { IsSome restore.old.sink }
+    ensures streams { StreamsTo D.Drive W.Write T.contents extraction.now (restore.old, writer.old) (restore.new, writer.new) result }
+    ensures flushed { IfOk result.run (λ _. W.is_flushed writer.new) }
     ensures shown { IfSome result.writer (λ w. IsShown (T.is_flushed w) result.end) }
 {
-    let run = extract_over(threads, alloc, extraction, io);
-    let (writer, end) = end_stream(io.out.sink.take(), extent_of(&run));
+    let run = extract_over(threads, extraction, restore, writer);
+    let (writer, end) = end_stream(restore.sink.take(), extent_of(&run));
     Streamed { run, end, writer }
 }
 
@@ -401,6 +406,13 @@ fn name_others(
     }
 }
 
+/// Tells the gauge what is to be read, if there is a bootstrap.
+fn expect(gauge: &Gauge<'_>, bootstrap: Option<&Bootstrap>) {
+    if let Some(bootstrap) = bootstrap {
+        gauge.expect_volumes(bootstrap);
+    }
+}
+
 /// Restores into a folder, or prints the manifest alone if there is none.
 fn extract_into(
     rt: &HostRuntime,
@@ -412,18 +424,19 @@ fn extract_into(
     requires asked { stream_asked given.now.target ≡ None }
 {
     let writer = BufWriter::new(rt.alloc(), io::writer(rt))?;
-    let (extraction, io) = match set_up_extract(rt, gauge, given, writer) {
+    let (extraction, restore) = match set_up_extract(rt, gauge, given) {
         Ok(setup) => setup,
         Err(fault) => return refuse_told(rt, gauge, given, fault),
     };
-    gauge.expect_volumes(extraction.bootstrap.text());
-    let mut io = io.watched(rt.alloc(), gauge)?;
-    let run = extract_over(threads, rt.alloc(), &extraction, &mut io);
+    let bootstrap = extraction.bootstrap.bootstrap();
+    expect(gauge, bootstrap);
+    let mut restore = with_watched_drives(restore, gauge)?;
+    let mut writer = WatchedWriter::new(writer, gauge);
+    let run = extract_over(threads, &extraction, &mut restore, &mut writer);
     gauge.clear();
     name_others(rt, gauge, given, &run)?;
-    let told = Told::by(&io.out.writer, extraction.bootstrap.text());
-    let failed = left_out(&io.out.sink);
-    report(rt, gauge, given, &told, &run, (failed, None))
+    let told = Told::by(&writer, bootstrap);
+    report(rt, gauge, given, &told, &run, (left_out(&restore.sink), None))
 }
 
 /// Restores into the tar stream of a sink, with the manifest to this writer: standard output, or something
@@ -441,19 +454,17 @@ fn extract_onto<T: Channel + Drop, W: Channel + Drop>(
     requires apart { W.is_output ≡ not T.is_output }
 {
     let writer = BufWriter::new(rt.alloc(), manifest)?;
-    let out = Outputs {
-        writer,
-        sink: Some(sink),
-    };
-    let (extraction, io) = match set_up_over(rt, given, out) {
+    let (extraction, restore) = match set_up_over(rt, given, Some(sink)) {
         Ok(setup) => setup,
         Err(fault) => return refuse_told(rt, gauge, given, fault),
     };
-    gauge.expect_volumes(extraction.bootstrap.text());
-    let mut io = io.watched(rt.alloc(), gauge)?.with_watched_sink(gauge);
-    let stream = extract_stream(threads, rt.alloc(), &extraction, &mut io);
+    let bootstrap = extraction.bootstrap.bootstrap();
+    expect(gauge, bootstrap);
+    let mut restore = with_watched_sink(with_watched_drives(restore, gauge)?, gauge);
+    let mut writer = WatchedWriter::new(writer, gauge);
+    let stream = extract_stream(threads, &extraction, &mut restore, &mut writer);
     gauge.clear();
-    let told = Told::by(&io.out.writer, extraction.bootstrap.text());
+    let told = Told::by(&writer, bootstrap);
     report(
         rt,
         gauge,

@@ -4,8 +4,8 @@ ghost use Rattle.br_pool.specs.Pool.{AreDrives};
 ghost use Rattle.br_volume.specs.HostDrives.{AreOver, AreUntold};
 ghost use Rattle.br_cli.specs.Serving.{IsFolder};
 
-use br_console::{DriveCount, DrivenStore, NamedBootstrap};
-use br_engine::{Budget, ExtractFault, RestoreEnd, restore_to};
+use br_console::{DriveCount, DrivenRestore, DrivenStore, restore_by};
+use br_engine::{Budget, ExtractFault, RestoreEnd};
 use br_fs::HostDisk;
 use br_types::VolName;
 use br_volume::{FolderStore, HostDrive, VolumeFault, VolumeStore, drives_over};
@@ -67,12 +67,10 @@ impl DrivenStore for FolderVolumes<'_> {
         &self,
         rt: &T,
         budget: Budget,
-        drives: DriveCount,
-        wanted: NamedBootstrap<'_>,
+        wanted: DrivenRestore<'_>,
         writer: &mut W,
     ) -> Result<RestoreEnd, ExtractFault> {
-        let mut drives = self.drives(drives)?;
-        let NamedBootstrap { bootstrap, names } = wanted;
-        restore_to(rt, budget, bootstrap, names, &mut drives, writer)
+        let drives = self.drives(wanted.drives)?;
+        restore_by(rt, budget, drives, wanted, writer)
     }
 }

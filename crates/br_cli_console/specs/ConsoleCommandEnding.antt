@@ -1,7 +1,7 @@
 -- How a run of the console ends.
 use Rattle.std.specs.Prelude.{ℕ, List, [], Result, Ok, Err}
 use Rattle.br_engine.specs.Outputs.{end_text}
-use Rattle.br_engine.specs.declared.outputs.RestoreEnd.TheVariants.{AllFiles, SomeFaults, Stopped}
+use Rattle.br_engine.specs.declared.restore_end.RestoreEnd.TheVariants.{AllFiles, SomeFaults, Stopped}
 use Rattle.br_console.specs.ConsoleFault.{fault_text}
 use Rattle.br_console.specs.declared.ending.Lines.{Lines}
 use Rattle.br_console.specs.declared.ending.Lines.TheVariants.{AllAccepted, SomeRefused}

@@ -11,24 +11,24 @@ ghost use Rattle.br_cli_target.specs.AskedTarget.{folder_asked, stream_asked};
 ghost use Rattle.br_cli_console.specs.ConsoleCommandEnding.{end_line, extent, extent_by, run_refusal, run_status, status_by};
 ghost use Rattle.br_cli_console.specs.ConsoleStarting.{start_number};
 ghost use Rattle.br_cli_target.specs.TarEnding.{IsShown};
-ghost use Rattle.br_cli_console.specs.ConsoleTasks.{RunsOver, StreamsOver};
+ghost use Rattle.br_cli_console.specs.ConsoleTasks.{StreamsOver};
 ghost use Rattle.br_cli_console.specs.declared.console_command.ConsoleStartFault.TheVariants as start;
 
 use crate::chosen_jobs::tell_chosen;
 use crate::helped_reader::with_help;
 use br_cli_common::{CLEAN, ConsoleOptions, REFUSED, Target, with_prompt};
-use br_cli_progress::{Gauge, WatchedSink};
+use br_cli_progress::{Gauge, WatchedSink, WatchedWriter};
 use br_cli_target::{
-    BAD_STREAM, Channel, Ending, Extent, HostSink, RestoreIo, Streamed, TarFault, Told,
-    add_tar_end, end_stream, folder_of, gauge_of, lacks_volumes, log_fault, refuse_log,
-    refuse_place, say_nowhere, say_stop, say_volumes, sink_over, tar_into, tar_onto, tell_outcomes,
+    BAD_STREAM, Channel, Ending, Extent, HostSink, Streamed, TarFault, Told, add_tar_end,
+    end_stream, folder_of, gauge_of, lacks_volumes, log_fault, refuse_log, refuse_place,
+    restore_over, say_nowhere, say_stop, say_volumes, sink_over, tar_into, tar_onto,
+    tell_outcomes, with_watched_drives, with_watched_sink,
 };
 use br_console::{ConsoleFault, ConsoleRun, End, JobSelection, Lines, run_console};
-use br_engine::{Budget, Flush, Outputs, RestoreEnd};
+use br_engine::{Flush, Restore, RestoreEnd};
 use br_history::History;
 use br_keeper::{Catalogue, CatalogueFault};
 use br_plan::{Request, RequestFault, read_request};
-use br_sink::Sink;
 use br_sink_folder::FolderFault;
 use br_sink_tar::TarSink;
 use br_types::Path;
@@ -271,8 +271,21 @@ pub struct ConsoleJobs {
     request: Request,
 }
 
+impl ConsoleJobs {
+    /// Returns what a session is over.
+    fn selection(&self) -> JobSelection<'_>
+        ensures history { result.history.now ≡ self.now.history }
+        ensures request { result.request.now ≡ self.now.request }
+    {
+        JobSelection {
+            history: &self.history,
+            request: &self.request,
+        }
+    }
+}
+
 /// What a session is over, and by what means it restores.
-type ConsoleSetup<'r, W, S> = (ConsoleJobs, RestoreIo<HostDrive<'r>, W, S>);
+type ConsoleSetup<'r, S> = (ConsoleJobs, Restore<HostDrive<'r>, S>);
 
 /// Reads the client, the file set and the moment that were given.
 fn request_of(alloc: Global, given: &ConsoleOptions<'_>) -> Result<Request, RequestFault>
@@ -283,67 +296,41 @@ fn request_of(alloc: Global, given: &ConsoleOptions<'_>) -> Result<Request, Requ
 
 /// Makes all that is there before a line is read, to deliver into a folder if there is one: client and file
 /// set (2), moment (52), the folder (81), and the catalogue (45, 47) are tested in this order.
-pub fn set_up_console<'r, C: Catalogue, W: Drop>(
+pub fn set_up_console<'r, C: Catalogue>(
     rt: &'r HostRuntime,
     catalogue: &C,
     given: &ConsoleOptions<'_>,
-    writer: W,
-) -> Result<ConsoleSetup<'r, W, HostSink<'r>>, ConsoleStartFault>
+) -> Result<ConsoleSetup<'r, HostSink<'r>>, ConsoleStartFault>
     ensures asked { IfOk result (λ setup. request_asked given.now ≡ Ok setup.0.request) }
-    ensures into { IfOk result (λ setup. option_map (λ s. s.path) setup.1.out.sink ≡ folder_asked given.now.target) }
+    ensures into { IfOk result (λ setup. option_map (λ s. s.path) setup.1.sink ≡ folder_asked given.now.target) }
     ensures jobs { IfOk result (λ setup. AreJobs (C.jobs_at catalogue.now given.now.db.now) setup.0.history) }
-    ensures memory { IfOk result (λ setup. setup.1.memory ≡ given.now.memory) }
+    ensures memory { IfOk result (λ setup. setup.1.budget.room ≡ given.now.memory) }
     ensures drives { IfOk result (λ setup. length setup.1.drives.items ≡ given.now.drives) }
     ensures volumes { IfOk result (λ setup. AreOver given.now.volumes.now setup.1.drives.items) }
 {
     let request = request_of(rt.alloc(), given)?;
     let sink = sink_over(rt, folder_of(given.target))?;
-    set_up_over(rt, catalogue, given, request, Outputs { writer, sink })
+    set_up_over(rt, catalogue, given, request, sink)
 }
 
-/// Makes what else is there before a line is read, beside the request and the outputs.
-fn set_up_over<'r, C: Catalogue, W: Drop, S: Drop>(
+/// Makes what else is there before a line is read, beside the request and the sink.
+fn set_up_over<'r, C: Catalogue, S: Drop>(
     rt: &'r HostRuntime,
     catalogue: &C,
     given: &ConsoleOptions<'_>,
     request: Request,
-    out: Outputs<W, S>,
-) -> Result<ConsoleSetup<'r, W, S>, ConsoleStartFault>
+    sink: Option<S>,
+) -> Result<ConsoleSetup<'r, S>, ConsoleStartFault>
     ensures request { IfOk result (λ setup. setup.0.request ≡ request) }
-    ensures out { IfOk result (λ setup. setup.1.out ≡ out) }
+    ensures sink { IfOk result (λ setup. setup.1.sink ≡ sink) }
     ensures jobs { IfOk result (λ setup. AreJobs (C.jobs_at catalogue.now given.now.db.now) setup.0.history) }
-    ensures memory { IfOk result (λ setup. setup.1.memory ≡ given.now.memory) }
+    ensures memory { IfOk result (λ setup. setup.1.budget.room ≡ given.now.memory) }
     ensures drives { IfOk result (λ setup. length setup.1.drives.items ≡ given.now.drives) }
     ensures volumes { IfOk result (λ setup. AreOver given.now.volumes.now setup.1.drives.items) }
 {
     let history = jobs_in(rt, catalogue, given.db)?;
-    let io = RestoreIo::over(rt, given.volumes, given.drives, given.memory, out)?;
-    Ok((ConsoleJobs { history, request }, io))
-}
-
-/// Runs a session by the lines of a reader. The answers, the bootstrap and the manifest go to the writer,
-/// and then the files into the sink, if there is one.
-pub fn console_over<R: BufRead + Drop, D: Drive + Send, W: Flush + Drop, S: Sink>(
-    threads: &(impl Threads + Wait + Sync),
-    alloc: Global,
-    jobs: &ConsoleJobs,
-    io: &mut RestoreIo<D, W, S>,
-    reader: &mut R,
-) -> Result<ConsoleRun, ConsoleFault>
-    requires drives { AreDrives io.old.drives.items }
-    requires shown { W.is_flushed io.old.out.writer }
-    ensures delivers { RunsOver (R.remaining reader.old) D.shows W.contents S.has jobs.now io.old io.new result }
-    ensures flushed { OnOk result (W.is_flushed io.new.out.writer) }
-{
-    let asked = JobSelection {
-        history: &jobs.history,
-        request: &jobs.request,
-    };
-    let budget = Budget {
-        alloc,
-        room: io.memory,
-    };
-    run_console(threads, budget, &asked, reader, &mut io.drives, &mut io.out)
+    let restore = restore_over(rt, given.volumes, given.drives, given.memory, sink)?;
+    Ok((ConsoleJobs { history, request }, restore))
 }
 
 /// Returns how many of the marked files a run put into its sink.
@@ -369,20 +356,20 @@ fn extent_by(end: &End) -> Extent
 /// Runs a session whose sink writes a tar stream, and ends the stream if all files were put.
 fn console_stream<R: BufRead + Drop, D: Drive + Send, W: Flush + Drop, T: Flush + Drop>(
     threads: &(impl Threads + Wait + Sync),
-    alloc: Global,
     jobs: &ConsoleJobs,
-    io: &mut RestoreIo<D, W, WatchedSink<'_, '_, TarSink<T>>>,
+    restore: &mut Restore<D, WatchedSink<'_, '_, TarSink<T>>>,
     reader: &mut R,
+    writer: &mut W,
 ) -> Streamed<Result<ConsoleRun, ConsoleFault>, T>
-    requires drives { AreDrives io.old.drives.items }
-    requires shown { W.is_flushed io.old.out.writer }
-    requires sink { IsSome io.old.out.sink }
-    ensures streams { StreamsOver (R.remaining reader.old) D.shows W.contents T.contents jobs.now io.old io.new result }
-    ensures flushed { OnOk result.run (W.is_flushed io.new.out.writer) }
+    requires drives { AreDrives restore.old.drives.items }
+    requires shown { W.is_flushed writer.old }
+    requires sink { IsSome restore.old.sink }
+    ensures streams { StreamsOver (R.remaining reader.old) D.Drive W.Write T.contents jobs.now (restore.old, writer.old) (restore.new, writer.new) result }
+    ensures flushed { OnOk result.run (W.is_flushed writer.new) }
     ensures shown { IfSome result.writer (λ w. IsShown (T.is_flushed w) result.end) }
 {
-    let run = console_over(threads, alloc, jobs, io, reader);
-    let (writer, end) = end_stream(io.out.sink.take(), extent_of(&run));
+    let run = run_console(threads, restore, &jobs.selection(), reader, writer);
+    let (writer, end) = end_stream(restore.sink.take(), extent_of(&run));
     Streamed { run, end, writer }
 }
 
@@ -407,58 +394,57 @@ fn restore_into<C: Catalogue, R: BufRead + Drop>(
     requires asked { stream_asked given.now.target ≡ None }
 {
     let writer = BufWriter::new(rt.alloc(), io::writer(rt))?;
-    let (jobs, io) = match set_up_console(rt, catalogue, given, writer) {
+    let (jobs, restore) = match set_up_console(rt, catalogue, given) {
         Ok(setup) => setup,
         Err(fault) => return refuse_place(rt, gauge, given.target, fault.number()),
     };
     tell_chosen(rt, &jobs.history, &jobs.request)?;
-    let mut io = io.watched(rt.alloc(), gauge)?.with_watched_sink(gauge);
-    let run = console_over(threads, rt.alloc(), &jobs, &mut io, reader);
+    let mut restore = with_watched_sink(with_watched_drives(restore, gauge)?, gauge);
+    let mut writer = WatchedWriter::new(writer, gauge);
+    let run = run_console(threads, &mut restore, &jobs.selection(), reader, &mut writer);
     gauge.clear();
     let ending = console_ending(rt.alloc(), &run)?;
-    let told = Told::of_session(&io.out.writer);
-    let failed = failed_at(&io.out.sink);
+    let told = Told::of_session(&writer);
+    let failed = failed_at(&restore.sink);
     report(rt, gauge, given, (&told, failed), &run, &ending)
 }
 
 /// Makes all that is there before a line is read, to deliver into a new file as a tar stream. The file is
 /// tested where a folder would be.
-fn set_up_tar_file<'r, C: Catalogue, W: Drop>(
+fn set_up_tar_file<'r, C: Catalogue>(
     rt: &'r HostRuntime,
     catalogue: &C,
     given: &ConsoleOptions<'_>,
     path: &str,
-    writer: W,
-) -> Result<ConsoleSetup<'r, W, TarSink<BufWriter<File>>>, ConsoleStartFault>
+) -> Result<ConsoleSetup<'r, TarSink<BufWriter<File>>>, ConsoleStartFault>
     ensures asked { IfOk result (λ setup. request_asked given.now ≡ Ok setup.0.request) }
-    ensures sink { IfOk result (λ setup. IsSome setup.1.out.sink) }
+    ensures sink { IfOk result (λ setup. IsSome setup.1.sink) }
     ensures jobs { IfOk result (λ setup. AreJobs (C.jobs_at catalogue.now given.now.db.now) setup.0.history) }
-    ensures memory { IfOk result (λ setup. setup.1.memory ≡ given.now.memory) }
+    ensures memory { IfOk result (λ setup. setup.1.budget.room ≡ given.now.memory) }
     ensures drives { IfOk result (λ setup. length setup.1.drives.items ≡ given.now.drives) }
     ensures volumes { IfOk result (λ setup. AreOver given.now.volumes.now setup.1.drives.items) }
 {
     let request = request_of(rt.alloc(), given)?;
     let sink = Some(tar_into(rt, path)?);
-    set_up_over(rt, catalogue, given, request, Outputs { writer, sink })
+    set_up_over(rt, catalogue, given, request, sink)
 }
 
 /// Makes all that is there before a line is read, to deliver to standard output as a tar stream.
-fn set_up_tar_output<'r, C: Catalogue, W: Drop>(
+fn set_up_tar_output<'r, C: Catalogue>(
     rt: &'r HostRuntime,
     catalogue: &C,
     given: &ConsoleOptions<'_>,
-    writer: W,
-) -> Result<ConsoleSetup<'r, W, TarSink<BufWriter<Printer<'r, HostRuntime>>>>, ConsoleStartFault>
+) -> Result<ConsoleSetup<'r, TarSink<BufWriter<Printer<'r, HostRuntime>>>>, ConsoleStartFault>
     ensures asked { IfOk result (λ setup. request_asked given.now ≡ Ok setup.0.request) }
-    ensures sink { IfOk result (λ setup. IsSome setup.1.out.sink) }
+    ensures sink { IfOk result (λ setup. IsSome setup.1.sink) }
     ensures jobs { IfOk result (λ setup. AreJobs (C.jobs_at catalogue.now given.now.db.now) setup.0.history) }
-    ensures memory { IfOk result (λ setup. setup.1.memory ≡ given.now.memory) }
+    ensures memory { IfOk result (λ setup. setup.1.budget.room ≡ given.now.memory) }
     ensures drives { IfOk result (λ setup. length setup.1.drives.items ≡ given.now.drives) }
     ensures volumes { IfOk result (λ setup. AreOver given.now.volumes.now setup.1.drives.items) }
 {
     let request = request_of(rt.alloc(), given)?;
     let sink = Some(tar_onto(rt.alloc(), io::writer(rt))?);
-    set_up_over(rt, catalogue, given, request, Outputs { writer, sink })
+    set_up_over(rt, catalogue, given, request, sink)
 }
 
 /// Restores by lines into the tar stream that was set up, with the answers to its writer: standard output,
@@ -467,23 +453,25 @@ fn restore_onto<'r, R: BufRead + Drop, T: Channel + Drop, W: Channel + Drop>(
     threads: &(impl Threads + Wait + Sync),
     watch: (&'r HostRuntime, &'r Gauge<'r>),
     given: &ConsoleOptions<'_>,
-    setup: ConsoleSetup<'r, BufWriter<W>, TarSink<BufWriter<T>>>,
+    setup: ConsoleSetup<'r, TarSink<BufWriter<T>>>,
     reader: &mut R,
+    answers: BufWriter<W>,
 ) -> io::Result<u8>
     requires few { AreFew (length setup.1.drives.items) }
-    requires sink { IsSome setup.1.out.sink }
+    requires sink { IsSome setup.1.sink }
     requires asked { stream_asked given.now.target ≡ Some T.is_output }
     requires apart { W.is_output ≡ not T.is_output }
 {
     let (rt, gauge) = watch;
-    let (jobs, io) = setup;
+    let (jobs, restore) = setup;
     tell_chosen(rt, &jobs.history, &jobs.request)?;
-    let mut io = io.watched(rt.alloc(), gauge)?.with_watched_sink(gauge);
-    let stream = console_stream(threads, rt.alloc(), &jobs, &mut io, reader);
+    let mut restore = with_watched_sink(with_watched_drives(restore, gauge)?, gauge);
+    let mut writer = WatchedWriter::new(answers, gauge);
+    let stream = console_stream(threads, &jobs, &mut restore, reader, &mut writer);
     gauge.clear();
     let mut ending = console_ending(rt.alloc(), &stream.run)?;
     add_tar_end(&mut ending, stream.end)?;
-    let told = Told::of_session(&io.out.writer);
+    let told = Told::of_session(&writer);
     report(rt, gauge, given, (&told, None), &stream.run, &ending)
 }
 
@@ -536,15 +524,15 @@ fn restore_told<C: Catalogue, R: BufRead + Drop>(
         Target::Folder(_) => restore_into(rt, threads, catalogue, gauge, given, reader),
         Target::TarFile(path) => {
             let answers = BufWriter::new(rt.alloc(), io::writer(rt))?;
-            match set_up_tar_file(rt, catalogue, given, path, answers) {
-                Ok(setup) => restore_onto(threads, watch, given, setup, reader),
+            match set_up_tar_file(rt, catalogue, given, path) {
+                Ok(setup) => restore_onto(threads, watch, given, setup, reader, answers),
                 Err(fault) => refuse_place(rt, gauge, given.target, fault.number()),
             }
         }
         Target::TarOutput => {
             let answers = BufWriter::new(rt.alloc(), rt.stderr())?;
-            match set_up_tar_output(rt, catalogue, given, answers) {
-                Ok(setup) => restore_onto(threads, watch, given, setup, reader),
+            match set_up_tar_output(rt, catalogue, given) {
+                Ok(setup) => restore_onto(threads, watch, given, setup, reader, answers),
                 Err(fault) => refuse_place(rt, gauge, given.target, fault.number()),
             }
         }

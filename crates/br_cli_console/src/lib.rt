@@ -22,7 +22,7 @@ mod working_folder;
 
 pub use chosen_jobs::tell_chosen;
 pub use console_command::{
-    ConsoleJobs, ConsoleStartFault, console_ending, console_over, restore_by_lines, restore_marked,
+    ConsoleJobs, ConsoleStartFault, console_ending, restore_by_lines, restore_marked,
     set_up_console,
 };
 pub use dir_lines::{Named, push_name};

@@ -1,13 +1,12 @@
 //! How many bytes a restore reads.
 
-use br_bsr::read_bootstrap;
+use br_bsr::Bootstrap;
 use br_piece::split;
 use br_volume::{FolderStore, VolumeStore};
 
 /// Returns the number of bytes of the volumes in a folder that a bootstrap names, if it can be told.
-pub(crate) fn len_of_volumes(rt: &HostRuntime, folder: &str, text: &[u8]) -> Option<u64> {
-    let bootstrap = read_bootstrap(rt.alloc(), text).ok()?;
-    let pieces = split(rt.alloc(), &bootstrap).ok()?;
+pub(crate) fn len_of_volumes(rt: &HostRuntime, folder: &str, bootstrap: &Bootstrap) -> Option<u64> {
+    let pieces = split(rt.alloc(), bootstrap).ok()?;
     let mut store = FolderStore::new(rt.alloc(), rt, folder).ok()?;
     let mut len = 0_u64;
     for piece in &pieces {

@@ -4,6 +4,7 @@ use crate::expecting::len_of_volumes;
 use crate::log::Log;
 use crate::progress_counts::Count;
 use crate::progress_line::{Standing, seconds_left};
+use br_bsr::Bootstrap;
 use std::alloc::Global;
 use std::io::{self, IsTerminal, Write};
 use std::sync::atomic::{AtomicBool, AtomicU64, Ordering};
@@ -95,7 +96,7 @@ impl<'r> Gauge<'r> {
 
     /// Notes the number of bytes of the volumes that a bootstrap names, as those that will be read, if how far the
     /// restore is is shown. It is 0 if it can't be told.
-    pub fn expect_volumes(&self, bootstrap: &[u8]) {
+    pub fn expect_volumes(&self, bootstrap: &Bootstrap) {
         if self.is_shown() {
             let len = len_of_volumes(self.rt, self.volumes, bootstrap);
             self.to_read.store(len.unwrap_or(0), Ordering::SeqCst);

@@ -4,6 +4,7 @@ ghost use Rattle.std.specs.Prelude.{◌≡◌};
 use crate::gauge::Gauge;
 use crate::passed_faults::Faults;
 use crate::passed_lines::Lines;
+use br_bsr::{Bootstrap, read_bootstrap};
 use br_types::FileKey;
 use std::io::{self, Write};
 
@@ -19,8 +20,8 @@ pub struct WatchedWriter<'g, 'r, W> {
     pub inner: W,
     gauge: &'g Gauge<'r>,
     lines: Lines,
-    /// The last text that was written at once and begins as a bootstrap.
-    plan: Vec<u8>,
+    /// The last bootstrap that was written at once.
+    plan: Option<Bootstrap>,
 }
 
 impl<'g, 'r, W> WatchedWriter<'g, 'r, W> {
@@ -32,7 +33,7 @@ impl<'g, 'r, W> WatchedWriter<'g, 'r, W> {
             inner,
             gauge,
             lines: Lines::new(gauge.alloc()),
-            plan: Vec::new(gauge.alloc()),
+            plan: None,
         }
     }
 
@@ -50,21 +51,20 @@ impl<'g, 'r, W> WatchedWriter<'g, 'r, W> {
         }
     }
 
-    /// Returns the text of the bootstrap that a console session wrote, if it did and somebody reads what the gauge
-    /// tells.
-    pub fn plan(&self) -> &[u8] {
-        &self.plan
+    /// Returns the bootstrap that a console session wrote, if it did and somebody reads what the gauge tells.
+    pub fn plan(&self) -> Option<&Bootstrap> {
+        self.plan.as_ref()
     }
 }
 
-/// Keeps a text that begins as a bootstrap in place of an earlier one, and tells the gauge what is to be read by it.
-/// One for which memory runs out is not kept.
-fn note_plan(gauge: &Gauge<'_>, plan: &mut Vec<u8>, text: &[u8]) {
-    if text.starts_with(VOLUME) {
-        plan.clear();
-        let _kept = plan.extend_from_slice(text);
-        gauge.expect_volumes(text);
+/// Returns the bootstrap in a text that was written at once, if it is one. None is returned if memory runs out.
+fn plan_in(gauge: &Gauge<'_>, text: &[u8]) -> Option<Bootstrap> {
+    if !text.starts_with(VOLUME) {
+        return None;
     }
+    let bootstrap = read_bootstrap(gauge.alloc(), text).ok()?;
+    gauge.expect_volumes(&bootstrap);
+    Some(bootstrap)
 }
 
 impl<'g, 'r, W: Write> Write for WatchedWriter<'g, 'r, W> {
@@ -94,7 +94,9 @@ impl<'g, 'r, W: Write> Write for WatchedWriter<'g, 'r, W> {
         if self.gauge.is_watching() {
             self.gauge.clear();
             self.lines.pass(self.gauge, buf);
-            note_plan(self.gauge, &mut self.plan, buf);
+            if let Some(plan) = plan_in(self.gauge, buf) {
+                self.plan = Some(plan);
+            }
         }
         self.inner.write_all(buf)
     }

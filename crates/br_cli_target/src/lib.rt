@@ -11,10 +11,10 @@ mod advice_lines;
 mod attribute_paths;
 mod ending;
 mod first_asking;
+mod host_restore;
 mod narrowed_groups;
 mod origin;
 mod own_hits;
-mod restore_io;
 mod searched_hits;
 mod target_folder;
 mod target_tar;
@@ -25,8 +25,8 @@ mod watched_restore;
 pub use absent_count::count_absent;
 pub use advice_lines::{push_absent, push_older, push_origin};
 pub use ending::{BAD_STREAM, Ending};
+pub use host_restore::{restore_over, with_watched_drives, with_watched_sink};
 pub use origin::{Origin, origins};
-pub use restore_io::RestoreIo;
 pub use target_folder::{HostSink, LeavingSink, ResumingSink, folder_of, leaving_over, sink_over};
 pub use target_tar::{
     Channel, Extent, Streamed, TarEnd, TarFault, add_tar_end, end_stream, tar_into, tar_onto,

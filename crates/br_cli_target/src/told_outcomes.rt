@@ -3,7 +3,7 @@
 use crate::absent_count::count_absent;
 use crate::advice_lines::{push_absent, push_older, push_origin};
 use crate::origin::{Origin, origins};
-use br_bsr::read_bootstrap;
+use br_bsr::Bootstrap;
 use br_cli_common::reason_of_read;
 use br_cli_progress::{Faults, Gauge, WatchedWriter};
 use br_engine::older_copies;
@@ -27,13 +27,16 @@ pub struct Told<'t> {
     faults: &'t Faults,
     /// The keys of the outcomes, unless memory ran out.
     keys: Option<&'t [FileKey]>,
-    /// The text of the bootstrap.
-    bootstrap: &'t [u8],
+    /// The bootstrap, if there was one.
+    bootstrap: Option<&'t Bootstrap>,
 }
 
 impl<'t> Told<'t> {
-    /// Returns what a watched writer noted of a restore by the bootstrap in this text.
-    pub fn by<W>(writer: &'t WatchedWriter<'_, '_, W>, bootstrap: &'t [u8]) -> Told<'t> {
+    /// Returns what a watched writer noted of a restore by this bootstrap, if there was one.
+    pub fn by<W>(
+        writer: &'t WatchedWriter<'_, '_, W>,
+        bootstrap: Option<&'t Bootstrap>,
+    ) -> Told<'t> {
         Told {
             faults: writer.faults(),
             keys: writer.keys(),
@@ -51,11 +54,11 @@ impl<'t> Told<'t> {
 /// own.
 fn origins_of(rt: &HostRuntime, volumes: &str, told: &Told<'_>) -> Result<Vec<Origin>, AllocError> {
     let keys = told.faults.keys(rt.alloc())?;
-    let Ok(bootstrap) = read_bootstrap(rt.alloc(), told.bootstrap) else {
+    let Some(bootstrap) = told.bootstrap else {
         return Ok(Vec::new(rt.alloc()));
     };
     let mut drive = FolderDrive::new(rt.alloc(), rt, volumes)?;
-    origins(rt.alloc(), &bootstrap, &keys, &mut drive)
+    origins(rt.alloc(), bootstrap, &keys, &mut drive)
 }
 
 /// Returns the lines of where outcomes come from.
@@ -107,7 +110,7 @@ pub fn tell_outcomes(
 /// Returns the line that says how many indexes gave no outcome, if some did.
 fn absent_lines(rt: &HostRuntime, told: &Told<'_>) -> Result<Vec<u8>, AllocError> {
     let mut text = Vec::new(rt.alloc());
-    if let (Some(keys), Ok(bootstrap)) = (told.keys, read_bootstrap(rt.alloc(), told.bootstrap)) {
+    if let (Some(keys), Some(bootstrap)) = (told.keys, told.bootstrap) {
         let keys = Vec::from_slice(rt.alloc(), keys)?;
         push_absent(
             &mut text,
@@ -202,11 +205,11 @@ pub fn say_volumes(
     if !gauge.is_watching() {
         return Ok(());
     }
-    let Ok(bootstrap) = read_bootstrap(rt.alloc(), told.bootstrap) else {
+    let Some(bootstrap) = told.bootstrap else {
         return Ok(());
     };
     let mut said: usize = 0;
-    for piece in &split(rt.alloc(), &bootstrap)? {
+    for piece in &split(rt.alloc(), bootstrap)? {
         if said < VOLUMES && say_volume(rt, gauge, volumes, &piece.vol)? {
             said = said.saturating_add(1);
         }

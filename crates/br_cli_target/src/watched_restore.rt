@@ -3,8 +3,7 @@ ghost use Rattle.std.specs.Prelude.{◌≡◌, is_some, length, IfOk};
 
 use crate::ending::BAD_STREAM;
 use br_cli_common::{Progress, is_shown};
-use br_cli_progress::{Gauge, Log, WatchedDrive, WatchedSink, WatchedWriter};
-use br_engine::Outputs;
+use br_cli_progress::{Gauge, Log, WatchedDrive, WatchedSink};
 use std::alloc::{AllocError, Global};
 use std::io::{self, ErrorKind};
 
@@ -51,32 +50,15 @@ pub(crate) fn watched_drives<'g, 'r, D: Drop>(
     Ok(watched)
 }
 
-/// Returns the outputs, of which the writer is watched.
-pub(crate) fn watched_writer<'g, 'r, W, S>(
-    out: Outputs<W, S>,
+/// Returns the sink, if there is one, so that it is watched.
+pub(crate) fn watched_sink<'g, 'r, S>(
+    sink: Option<S>,
     gauge: &'g Gauge<'r>,
-) -> Outputs<WatchedWriter<'g, 'r, W>, S>
-    ensures sink { result.sink ≡ out.sink }
+) -> Option<WatchedSink<'g, 'r, S>>
+    ensures { is_some result ≡ is_some sink }
 {
-    let Outputs { writer, sink } = out;
-    Outputs {
-        writer: WatchedWriter::new(writer, gauge),
-        sink,
-    }
-}
-
-/// Returns the outputs, of which the sink is watched.
-pub(crate) fn watched_sink<'g, 'r, W, S>(
-    out: Outputs<W, S>,
-    gauge: &'g Gauge<'r>,
-) -> Outputs<W, WatchedSink<'g, 'r, S>>
-    ensures writer { result.writer ≡ out.writer }
-    ensures sink { is_some result.sink ≡ is_some out.sink }
-{
-    let Outputs { writer, sink } = out;
-    let sink = match sink {
+    match sink {
         Some(sink) => Some(WatchedSink::new(sink, gauge)),
         None => None,
-    };
-    Outputs { writer, sink }
+    }
 }

@@ -1,13 +1,13 @@
 -- A run of the console step by step: what each step says of the whole.
-use Rattle.std.proofs.Common.{◌≡◌, ℕ, Bool, true, false, cond, List, map, Option, Some, None, Result, Ok, Err, refl, ap, sym, subst, ◌∙◌, arith}
+use Rattle.std.proofs.Common.{◌≡◌, ℕ, Bool, true, false, cond, List, [], map, Option, Some, None, Result, Ok, Err, refl, ap, sym, subst, ◌∙◌, arith}
 use Rattle.std.specs.Prelude.{option_map, IfSome, ⊤}
 use Rattle.std.specs.Io.KnownBytes.{Appends, Keeps}
 use Rattle.std.proofs.KnownBytes.{Appends-nil, Appends-trans, Appends-kept}
 use Rattle.br_model.specs.Answer.{IsRefusal, refused_as}
 use Rattle.br_model.specs.Volume.{Volume}
-use Rattle.br_model.specs.Bootstrap.{canonical}
+use Rattle.br_model.specs.Bootstrap.{Group, canonical}
 use Rattle.br_model.specs.Meaning as model
-use Rattle.br_model.specs.Restored.{Restored}
+use Rattle.br_model.specs.Restored.{Names, Planned, Restored, planned_in}
 use Rattle.br_model.specs.Manifest.{manifest}
 use Rattle.br_model.specs.Job.{JobRows}
 use Rattle.br_model.specs.Choice.{Request, choose}
@@ -27,10 +27,15 @@ use Rattle.br_mark.specs.Seen.{Situation}
 use Rattle.br_engine.specs.Restoring.{Told, restored_files}
 use Rattle.br_engine.specs.Fault as engine
 use Rattle.br_engine.specs.Outputs.{EndTells, InSink, are_files}
-use Rattle.br_engine.specs.Extracting.{OverVolumes}
+use Rattle.br_engine.specs.Extracting.{OverVolumes, Said}
 use Rattle.br_engine.specs.Delivering.{Delivers, EndsWith}
-use Rattle.br_engine.specs.declared.outputs.RestoreEnd.{RestoreEnd}
-use Rattle.br_engine.specs.declared.outputs.RestoreEnd.TheVariants as restore
+use Rattle.br_engine.specs.Restores.{Change, Restores}
+use Rattle.br_engine.specs.WantedOutcomes.{plain}
+use Rattle.br_engine.specs.declared.extracted.Extracted.{Extracted}
+use Rattle.br_engine.specs.declared.restore_order.RestoreOrder.{RestoreOrder}
+use Rattle.br_engine.proofs.RestoreLaws.{by_plain_order, ended, plain_delivers}
+use Rattle.br_engine.specs.declared.restore_end.RestoreEnd.{RestoreEnd}
+use Rattle.br_engine.specs.declared.restore_end.RestoreEnd.TheVariants as restore
 use Rattle.br_engine.specs.declared.fault.ExtractFault.{ExtractFault}
 use Rattle.br_engine.specs.declared.fault.ExtractFault.TheVariants as extract
 use Rattle.br_console.specs.ConsoleFault.{Refusal, OfPlan, OfPiece, EndlessAfterAll, IsBrokenOff, IsNoPiece, cause, fault_number}
@@ -184,6 +189,18 @@ piece_is (Some e) (Err why) h = go h
   where
     go : ◌≡◌ {A = Result (List Restored) engine.Refusal} (Err (engine.OfPiece why)) (Err (engine.OfPiece e)) → ◌≡◌ {A = Result (List Restored) Refusal} (Err (OfPiece why)) (Err (OfPiece e))
     go p = cc
+
+-- a plain restore of the bootstrap of a plan delivers the planned files
+pub by_plan : (order : RestoreOrder) (seen : Change) (result : Result Extracted ExtractFault) (plan : Plan) (groups : List Group) (names : Names)
+    → order.asked.bootstrap.now ≡ groups → order.names ≡ Some names → order.wanted ≡ plain → groups ≡ plan.groups → planned_in names ≡ plan.names → Restores order seen result
+    → Delivers (λ holds. OverVolumes seen.old.told seen.new.told plan.groups (Some plan.names) holds) seen.old.written seen.new.written seen.old.has seen.new.has (ended result)
+by_plan order seen result plan groups names asked named is same alike h =
+    let over : List Group → List Planned → (Said → Type 0) = λ gs ns holds. OverVolumes seen.old.told seen.new.told gs (Some ns) holds in
+    let delivers : (Said → Type 0) → Type 0 = λ P. Delivers P seen.old.written seen.new.written seen.old.has seen.new.has (ended result) in
+    subst (λ (gs : List Group). delivers (over gs plan.names)) same
+    (subst (λ (ns : List Planned). delivers (over groups ns)) alike
+    (plain_delivers (over groups (planned_in names)) (λ rs lines. lines ≡ []) seen.old.written seen.new.written seen.old.has seen.new.has result
+    (by_plain_order order seen result groups (Some names) asked named is h)))
 
 module _ (earlier later : Told) (before after : Option (List ℕ)) (had has : InSink) (plan : Plan) where
   pub plan_restored : (end : RestoreEnd) → Delivers (λ holds. OverVolumes earlier later plan.groups (Some plan.names) holds) before after had has (Ok end)

@@ -3,7 +3,7 @@ use Rattle.std.specs.Prelude.{◌≡◌, Bool, true, false, List, Option, Some, 
 use Rattle.br_model.specs.Restored.{Restored}
 use Rattle.br_engine.specs.Outputs.{InSink}
 use Rattle.br_engine.specs.Delivering.{EndsWith}
-use Rattle.br_engine.specs.declared.outputs.RestoreEnd.TheVariants as restore
+use Rattle.br_engine.specs.declared.restore_end.RestoreEnd.TheVariants as restore
 use Rattle.br_console.specs.declared.ending.Lines.{Lines}
 use Rattle.br_console.specs.declared.ending.Lines.TheVariants.{AllAccepted, SomeRefused}
 use Rattle.br_console.specs.declared.ending.SessionEnd.{SessionEnd}

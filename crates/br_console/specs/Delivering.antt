@@ -1,8 +1,5 @@
--- A run of the console as its contracts state it: over what reader, drives, writer and sink show before and after.
-use Rattle.std.specs.Prelude.{◌≡◌, ℕ, List, Vec, map, Option, Result, Ok, Err, IfOk, ⊤}
-use Rattle.std.specs.Global.{Global}
-use Rattle.br_model.specs.Volume.{Volume}
-use Rattle.br_model.specs.File.{Item}
+-- A run of the console as its contracts state it: over what reader, drives, writer and sink show before and after it.
+use Rattle.std.specs.Prelude.{◌≡◌, ℕ, List, Option, option_map, Result, Ok, Err, IfOk, ⊤}
 use Rattle.br_model.specs.Restored.{Restored}
 use Rattle.br_model.specs.Job.{JobRows}
 use Rattle.br_model.specs.Choice.{Request, choose}
@@ -11,8 +8,8 @@ use Rattle.br_model.specs.Plan.{Plan, plan_of}
 use Rattle.br_plan.specs.Means.{IsViewOfChosen}
 use Rattle.br_engine.specs.Restoring.{Told}
 use Rattle.br_engine.specs.Outputs.{InSink, StopsByFailure}
-use Rattle.br_engine.specs.Delivering.{in_sink, sink_failures}
-use Rattle.br_engine.specs.declared.outputs.Outputs.{Outputs}
+use Rattle.br_engine.specs.Restores.{Change}
+use Rattle.br_engine.specs.declared.restore.Restore.{Restore}
 use Rattle.br_console.specs.ConsoleEnding.{LeavesSink, are_accepted}
 use Rattle.br_console.specs.Running.{BeginsOver, RestoresOver, RunsOver, TellsOver}
 use Rattle.br_console.specs.declared.ending.Lines.{Lines}
@@ -31,24 +28,20 @@ Delivers known earlier later before after had has history q (Ok run) =
     × LeavesSink had has run.end files
 Delivers known earlier later before after had has history q (Err why) = has ≡ had
 
--- ---- over drives and outputs
+-- ---- over what drives, writer and sink show before and after
 
-abbrev pub DeliversInto : {D W S : Type 0} → Option (List ℕ) → (D → Option (List Volume)) → (W → Option (List ℕ)) → (S → Option (List Item))
-    → Vec D Global → Vec D Global → Outputs W S → Outputs W S → JobSelection → Result ConsoleRun ConsoleFault → Type 0
-DeliversInto known shows contents has earlier later before after asked result =
-    Delivers known (map shows earlier.items) (map shows later.items) (contents before.writer) (contents after.writer) (in_sink has before) (in_sink has after)
-    asked.history.now asked.request.now result
+abbrev pub DeliversInto : Option (List ℕ) → Change → JobSelection → Result ConsoleRun ConsoleFault → Type 0
+DeliversInto known seen asked result =
+    Delivers known seen.old.told seen.new.told seen.old.written seen.new.written seen.old.has seen.new.has asked.history.now asked.request.now result
 
 -- the run is that of the history, the request and the lines over all volumes that each of the drives may be taken to show
-abbrev pub RunsInto : {D W S : Type 0} → Option (List ℕ) → (D → Option (List Volume)) → (W → Option (List ℕ))
-    → Vec D Global → Vec D Global → Outputs W S → Outputs W S → JobSelection → Result ConsoleRun ConsoleFault → Type 0
-RunsInto known shows contents earlier later before after asked result =
-    RunsOver known (map shows earlier.items) (map shows later.items) (contents before.writer) (contents after.writer) asked.history.now asked.request.now result
+abbrev pub RunsInto : Option (List ℕ) → Change → JobSelection → Result ConsoleRun ConsoleFault → Type 0
+RunsInto known seen asked result =
+    RunsOver known seen.old.told seen.new.told seen.old.written seen.new.written asked.history.now asked.request.now result
 
 -- what is written, whatever the drives do
-abbrev pub TellsInto : {W S : Type 0} → Option (List ℕ) → (W → Option (List ℕ)) → Outputs W S → Outputs W S → JobSelection → Result ConsoleRun ConsoleFault → Type 0
-TellsInto known contents before after asked result =
-    TellsOver known (contents before.writer) (contents after.writer) asked.history.now asked.request.now result
+abbrev pub TellsInto : Option (List ℕ) → Option (List ℕ) → Option (List ℕ) → JobSelection → Result ConsoleRun ConsoleFault → Type 0
+TellsInto known before after asked result = TellsOver known before after asked.history.now asked.request.now result
 
 -- all that comes before a drive is asked
 abbrev pub BeginsInto : Option (List ℕ) → Option (List ℕ) → Option (List ℕ) → JobSelection → Result (Lines × Option Plan) ConsoleFault → Type 0
@@ -74,6 +67,6 @@ EndsByFailure earlier later (Done end) = StopsByFailure earlier later end
 EndsByFailure earlier later Quit = ⊤
 
 -- a stop by 80 was counted as a failure of the sink
-abbrev pub RunStopIsCounted : {W S : Type 0} → (S → ℕ) → Outputs W S → Outputs W S → Result ConsoleRun ConsoleFault → Type 0
+abbrev pub RunStopIsCounted : {D S : Type 0} → (S → ℕ) → Restore D S → Restore D S → Result ConsoleRun ConsoleFault → Type 0
 RunStopIsCounted failures before after result =
-    IfOk result (λ run. EndsByFailure (sink_failures failures before) (sink_failures failures after) run.end)
+    IfOk result (λ run. EndsByFailure (option_map failures before.sink) (option_map failures after.sink) run.end)

@@ -8,9 +8,9 @@ use Rattle.br_volume.specs.Drive.{OnlyGrows}
 use Rattle.br_engine.specs.Restoring.{Told}
 use Rattle.br_engine.specs.Extracting.{OverVolumes}
 use Rattle.br_engine.specs.Delivering.{Delivers}
-use Rattle.br_engine.specs.declared.outputs.RestoreEnd.{RestoreEnd}
+use Rattle.br_engine.specs.declared.restore_end.RestoreEnd.{RestoreEnd}
 use Rattle.br_engine.specs.declared.fault.ExtractFault.{ExtractFault}
-use Rattle.br_console.specs.declared.driven_store.NamedBootstrap.{NamedBootstrap}
+use Rattle.br_console.specs.declared.driven_store.DrivenRestore.{DrivenRestore}
 
 -- the volumes of drives that tell them
 abbrev pub some_shown : List (List Volume) → Told
@@ -27,13 +27,14 @@ pub record IsRestored (volumes : Option (List Volume)) (count : ℕ) (groups : L
   pub grow : AllZip OnlyGrows earlier later
   pub delivers : Delivers (λ holds. OverVolumes earlier later groups names holds) before after None None result
 
--- the same of the bootstrap and the names that are wanted
-abbrev pub RestoresWanted : Option (List Volume) → ℕ → NamedBootstrap → Option (List ℕ) → Option (List ℕ) → Result RestoreEnd ExtractFault → Type 0
-RestoresWanted volumes count wanted before after result =
-    IsRestored volumes count wanted.bootstrap.now (option_map planned_in wanted.names) before after result
+-- the same of what is wanted
+abbrev pub RestoresWanted : Option (List Volume) → DrivenRestore → Option (List ℕ) → Option (List ℕ) → Result RestoreEnd ExtractFault → Type 0
+RestoresWanted volumes wanted before after result =
+    IsRestored volumes wanted.drives wanted.bootstrap.now (option_map planned_in wanted.names) before after result
 
--- The manifest of what is wanted was written, or there is why not, over all volumes that these drives may be taken to show.
-abbrev pub DeliversWanted : List (List Volume) → List (List Volume) → NamedBootstrap → Option (List ℕ) → Option (List ℕ) → Result RestoreEnd ExtractFault → Type 0
-DeliversWanted earlier later wanted before after result =
-    Delivers (λ holds. OverVolumes (some_shown earlier) (some_shown later) wanted.bootstrap.now (option_map planned_in wanted.names) holds)
-    before after None None result
+-- The manifest of what is wanted was written, or there is why not, over all volumes that some drives may be taken to show. They tell these
+-- volumes at first, which only grow.
+pub record RestoredBy (earlier : Told) (wanted : DrivenRestore) (before after : Option (List ℕ)) (result : Result RestoreEnd ExtractFault) : Type 0 where
+  pub later : Told
+  pub grow : AllZip OnlyGrows earlier later
+  pub delivers : Delivers (λ holds. OverVolumes earlier later wanted.bootstrap.now (option_map planned_in wanted.names) holds) before after None None result

@@ -19,7 +19,7 @@ use Rattle.br_mark.specs.Seen.{Situation}
 use Rattle.br_engine.specs.Restoring.{Told, AllStand, restored_files}
 use Rattle.br_engine.specs.Outputs.{EndTells, InSink, are_files}
 use Rattle.br_engine.specs.Delivering.{EndsWith}
-use Rattle.br_engine.specs.declared.outputs.RestoreEnd.{RestoreEnd}
+use Rattle.br_engine.specs.declared.restore_end.RestoreEnd.{RestoreEnd}
 use Rattle.br_engine.specs.declared.fault.ExtractFault.{ExtractFault}
 use Rattle.br_engine.specs.declared.fault.ExtractFault.TheVariants as extract
 use Rattle.br_console.specs.ConsoleFault.{IsFree, Refusal, OfPlan, OfPiece, cause, fault_number}

@@ -8,8 +8,8 @@ use Rattle.br_model.specs.Plan.{Plan}
 use Rattle.br_engine.specs.Fault as extract
 use Rattle.br_engine.specs.declared.fault.ExtractFault.{ExtractFault}
 use Rattle.br_engine.specs.declared.fault.ExtractFault.TheVariants as of_extract
-use Rattle.br_engine.specs.declared.outputs.RestoreEnd.{RestoreEnd}
-use Rattle.br_engine.specs.declared.outputs.RestoreEnd.TheVariants.{AllFiles, SomeFaults, Stopped}
+use Rattle.br_engine.specs.declared.restore_end.RestoreEnd.{RestoreEnd}
+use Rattle.br_engine.specs.declared.restore_end.RestoreEnd.TheVariants.{AllFiles, SomeFaults, Stopped}
 use Rattle.br_console.specs.ConsoleFault as dialogue
 use Rattle.br_console.specs.declared.console_fault.ConsoleFault.{ConsoleFault}
 use Rattle.br_console.specs.declared.console_fault.ConsoleFault.TheVariants as of_dialogue

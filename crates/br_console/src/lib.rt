@@ -33,7 +33,7 @@ mod talking;
 
 pub use console_fault::ConsoleFault;
 pub use drive_count::{DriveCount, drives_over};
-pub use driven_store::{DrivenStore, NamedBootstrap};
+pub use driven_store::{DrivenRestore, DrivenStore, restore_by};
 pub use ending::{ConsoleRun, End, Lines, Session, SessionEnd};
 pub use forgetful::Forgetful;
 pub use running::{JobSelection, prepare, run_console};

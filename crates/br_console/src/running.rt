@@ -3,7 +3,7 @@ ghost use Rattle.br_model.specs.Answer.{Answers};
 ghost use Rattle.br_plan.specs.Fault.{cause};
 ghost use Rattle.br_pool.specs.Pool.{AreDrives, OnlyIfAllFail, StayInPlace};
 ghost use Rattle.br_engine.specs.Fault.{IsNoLine};
-ghost use Rattle.br_engine.specs.Delivering.{CountsFailures};
+ghost use Rattle.br_engine.specs.Restores.{CountsFailures, change};
 ghost use Rattle.br_console.specs.ConsoleFault.{EndlessAfterAll, IsNoPiece};
 ghost use Rattle.br_console.specs.Running.{BecomesFault, IsNoDriveLeft, WritesPlan, opening};
 ghost use Rattle.br_console.specs.Delivering.{BeginsInto, DeliversInto, RunStopIsCounted, RunsInto, TellsInto};
@@ -14,7 +14,7 @@ use crate::ending::{ConsoleRun, End, Lines, SessionEnd};
 use crate::talking::converse;
 use br_bsr::write_bootstrap;
 use br_choose::choose;
-use br_engine::{Budget, ExtractFault, Flush, Outputs, restore_into, show};
+use br_engine::{ExtractFault, Flush, Restore, RestoreOrder, show};
 use br_history::History;
 use br_mark::Console;
 use br_plan::{Plan, PlanFault, Request};
@@ -123,9 +123,9 @@ fn console_fault(fault: ExtractFault) -> ConsoleFault
 /// `converse`, from a console at `/` without marks.
 ///
 /// If the session ended by `done`, the plan for the marked paths is made and its bootstrap written and
-/// flushed before a drive is asked. The planned files are then restored under their names as
-/// `restore_into`: their manifest is written and flushed, and they are delivered into the sink, if there
-/// is one. If the session ended by `quit` or at the end of input, nothing follows.
+/// flushed before a drive is asked. The planned files are then restored under their names: their manifest is
+/// written and flushed, and they are delivered into the sink, if there is one. If the session ended by `quit`
+/// or at the end of input, nothing follows.
 ///
 /// # Errors
 ///
@@ -138,26 +138,25 @@ fn console_fault(fault: ExtractFault) -> ConsoleFault
 /// After an error nothing is put into the sink.
 pub fn run_console<R: BufRead + Drop, D: Drive + Send, W: Flush, S: Sink>(
     rt: &(impl Threads + Wait + Sync),
-    budget: Budget,
+    restore: &mut Restore<D, S>,
     asked: &JobSelection<'_>,
     reader: &mut R,
-    drives: &mut Vec<D>,
-    out: &mut Outputs<W, S>,
+    writer: &mut W,
 ) -> Result<ConsoleRun, ConsoleFault>
-    requires drives { AreDrives drives.old.items }
-    requires shown { W.is_flushed out.old.writer }
-    ensures delivers { DeliversInto (R.remaining reader.old) D.shows W.contents S.has drives.old drives.new out.old out.new asked.now result }
-    ensures runs { RunsInto (R.remaining reader.old) D.shows W.contents drives.old drives.new out.old out.new asked.now result }
-    ensures tells { TellsInto (R.remaining reader.old) W.contents out.old out.new asked.now result }
-    ensures flushed { OnOk result (W.is_flushed out.new.writer) }
+    requires drives { AreDrives restore.old.drives.items }
+    requires shown { W.is_flushed writer.old }
+    ensures delivers { DeliversInto (R.remaining reader.old) (change D.Drive W.Write S.Sink (restore.old, writer.old) (restore.new, writer.new)) asked.now result }
+    ensures runs { RunsInto (R.remaining reader.old) (change D.Drive W.Write S.Sink (restore.old, writer.old) (restore.new, writer.new)) asked.now result }
+    ensures tells { TellsInto (R.remaining reader.old) (W.contents writer.old) (W.contents writer.new) asked.now result }
+    ensures flushed { OnOk result (W.is_flushed writer.new) }
     ensures endless { IfErr result EndlessAfterAll }
-    ensures untouched { IfUnchosen asked.now ((reader.new ≡ reader.old) × (drives.new ≡ drives.old) × (out.new ≡ out.old)) }
-    ensures places { StayInPlace D.shows D.failures drives.old.items drives.new.items }
-    ensures failed { OnlyIfAllFail D.failures drives.old.items drives.new.items IsNoDriveLeft result }
-    ensures sink_counted { CountsFailures S.failures out.old out.new }
-    ensures sink_failed { RunStopIsCounted S.failures out.old out.new result }
+    ensures untouched { IfUnchosen asked.now ((reader.new ≡ reader.old) × (restore.new ≡ restore.old) × (writer.new ≡ writer.old)) }
+    ensures places { StayInPlace D.shows D.failures restore.old.drives.items restore.new.drives.items }
+    ensures failed { OnlyIfAllFail D.failures restore.old.drives.items restore.new.drives.items IsNoDriveLeft result }
+    ensures sink_counted { CountsFailures S.failures restore.old restore.new }
+    ensures sink_failed { RunStopIsCounted S.failures restore.old restore.new result }
 {
-    let (lines, plan) = prepare(budget.alloc, asked, reader, &mut out.writer)?;
+    let (lines, plan) = prepare(restore.budget.alloc, asked, reader, writer)?;
     let Some(plan) = plan else {
         return Ok(ConsoleRun {
             lines,
@@ -165,10 +164,11 @@ pub fn run_console<R: BufRead + Drop, D: Drive + Send, W: Flush, S: Sink>(
         });
     };
     let (bootstrap, names) = plan.into_parts();
-    match restore_into(rt, budget, &bootstrap, Some(names), drives, out) {
-        Ok(end) => Ok(ConsoleRun {
+    let order = RestoreOrder::plain(&bootstrap, Some(names));
+    match restore.run(rt, order, writer) {
+        Ok(done) => Ok(ConsoleRun {
             lines,
-            end: End::Done(end),
+            end: End::Done(done.end),
         }),
         Err(fault) => Err(console_fault(fault)),
     }

@@ -7,7 +7,7 @@ ghost use Rattle.br_console.specs.ScriptKeeper.{IsOwn, SeesMore};
 ghost use Rattle.br_console.specs.ScriptEnding.{EndsDialogueBy, RefusesBy, RestoresPlan, RunsKeptBy};
 
 use crate::console_fault::ConsoleFault;
-use crate::driven_store::{DrivenStore, NamedBootstrap};
+use crate::driven_store::{DrivenRestore, DrivenStore};
 use crate::ending::Lines as Judged;
 use crate::restore_line::read_request;
 use crate::running::{JobSelection, prepare};
@@ -155,12 +155,13 @@ impl<C: JobStore, V: DrivenStore> Script<C, V> {
         let Some(bootstrap) = &self.kept else {
             return Ok(self.refuse_line(BAD_SCRIPT, line, writer)?);
         };
-        let wanted = NamedBootstrap {
+        let wanted = DrivenRestore {
+            drives: self.drives,
             bootstrap,
             names: None,
         };
         let volumes = self.desk.keeper.volumes();
-        let result = volumes.restore(rt, self.budget(), self.drives, wanted, writer);
+        let result = volumes.restore(rt, self.budget(), wanted, writer);
         self.end_restore(result, writer)
     }
 
@@ -176,12 +177,13 @@ impl<C: JobStore, V: DrivenStore> Script<C, V> {
         ensures restores { RestoresPlan V.holds self.old self.new (W.contents writer.old) (W.contents writer.new) result plan }
     {
         let (bootstrap, names) = plan.into_parts();
-        let wanted = NamedBootstrap {
+        let wanted = DrivenRestore {
+            drives: self.drives,
             bootstrap: &bootstrap,
             names: Some(names),
         };
         let volumes = self.desk.keeper.volumes();
-        let result = volumes.restore(rt, self.budget(), self.drives, wanted, writer);
+        let result = volumes.restore(rt, self.budget(), wanted, writer);
         self.end_restore(result, writer)
     }
 

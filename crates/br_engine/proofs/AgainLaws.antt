@@ -1,11 +1,9 @@
 -- What drives read again over all volumes that they may be taken to show.
 use Rattle.std.proofs.Common.{◌≡◌, ◌<◌, ◌≤◌, ℕ, zero, suc, List, [], ◌∷◌, map, take, drop, Option, Some, None, Result, Ok, Err, refl, ap, sym, subst, ◌∙◌, inl, inr, arith}
 use Rattle.std.specs.Prelude.{IfErr, IfOk, option_map}
-use Rattle.std.specs.Io.KnownBytes.{Appends}
 use Rattle.std.proofs.KnownBytes.{Keeps-refl}
 use Rattle.std.specs.List.{AllByRecursion, AllZip}
 use Rattle.br_model.specs.Bootstrap.{Group}
-use Rattle.br_model.specs.Manifest.{manifest}
 use Rattle.br_model.specs.Meaning.{Hit, Hits, Piece, hits_of, meaning, pieces_of}
 use Rattle.br_model.specs.Name.{FileKey}
 use Rattle.br_model.specs.Restored.{HitList, Names, Planned, Restored, files, files_listed, planned_in}
@@ -32,20 +30,16 @@ use Rattle.br_reread_files.specs.Gathered.{Gathered}
 use Rattle.br_reread_parts.specs.Given.{GivesHit, GivesHits}
 use Rattle.br_reread_files.proofs.AgainLaws.{all_made}
 use Rattle.br_reread_files.proofs.MeantLaws.{ShowsThem, meant_given}
-use Rattle.br_engine.specs.DeliveredAgain.{CanGive, CanMake, CanReread, EndsLike, GivesAgain, MadeOver, MakesOver}
-use Rattle.br_engine.specs.Delivering.{Delivers}
+use Rattle.br_engine.specs.DeliveredAgain.{CanGive, CanMake, CanReread, GivesAgain, MadeOver, MakesOver}
 use Rattle.br_engine.specs.Extracting.{GivesOver, OverVolumes, WritesNothing}
 use Rattle.br_engine.specs.Fault.{IsNoDriveLeft, IsUnmade, OfAgain, fault_number}
-use Rattle.br_engine.specs.Outputs.{InSink}
 use Rattle.br_engine.specs.Restoring.{AllStand, JoinsOver, Told}
 use Rattle.br_engine.specs.declared.fault.ExtractFault.{ExtractFault}
 use Rattle.br_engine.specs.declared.fault.ExtractFault.TheVariants as fault
-use Rattle.br_engine.specs.declared.outputs.RestoreEnd.{RestoreEnd}
 use Rattle.br_engine.specs.declared.made.Made.{Made}
 use Rattle.br_engine.proofs.DeliverLaws.{free_is_no_drive}
 use Rattle.br_engine.proofs.ExtractLaws.{gives_files}
 use Rattle.br_engine.proofs.JoinLaws.{files_of_hits}
-use Rattle.br_engine.proofs.LikeLaws.{same_manifest}
 
 -- ---- volumes that drives may be taken to show
 
@@ -250,20 +244,7 @@ make_window stays a b g place n os window on is can = (
       (all_taken (IsMadeOf g.hits) restored n (drop place os) (all_dropped (IsMadeOf g.hits) restored place os can.1)),
 )
 
--- ---- what is delivered
-
-pub delivers_like : (earlier later : Told) (groups : List Group) (names : Option (List Planned)) (before after : Option (List ℕ)) (had has : InSink) (os : List Restored) (end : RestoreEnd)
-    (given : Type 0) → OverVolumes earlier later groups names (λ expected. expected ≡ Ok os) → ((volumes : List Volume) → AllStand earlier later (pieces_of groups) volumes → given)
-    → Appends before after (manifest os) → EndsLike given had has os end
-    → Delivers (λ holds. OverVolumes earlier later groups names holds) before after had has (Ok end)
-delivers_like earlier later groups names before after had has os end given made can written like = (
-  like.rs,
-  (
-    λ volumes stands. made volumes stands ∙ ap Ok (sym (like.same (can volumes stands))),
-    subst (Appends before after) (sym (same_manifest like.rs os like.like)) written,
-  ),
-  like.ends,
-)
+-- ---- from call to call
 
 -- each drive stays in its place from one call to the next
 pub stay_on : {D : Type 0} (shows : D → Option (List Volume)) (failures : D → ℕ) (xs ys zs : List D)

@@ -11,8 +11,8 @@ use Rattle.br_sink.specs.Sink.{HasMore}
 use Rattle.br_engine.specs.DeliveredAgain.{DeliversAll, EndsLike, PutsLike}
 use Rattle.br_engine.specs.Delivering.{EndsWith, items_of}
 use Rattle.br_engine.specs.Outputs.{InSink, end_of_files}
-use Rattle.br_engine.specs.declared.outputs.RestoreEnd.{RestoreEnd}
-use Rattle.br_engine.specs.declared.outputs.RestoreEnd.TheVariants.{AllFiles, SomeFaults, Stopped}
+use Rattle.br_engine.specs.declared.restore_end.RestoreEnd.{RestoreEnd}
+use Rattle.br_engine.specs.declared.restore_end.RestoreEnd.TheVariants.{AllFiles, SomeFaults, Stopped}
 use Rattle.br_engine.proofs.DeliverLaws.{ends_whole}
 use Rattle.br_engine.proofs.StopLaws.{length_taken, take_whole}
 use Rattle.br_engine.proofs.LikeLaws.{all_themselves, like_length, same_delivery, same_files, same_stop, same_totals, with_items, with_like, with_put, with_same}

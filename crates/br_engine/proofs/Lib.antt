@@ -8,6 +8,6 @@ pub mod AgainLaws
 pub mod StopLaws
 mod FlagLaws
 mod BackLaws
-pub mod WantedLaws
+pub mod RestoreLaws
 pub mod KeptLaws
 pub mod OlderLaws

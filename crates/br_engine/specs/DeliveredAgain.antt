@@ -36,7 +36,7 @@ use Rattle.br_engine.specs.declared.delivered_again.Window.{Window}
 use Rattle.br_engine.specs.declared.delivered_again.Window.TheVariants.{Alone, Two, Together}
 use Rattle.br_engine.specs.declared.fault.ExtractFault.{ExtractFault}
 use Rattle.br_engine.specs.declared.made.Made.{Made}
-use Rattle.br_engine.specs.declared.outputs.RestoreEnd.{RestoreEnd}
+use Rattle.br_engine.specs.declared.restore_end.RestoreEnd.{RestoreEnd}
 
 -- ---- what files are made of
 

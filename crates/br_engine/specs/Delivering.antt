@@ -1,11 +1,11 @@
 -- A whole restore: the manifest of the files, and after it these files put into a sink, if there is one.
-use Rattle.std.specs.Prelude.{◌≡◌, ℕ, List, map, take, filter_map, Option, Some, None, option_map, Result, Ok, Err, IfOk, IfErr, ⊤}
+use Rattle.std.specs.Prelude.{◌≡◌, ℕ, List, map, take, filter_map, Option, Some, None, Result, Ok, Err, ⊤}
 use Rattle.std.specs.Io.KnownBytes.{Appends}
 use Rattle.br_model.specs.Answer.{IsRefusal}
 use Rattle.br_model.specs.Bootstrap.{Group}
 use Rattle.br_model.specs.File.{Item}
 use Rattle.br_model.specs.Volume.{Volume}
-use Rattle.br_model.specs.Restored.{Names, Restored, planned_in}
+use Rattle.br_model.specs.Restored.{Restored}
 use Rattle.br_model.specs.Manifest.{manifest, totals_of}
 use Rattle.br_model.specs.Delivery.{Stop, delivery, item_of}
 use Rattle.br_sink.specs.Delivery.{IsStopIn, stop_cause}
@@ -13,9 +13,8 @@ use Rattle.br_sink.specs.Sink.{HasMore}
 use Rattle.br_engine.specs.Fault.{cause}
 use Rattle.br_engine.specs.Outputs.{EndTells, InSink, SinkCounts, StopsByFailure}
 use Rattle.br_engine.specs.Extracting.{OverText, OverVolumes, Extracts, Said, WritesNothing}
-use Rattle.br_engine.specs.declared.outputs.Outputs.{Outputs}
-use Rattle.br_engine.specs.declared.outputs.RestoreEnd.{RestoreEnd}
-use Rattle.br_engine.specs.declared.outputs.RestoreEnd.TheVariants.{AllFiles, SomeFaults, Stopped}
+use Rattle.br_engine.specs.declared.restore_end.RestoreEnd.{RestoreEnd}
+use Rattle.br_engine.specs.declared.restore_end.RestoreEnd.TheVariants.{AllFiles, SomeFaults, Stopped}
 use Rattle.br_engine.specs.declared.fault.ExtractFault.{ExtractFault}
 
 -- the files of a restore without its faults
@@ -59,58 +58,3 @@ IsRefused over before after had has fault = over (λ expected. IsRefusal (cause 
 abbrev pub Delivers : (Said → Type 0) → Option (List ℕ) → Option (List ℕ) → InSink → InSink → Result RestoreEnd ExtractFault → Type 0
 Delivers over before after had has (Ok end) = (rs : List Restored) × IsWritten over before after rs × EndsWith had has rs end
 Delivers over before after had has (Err fault) = IsRefused over before after had has fault
-
--- ---- as the contracts of restores state it, over what drives, writer and sink show before and after
-
--- what the sink has, if there is one
-abbrev pub in_sink : {W S : Type 0} → (S → Option (List Item)) → Outputs W S → InSink
-in_sink has outputs = option_map has outputs.sink
-
--- the number of failures of the sink, if there is one
-abbrev pub sink_failures : {W S : Type 0} → (S → ℕ) → Outputs W S → Option ℕ
-sink_failures failures outputs = option_map failures outputs.sink
-
--- a restore of what a bootstrap gives, of the files that are named if there are names
-abbrev pub DeliversOver : {D W S : Type 0} → (D → Option (List Volume)) → (W → Option (List ℕ)) → (S → Option (List Item))
-    → List D → List D → Outputs W S → Outputs W S → List Group → Option Names → Result RestoreEnd ExtractFault → Type 0
-DeliversOver shows contents has earlier later before after groups names result =
-    Delivers (λ holds. OverVolumes (map shows earlier) (map shows later) groups (option_map planned_in names) holds)
-    (contents before.writer) (contents after.writer) (in_sink has before) (in_sink has after) result
-
--- the same without a sink
-abbrev pub WritesOver : {D W : Type 0} → (D → Option (List Volume)) → (W → Option (List ℕ)) → List D → List D → W → W
-    → List Group → Option Names → Result RestoreEnd ExtractFault → Type 0
-WritesOver shows contents earlier later before after groups names result =
-    Delivers (λ holds. OverVolumes (map shows earlier) (map shows later) groups (option_map planned_in names) holds)
-    (contents before) (contents after) None None result
-
--- a restore of what the bootstrap of a text gives, if the text is known
-abbrev pub DeliversText : {D W S : Type 0} → (D → Option (List Volume)) → (W → Option (List ℕ)) → (S → Option (List Item))
-    → List D → List D → Outputs W S → Outputs W S → Option (List ℕ) → Result RestoreEnd ExtractFault → Type 0
-DeliversText shows contents has earlier later before after known result =
-    Delivers (λ holds. OverText known (map shows earlier) (map shows later) holds)
-    (contents before.writer) (contents after.writer) (in_sink has before) (in_sink has after) result
-
--- over all volumes that the drives may be taken to show, the manifest is that of the files that a bootstrap gives
-abbrev pub ExtractsOver : {D W S : Type 0} → (D → Option (List Volume)) → (W → Option (List ℕ))
-    → List D → List D → Outputs W S → Outputs W S → List Group → Result RestoreEnd ExtractFault → Type 0
-ExtractsOver shows contents earlier later before after groups result =
-    OverVolumes (map shows earlier) (map shows later) groups None (Extracts (contents before.writer) (contents after.writer) result)
-
--- the same of the files that the bootstrap of a text gives
-abbrev pub RunsOver : {D W S : Type 0} → (D → Option (List Volume)) → (W → Option (List ℕ))
-    → List D → List D → Outputs W S → Outputs W S → Option (List ℕ) → Result RestoreEnd ExtractFault → Type 0
-RunsOver shows contents earlier later before after known result =
-    OverText known (map shows earlier) (map shows later) (Extracts (contents before.writer) (contents after.writer) result)
-
--- nothing was written if the restore was refused, unless reading or writing failed
-abbrev pub RefusalWritesNothing : {W S A : Type 0} → (W → Option (List ℕ)) → Outputs W S → Outputs W S → Result A ExtractFault → Type 0
-RefusalWritesNothing contents before after result = IfErr result (WritesNothing (contents before.writer) (contents after.writer))
-
--- the failures of the sink were counted
-abbrev pub CountsFailures : {W S : Type 0} → (S → ℕ) → Outputs W S → Outputs W S → Type 0
-CountsFailures failures before after = SinkCounts (sink_failures failures before) (sink_failures failures after)
-
--- a stop by 80 was counted as a failure of the sink
-abbrev pub StopIsCounted : {W S : Type 0} → (S → ℕ) → Outputs W S → Outputs W S → Result RestoreEnd ExtractFault → Type 0
-StopIsCounted failures before after result = IfOk result (StopsByFailure (sink_failures failures before) (sink_failures failures after))

@@ -1,18 +1,15 @@
--- From the text of a bootstrap and volumes to the files, and to their manifest at the end of what a writer held.
+-- From the text of a bootstrap and volumes to the files.
 use Rattle.std.specs.Prelude.{◌≡◌, ℕ, List, map, Option, Some, None, Result, Ok, Err, ⊤}
-use Rattle.std.specs.Io.KnownBytes.{Appends, Keeps}
-use Rattle.br_model.specs.Answer.{◌>>=◌, refused_as, Answers, IsRefusal}
+use Rattle.std.specs.Io.KnownBytes.{Keeps}
+use Rattle.br_model.specs.Answer.{◌>>=◌, refused_as, Answers}
 use Rattle.br_model.specs.Volume.{Volume}
 use Rattle.br_model.specs.Bootstrap.{Group}
 use Rattle.br_model.specs.BootstrapText.{read_bootstrap}
 use Rattle.br_model.specs.Meaning.{pieces_of}
 use Rattle.br_model.specs.Restored.{Planned, Restored}
-use Rattle.br_model.specs.Manifest.{manifest}
 use Rattle.br_join.specs.Outcome.{restored}
 use Rattle.br_engine.specs.Fault.{Refusal, OfLine, OfPiece, cause}
 use Rattle.br_engine.specs.Restoring.{Told, AllStand, Outcomes, restored_files}
-use Rattle.br_engine.specs.Outputs.{EndTells}
-use Rattle.br_engine.specs.declared.outputs.RestoreEnd.{RestoreEnd}
 use Rattle.br_engine.specs.declared.fault.ExtractFault.{ExtractFault}
 use Rattle.br_engine.specs.declared.fault.ExtractFault.TheVariants.{Memory, Bootstrap, Piece, Io, NoEnd}
 
@@ -43,13 +40,7 @@ abbrev pub OverText : Option (List ℕ) → Told → Told → Said → Type 0
 OverText (Some text) earlier later holds = (volumes : List Volume) → AllStandForText earlier later text volumes → holds (extracted text volumes)
 OverText None earlier later holds = ⊤
 
--- ---- their manifest
-
--- The files are the expected ones, their manifest was appended to what the writer held, and the end says if each outcome is a file; or
--- the refusal is the expected one.
-abbrev pub Extracts : Option (List ℕ) → Option (List ℕ) → Result RestoreEnd ExtractFault → Result (List Restored) Refusal → Type 0
-Extracts before after (Ok end) expected = (rs : List Restored) × (expected ≡ Ok rs) × EndTells end rs × Appends before after (manifest rs)
-Extracts before after (Err fault) expected = IsRefusal (cause fault) expected
+-- ---- what a refusal leaves
 
 -- nothing was written, unless reading or writing failed
 abbrev pub WritesNothing : Option (List ℕ) → Option (List ℕ) → ExtractFault → Type 0

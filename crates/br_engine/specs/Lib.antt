@@ -6,6 +6,6 @@ pub mod Extracting
 pub mod Delivering
 pub mod DeliveredAgain
 pub mod WantedOutcomes
-pub mod WantedRestore
+pub mod Restores
 pub mod NewestFlags
 pub mod OlderCounts

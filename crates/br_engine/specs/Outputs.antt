@@ -4,8 +4,8 @@ use Rattle.std.specs.List.{list_all}
 use Rattle.br_model.specs.Text.{refused_line}
 use Rattle.br_model.specs.File.{Item}
 use Rattle.br_model.specs.Restored.{Restored}
-use Rattle.br_engine.specs.declared.outputs.RestoreEnd.{RestoreEnd}
-use Rattle.br_engine.specs.declared.outputs.RestoreEnd.TheVariants.{AllFiles, SomeFaults, Stopped}
+use Rattle.br_engine.specs.declared.restore_end.RestoreEnd.{RestoreEnd}
+use Rattle.br_engine.specs.declared.restore_end.RestoreEnd.TheVariants.{AllFiles, SomeFaults, Stopped}
 
 -- the line of a delivery that stopped
 abbrev pub end_text : RestoreEnd → List ℕ

@@ -47,10 +47,6 @@ RestoredOver earlier later groups names result =
     (volumes : List Volume) → AllStand earlier later (pieces_of groups) volumes
     → Answers (λ (os : Outcomes). map restored os.items) cause result (restored_files groups names volumes)
 
--- the same, as the contract of a restore states it
-abbrev pub RestoresOver : {D : Type 0} → (D → Option (List Volume)) → List D → List D → List Group → Option Names → Result Outcomes PoolFault → Type 0
-RestoresOver shows before after groups names result = RestoredOver (map shows before) (map shows after) groups (option_map planned_in names) result
-
 -- over all volumes that each of the drives may be taken to show, a joiner has the hits of the bootstrap, or the refusal is the first fault
 abbrev pub JoinsOver : {D : Type 0} → (D → Option (List Volume)) → List D → List D → List Group → Result Joining PoolFault → Type 0
 JoinsOver shows before after groups result =

@@ -9,7 +9,7 @@ use Rattle.br_types.specs.Newest.{newest}
 use Rattle.br_sink.specs.ConflictsApart.{apart, conflicts}
 use Rattle.br_bsr.specs.Counts as counted
 use Rattle.br_piece.specs.MissingLines.{report}
-use Rattle.br_engine.specs.declared.counted_bootstrap.CountedBootstrap.{CountedBootstrap}
+use Rattle.br_engine.specs.declared.restore_order.CountedBootstrap.{CountedBootstrap}
 use Rattle.br_types.specs.declared.wanted.Copies.{Copies}
 use Rattle.br_types.specs.declared.wanted.Copies.TheVariants.{All, Newest}
 use Rattle.br_types.specs.declared.wanted.Stops.{Stops}
@@ -17,6 +17,10 @@ use Rattle.br_types.specs.declared.wanted.Stops.TheVariants.{AtFirst, Never}
 use Rattle.br_types.specs.declared.wanted.Wanted.{Wanted}
 use Rattle.br_types.specs.declared.wanted.Gaps.{Gaps}
 use Rattle.br_types.specs.declared.wanted.Gaps.TheVariants.{Unreported, Reported}
+
+-- what is wanted of a plain restore: all copies, no report, and a delivery that stops at the first file that can't be put
+abbrev pub plain : Wanted
+plain = record { copies = All; gaps = Unreported; stops = AtFirst }
 
 -- the outcomes of the wanted copies: all, or those of which no newer copy is among them
 abbrev pub of_copies : Copies → List Restored → List Restored
@@ -50,10 +54,6 @@ reported Reported groups counts rs = report groups counts (map (λ (r : Restored
 -- the same of what is asked for
 abbrev pub reported_for : Gaps → CountedBootstrap → List Restored → List ℕ
 reported_for gaps asked rs = reported gaps asked.bootstrap.now asked.counts.now rs
-
--- the same of the bootstrap of a text
-abbrev pub IsReport : Gaps → List ℕ → List Restored → List ℕ → Type 0
-IsReport gaps text rs lines = (groups : List Group) × (read_bootstrap text ≡ Ok groups) × (lines ≡ reported gaps groups (counted.counts text) rs)
 
 -- flags of what is delivered; without flags it is all
 abbrev pub Flags : Type 0

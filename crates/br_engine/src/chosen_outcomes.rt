@@ -6,8 +6,8 @@ ghost use Rattle.br_sink.specs.ConflictsApart.{apart, conflicts};
 ghost use Rattle.br_engine.specs.WantedOutcomes.{HaveFlags, conflicting, delivered, kept, left_by, left_out, of_copies, reported, reported_for};
 ghost use Rattle.br_types.specs.declared.wanted.Gaps.TheVariants.{Reported};
 
-use crate::counted_bootstrap::CountedBootstrap;
 use crate::newest_flags::{flags_of_newest, keep_flagged};
+use crate::restore_order::CountedBootstrap;
 use br_bsr::Group;
 use br_join::Outcome;
 use br_piece::report;

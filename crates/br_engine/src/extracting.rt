@@ -39,7 +39,7 @@ pub(crate) fn all_files(outcomes: &[(FileKey, Outcome)]) -> bool
 ///
 /// - `Memory` if memory ran out before the first part; then nothing is written.
 /// - `Io` if the writer failed, which may have taken a part of the manifest.
-pub fn write_manifest<W: Flush>(
+pub(crate) fn write_manifest<W: Flush>(
     alloc: Global,
     outcomes: &[(FileKey, Outcome)],
     writer: &mut W,

@@ -9,7 +9,7 @@ use crate::budget::Budget;
 use crate::delivered_again::{Source, deliver_again, len_of};
 use crate::delivering::{deliver_files, end_of};
 use crate::fault::ExtractFault;
-use crate::outputs::RestoreEnd;
+use crate::restore_end::RestoreEnd;
 use crate::restoring::{files_of, join_all};
 use br_bsr::{Bootstrap, Group};
 use br_data::{OverMany, hits_stand, standing_stays};
@@ -29,8 +29,8 @@ const LONG_LEN: u64 = 64 * 1024 * 1024;
 
 /// The files of a restore, each with its outcome, in order of their keys.
 #[derive(Drop)]
-pub struct Made {
-    pub outcomes: Vec<(FileKey, Outcome)>,
+pub(crate) struct Made {
+    pub(crate) outcomes: Vec<(FileKey, Outcome)>,
     /// What the files are made of once more, if their bytes are not in memory.
     gathered: Option<Gathered>,
     /// The number of bytes of the files that are made once more together.
@@ -92,7 +92,7 @@ fn made_of<D: Drive + Send>(
 /// - `Piece` and `Memory` as `restore`; `NoDriveLeft` also if each drive failed while data were read
 ///   again.
 /// - `Io` if a volume was changed while it was read.
-pub fn restore_within<D: Drive + Send>(
+pub(crate) fn restore_within<D: Drive + Send>(
     rt: &(impl Threads + Wait + Sync),
     budget: Budget,
     bootstrap: &Bootstrap,
@@ -169,7 +169,7 @@ fn deliver_from<D: Drive, S: Sink>(
 
 /// Delivers the files of a restore in their order, if there is a sink. Those that are not in memory are
 /// made once more, and compared with what was made before. Returns the end of the restore.
-pub fn deliver_made<D: Drive, S: Sink>(
+pub(crate) fn deliver_made<D: Drive, S: Sink>(
     rt: &(impl Threads + Sync),
     alloc: Global,
     made: &Made,

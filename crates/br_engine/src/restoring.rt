@@ -5,7 +5,7 @@ ghost use Rattle.br_join.specs.Outcome.{restored};
 ghost use Rattle.br_pool.specs.Fault.{IsDecided, IsNoDriveLeft};
 ghost use Rattle.br_pool.specs.Pool.{AreDrives, OnlyIfAllFail, StayInPlace};
 ghost use Rattle.br_pool.specs.declared.fault.PoolFault.TheVariants.{Memory};
-ghost use Rattle.br_engine.specs.Restoring.{JoinsOver, RestoresOver};
+ghost use Rattle.br_engine.specs.Restoring.{JoinsOver};
 
 use crate::budget::Budget;
 use br_bsr::Bootstrap;
@@ -72,37 +72,4 @@ pub(crate) fn join_all<D: Drive + Send>(
         Ok(()) => Ok(joiner),
         Err(fault) => Err(fault),
     }
-}
-
-/// Returns the files that a bootstrap selects, each with its outcome, in order of their keys.
-///
-/// With names these are the named files: one that was not hit is a fault (63), and so is one with
-/// another path (69). Without names each file that was hit is returned.
-///
-/// `drives` are 1 to 16 drives, each of which shows all volumes. A volume is read by one of them, and
-/// again by another if that one fails. Each drive works in a thread of its own. The hits of each block
-/// are joined while the drives read on, and the files are made in as many threads as there are
-/// processors. The result is that of one drive and one thread.
-///
-/// # Errors
-///
-/// - `Memory` if memory ran out.
-/// - `NoDriveLeft` if each drive failed before all volumes were read.
-/// - `Piece` for the first volume, in the order in which the bootstrap first names them, that can't be
-///   read: `UnknownVolume`, or `Truncated`, `BadId` or `BadBlockSize` at a block.
-pub fn restore<D: Drive + Send>(
-    rt: &(impl Threads + Wait + Sync),
-    alloc: Global,
-    bootstrap: &Bootstrap,
-    names: Option<Names>,
-    drives: &mut Vec<D>,
-) -> Result<Vec<(FileKey, Outcome)>, PoolFault>
-    requires drives { AreDrives drives.old.items }
-    ensures files { RestoresOver D.shows drives.old.items drives.new.items bootstrap.now names result }
-    ensures places { StayInPlace D.shows D.failures drives.old.items drives.new.items }
-    ensures decided { IfErr result IsDecided }
-    ensures failed { OnlyIfAllFail D.failures drives.old.items drives.new.items IsNoDriveLeft result }
-{
-    let mut joiner = join_all(rt, Budget::unbounded(alloc), bootstrap, names, drives)?;
-    files_of(rt, &mut joiner)
 }

@@ -1,6 +1,6 @@
 //! At which file a delivery stopped.
 
-use crate::outputs::RestoreEnd;
+use crate::restore_end::RestoreEnd;
 use br_join::Outcome;
 use br_sink::file_at;
 use br_types::{FileKey, Path};

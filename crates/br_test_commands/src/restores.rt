@@ -3,15 +3,11 @@ ghost use Rattle.std.specs.Prelude.{◌≡◌, true};
 ghost use Rattle.br_pool.specs.Pool.{AreDrives};
 
 use crate::streams::{Source, Target, push_target, shown, source_of, target_of};
-use br_bsr::read_bootstrap;
-use br_engine::{
-    Budget, ExtractFault, Outputs, RestoreEnd, deliver_files, extract, extract_text, restore,
-    run_extract, write_manifest,
-};
+use br_engine::{Budget, ExtractFault, Restore, RestoreEnd, run_extract};
 use br_sink::MemSink;
 use br_test_support::Case;
 use br_volume::MemDrive;
-use std::alloc::{AllocError, Global};
+use std::alloc::AllocError;
 use std::sync::Wait;
 use std::thread::Threads;
 
@@ -50,22 +46,19 @@ pub(crate) fn are_drives(drives: &[MemDrive]) -> bool
     !drives.is_empty() && drives.len() <= 16
 }
 
-/// Makes outputs into a stream, and into a sink that fails at this put (0 for none), or into none if
-/// the field is `-`.
-pub(crate) fn outputs_of(case: &mut Case, output: &str, sink: &str) -> Outputs<Target, MemSink> {
-    let writer = target_of(case, output);
-    let sink = if sink == "-" {
+/// Makes a sink that fails at this put (0 for none), or none if the field is `-`.
+pub(crate) fn sink_of(case: &mut Case, sink: &str) -> Option<MemSink> {
+    if sink == "-" {
         None
     } else {
         Some(MemSink::failing_at(case.alloc(), case.u64_of(sink)))
-    };
-    Outputs { writer, sink }
+    }
 }
 
 /// Prints what was written, and path and bytes of the files in the sink.
-pub(crate) fn push_outputs(case: &mut Case, out: &Outputs<Target, MemSink>) {
-    push_target(case, &out.writer);
-    match &out.sink {
+pub(crate) fn push_outputs(case: &mut Case, writer: &Target, sink: &Option<MemSink>) {
+    push_target(case, writer);
+    match sink {
         Some(sink) => {
             for item in sink.items() {
                 case.bytes(item.path.bytes());
@@ -78,74 +71,59 @@ pub(crate) fn push_outputs(case: &mut Case, out: &Outputs<Target, MemSink>) {
     }
 }
 
-/// Restores by a text: restores the files, and then writes and delivers them.
-fn in_steps(
-    threads: &(impl Threads + Wait + Sync),
-    alloc: Global,
-    text: &[u8],
-    drives: &mut Vec<MemDrive>,
-    out: &mut Outputs<Target, MemSink>,
-) -> Result<RestoreEnd, ExtractFault>
-    requires { AreDrives drives.old.items }
-{
-    let bootstrap = read_bootstrap(alloc, text)?;
-    let outcomes = restore(threads, alloc, &bootstrap, None, drives)?;
-    write_manifest(alloc, &outcomes, &mut out.writer)?;
-    Ok(deliver_files(threads, alloc, &outcomes, &mut out.sink))
-}
-
-/// Restores by the text that a stream gives, in one of the ways to give it.
+/// Restores by the text that a stream gives. Returns how that ends.
 fn restored(
     threads: &(impl Threads + Wait + Sync),
-    budget: Budget,
-    way: &str,
+    restore: &mut Restore<MemDrive, MemSink>,
     source: &mut Source<'_>,
-    drives: &mut Vec<MemDrive>,
-    out: &mut Outputs<Target, MemSink>,
+    writer: &mut Target,
 ) -> Result<RestoreEnd, ExtractFault>
-    requires { AreDrives drives.old.items }
+    requires { AreDrives restore.old.drives.items }
 {
-    let text = source.left;
-    match way {
-        "reader" => run_extract(threads, budget, source, drives, out),
-        "bootstrap" => {
-            let bootstrap = read_bootstrap(budget.alloc, text)?;
-            extract(threads, budget, &bootstrap, drives, out)
-        }
-        "steps" => in_steps(threads, budget.alloc, text, drives, out),
-        _ => extract_text(threads, budget, text, drives, out),
+    match run_extract(threads, restore, source, writer) {
+        Ok(done) => Ok(done.end),
+        Err(fault) => Err(fault),
     }
 }
 
-/// Restores over two drives with a volume V1 of the block. Prints how that ends.
+/// Restores over two drives with a volume V1 of the block. Prints how that ends, what is written, and the files in
+/// the sink.
 fn run_over(
     case: &mut Case,
     threads: &(impl Threads + Wait + Sync),
-    way: &str,
+    room: u64,
     source: &mut Source<'_>,
-    out: &mut Outputs<Target, MemSink>,
+    writer: &mut Target,
+    sink: Option<MemSink>,
 ) {
     let budget = Budget {
         alloc: case.alloc(),
-        room: if way == "tight" { 0 } else { u64::MAX },
+        room,
     };
-    let mut drives = drives_of(case, "V1:99;V1:99", BLOCK);
+    let drives = drives_of(case, "V1:99;V1:99", BLOCK);
     if are_drives(&drives) {
-        let end = restored(threads, budget, way, source, &mut drives, out);
+        let mut restore = Restore {
+            budget,
+            drives,
+            sink,
+        };
+        let end = restored(threads, &mut restore, source, writer);
         shown(case, &end);
+        push_outputs(case, writer, &restore.sink);
     }
 }
 
-/// Restores by a text, in one of the ways to give it, from one stream into another. Prints how that
-/// ends, what is written, and the files in the sink.
+/// Restores by a text that a stream gives, into another one and a sink, with room for all data or, if the way is
+/// `tight`, for none. Prints how that ends, what is written, and the files in the sink.
 pub(crate) fn run(case: &mut Case, threads: &(impl Threads + Wait + Sync), call: &[&str]) {
     match call {
         [way, input, output, sink, text] => {
             let text = case.text_of(text);
             let mut source = source_of(case, input, &text);
-            let mut out = outputs_of(case, output, sink);
-            run_over(case, threads, way, &mut source, &mut out);
-            push_outputs(case, &out);
+            let mut writer = target_of(case, output);
+            let sink = sink_of(case, sink);
+            let room = if *way == "tight" { 0 } else { u64::MAX };
+            run_over(case, threads, room, &mut source, &mut writer, sink);
         }
         _ => case.fail("there is no such call"),
     }

@@ -1,6 +1,7 @@
 //! What is told of a restore while it runs, what passes a writer that is watched, and why a file could not be
 //! written or read.
 use crate::refusal_rows::{self, number_of};
+use br_bsr::write_bootstrap;
 use br_cli_common::{reason_of_file, reason_of_folder, reason_of_new_file, reason_of_read};
 use br_cli_progress::{Faults, Gauge, Log, Standing, WatchedWriter, push_key, seconds_left};
 use br_test_support::Case;
@@ -70,7 +71,9 @@ fn push_passed(
     push_number(text, keys as u64)?;
     text.extend_from_slice(b"\n")?;
     push_keys(text, alloc, writer.faults())?;
-    text.extend_from_slice(writer.plan())?;
+    if let Some(plan) = writer.plan() {
+        text.extend_from_slice(&write_bootstrap(alloc, plan)?)?;
+    }
     Ok(())
 }
 

@@ -4,7 +4,7 @@ ghost use Rattle.br_pool.specs.Pool.{AreDrives};
 use crate::drives::{Turned, are_drives, drives_of};
 use crate::pools::push_line;
 use crate::shelf::Shelf;
-use br_engine::{Budget, ExtractFault, Outputs, RestoreEnd, extract_text};
+use br_engine::{Budget, ExtractFault, Extracted, Restore, RestoreEnd, run_extract};
 use br_fs::{Kind, MemMaker};
 use br_sink::{MemSink, Sink};
 use br_sink_folder::FolderSink;
@@ -20,21 +20,15 @@ const FOLDER: &str = "/into";
 const PATHS: [&str; 3] = ["/into/a", "/into/b", "/into/c"];
 
 /// Prints how a restore ended, or its refusal.
-fn push_end(case: &mut Case, end: &Result<RestoreEnd, ExtractFault>) {
+fn push_end(case: &mut Case, run: &Result<Extracted, ExtractFault>) {
     let mut line = Vec::new(case.alloc());
-    let done = match end {
-        Ok(end) => end.push_line(&mut line),
+    let done = match run {
+        Ok(done) => done.end.push_line(&mut line),
         Err(fault) => fault.push_line(&mut line),
     };
     case.done(done);
-    match end {
-        Ok(RestoreEnd::AllFiles) => case.text("AllFiles "),
-        Ok(RestoreEnd::SomeFaults) => case.text("SomeFaults "),
-        Ok(RestoreEnd::Stopped(stop)) => {
-            case.text("stopped after ");
-            case.number(stop.done());
-            case.text(" ");
-        }
+    match run {
+        Ok(done) => push_name(case, &done.end),
         Err(ExtractFault::Io(fault)) if fault.kind() == ErrorKind::InvalidData => {
             case.text("InvalidData ");
         }
@@ -43,31 +37,46 @@ fn push_end(case: &mut Case, end: &Result<RestoreEnd, ExtractFault>) {
     push_line(case, &line);
 }
 
+/// Prints what an end is called.
+fn push_name(case: &mut Case, end: &RestoreEnd) {
+    match end {
+        RestoreEnd::AllFiles => case.text("AllFiles "),
+        RestoreEnd::SomeFaults => case.text("SomeFaults "),
+        RestoreEnd::Stopped(stop) => {
+            case.text("stopped after ");
+            case.number(stop.done());
+            case.text(" ");
+        }
+    }
+}
+
 /// Restores by a bootstrap, with room for this number of bytes of data. Prints how that ends, and the manifest.
 fn run_into<S: Sink + Drop>(
     case: &mut Case,
     threads: &(impl Threads + Wait + Sync),
     shelf: &Shelf,
     task: (u64, &[u8]),
-    drives: &mut Vec<Turned>,
+    drives: Vec<Turned>,
     sink: Option<S>,
 ) -> Option<S>
-    requires { AreDrives drives.old.items }
+    requires { AreDrives drives.items }
 {
     let (room, text) = task;
-    let mut out = Outputs {
-        writer: Vec::new(case.alloc()),
-        sink,
-    };
     let budget = Budget {
         alloc: case.alloc(),
         room,
     };
-    let end = extract_text(threads, budget, text, drives, &mut out);
-    push_end(case, &end);
-    let Outputs { writer, sink } = out;
-    shelf.push_text(case, &writer);
-    sink
+    let mut restore = Restore {
+        budget,
+        drives,
+        sink,
+    };
+    let mut reader = text;
+    let mut manifest = Vec::new(case.alloc());
+    let run = run_extract(threads, &mut restore, &mut reader, &mut manifest);
+    push_end(case, &run);
+    shelf.push_text(case, &manifest);
+    restore.sink
 }
 
 /// Prints path and bytes of the files in memory.
@@ -108,10 +117,10 @@ fn restore(
     threads: &(impl Threads + Wait + Sync),
     shelf: &Shelf,
     task: (u64, &[u8]),
-    drives: &mut Vec<Turned>,
+    drives: Vec<Turned>,
     sink: &str,
 )
-    requires { AreDrives drives.old.items }
+    requires { AreDrives drives.items }
 {
     match sink {
         "memory" => {
@@ -147,8 +156,8 @@ pub(crate) fn run(
         case.u64_of(room)
     };
     let text = shelf.text_of(case, text);
-    let mut drives = drives_of(case, shelf, k, drives);
+    let drives = drives_of(case, shelf, k, drives);
     if are_drives(&drives) {
-        restore(case, threads, shelf, (room, &text), &mut drives, sink);
+        restore(case, threads, shelf, (room, &text), drives, sink);
     }
 }

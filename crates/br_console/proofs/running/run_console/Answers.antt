@@ -1,13 +1,10 @@
 use Rattle.std.proofs.Common.{◌≡◌, List, Option, Some, None, Ok, Err, map, refl, subst}
 use Rattle.std.proofs.lemmas.Result.{err_from_is_err_and}
-use Rattle.br_model.specs.Bootstrap.{Group}
-use Rattle.br_model.specs.Restored.{Planned}
 use Rattle.br_model.specs.Plan.{Plan}
 use Rattle.br_pool.proofs.WorkedLaws.{all_kept}
-use Rattle.br_engine.specs.Extracting.{OverVolumes}
-use Rattle.br_engine.specs.Delivering.{Delivers, in_sink}
+use Rattle.br_engine.specs.Restores.{change}
 use Rattle.br_console.specs.Running.{BeginsOver}
-use Rattle.br_console.proofs.RunLaws.{no_drive_in_piece, no_drive_stays, plan_refused, plan_restored, restored_has_end, restores_files, restores_undone, runs_refused, runs_restored, runs_stopped, runs_undone, tells_refused, tells_restored, tells_stopped, tells_undone}
+use Rattle.br_console.proofs.RunLaws.{by_plan, no_drive_in_piece, no_drive_stays, plan_refused, plan_restored, restored_has_end, restores_files, restores_undone, runs_refused, runs_restored, runs_stopped, runs_undone, tells_refused, tells_restored, tells_stopped, tells_undone}
 use Rattle.br_console.proofs.running.run_console.Goals as goal
 
 -- ---- before a drive is asked
@@ -20,25 +17,25 @@ returns-in_err-lines-clause-delivers g c =
 pub returns-in_err-lines-clause-runs : goal.returns-in_err-lines-clause-runs
 returns-in_err-lines-clause-runs g c =
     let p = err_from_is_err_and c.from_residual.result c.from_residual.ensures.1 in
-    let shown = map g.D.Drive.shows c.args.drives.now.items in
+    let shown = map g.D.Drive.shows c.args.restore.now.drives.items in
     rw (p.1, p.2)
-    (runs_refused (g.R.Read.remaining c.args.reader.now) shown shown (g.W.Write.contents c.args.out.now.writer) (g.W.Write.contents c.prepare.new.writer)
+    (runs_refused (g.R.Read.remaining c.args.reader.now) shown shown (g.W.Write.contents c.args.writer.now) (g.W.Write.contents c.prepare.new.writer)
     c.args.asked.now.history.now c.args.asked.now.request.now c.in_err-lines.field-0.0 c.in_err-lines.ensures.begins)
 
 pub returns-in_err-lines-clause-tells : goal.returns-in_err-lines-clause-tells
 returns-in_err-lines-clause-tells g c =
     let p = err_from_is_err_and c.from_residual.result c.from_residual.ensures.1 in
     rw (p.1, p.2)
-    (tells_refused (g.R.Read.remaining c.args.reader.now) (g.W.Write.contents c.args.out.now.writer) (g.W.Write.contents c.prepare.new.writer)
+    (tells_refused (g.R.Read.remaining c.args.reader.now) (g.W.Write.contents c.args.writer.now) (g.W.Write.contents c.prepare.new.writer)
     c.args.asked.now.history.now c.args.asked.now.request.now c.in_err-lines.field-0.0 c.in_err-lines.ensures.begins)
 
 pub returns-in_err-lines-clause-untouched : goal.returns-in_err-lines-clause-untouched
 returns-in_err-lines-clause-untouched g c = λ n refused.
     let same = c.in_err-lines.ensures.untouched n refused in
-    (same.0, refl, rw same.1 refl)
+    (same.0, refl, same.1)
 
 pub returns-in_err-lines-clause-places : goal.returns-in_err-lines-clause-places
-returns-in_err-lines-clause-places g c = all_kept g.D.Drive.shows g.D.Drive.failures c.args.drives.now.items
+returns-in_err-lines-clause-places g c = all_kept g.D.Drive.shows g.D.Drive.failures c.args.restore.now.drives.items
 
 pub returns-in_err-lines-clause-endless : goal.returns-in_err-lines-clause-endless
 returns-in_err-lines-clause-endless g c =
@@ -55,8 +52,8 @@ returns-in_err-lines-clause-failed g c =
 pub returns-in_default-clause-delivers : goal.returns-in_default-clause-delivers
 returns-in_default-clause-delivers g c =
     let known = g.R.Read.remaining c.args.reader.now in
-    let shown = map g.D.Drive.shows c.args.drives.now.items in
-    let before = g.W.Write.contents c.args.out.now.writer in
+    let shown = map g.D.Drive.shows c.args.restore.now.drives.items in
+    let before = g.W.Write.contents c.args.writer.now in
     let after = g.W.Write.contents c.prepare.new.writer in
     let asked = c.args.asked.now in
     let lines = c.in_ok-lines.lines in (
@@ -69,8 +66,8 @@ returns-in_default-clause-delivers g c =
 pub returns-in_default-clause-runs : goal.returns-in_default-clause-runs
 returns-in_default-clause-runs g c =
     let known = g.R.Read.remaining c.args.reader.now in
-    let shown = map g.D.Drive.shows c.args.drives.now.items in
-    let before = g.W.Write.contents c.args.out.now.writer in
+    let shown = map g.D.Drive.shows c.args.restore.now.drives.items in
+    let before = g.W.Write.contents c.args.writer.now in
     let after = g.W.Write.contents c.prepare.new.writer in
     let asked = c.args.asked.now in
     let lines = c.in_ok-lines.lines in
@@ -80,7 +77,7 @@ returns-in_default-clause-runs g c =
 pub returns-in_default-clause-tells : goal.returns-in_default-clause-tells
 returns-in_default-clause-tells g c =
     let known = g.R.Read.remaining c.args.reader.now in
-    let before = g.W.Write.contents c.args.out.now.writer in
+    let before = g.W.Write.contents c.args.writer.now in
     let after = g.W.Write.contents c.prepare.new.writer in
     let asked = c.args.asked.now in
     let lines = c.in_ok-lines.lines in
@@ -91,72 +88,63 @@ pub returns-in_default-clause-untouched : goal.returns-in_default-clause-untouch
 returns-in_default-clause-untouched g c = λ n refused. absurd (c.in_ok-lines.ensures.chosen n refused)
 
 pub returns-in_default-clause-places : goal.returns-in_default-clause-places
-returns-in_default-clause-places g c = all_kept g.D.Drive.shows g.D.Drive.failures c.args.drives.now.items
+returns-in_default-clause-places g c = all_kept g.D.Drive.shows g.D.Drive.failures c.args.restore.now.drives.items
 
 -- ---- the restore is refused
 
 pub returns-clause-delivers : goal.returns-clause-delivers
 returns-clause-delivers g c =
     let known = g.R.Read.remaining c.args.reader.now in
-    let earlier = map g.D.Drive.shows c.args.drives.now.items in
-    let later = map g.D.Drive.shows c.restore_into.new.drives.items in
-    let before = g.W.Write.contents c.args.out.now.writer in
-    let now = g.W.Write.contents c.prepare.new.writer in
-    let after = g.W.Write.contents c.restore_into.new.out.writer in
-    let had = in_sink g.S.Sink.has c.args.out.now in
-    let has = in_sink g.S.Sink.has c.restore_into.new.out in
+    let before = g.W.Write.contents c.args.writer.now in
+    let seen = change g.D.Drive g.W.Write g.S.Sink (c.args.restore.now, c.prepare.new.writer) (c.run.new.self, c.run.new.writer) in
     let asked = c.args.asked.now in
     let lines = c.in_ok-lines.lines in
     let plan = c.in-Some.plan in
-    let begins = subst (λ (p : Option Plan). BeginsOver known before now asked.history.now asked.request.now (Ok (lines, p))) c.in-Some.is c.in_ok-lines.ensures.begins in
+    let begins =
+    subst (λ (p : Option Plan). BeginsOver known before seen.old.written asked.history.now asked.request.now (Ok (lines, p))) c.in-Some.is c.in_ok-lines.ensures.begins in
+    let parts = c.into_parts-bootstrap in
+    let order = c.plain-order in
     let made =
-    plan_refused earlier later now after had has plan c.in-Err.fault c.console_fault.result c.console_fault.ensures
-    (subst (λ (groups : List Group). Delivers (λ holds. OverVolumes earlier later groups (Some plan.names) holds) now after had has (Err c.in-Err.fault)) c.into_parts-bootstrap.ensures.bootstrap
-    (subst (λ (names : List Planned). Delivers (λ holds. OverVolumes earlier later c.into_parts-bootstrap.result.0 (Some names) holds) now after had has (Err c.in-Err.fault)) c.into_parts-bootstrap.ensures.names
-    c.in-Err.ensures.delivers)) in
+    plan_refused seen.old.told seen.new.told seen.old.written seen.new.written seen.old.has seen.new.has plan c.in-Err.fault c.console_fault.result c.console_fault.ensures
+    (by_plan order.result seen (Err c.in-Err.fault) plan parts.result.0 parts.result.1 order.ensures.bootstrap order.ensures.names order.ensures.wanted parts.ensures.bootstrap
+    parts.ensures.names c.in-Err.ensures.restores) in
     made.2
 
 pub returns-clause-runs : goal.returns-clause-runs
 returns-clause-runs g c =
     let known = g.R.Read.remaining c.args.reader.now in
-    let earlier = map g.D.Drive.shows c.args.drives.now.items in
-    let later = map g.D.Drive.shows c.restore_into.new.drives.items in
-    let before = g.W.Write.contents c.args.out.now.writer in
-    let now = g.W.Write.contents c.prepare.new.writer in
-    let after = g.W.Write.contents c.restore_into.new.out.writer in
-    let had = in_sink g.S.Sink.has c.args.out.now in
-    let has = in_sink g.S.Sink.has c.restore_into.new.out in
+    let before = g.W.Write.contents c.args.writer.now in
+    let seen = change g.D.Drive g.W.Write g.S.Sink (c.args.restore.now, c.prepare.new.writer) (c.run.new.self, c.run.new.writer) in
     let asked = c.args.asked.now in
     let lines = c.in_ok-lines.lines in
     let plan = c.in-Some.plan in
-    let begins = subst (λ (p : Option Plan). BeginsOver known before now asked.history.now asked.request.now (Ok (lines, p))) c.in-Some.is c.in_ok-lines.ensures.begins in
+    let begins =
+    subst (λ (p : Option Plan). BeginsOver known before seen.old.written asked.history.now asked.request.now (Ok (lines, p))) c.in-Some.is c.in_ok-lines.ensures.begins in
+    let parts = c.into_parts-bootstrap in
+    let order = c.plain-order in
     let made =
-    plan_refused earlier later now after had has plan c.in-Err.fault c.console_fault.result c.console_fault.ensures
-    (subst (λ (groups : List Group). Delivers (λ holds. OverVolumes earlier later groups (Some plan.names) holds) now after had has (Err c.in-Err.fault)) c.into_parts-bootstrap.ensures.bootstrap
-    (subst (λ (names : List Planned). Delivers (λ holds. OverVolumes earlier later c.into_parts-bootstrap.result.0 (Some names) holds) now after had has (Err c.in-Err.fault)) c.into_parts-bootstrap.ensures.names
-    c.in-Err.ensures.delivers)) in
-    runs_stopped known earlier later before now after had has asked.history.now asked.request.now lines plan c.console_fault.result begins made
+    plan_refused seen.old.told seen.new.told seen.old.written seen.new.written seen.old.has seen.new.has plan c.in-Err.fault c.console_fault.result c.console_fault.ensures
+    (by_plan order.result seen (Err c.in-Err.fault) plan parts.result.0 parts.result.1 order.ensures.bootstrap order.ensures.names order.ensures.wanted parts.ensures.bootstrap
+    parts.ensures.names c.in-Err.ensures.restores) in
+    runs_stopped known seen.old.told seen.new.told before seen.old.written seen.new.written seen.old.has seen.new.has asked.history.now asked.request.now lines plan c.console_fault.result begins made
 
 pub returns-clause-tells : goal.returns-clause-tells
 returns-clause-tells g c =
     let known = g.R.Read.remaining c.args.reader.now in
-    let earlier = map g.D.Drive.shows c.args.drives.now.items in
-    let later = map g.D.Drive.shows c.restore_into.new.drives.items in
-    let before = g.W.Write.contents c.args.out.now.writer in
-    let now = g.W.Write.contents c.prepare.new.writer in
-    let after = g.W.Write.contents c.restore_into.new.out.writer in
-    let had = in_sink g.S.Sink.has c.args.out.now in
-    let has = in_sink g.S.Sink.has c.restore_into.new.out in
+    let before = g.W.Write.contents c.args.writer.now in
+    let seen = change g.D.Drive g.W.Write g.S.Sink (c.args.restore.now, c.prepare.new.writer) (c.run.new.self, c.run.new.writer) in
     let asked = c.args.asked.now in
     let lines = c.in_ok-lines.lines in
     let plan = c.in-Some.plan in
-    let begins = subst (λ (p : Option Plan). BeginsOver known before now asked.history.now asked.request.now (Ok (lines, p))) c.in-Some.is c.in_ok-lines.ensures.begins in
+    let begins =
+    subst (λ (p : Option Plan). BeginsOver known before seen.old.written asked.history.now asked.request.now (Ok (lines, p))) c.in-Some.is c.in_ok-lines.ensures.begins in
+    let parts = c.into_parts-bootstrap in
+    let order = c.plain-order in
     let made =
-    plan_refused earlier later now after had has plan c.in-Err.fault c.console_fault.result c.console_fault.ensures
-    (subst (λ (groups : List Group). Delivers (λ holds. OverVolumes earlier later groups (Some plan.names) holds) now after had has (Err c.in-Err.fault)) c.into_parts-bootstrap.ensures.bootstrap
-    (subst (λ (names : List Planned). Delivers (λ holds. OverVolumes earlier later c.into_parts-bootstrap.result.0 (Some names) holds) now after had has (Err c.in-Err.fault)) c.into_parts-bootstrap.ensures.names
-    c.in-Err.ensures.delivers)) in
-    tells_stopped known before now after asked.history.now asked.request.now lines plan c.console_fault.result begins made.1
+    plan_refused seen.old.told seen.new.told seen.old.written seen.new.written seen.old.has seen.new.has plan c.in-Err.fault c.console_fault.result c.console_fault.ensures
+    (by_plan order.result seen (Err c.in-Err.fault) plan parts.result.0 parts.result.1 order.ensures.bootstrap order.ensures.names order.ensures.wanted parts.ensures.bootstrap
+    parts.ensures.names c.in-Err.ensures.restores) in
+    tells_stopped known before seen.old.written seen.new.written asked.history.now asked.request.now lines plan c.console_fault.result begins made.1
 
 pub returns-clause-untouched : goal.returns-clause-untouched
 returns-clause-untouched g c = λ n refused. absurd (c.in_ok-lines.ensures.chosen n refused)
@@ -172,68 +160,59 @@ returns-clause-failed g c = λ is. c.in-Err.ensures.failed (no_drive_stays c.in-
 pub returns-in-Ok-clause-delivers : goal.returns-in-Ok-clause-delivers
 returns-in-Ok-clause-delivers g c =
     let known = g.R.Read.remaining c.args.reader.now in
-    let earlier = map g.D.Drive.shows c.args.drives.now.items in
-    let later = map g.D.Drive.shows c.restore_into.new.drives.items in
-    let before = g.W.Write.contents c.args.out.now.writer in
-    let now = g.W.Write.contents c.prepare.new.writer in
-    let after = g.W.Write.contents c.restore_into.new.out.writer in
-    let had = in_sink g.S.Sink.has c.args.out.now in
-    let has = in_sink g.S.Sink.has c.restore_into.new.out in
+    let before = g.W.Write.contents c.args.writer.now in
+    let seen = change g.D.Drive g.W.Write g.S.Sink (c.args.restore.now, c.prepare.new.writer) (c.run.new.self, c.run.new.writer) in
     let asked = c.args.asked.now in
     let lines = c.in_ok-lines.lines in
     let plan = c.in-Some.plan in
-    let begins = subst (λ (p : Option Plan). BeginsOver known before now asked.history.now asked.request.now (Ok (lines, p))) c.in-Some.is c.in_ok-lines.ensures.begins in
+    let begins =
+    subst (λ (p : Option Plan). BeginsOver known before seen.old.written asked.history.now asked.request.now (Ok (lines, p))) c.in-Some.is c.in_ok-lines.ensures.begins in
+    let parts = c.into_parts-bootstrap in
+    let order = c.plain-order in
     let made =
-    plan_restored earlier later now after had has plan c.in-Ok.end
-    (subst (λ (groups : List Group). Delivers (λ holds. OverVolumes earlier later groups (Some plan.names) holds) now after had has (Ok c.in-Ok.end)) c.into_parts-bootstrap.ensures.bootstrap
-    (subst (λ (names : List Planned). Delivers (λ holds. OverVolumes earlier later c.into_parts-bootstrap.result.0 (Some names) holds) now after had has (Ok c.in-Ok.end)) c.into_parts-bootstrap.ensures.names
-    c.in-Ok.ensures.delivers)) in (
+    plan_restored seen.old.told seen.new.told seen.old.written seen.new.written seen.old.has seen.new.has plan c.in-Ok.done.end
+    (by_plan order.result seen (Ok c.in-Ok.done) plan parts.result.0 parts.result.1 order.ensures.bootstrap order.ensures.names order.ensures.wanted parts.ensures.bootstrap
+    parts.ensures.names c.in-Ok.ensures.restores) in (
       Some made.0,
-      restores_files known earlier later before now after had has asked.history.now asked.request.now lines plan c.in-Ok.end begins made,
+      restores_files known seen.old.told seen.new.told before seen.old.written seen.new.written seen.old.has seen.new.has asked.history.now asked.request.now lines plan c.in-Ok.done.end begins made,
       made.3,
     )
 
 pub returns-in-Ok-clause-runs : goal.returns-in-Ok-clause-runs
 returns-in-Ok-clause-runs g c =
     let known = g.R.Read.remaining c.args.reader.now in
-    let earlier = map g.D.Drive.shows c.args.drives.now.items in
-    let later = map g.D.Drive.shows c.restore_into.new.drives.items in
-    let before = g.W.Write.contents c.args.out.now.writer in
-    let now = g.W.Write.contents c.prepare.new.writer in
-    let after = g.W.Write.contents c.restore_into.new.out.writer in
-    let had = in_sink g.S.Sink.has c.args.out.now in
-    let has = in_sink g.S.Sink.has c.restore_into.new.out in
+    let before = g.W.Write.contents c.args.writer.now in
+    let seen = change g.D.Drive g.W.Write g.S.Sink (c.args.restore.now, c.prepare.new.writer) (c.run.new.self, c.run.new.writer) in
     let asked = c.args.asked.now in
     let lines = c.in_ok-lines.lines in
     let plan = c.in-Some.plan in
-    let begins = subst (λ (p : Option Plan). BeginsOver known before now asked.history.now asked.request.now (Ok (lines, p))) c.in-Some.is c.in_ok-lines.ensures.begins in
+    let begins =
+    subst (λ (p : Option Plan). BeginsOver known before seen.old.written asked.history.now asked.request.now (Ok (lines, p))) c.in-Some.is c.in_ok-lines.ensures.begins in
+    let parts = c.into_parts-bootstrap in
+    let order = c.plain-order in
     let made =
-    plan_restored earlier later now after had has plan c.in-Ok.end
-    (subst (λ (groups : List Group). Delivers (λ holds. OverVolumes earlier later groups (Some plan.names) holds) now after had has (Ok c.in-Ok.end)) c.into_parts-bootstrap.ensures.bootstrap
-    (subst (λ (names : List Planned). Delivers (λ holds. OverVolumes earlier later c.into_parts-bootstrap.result.0 (Some names) holds) now after had has (Ok c.in-Ok.end)) c.into_parts-bootstrap.ensures.names
-    c.in-Ok.ensures.delivers)) in
-    runs_restored known earlier later before now after had has asked.history.now asked.request.now lines plan c.in-Ok.end begins made
+    plan_restored seen.old.told seen.new.told seen.old.written seen.new.written seen.old.has seen.new.has plan c.in-Ok.done.end
+    (by_plan order.result seen (Ok c.in-Ok.done) plan parts.result.0 parts.result.1 order.ensures.bootstrap order.ensures.names order.ensures.wanted parts.ensures.bootstrap
+    parts.ensures.names c.in-Ok.ensures.restores) in
+    runs_restored known seen.old.told seen.new.told before seen.old.written seen.new.written seen.old.has seen.new.has asked.history.now asked.request.now lines plan c.in-Ok.done.end begins made
 
 pub returns-in-Ok-clause-tells : goal.returns-in-Ok-clause-tells
 returns-in-Ok-clause-tells g c =
     let known = g.R.Read.remaining c.args.reader.now in
-    let earlier = map g.D.Drive.shows c.args.drives.now.items in
-    let later = map g.D.Drive.shows c.restore_into.new.drives.items in
-    let before = g.W.Write.contents c.args.out.now.writer in
-    let now = g.W.Write.contents c.prepare.new.writer in
-    let after = g.W.Write.contents c.restore_into.new.out.writer in
-    let had = in_sink g.S.Sink.has c.args.out.now in
-    let has = in_sink g.S.Sink.has c.restore_into.new.out in
+    let before = g.W.Write.contents c.args.writer.now in
+    let seen = change g.D.Drive g.W.Write g.S.Sink (c.args.restore.now, c.prepare.new.writer) (c.run.new.self, c.run.new.writer) in
     let asked = c.args.asked.now in
     let lines = c.in_ok-lines.lines in
     let plan = c.in-Some.plan in
-    let begins = subst (λ (p : Option Plan). BeginsOver known before now asked.history.now asked.request.now (Ok (lines, p))) c.in-Some.is c.in_ok-lines.ensures.begins in
+    let begins =
+    subst (λ (p : Option Plan). BeginsOver known before seen.old.written asked.history.now asked.request.now (Ok (lines, p))) c.in-Some.is c.in_ok-lines.ensures.begins in
+    let parts = c.into_parts-bootstrap in
+    let order = c.plain-order in
     let made =
-    plan_restored earlier later now after had has plan c.in-Ok.end
-    (subst (λ (groups : List Group). Delivers (λ holds. OverVolumes earlier later groups (Some plan.names) holds) now after had has (Ok c.in-Ok.end)) c.into_parts-bootstrap.ensures.bootstrap
-    (subst (λ (names : List Planned). Delivers (λ holds. OverVolumes earlier later c.into_parts-bootstrap.result.0 (Some names) holds) now after had has (Ok c.in-Ok.end)) c.into_parts-bootstrap.ensures.names
-    c.in-Ok.ensures.delivers)) in
-    tells_restored known earlier later before now after had has asked.history.now asked.request.now lines plan c.in-Ok.end begins made
+    plan_restored seen.old.told seen.new.told seen.old.written seen.new.written seen.old.has seen.new.has plan c.in-Ok.done.end
+    (by_plan order.result seen (Ok c.in-Ok.done) plan parts.result.0 parts.result.1 order.ensures.bootstrap order.ensures.names order.ensures.wanted parts.ensures.bootstrap
+    parts.ensures.names c.in-Ok.ensures.restores) in
+    tells_restored known seen.old.told seen.new.told before seen.old.written seen.new.written seen.old.has seen.new.has asked.history.now asked.request.now lines plan c.in-Ok.done.end begins made
 
 pub returns-in-Ok-clause-untouched : goal.returns-in-Ok-clause-untouched
 returns-in-Ok-clause-untouched g c = λ n refused. absurd (c.in_ok-lines.ensures.chosen n refused)

@@ -5,15 +5,6 @@ use crate::fault::push_refused_line;
 use br_sink::SinkStop;
 use std::alloc::AllocError;
 
-/// What a restore writes to.
-#[derive(Drop)]
-pub struct Outputs<W, S> {
-    /// Takes the manifest.
-    pub writer: W,
-    /// Takes the restored files, if they are to be delivered.
-    pub sink: Option<S>,
-}
-
 /// How a restore ended that wrote its manifest.
 #[derive(Debug, Drop)]
 pub enum RestoreEnd {

@@ -1,6 +1,6 @@
--- What is delivered of the outcomes of a restore, and what came of it.
+-- What is delivered of the outcomes of a restore, and what comes of it.
 use Rattle.std.proofs.Common.{◌≡◌, ℕ, Bool, true, false, cond, List, [], ◌∷◌, ◌&&◌, Option, Some, None, Result, Ok, Err, refl, sym, ap, subst, ◌∙◌}
-use Rattle.std.specs.Prelude.{is_ok, filter}
+use Rattle.std.specs.Prelude.{is_ok, filter, option_map}
 use Rattle.std.specs.List.{AllZip, list_all}
 use Rattle.std.specs.Io.KnownBytes.{Appends}
 use Rattle.br_model.specs.Answer.{IsRefusal}
@@ -11,20 +11,20 @@ use Rattle.br_model.specs.File.{Outcome}
 use Rattle.br_model.specs.Manifest.{manifest}
 use Rattle.br_model.specs.Meaning.{pieces_of}
 use Rattle.br_model.specs.Name.{FileKey}
-use Rattle.br_model.specs.Restored.{Restored}
+use Rattle.br_model.specs.Restored.{Names, Planned, Restored, planned_in}
 use Rattle.br_model.specs.Volume.{Volume}
 use Rattle.br_types.specs.Newest.{Copy, copies_of, copy_of, is_current, is_newest, newest}
-use Rattle.br_bsr.specs.Counts as counted
 use Rattle.br_engine.specs.DeliveredAgain.{EndsLike, IsFileLike}
+use Rattle.br_engine.specs.BootstrapText.{ReadsAs}
 use Rattle.br_engine.specs.Delivering.{Delivers, EndsWith, IsPut}
 use Rattle.br_engine.specs.Extracting.{OverText, OverVolumes, Said}
 use Rattle.br_engine.specs.Fault.{cause}
 use Rattle.br_engine.specs.Outputs.{EndTells, InSink, are_files}
 use Rattle.br_engine.specs.Restoring.{AllStand, Told}
-use Rattle.br_engine.specs.declared.outputs.RestoreEnd.{RestoreEnd}
-use Rattle.br_engine.specs.declared.outputs.RestoreEnd.TheVariants.{AllFiles, SomeFaults, Stopped}
+use Rattle.br_engine.specs.declared.restore_end.RestoreEnd.{RestoreEnd}
+use Rattle.br_engine.specs.declared.restore_end.RestoreEnd.TheVariants.{AllFiles, SomeFaults, Stopped}
 use Rattle.br_engine.specs.declared.fault.ExtractFault.{ExtractFault}
-use Rattle.br_engine.proofs.ExtractLaws.{over_text}
+use Rattle.br_engine.proofs.DeliverLaws.{over_read}
 use Rattle.br_engine.proofs.LikeLaws.{same_manifest}
 use Rattle.br_types.specs.declared.wanted.Copies.{Copies}
 use Rattle.br_types.specs.declared.wanted.Copies.TheVariants.{All, Newest}
@@ -32,9 +32,10 @@ use Rattle.br_types.specs.declared.wanted.Stops.{Stops}
 use Rattle.br_types.specs.declared.wanted.Stops.TheVariants.{AtFirst, Never}
 use Rattle.br_types.specs.declared.wanted.Wanted.{Wanted}
 use Rattle.br_sink.specs.ConflictsApart.{apart_beside, is_free, with_path}
-use Rattle.br_engine.specs.WantedOutcomes.{IsReport, delivered, kept, left_out, of_copies, reported}
-use Rattle.br_engine.specs.WantedRestore.{Extracts}
-use Rattle.br_engine.specs.declared.wanted_restore.Extracted.{Extracted}
+use Rattle.br_engine.specs.WantedOutcomes.{delivered, kept, left_out, of_copies, plain, reported}
+use Rattle.br_engine.specs.Restores.{Change, Extracts, Restores}
+use Rattle.br_engine.specs.declared.extracted.Extracted.{Extracted}
+use Rattle.br_engine.specs.declared.restore_order.RestoreOrder.{RestoreOrder}
 use Rattle.br_engine.proofs.BackLaws.{in_places, same_report}
 
 -- ---- the newest copies
@@ -103,30 +104,65 @@ extracts_files wanted over reports before after had has rs kept done given writt
 
 -- The same if the files are like those that are wanted, and are these if they can be given: then the others of all outcomes stay in their
 -- places.
-pub extracts_like : (wanted : Wanted) (earlier later : Told) (groups : List Group) (counts : List (Option ℕ)) (before after : Option (List ℕ)) (had has : InSink) (os kept : List Restored) (done : Extracted)
-    (given : Type 0) → OverVolumes earlier later groups None (λ expected. expected ≡ Ok os)
+pub extracts_like : (wanted : Wanted) (earlier later : Told) (groups : List Group) (names : Option (List Planned)) (counts : List (Option ℕ)) (before after : Option (List ℕ)) (had has : InSink) (os kept : List Restored) (done : Extracted)
+    (given : Type 0) → OverVolumes earlier later groups names (λ expected. expected ≡ Ok os)
     → ((volumes : List Volume) → AllStand earlier later (pieces_of groups) volumes → given) → Appends before after (manifest os) → kept ≡ delivered wanted os
     → EndsLike given had has kept done.end → done.missing.items ≡ reported wanted.gaps groups counts os → done.left.items ≡ left_out wanted os
-    → Extracts wanted (λ holds. OverVolumes earlier later groups None holds) (λ rs lines. lines ≡ reported wanted.gaps groups counts rs) before after had has (Ok done)
-extracts_like wanted earlier later groups counts before after had has os kept done given made can written is like told left =
+    → Extracts wanted (λ holds. OverVolumes earlier later groups names holds) (λ rs lines. lines ≡ reported wanted.gaps groups counts rs) before after had has (Ok done)
+extracts_like wanted earlier later groups names counts before after had has os kept done given made can written is like told left =
     let all = in_places wanted os like.rs (subst (AllZip IsFileLike like.rs) is like.like) in
-    extracts_files wanted (λ holds. OverVolumes earlier later groups None holds) (λ rs lines. lines ≡ reported wanted.gaps groups counts rs) before after had has
+    extracts_files wanted (λ holds. OverVolumes earlier later groups names holds) (λ rs lines. lines ≡ reported wanted.gaps groups counts rs) before after had has
     all.rs like.rs done (λ volumes stands. made volumes stands ∙ ap Ok (sym (all.same (like.same (can volumes stands) ∙ is))))
     (subst (Appends before after) (sym (same_manifest all.rs os all.like)) written) all.chosen like.ends
     (told ∙ sym (same_report wanted.gaps groups counts all.rs os all.like)) (left ∙ sym all.left)
 
--- a refusal is as that of any restore
-pub extracts_refused : (wanted : Wanted) (over : Said → Type 0) (reports : List Restored → List ℕ → Type 0) (before after : Option (List ℕ)) (had has : InSink)
-    (fault : ExtractFault) → Delivers over before after had has (Err fault) → Extracts wanted over reports before after had has (Err fault)
-extracts_refused wanted over reports before after had has fault refused = refused
+-- ---- plain restores
+
+-- the end of a restore, or its refusal
+pub ended : Result Extracted ExtractFault → Result RestoreEnd ExtractFault
+ended (Ok done) = Ok done.end
+ended (Err fault) = Err fault
+
+-- a plain restore delivers all of its files
+pub plain_delivers : (over : Said → Type 0) (reports : List Restored → List ℕ → Type 0) (before after : Option (List ℕ)) (had has : InSink) (result : Result Extracted ExtractFault)
+    → Extracts plain over reports before after had has result → Delivers over before after had has (ended result)
+plain_delivers over reports before after had has (Ok done) h = (h.0, h.1, (h.2, h.3))
+plain_delivers over reports before after had has (Err fault) h = h
+
+-- what is restored by a plain order is what its bootstrap gives, and nothing is reported
+pub by_plain_order : (order : RestoreOrder) (seen : Change) (result : Result Extracted ExtractFault) (groups : List Group) (names : Option Names)
+    → order.asked.bootstrap.now ≡ groups → order.names ≡ names → order.wanted ≡ plain → Restores order seen result
+    → Extracts plain (λ holds. OverVolumes seen.old.told seen.new.told groups (option_map planned_in names) holds) (λ rs lines. lines ≡ []) seen.old.written seen.new.written
+    seen.old.has seen.new.has result
+by_plain_order order seen result groups names asked named wanted h =
+    let over : Option Names → List Group → (Said → Type 0) = λ ns gs holds. OverVolumes seen.old.told seen.new.told gs (option_map planned_in ns) holds in
+    let counts = order.asked.counts.now in
+    subst (λ (gs : List Group). Extracts plain (over names gs) (λ rs lines. lines ≡ []) seen.old.written seen.new.written seen.old.has seen.new.has result) asked
+    (subst (λ (ns : Option Names). Extracts plain (over ns order.asked.bootstrap.now) (λ rs lines. lines ≡ []) seen.old.written seen.new.written seen.old.has seen.new.has result) named
+    (subst (λ (w : Wanted). Extracts w (over order.names order.asked.bootstrap.now) (λ rs lines. lines ≡ reported w.gaps order.asked.bootstrap.now counts rs) seen.old.written seen.new.written
+    seen.old.has seen.new.has result) wanted h))
+
+-- what is restored by an order without names is what its bootstrap gives
+pub by_order : (order : RestoreOrder) (seen : Change) (result : Result Extracted ExtractFault) (groups : List Group) (counts : List (Option ℕ))
+    → order.asked.bootstrap.now ≡ groups → order.asked.counts.now ≡ counts → order.names ≡ None → Restores order seen result
+    → Extracts order.wanted (λ holds. OverVolumes seen.old.told seen.new.told groups None holds) (λ rs lines. lines ≡ reported order.wanted.gaps groups counts rs)
+    seen.old.written seen.new.written seen.old.has seen.new.has result
+by_order order seen result groups counts asked counted named h =
+    let extracts : Option (List Planned) → List Group → List (Option ℕ) → Type 0 = λ names gs cs.
+    Extracts order.wanted (λ holds. OverVolumes seen.old.told seen.new.told gs names holds) (λ rs lines. lines ≡ reported order.wanted.gaps gs cs rs) seen.old.written
+    seen.new.written seen.old.has seen.new.has result in
+    subst (λ (gs : List Group). extracts None gs counts) asked
+    (subst (λ (cs : List (Option ℕ)). extracts None order.asked.bootstrap.now cs) counted
+    (subst (λ (ns : Option Names). extracts (option_map planned_in ns) order.asked.bootstrap.now order.asked.counts.now) named h))
 
 -- ---- over what the bootstrap of a text gives
 
-pub text_extracts : (wanted : Wanted) (earlier later : Told) (before after : Option (List ℕ)) (had has : InSink) (text : List ℕ) (groups : List Group) (counts : List (Option ℕ))
-    (result : Result Extracted ExtractFault) → read_bootstrap text ≡ Ok groups → counts ≡ counted.counts text
-    → Extracts wanted (λ holds. OverVolumes earlier later groups None holds) (λ rs lines. lines ≡ reported wanted.gaps groups counts rs) before after had has result
-    → Extracts wanted (λ holds. OverText (Some text) earlier later holds) (IsReport wanted.gaps text) before after had has result
-text_extracts wanted earlier later before after had has text groups counts (Ok done) read count h =
-    (h.0, (over_text (Some text) earlier later text groups (λ expected. expected ≡ Ok h.0) refl read h.1.0, h.1.1), h.2, h.3, (groups, read, h.4 ∙ ap (λ (cs : List (Option ℕ)). reported wanted.gaps groups cs h.0) count), h.5)
-text_extracts wanted earlier later before after had has text groups counts (Err fault) read count h =
-    (over_text (Some text) earlier later text groups (λ expected. IsRefusal (cause fault) expected) refl read h.0, h.1, h.2)
+-- of a text that reads as what a reader had left, if this is known
+pub text_restores : (known : Option (List ℕ)) (earlier later : Told) (before after : Option (List ℕ)) (had has : InSink) (text : List ℕ) (groups : List Group)
+    (reports : List Restored → List ℕ → Type 0) (result : Result Extracted ExtractFault) → ReadsAs text known → read_bootstrap text ≡ Ok groups
+    → Extracts plain (λ holds. OverVolumes earlier later groups None holds) reports before after had has result
+    → Extracts plain (λ holds. OverText known earlier later holds) reports before after had has result
+text_restores known earlier later before after had has text groups reports (Ok done) alike read h =
+    (h.0, (over_read known earlier later text groups (λ expected. expected ≡ Ok h.0) alike read h.1.0, h.1.1), h.2, h.3, h.4, h.5)
+text_restores known earlier later before after had has text groups reports (Err fault) alike read h =
+    (over_read known earlier later text groups (λ expected. IsRefusal (cause fault) expected) alike read h.0, h.1, h.2)

@@ -1,0 +1,81 @@
+-- A restore by an order: its manifest, what is delivered of its files, and what is reported as missing.
+use Rattle.std.specs.Prelude.{◌≡◌, ℕ, List, [], ◌++◌, map, Option, option_map, Result, Ok, Err, IfOk, ◌×◌}
+use Rattle.std.specs.declared.io.Write as write
+use Rattle.br_model.specs.File.{Item}
+use Rattle.br_model.specs.Restored.{Restored, planned_in}
+use Rattle.br_volume.specs.declared.drive.Drive as drive
+use Rattle.br_sink.specs.declared.sink.Sink as sink
+use Rattle.br_sink.specs.LeftOutLines.{left_lines}
+use Rattle.br_engine.specs.Delivering.{IsPut, IsRefused, IsWritten}
+use Rattle.br_engine.specs.Extracting.{OverText, OverVolumes, Said}
+use Rattle.br_engine.specs.Outputs.{EndTells, InSink, SinkCounts, StopsByFailure, end_text}
+use Rattle.br_engine.specs.Restoring.{Told}
+use Rattle.br_engine.specs.WantedOutcomes.{delivered, left_out, plain, reported_for}
+use Rattle.br_engine.specs.declared.extracted.Extracted.{Extracted}
+use Rattle.br_engine.specs.declared.fault.ExtractFault.{ExtractFault}
+use Rattle.br_engine.specs.declared.restore.Restore.{Restore}
+use Rattle.br_engine.specs.declared.restore_order.RestoreOrder.{RestoreOrder}
+use Rattle.br_types.specs.declared.wanted.Wanted.{Wanted}
+
+-- ---- what is seen of a restore
+
+-- the volumes that the drives tell, the bytes that the writer holds, and the files that the sink has
+pub record Seen : Type 0 where
+  pub told : Told
+  pub written : Option (List ℕ)
+  pub has : InSink
+
+-- this before and after a run
+pub record Change : Type 0 where
+  pub old : Seen
+  pub new : Seen
+
+-- what is seen of a restore and of its writer
+abbrev pub seen : {D W S : Type 0} → drive.Ghosts D → write.Ghosts W → sink.Ghosts S → Restore D S × W → Seen
+seen drives writer sink at = record {
+    told = map drives.shows at.0.drives.items;
+    written = writer.contents at.1;
+    has = option_map sink.has at.0.sink;
+  }
+
+-- what a run changes of it
+abbrev pub change : {D W S : Type 0} → drive.Ghosts D → write.Ghosts W → sink.Ghosts S → Restore D S × W → Restore D S × W → Change
+change drives writer sink before after = record { old = seen drives writer sink before; new = seen drives writer sink after }
+
+-- the failures of the sink were counted
+abbrev pub CountsFailures : {D S : Type 0} → (S → ℕ) → Restore D S → Restore D S → Type 0
+CountsFailures failures before after = SinkCounts (option_map failures before.sink) (option_map failures after.sink)
+
+-- a stop by 80 was counted as a failure of the sink
+abbrev pub StopIsCounted : {D S : Type 0} → (S → ℕ) → Restore D S → Restore D S → Result Extracted ExtractFault → Type 0
+StopIsCounted failures before after result =
+    IfOk result (λ done. StopsByFailure (option_map failures before.sink) (option_map failures after.sink) done.end)
+
+-- ---- what comes of it
+
+-- the lines of what is missing and of the files that are left out, these for their paths and those at which the sink failed, and the line of
+-- a delivery that stopped
+abbrev pub done_lines : Extracted → List (List ℕ) → List ℕ
+done_lines done failed = done.missing.items ++ left_lines 81 done.left.items ++ left_lines 80 failed ++ end_text done.end
+
+-- The manifest is that of all expected files, and the end says if each outcome is a file. Of these files the sink has those that are to be
+-- delivered, or those before the stop. What is missing is reported, and so is what is left out since it conflicts. Or there is a refusal,
+-- and nothing was put.
+abbrev pub Extracts : Wanted → (Said → Type 0) → (List Restored → List ℕ → Type 0) → Option (List ℕ) → Option (List ℕ) → InSink → InSink
+    → Result Extracted ExtractFault → Type 0
+Extracts wanted over reports before after had has (Ok done) =
+    (rs : List Restored) × IsWritten over before after rs × EndTells done.end rs × IsPut had has done.end (delivered wanted rs)
+    × reports rs done.missing.items × (done.left.items ≡ left_out wanted rs)
+Extracts wanted over reports before after had has (Err fault) = IsRefused over before after had has fault
+
+-- a restore of what the bootstrap of the order gives, of the planned files if it has names, with a report of what is missing
+abbrev pub Restores : RestoreOrder → Change → Result Extracted ExtractFault → Type 0
+Restores order seen result =
+    Extracts order.wanted (λ holds. OverVolumes seen.old.told seen.new.told order.asked.bootstrap.now (option_map planned_in order.names) holds)
+    (λ rs lines. lines ≡ reported_for order.wanted.gaps order.asked rs) seen.old.written seen.new.written seen.old.has seen.new.has result
+
+-- a plain restore of what the bootstrap of a text gives, if the text is known
+abbrev pub RestoresText : Option (List ℕ) → Change → Result Extracted ExtractFault → Type 0
+RestoresText known seen result =
+    Extracts plain (λ holds. OverText known seen.old.told seen.new.told holds) (λ rs lines. lines ≡ []) seen.old.written seen.new.written
+    seen.old.has seen.new.has result
