@@ -112,7 +112,7 @@ pub fn serve_over<C: JobStore, V: DrivenStore, R: BufRead, W: Flush>(
     writer: &mut W,
 ) -> (Keeper<C, V>, io::Result<u8>)
     requires own { setup.session.book ≡ setup.keeper.list.book }
-    ensures does { DoesSome C.inserts C.refuses V.holds V.failures setup.keeper result.0 }
+    ensures does { DoesSome C.JobStore V.VolumeStore setup.keeper result.0 }
     ensures flushed { IfOk result.1 (λ _. W.is_flushed writer.new) }
     ensures status { IfOk result.1 IsStatus }
 {

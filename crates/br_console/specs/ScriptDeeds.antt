@@ -10,6 +10,8 @@ use Rattle.br_volume.specs.Store.{AppendsTo, AppendsInPartTo}
 use Rattle.br_keeper.specs.Beginnings.{Beginning}
 use Rattle.br_keeper.specs.Sessions.{Known}
 use Rattle.br_keeper.specs.declared.fault.KeeperFault.{KeeperFault}
+use Rattle.br_keeper.specs.declared.job_store.JobStore as jobs
+use Rattle.br_volume.specs.declared.store.VolumeStore as store
 use Rattle.br_keeper.specs.Committing.{Commits}
 use Rattle.br_keeper.specs.Keeping.{Keeping, shelf_of}
 use Rattle.br_console.specs.ScriptKeeper.{HasLearned}
@@ -60,9 +62,8 @@ DoesAll {C} {W} inserts refuses holds failures (deed ∷ earlier) old new =
     (middle : Keeping C W) × DoesAll inserts refuses holds failures earlier old middle × DoesOne inserts refuses holds failures deed middle new
 
 -- some deeds are done one after another, and nothing else
-abbrev pub DoesSome : {C W : Type 0} → (JobRows → C → C → Type 0) → (JobRows → C → C → Type 0) → (W → Option (List Volume)) → (W → ℕ)
-    → Keeping C W → Keeping C W → Type 0
-DoesSome inserts refuses holds failures old new = (deeds : List Deed) × DoesAll inserts refuses holds failures deeds old new
+abbrev pub DoesSome : {C W : Type 0} → jobs.Ghosts C → store.Ghosts W → Keeping C W → Keeping C W → Type 0
+DoesSome jobs volumes old new = (deeds : List Deed) × DoesAll jobs.inserts jobs.refuses volumes.holds volumes.failures deeds old new
 
 -- the same, and the session has learned each receipt
 abbrev pub Does : {C W : Type 0} → (JobRows → C → C → Type 0) → (JobRows → C → C → Type 0) → (W → Option (List Volume)) → (W → ℕ)

@@ -1,6 +1,8 @@
 -- A console session: what the lines of a text come to, up to the one that ends it, and what is left after that line.
 use Rattle.std.specs.Prelude.{◌≡◌, ℕ, zero, suc, Bool, true, not, ◌&&◌, if◌then◌else◌, List, [], ◌∷◌, is_some, is_err, Option, Some, None, Result, Ok, Err, ⊤}
 use Rattle.std.specs.Io.KnownBytes.{Appends}
+use Rattle.std.specs.declared.io.Read as read
+use Rattle.std.specs.declared.io.Write as write
 use Rattle.std.specs.Io.BufRead.{first_piece, drop_through}
 use Rattle.br_model.specs.Text.{is_empty}
 use Rattle.br_model.specs.View.{Entry}
@@ -60,10 +62,25 @@ SessionOver (Some text) left before after s (Ok session) = IsSessionOf text left
 SessionOver (Some text) left before after s (Err fault) = ⊤
 SessionOver None left before after s result = ⊤
 
--- the same, as a contract states it
-abbrev pub Converses : {R W : Type 0} → (R → Option (List ℕ)) → (W → Option (List ℕ)) → R → R → W → W → Situation → Result Session ConsoleFault → Type 0
-Converses remaining contents reader left before after s result =
-    SessionOver (remaining reader) (remaining left) (contents before) (contents after) s result
+-- what a session changes: the bytes that the reader has left, and those that the writer holds
+pub record Talk : Type 0 where
+  pub known : Option (List ℕ)
+  pub left : Option (List ℕ)
+  pub before : Option (List ℕ)
+  pub after : Option (List ℕ)
+
+-- the same of a reader and a writer
+abbrev pub talk : {R W : Type 0} → read.Ghosts R → write.Ghosts W → R × W → R × W → Talk
+talk reader writer old new = record {
+    known = reader.remaining old.0;
+    left = reader.remaining new.0;
+    before = writer.contents old.1;
+    after = writer.contents new.1;
+  }
+
+-- the session is so, as a contract states it
+abbrev pub Converses : Talk → Situation → Result Session ConsoleFault → Type 0
+Converses talk s result = SessionOver talk.known talk.left talk.before talk.after s result
 
 -- the marks of the console if the session ended by `done`
 abbrev pub marks_told : Session → model.Console → Option (List (List ℕ))

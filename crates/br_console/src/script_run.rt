@@ -178,7 +178,7 @@ pub fn run_script_over<T: Threads + Wait + Sync, C: JobStore, V: DrivenStore, R:
 ) -> (Keeper<C, V>, Result<ScriptEnd, ScriptFault>)
     requires own { session.book ≡ keeper.list.book }
     ensures endless { IfErr result.1 EndlessAfterAll }
-    ensures does { DoesSome C.inserts C.refuses V.holds V.failures keeper result.0 }
+    ensures does { DoesSome C.JobStore V.VolumeStore keeper result.0 }
 {
     let mut script = Script::new(budget, keeper, session);
     let end = script.run(rt, reader, writer);

@@ -2,7 +2,7 @@ ghost use Rattle.std.specs.Prelude.{◌≡◌, ◌+◌, ◌^◌, ◌<◌, IfOk, 
 ghost use Rattle.std.specs.Io.BufRead.{strip_last};
 ghost use Rattle.br_console.specs.ConsoleFault.{EndlessAfterAll, IsBrokenOff};
 ghost use Rattle.br_console.specs.ConsoleEnding.{are_accepted, is_done};
-ghost use Rattle.br_console.specs.Talking.{Converses, LeavesOver, ReadsLine};
+ghost use Rattle.br_console.specs.Talking.{Converses, LeavesOver, ReadsLine, talk};
 
 use crate::console_fault::ConsoleFault;
 use crate::ending::{Lines, Session, SessionEnd};
@@ -82,7 +82,7 @@ pub fn converse<R: BufRead + Drop, W: Flush>(
     writer: &mut W,
 ) -> Result<Session, ConsoleFault>
     requires shown { W.is_flushed writer.old }
-    ensures session { Converses R.remaining W.contents reader.old reader.new writer.old writer.new console.old result }
+    ensures session { Converses (talk R.Read W.Write (reader.old, writer.old) (reader.new, writer.new)) console.old result }
     ensures leaves { LeavesOver (R.remaining reader.old) console.old console.new result }
     ensures view { console.new.view ≡ console.old.view }
     ensures flushed { OnOk result (W.is_flushed writer.new) }
