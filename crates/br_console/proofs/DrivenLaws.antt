@@ -1,5 +1,5 @@
 -- Restores by drives over memory.
-use Rattle.std.proofs.Common.{◌≡◌, ◌≤◌, refl, ap, sym, ◌∙◌, ℕ, zero, suc, List, [], ◌∷◌, length, map, Option, Some, None, Result, Ok, Err}
+use Rattle.std.proofs.Common.{◌≡◌, refl, ap, ◌∙◌, ℕ, zero, suc, List, [], ◌∷◌, length, map, Option, Some, None, Result, Ok, Err}
 use Rattle.std.specs.Prelude.{option_map}
 use Rattle.std.specs.List.{AllByRecursion, AllZip}
 use Rattle.std.specs.Io.KnownBytes.{Keeps}
@@ -13,7 +13,6 @@ use Rattle.br_engine.specs.Extracting.{OverVolumes, Said}
 use Rattle.br_engine.specs.Delivering.{Delivers}
 use Rattle.br_engine.specs.Outputs.{InSink}
 use Rattle.br_engine.specs.Restores.{Change, Restores}
-use Rattle.br_engine.specs.Restoring.{Told}
 use Rattle.br_engine.specs.WantedOutcomes.{plain}
 use Rattle.br_engine.specs.declared.extracted.Extracted.{Extracted}
 use Rattle.br_engine.specs.declared.restore_order.RestoreOrder.{RestoreOrder}

@@ -1,5 +1,5 @@
 -- A run of the console step by step: what each step says of the whole.
-use Rattle.std.proofs.Common.{◌≡◌, ℕ, Bool, true, false, cond, List, [], map, Option, Some, None, Result, Ok, Err, refl, ap, sym, subst, ◌∙◌, arith}
+use Rattle.std.proofs.Common.{◌≡◌, ℕ, Bool, true, false, cond, List, [], Option, Some, None, Result, Ok, Err, refl, ap, sym, subst, ◌∙◌, arith}
 use Rattle.std.specs.Prelude.{option_map, IfSome, ⊤}
 use Rattle.std.specs.Io.KnownBytes.{Appends, Keeps}
 use Rattle.std.proofs.KnownBytes.{Appends-nil, Appends-trans, Appends-kept}
@@ -28,7 +28,7 @@ use Rattle.br_engine.specs.Restoring.{Told, restored_files}
 use Rattle.br_engine.specs.Fault as engine
 use Rattle.br_engine.specs.Outputs.{EndTells, InSink, are_files}
 use Rattle.br_engine.specs.Extracting.{OverVolumes, Said}
-use Rattle.br_engine.specs.Delivering.{Delivers, EndsWith}
+use Rattle.br_engine.specs.Delivering.{Delivers}
 use Rattle.br_engine.specs.Restores.{Change, Restores}
 use Rattle.br_engine.specs.WantedOutcomes.{plain}
 use Rattle.br_engine.specs.declared.extracted.Extracted.{Extracted}
@@ -41,7 +41,7 @@ use Rattle.br_engine.specs.declared.fault.ExtractFault.TheVariants as extract
 use Rattle.br_console.specs.ConsoleFault.{Refusal, OfPlan, OfPiece, EndlessAfterAll, IsBrokenOff, IsNoPiece, cause, fault_number}
 use Rattle.br_console.specs.ConsoleEnding.{EndIs, are_accepted, is_done}
 use Rattle.br_console.specs.Talking.{are_answered, SessionOver, LeavesOver}
-use Rattle.br_console.specs.Running.{opening, begun, with_files, run_from, console_run, Answer, BecomesFault, Begins, BeginsOver, OverPlan, RefusesRun, RestoresOver, RestoresPlan, RunsOver, StopsAt, TellsOver, WritesPlan}
+use Rattle.br_console.specs.Running.{opening, begun, with_files, run_from, console_run, Answer, BecomesFault, Begins, BeginsOver, RefusesRun, RestoresOver, RestoresPlan, RunsOver, StopsAt, TellsOver, WritesPlan}
 use Rattle.br_console.specs.declared.console_fault.ConsoleFault.{ConsoleFault}
 use Rattle.br_console.specs.declared.console_fault.ConsoleFault.TheVariants as fault
 use Rattle.br_console.specs.declared.ending.Lines.{Lines}

@@ -1,5 +1,5 @@
 -- A console session: what the lines of a text come to, up to the one that ends it, and what is left after that line.
-use Rattle.std.specs.Prelude.{◌≡◌, ℕ, zero, suc, Bool, true, not, ◌&&◌, if◌then◌else◌, List, [], ◌∷◌, is_some, is_err, Option, Some, None, Result, Ok, Err, ⊤}
+use Rattle.std.specs.Prelude.{◌≡◌, ℕ, zero, suc, Bool, true, not, ◌&&◌, List, [], ◌∷◌, is_some, is_err, Option, Some, None, Result, Ok, Err, ⊤, if◌then◌else◌}
 use Rattle.std.specs.Io.KnownBytes.{Appends}
 use Rattle.std.specs.declared.io.Read as read
 use Rattle.std.specs.declared.io.Write as write
@@ -7,7 +7,7 @@ use Rattle.std.specs.Io.BufRead.{first_piece, drop_through}
 use Rattle.br_model.specs.Text.{is_empty}
 use Rattle.br_model.specs.View.{Entry}
 use Rattle.br_model.specs.Console as model
-use Rattle.br_model.specs.Console.{said, written, answer_of, after_answer, ends, ends_done, console_lines, dialogue, marks_at_done}
+use Rattle.br_model.specs.Console.{said, written, answer_of, after_answer, ends, console_lines, dialogue, marks_at_done}
 use Rattle.br_mark.specs.Seen.{Situation}
 use Rattle.br_console.specs.declared.console_fault.ConsoleFault.{ConsoleFault}
 use Rattle.br_console.specs.declared.reply.Reply.{Reply}

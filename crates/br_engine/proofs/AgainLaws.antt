@@ -31,7 +31,7 @@ use Rattle.br_reread_parts.specs.Given.{GivesHit, GivesHits}
 use Rattle.br_reread_files.proofs.AgainLaws.{all_made}
 use Rattle.br_reread_files.proofs.MeantLaws.{ShowsThem, meant_given}
 use Rattle.br_engine.specs.DeliveredAgain.{CanGive, CanMake, CanReread, GivesAgain, MadeOver, MakesOver}
-use Rattle.br_engine.specs.Extracting.{GivesOver, OverVolumes, WritesNothing}
+use Rattle.br_engine.specs.Extracting.{GivesOver, WritesNothing}
 use Rattle.br_engine.specs.Fault.{IsNoDriveLeft, IsUnmade, OfAgain, fault_number}
 use Rattle.br_engine.specs.Restoring.{AllStand, JoinsOver, Told}
 use Rattle.br_engine.specs.declared.fault.ExtractFault.{ExtractFault}

@@ -1,5 +1,5 @@
 -- Files that are delivered after their manifest.
-use Rattle.std.proofs.Common.{◌≡◌, ℕ, Bool, true, false, cond, List, [], map, filter_map, Option, Some, None, Result, Ok, Err, refl, sym, ◌∙◌, subst}
+use Rattle.std.proofs.Common.{◌≡◌, ℕ, Bool, true, false, cond, List, [], filter_map, Option, Some, None, Result, Ok, Err, refl, sym, ◌∙◌, subst}
 use Rattle.std.proofs.KnownBytes.{Keeps-refl}
 use Rattle.br_model.specs.Answer.{◌>>=◌, IsRefusal}
 use Rattle.br_model.specs.Volume.{Volume}

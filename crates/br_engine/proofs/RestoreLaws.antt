@@ -1,5 +1,5 @@
 -- What is delivered of the outcomes of a restore, and what comes of it.
-use Rattle.std.proofs.Common.{◌≡◌, ℕ, Bool, true, false, cond, List, [], ◌∷◌, ◌&&◌, Option, Some, None, Result, Ok, Err, refl, sym, ap, subst, ◌∙◌}
+use Rattle.std.proofs.Common.{◌≡◌, ℕ, Bool, true, false, cond, List, [], ◌∷◌, ◌&&◌, Option, None, Result, Ok, Err, refl, sym, ap, subst, ◌∙◌}
 use Rattle.std.specs.Prelude.{is_ok, filter, option_map}
 use Rattle.std.specs.List.{AllZip, list_all}
 use Rattle.std.specs.Io.KnownBytes.{Appends}
@@ -119,7 +119,7 @@ extracts_like wanted earlier later groups names counts before after had has os k
 -- ---- plain restores
 
 -- the end of a restore, or its refusal
-pub ended : Result Extracted ExtractFault → Result RestoreEnd ExtractFault
+abbrev pub ended : Result Extracted ExtractFault → Result RestoreEnd ExtractFault
 ended (Ok done) = Ok done.end
 ended (Err fault) = Err fault
 

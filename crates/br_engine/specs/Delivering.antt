@@ -1,18 +1,16 @@
 -- A whole restore: the manifest of the files, and after it these files put into a sink, if there is one.
-use Rattle.std.specs.Prelude.{◌≡◌, ℕ, List, map, take, filter_map, Option, Some, None, Result, Ok, Err, ⊤}
+use Rattle.std.specs.Prelude.{◌≡◌, ℕ, List, take, filter_map, Option, Some, None, Result, Ok, Err, ⊤}
 use Rattle.std.specs.Io.KnownBytes.{Appends}
 use Rattle.br_model.specs.Answer.{IsRefusal}
-use Rattle.br_model.specs.Bootstrap.{Group}
 use Rattle.br_model.specs.File.{Item}
-use Rattle.br_model.specs.Volume.{Volume}
 use Rattle.br_model.specs.Restored.{Restored}
 use Rattle.br_model.specs.Manifest.{manifest, totals_of}
 use Rattle.br_model.specs.Delivery.{Stop, delivery, item_of}
 use Rattle.br_sink.specs.Delivery.{IsStopIn, stop_cause}
 use Rattle.br_sink.specs.Sink.{HasMore}
 use Rattle.br_engine.specs.Fault.{cause}
-use Rattle.br_engine.specs.Outputs.{EndTells, InSink, SinkCounts, StopsByFailure}
-use Rattle.br_engine.specs.Extracting.{OverText, OverVolumes, Extracts, Said, WritesNothing}
+use Rattle.br_engine.specs.Outputs.{EndTells, InSink}
+use Rattle.br_engine.specs.Extracting.{Said, WritesNothing}
 use Rattle.br_engine.specs.declared.restore_end.RestoreEnd.{RestoreEnd}
 use Rattle.br_engine.specs.declared.restore_end.RestoreEnd.TheVariants.{AllFiles, SomeFaults, Stopped}
 use Rattle.br_engine.specs.declared.fault.ExtractFault.{ExtractFault}

@@ -1,7 +1,7 @@
 -- From the text of a bootstrap and volumes to the files.
-use Rattle.std.specs.Prelude.{◌≡◌, ℕ, List, map, Option, Some, None, Result, Ok, Err, ⊤}
+use Rattle.std.specs.Prelude.{◌≡◌, ℕ, List, map, Option, Some, None, Result, Ok, ⊤}
 use Rattle.std.specs.Io.KnownBytes.{Keeps}
-use Rattle.br_model.specs.Answer.{◌>>=◌, refused_as, Answers}
+use Rattle.br_model.specs.Answer.{refused_as, Answers, ◌>>=◌}
 use Rattle.br_model.specs.Volume.{Volume}
 use Rattle.br_model.specs.Bootstrap.{Group}
 use Rattle.br_model.specs.BootstrapText.{read_bootstrap}

@@ -1,5 +1,5 @@
 -- What a restore writes to, and how it ended.
-use Rattle.std.specs.Prelude.{◌≡◌, ℕ, ◌<◌, ◌≤◌, Bool, true, false, List, [], is_ok, Option, Some, None, if◌then◌else◌, ⊤}
+use Rattle.std.specs.Prelude.{◌≡◌, ℕ, ◌<◌, ◌≤◌, Bool, true, false, List, [], is_ok, Option, Some, None, ⊤, if◌then◌else◌}
 use Rattle.std.specs.List.{list_all}
 use Rattle.br_model.specs.Text.{refused_line}
 use Rattle.br_model.specs.File.{Item}

@@ -1,7 +1,6 @@
 -- A restore by an order: its manifest, what is delivered of its files, and what is reported as missing.
-use Rattle.std.specs.Prelude.{◌≡◌, ℕ, List, [], ◌++◌, map, Option, option_map, Result, Ok, Err, IfOk, ◌×◌}
+use Rattle.std.specs.Prelude.{◌≡◌, ℕ, List, [], ◌++◌, map, Option, option_map, Result, Ok, Err, IfOk}
 use Rattle.std.specs.declared.io.Write as write
-use Rattle.br_model.specs.File.{Item}
 use Rattle.br_model.specs.Restored.{Restored, planned_in}
 use Rattle.br_volume.specs.declared.drive.Drive as drive
 use Rattle.br_sink.specs.declared.sink.Sink as sink

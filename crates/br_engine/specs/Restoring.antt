@@ -1,14 +1,14 @@
 -- What a bootstrap gives over the volumes of some drives, whatever these do meanwhile.
-use Rattle.std.specs.Prelude.{List, map, Vec, Option, option_map, Result, Ok}
+use Rattle.std.specs.Prelude.{List, map, Vec, Option, Result, Ok}
 use Rattle.std.specs.Global.{Global}
 use Rattle.std.specs.List.{AllZip}
-use Rattle.br_model.specs.Answer.{◌>>=◌, Answers}
+use Rattle.br_model.specs.Answer.{Answers, ◌>>=◌}
 use Rattle.br_model.specs.Name.{FileKey}
 use Rattle.br_model.specs.Volume.{Volume}
 use Rattle.br_model.specs.Bootstrap.{Group}
 use Rattle.br_model.specs.Meaning as model
 use Rattle.br_model.specs.Meaning.{Piece, Hits, hits_on_each, hits_of, pieces_of, meaning}
-use Rattle.br_model.specs.Restored.{Names, Planned, Restored, files, planned_in}
+use Rattle.br_model.specs.Restored.{Planned, Restored, files}
 use Rattle.br_pool.specs.Fault.{cause}
 use Rattle.br_pool.specs.Pool.{StandsTold}
 use Rattle.br_pool.specs.declared.fault.PoolFault.{PoolFault}

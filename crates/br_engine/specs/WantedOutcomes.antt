@@ -1,9 +1,8 @@
 -- What `extract` is wanted to do beside what each restore does.
-use Rattle.std.specs.Prelude.{◌≡◌, ℕ, Bool, List, [], length, map, Vec, Option, Some, None, Ok, ⊤}
+use Rattle.std.specs.Prelude.{◌≡◌, ℕ, Bool, List, [], length, map, Vec, Option, Some, None, ⊤}
 use Rattle.std.specs.Global.{Global}
 use Rattle.std.specs.List.{items_where_true}
 use Rattle.br_model.specs.Bootstrap.{Group}
-use Rattle.br_model.specs.BootstrapText.{read_bootstrap}
 use Rattle.br_model.specs.Restored.{Restored}
 use Rattle.br_types.specs.Newest.{newest}
 use Rattle.br_sink.specs.ConflictsApart.{apart, conflicts}

@@ -1,4 +1,4 @@
-use Rattle.std.proofs.Common.{◌≡◌, List, Option, Some, None, Ok, Err, map, refl, subst}
+use Rattle.std.proofs.Common.{Option, Some, None, Ok, Err, map, refl, subst}
 use Rattle.std.proofs.lemmas.Result.{err_from_is_err_and}
 use Rattle.br_model.specs.Plan.{Plan}
 use Rattle.br_pool.proofs.WorkedLaws.{all_kept}

@@ -1,11 +1,10 @@
-use Rattle.std.proofs.Common.{◌≡◌, List, ℕ, None, Some, map, refl, sym, subst}
+use Rattle.std.proofs.Common.{◌≡◌, List, [], ℕ, None, map, sym, subst}
 use Rattle.std.specs.Prelude.{option_map}
 use Rattle.std.proofs.lemmas.Result.{err_from_is_err_and}
 use Rattle.br_pool.proofs.WorkedLaws.{all_kept}
 use Rattle.br_engine.specs.BootstrapText.{ReadsAs}
 use Rattle.br_engine.specs.Restores.{change}
-use Rattle.br_engine.proofs.AgainLaws.{nothing_written}
-use Rattle.br_engine.proofs.DeliverLaws.{read_refused, reader_free}
+use Rattle.br_engine.proofs.DeliverLaws.{read_refused}
 use Rattle.br_engine.proofs.RestoreLaws.{by_plain_order, text_restores}
 use Rattle.br_engine.proofs.restore.run_extract.Goals as goal
 
