@@ -42,9 +42,9 @@ as_many (d ∷ drives) = ap (λ n. suc n) (as_many drives)
 no_sink : (over : Said → Type 0) (before after : Option (List ℕ)) (has : InSink) (result : Result RestoreEnd ExtractFault) → Delivers over before after None has result
     → Delivers over before after None None result
 no_sink over before after None result h = h
-no_sink over before after (Some has) (Ok AllFiles) h = absurd h.3
-no_sink over before after (Some has) (Ok SomeFaults) h = absurd h.3
-no_sink over before after (Some has) (Ok (Stopped stop)) h = absurd h.3
+no_sink over before after (Some has) (Ok AllFiles) h = absurd h.2.1
+no_sink over before after (Some has) (Ok SomeFaults) h = absurd h.2.1
+no_sink over before after (Some has) (Ok (Stopped stop)) h = absurd h.2.1
 no_sink over before after (Some has) (Err fault) h = (h.0, h.1, refl)
 
 -- a plain restore by drives that stay in their places

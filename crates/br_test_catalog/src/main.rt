@@ -19,7 +19,7 @@ mod statements;
 mod stops;
 mod volumes;
 
-use br_test_support::{Calls, Case, fields_of, run_rows};
+use br_test_support::{Case, Rows, fields_of};
 use std::io;
 use std::sync::Wait;
 use std::thread::Threads;
@@ -44,36 +44,46 @@ fn run_fields<R: Threads + Wait + Copy + Send + 'static>(
     }
 }
 
-/// The calls over catalogues, volumes and keepers.
-#[derive(Drop)]
-struct Catalogues<'r, R: Drop> {
-    rt: &'r HostRuntime,
+/// Does what the call of a row says.
+fn run_call<R: Threads + Wait + Copy + Send + 'static>(
+    rt: &HostRuntime,
     threads: R,
-}
-
-impl<R: Threads + Wait + Copy + Drop + Send + 'static> Calls for Catalogues<'_, R> {
-    fn begin(&mut self) {}
-
-    fn run(&mut self, case: &mut Case, call: &str) {
-        match call.split_once(' ') {
-            Some(("on", steps)) => database_steps::run(case, &self.threads, steps),
-            Some(("stops", steps)) => stops::run(case, &self.threads, steps),
-            Some(("look", text)) => looking::run(case, text),
-            Some(("fold", text)) => looking::run_fold(case, &self.threads, text),
-            _ => {
-                if let Some(fields) = fields_of(case, call) {
-                    run_fields(self.rt, self.threads, case, &fields);
-                }
+    case: &mut Case,
+    call: &str,
+) {
+    match call.split_once(' ') {
+        Some(("on", steps)) => database_steps::run(case, &threads, steps),
+        Some(("stops", steps)) => stops::run(case, &threads, steps),
+        Some(("look", text)) => looking::run(case, text),
+        Some(("fold", text)) => looking::run_fold(case, &threads, text),
+        _ => {
+            if let Some(fields) = fields_of(case, call) {
+                run_fields(rt, threads, case, &fields);
             }
         }
     }
 }
 
+/// Runs the row of a line, if it has one.
+fn run_line<R: Threads + Wait + Copy + Send + 'static>(
+    rt: &HostRuntime,
+    threads: R,
+    rows: &mut Rows,
+    line: &str,
+) -> io::Result<()> {
+    if let Some(row) = rows.read(rt, line)? {
+        let mut case = Case::new(rt.alloc());
+        run_call(rt, threads, &mut case, row.call);
+        rows.compare(rt, row, &case)?;
+    }
+    Ok(())
+}
+
 fn main(rt: HostRuntime) -> io::Result<()> {
     let text = io::read_to_string(rt.alloc(), rt.reader())?;
-    let mut calls = Catalogues {
-        rt: &rt,
-        threads: rt,
-    };
-    run_rows(&rt, &mut calls, text.as_str())
+    let mut rows = Rows::new(rt.alloc());
+    for line in text.as_str().lines() {
+        run_line(&rt, rt, &mut rows, line)?;
+    }
+    rows.end(&rt)
 }

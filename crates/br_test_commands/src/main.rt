@@ -18,7 +18,7 @@ mod scripts;
 mod streams;
 mod telling;
 
-use br_test_support::{Calls, Case, fields_of, run_rows};
+use br_test_support::{Case, Rows, fields_of};
 use std::io::{self, Write};
 use std::sync::Wait;
 use std::thread::Threads;
@@ -34,27 +34,37 @@ fn run_engine(case: &mut Case, threads: &(impl Threads + Wait + Sync), fields: &
     }
 }
 
-/// The calls over commands and the engine.
-#[derive(Drop)]
-struct CommandCalls<'r, R> {
-    rt: &'r HostRuntime,
-    threads: &'r R,
+/// Does what the call of a row says.
+fn run_call(
+    case: &mut Case,
+    rt: &HostRuntime,
+    threads: &(impl Threads + Wait + Sync),
+    call: &str,
+) {
+    match call.split_once(' ') {
+        Some(("line", line)) => command_lines::run(case, line),
+        Some(("engine", call)) => {
+            if let Some(fields) = fields_of(case, call) {
+                run_engine(case, threads, &fields);
+            }
+        }
+        _ => commands::run_steps(case, rt, threads, call),
+    }
 }
 
-impl<R: Threads + Wait + Sync> Calls for CommandCalls<'_, R> {
-    fn begin(&mut self) {}
-
-    fn run(&mut self, case: &mut Case, call: &str) {
-        match call.split_once(' ') {
-            Some(("line", line)) => command_lines::run(case, line),
-            Some(("engine", call)) => {
-                if let Some(fields) = fields_of(case, call) {
-                    run_engine(case, self.threads, &fields);
-                }
-            }
-            _ => commands::run_steps(case, self.rt, self.threads, call),
-        }
+/// Runs the row of a line, if it has one.
+fn run_line(
+    rt: &HostRuntime,
+    threads: &(impl Threads + Wait + Sync),
+    rows: &mut Rows,
+    line: &str,
+) -> io::Result<()> {
+    if let Some(row) = rows.read(rt, line)? {
+        let mut case = Case::new(rt.alloc());
+        run_call(&mut case, rt, threads, row.call);
+        rows.compare(rt, row, &case)?;
     }
+    Ok(())
 }
 
 /// Runs a script that follows its name, and prints what it gives.
@@ -75,14 +85,12 @@ fn run_script(
 fn main(rt: HostRuntime) -> io::Result<()> {
     // All rows are read first, so that a command that reads standard input finds its end.
     let text = io::read_to_string(rt.alloc(), rt.reader())?;
-    let mut calls = CommandCalls {
-        rt: &rt,
-        threads: &rt,
-    };
+    let mut rows = Rows::new(rt.alloc());
     let mut parts = text.as_str().split('@');
-    if let Some(rows) = parts.next() {
-        run_rows(&rt, &mut calls, rows)?;
+    for line in parts.next().unwrap_or("").lines() {
+        run_line(&rt, &rt, &mut rows, line)?;
     }
+    rows.end(&rt)?;
     for part in parts {
         run_script(&rt, &rt, part)?;
     }

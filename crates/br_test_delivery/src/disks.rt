@@ -183,14 +183,26 @@ fn put_watched(case: &mut Case, gauge: &Gauge<'_>, call: &[&str]) {
     }
 }
 
+/// Puts them as a gauge watches that, which has a log with this path. Prints also the log.
+fn put_logged(
+    case: &mut Case,
+    rt: &HostRuntime,
+    gauge: &Gauge<'_>,
+    path: &str,
+    call: &[&str],
+) -> io::Result<()> {
+    put_watched(case, gauge, call);
+    gauge.tell_end()?;
+    case.lines(&fs::read(rt, path)?);
+    Ok(())
+}
+
 /// Puts them with a log in this folder. Prints also the log.
 fn watch(case: &mut Case, rt: &HostRuntime, folder: &str, call: &[&str]) -> io::Result<()> {
     let path = path_in(case, folder, "x.log");
-    let gauge = Gauge::new(rt, "", false).with_log(Some(Log::open(rt, path.as_str())?));
-    put_watched(case, &gauge, call);
-    gauge.tell_end()?;
-    case.lines(&fs::read(rt, path.as_str())?);
-    Ok(())
+    let log = Log::open(rt, path.as_str())?;
+    let gauge = Gauge::new(rt, "", false).with_log(Some(log));
+    put_logged(case, rt, &gauge, path.as_str(), call)
 }
 
 /// Runs a call that needs a folder of the system, in a new one.

@@ -15,7 +15,7 @@ mod steps;
 mod texts;
 mod trap;
 
-use br_test_support::{Calls, Case, fields_of, run_rows};
+use br_test_support::{Case, Rows, fields_of};
 use std::io;
 use std::thread::Threads;
 
@@ -45,28 +45,33 @@ fn run(case: &mut Case, rt: &HostRuntime, threads: &(impl Threads + Sync), field
     }
 }
 
-/// The calls over deliveries.
-#[derive(Drop)]
-struct Deliveries<'r, R> {
-    rt: &'r HostRuntime,
-    threads: &'r R,
+/// Does what the call of a row says.
+fn run_call(case: &mut Case, rt: &HostRuntime, threads: &(impl Threads + Sync), call: &str) {
+    if let Some(fields) = fields_of(case, call) {
+        run(case, rt, threads, &fields);
+    }
 }
 
-impl<R: Threads + Sync> Calls for Deliveries<'_, R> {
-    fn begin(&mut self) {}
-
-    fn run(&mut self, case: &mut Case, call: &str) {
-        if let Some(fields) = fields_of(case, call) {
-            run(case, self.rt, self.threads, &fields);
-        }
+/// Runs the row of a line, if it has one.
+fn run_line(
+    rt: &HostRuntime,
+    threads: &(impl Threads + Sync),
+    rows: &mut Rows,
+    line: &str,
+) -> io::Result<()> {
+    if let Some(row) = rows.read(rt, line)? {
+        let mut case = Case::new(rt.alloc());
+        run_call(&mut case, rt, threads, row.call);
+        rows.compare(rt, row, &case)?;
     }
+    Ok(())
 }
 
 fn main(rt: HostRuntime) -> io::Result<()> {
     let text = io::read_to_string(rt.alloc(), rt.reader())?;
-    let mut calls = Deliveries {
-        rt: &rt,
-        threads: &rt,
-    };
-    run_rows(&rt, &mut calls, text.as_str())
+    let mut rows = Rows::new(rt.alloc());
+    for line in text.as_str().lines() {
+        run_line(&rt, &rt, &mut rows, line)?;
+    }
+    rows.end(&rt)
 }

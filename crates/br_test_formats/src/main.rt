@@ -15,7 +15,7 @@ mod printing;
 mod sessions;
 mod volumes;
 
-use br_test_support::{Calls, Case, fields_of, run_rows};
+use br_test_support::{Case, Rows, fields_of};
 use std::io;
 
 /// Does what a call says and prints what it gave.
@@ -36,21 +36,28 @@ fn run(case: &mut Case, fields: &[&str]) {
     }
 }
 
-/// The calls over formats.
-#[derive(Clone, Copy)]
-struct Formats;
-
-impl Calls for Formats {
-    fn begin(&mut self) {}
-
-    fn run(&mut self, case: &mut Case, call: &str) {
-        if let Some(fields) = fields_of(case, call) {
-            run(case, &fields);
-        }
+/// Does what the call of a row says.
+fn run_call(case: &mut Case, call: &str) {
+    if let Some(fields) = fields_of(case, call) {
+        run(case, &fields);
     }
+}
+
+/// Runs the row of a line, if it has one.
+fn run_line(rt: &HostRuntime, rows: &mut Rows, line: &str) -> io::Result<()> {
+    if let Some(row) = rows.read(rt, line)? {
+        let mut case = Case::new(rt.alloc());
+        run_call(&mut case, row.call);
+        rows.compare(rt, row, &case)?;
+    }
+    Ok(())
 }
 
 fn main(rt: HostRuntime) -> io::Result<()> {
     let text = io::read_to_string(rt.alloc(), rt.reader())?;
-    run_rows(&rt, &mut Formats, text.as_str())
+    let mut rows = Rows::new(rt.alloc());
+    for line in text.as_str().lines() {
+        run_line(&rt, &mut rows, line)?;
+    }
+    rows.end(&rt)
 }

@@ -12,9 +12,8 @@ mod shelf;
 mod streams;
 mod tar;
 
-use br_test_support::{Calls, Case, fields_of, run_rows};
+use br_test_support::{Case, Rows, fields_of};
 use shelf::Shelf;
-use std::alloc::Global;
 use std::io;
 use std::sync::Wait;
 use std::thread::Threads;
@@ -105,32 +104,43 @@ fn run<R: Clock + Threads + Wait + Sync>(
     }
 }
 
-/// The calls over pools of drives. The rows of each name begin with an empty shelf.
-#[derive(Drop)]
-struct DrivePools<'r, R> {
-    threads: &'r R,
-    alloc: Global,
-    shelf: Shelf,
+/// Does what the call of a row says.
+fn run_call<R: Clock + Threads + Wait + Sync>(
+    case: &mut Case,
+    threads: &R,
+    shelf: &mut Shelf,
+    call: &str,
+) {
+    if let Some(fields) = fields_of(case, call) {
+        run(case, threads, shelf, &fields);
+    }
 }
 
-impl<R: Clock + Threads + Wait + Sync> Calls for DrivePools<'_, R> {
-    fn begin(&mut self) {
-        self.shelf = Shelf::new(self.alloc);
+/// Runs the row of a line, if it has one. The rows of each name begin with an empty shelf.
+fn run_line<R: Clock + Threads + Wait + Sync>(
+    rt: &HostRuntime,
+    threads: &R,
+    shelf: &mut Shelf,
+    rows: &mut Rows,
+    line: &str,
+) -> io::Result<()> {
+    if line.starts_with("## ") {
+        *shelf = Shelf::new(rt.alloc());
     }
-
-    fn run(&mut self, case: &mut Case, call: &str) {
-        if let Some(fields) = fields_of(case, call) {
-            run(case, self.threads, &mut self.shelf, &fields);
-        }
+    if let Some(row) = rows.read(rt, line)? {
+        let mut case = Case::new(rt.alloc());
+        run_call(&mut case, threads, shelf, row.call);
+        rows.compare(rt, row, &case)?;
     }
+    Ok(())
 }
 
 fn main(rt: HostRuntime) -> io::Result<()> {
     let text = io::read_to_string(rt.alloc(), rt.reader())?;
-    let mut calls = DrivePools {
-        threads: &rt,
-        alloc: rt.alloc(),
-        shelf: Shelf::new(rt.alloc()),
-    };
-    run_rows(&rt, &mut calls, text.as_str())
+    let mut rows = Rows::new(rt.alloc());
+    let mut shelf = Shelf::new(rt.alloc());
+    for line in text.as_str().lines() {
+        run_line(&rt, &rt, &mut shelf, &mut rows, line)?;
+    }
+    rows.end(&rt)
 }

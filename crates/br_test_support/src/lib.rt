@@ -1,5 +1,5 @@
 //! Rows, which are tests written as data. A program reads them from standard input, does what each
-//! one says, and prints the rows that gave something else than wanted (`run_rows`).
+//! one says, and prints the rows that gave something else than wanted (`Rows`).
 //!
 //! A row is `CALL FIELD FIELD .. = WANTED`, a line that begins with `## ` names the rows after it,
 //! and other lines that are empty or begin with `#` say something to the reader alone.
@@ -16,4 +16,4 @@ mod rows;
 mod texts;
 
 pub use case::Case;
-pub use rows::{Calls, fields_of, run_rows};
+pub use rows::{Row, Rows, fields_of};

@@ -4,26 +4,17 @@ use std::io::{self, Write};
 
 /// A row: what it says to do, and what that has to give.
 #[derive(Clone, Copy)]
-struct Row<'l> {
-    call: &'l str,
+pub struct Row<'l> {
+    pub call: &'l str,
     wanted: &'l str,
 }
 
 /// The rows so far: the name of those that are read now, how many there are, and how many hold.
 #[derive(Drop)]
-struct Rows {
+pub struct Rows {
     name: String,
     count: u64,
     held: u64,
-}
-
-/// What a program does with the calls of its rows.
-pub trait Calls {
-    /// Begins rows with another name.
-    fn begin(&mut self);
-
-    /// Does what a call says, and prints what it gave into the case.
-    fn run(&mut self, case: &mut Case, call: &str);
 }
 
 /// Returns the fields of a call, of which the first is its name. Marks the row as failed if memory
@@ -51,7 +42,7 @@ fn row_of(line: &str) -> Row<'_> {
 
 impl Rows {
     /// Makes a count of rows that have no name yet.
-    fn new(alloc: Global) -> Rows {
+    pub fn new(alloc: Global) -> Rows {
         Rows {
             name: String::new(alloc),
             count: 0,
@@ -60,7 +51,7 @@ impl Rows {
     }
 
     /// Prints how many of the rows with this name hold, if there are any.
-    fn end<R: Print>(&self, rt: &R) -> io::Result<()> {
+    pub fn end<R: Print>(&self, rt: &R) -> io::Result<()> {
         if self.count == 0 {
             return Ok(());
         }
@@ -75,9 +66,25 @@ impl Rows {
         Ok(())
     }
 
+    /// Reads a line. Returns its row, if it has one.
+    pub fn read<'l, R: Print + AllocGlobal>(
+        &mut self,
+        rt: &R,
+        line: &'l str,
+    ) -> io::Result<Option<Row<'l>>> {
+        if let Some(name) = line.strip_prefix("## ") {
+            self.begin(rt, name)?;
+            return Ok(None);
+        }
+        if line.is_empty() || line.starts_with('#') {
+            return Ok(None);
+        }
+        Ok(Some(row_of(line.trim_ascii_end())))
+    }
+
     /// Counts a row, and prints it if it failed or gave something else than wanted. Blanks at the
     /// end do not count.
-    fn compare<R: Print>(&mut self, rt: &R, row: Row<'_>, case: &Case) -> io::Result<()> {
+    pub fn compare<R: Print>(&mut self, rt: &R, row: Row<'_>, case: &Case) -> io::Result<()> {
         self.count = self.count.saturating_add(1);
         if case.fault().is_none() && case.gave().trim_ascii_end() == row.wanted.as_bytes() {
             self.held = self.held.saturating_add(1);
@@ -92,38 +99,4 @@ impl Rows {
             None => Ok(()),
         }
     }
-}
-
-/// Runs the row of a line, if it has one.
-fn run_line<R: Print + AllocGlobal, C: Calls>(
-    rt: &R,
-    calls: &mut C,
-    rows: &mut Rows,
-    line: &str,
-) -> io::Result<()> {
-    if let Some(name) = line.strip_prefix("## ") {
-        calls.begin();
-        return rows.begin(rt, name);
-    }
-    if line.is_empty() || line.starts_with('#') {
-        return Ok(());
-    }
-    let row = row_of(line.trim_ascii_end());
-    let mut case = Case::new(rt.alloc());
-    calls.run(&mut case, row.call);
-    rows.compare(rt, row, &case)
-}
-
-/// Runs the rows of a text. Prints those that gave something else than wanted, and after the rows of
-/// each name how many of them hold.
-pub fn run_rows<R: Print + AllocGlobal, C: Calls>(
-    rt: &R,
-    calls: &mut C,
-    text: &str,
-) -> io::Result<()> {
-    let mut rows = Rows::new(rt.alloc());
-    for line in text.lines() {
-        run_line(rt, calls, &mut rows, line)?;
-    }
-    rows.end(rt)
 }
