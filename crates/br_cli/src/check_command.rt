@@ -135,13 +135,7 @@ pub fn check_over<D: Drive, W: Flush>(
         Ok(read) => read,
         Err(fault) => return Err(ExtractFault::Bootstrap(*fault)),
     };
-    let checked = checked_for(
-        alloc,
-        read,
-        task.memory,
-        &mut task.drive,
-        task.checksums,
-    )?;
+    let checked = checked_for(alloc, read, task.memory, &mut task.drive, task.checksums)?;
     show_checked(alloc, writer, &checked)?;
     Ok(status_of(&checked))
 }

@@ -9,8 +9,8 @@ ghost use Rattle.br_cli_target.specs.TarEnding.{IsShown};
 ghost use Rattle.br_engine.specs.Restores.{change};
 ghost use Rattle.br_cli.specs.ExtractTasks.{ExtractsTo, StreamsTo};
 
-use br_cli_common::{CLEAN, ExtractOptions, REFUSED, Target, refuse_start};
 use br_bsr::{Bootstrap, BsrFault};
+use br_cli_common::{CLEAN, ExtractOptions, REFUSED, Target, refuse_start};
 use br_cli_progress::{Gauge, WatchedSink, WatchedWriter};
 use br_cli_target::{
     BAD_STREAM, Channel, Ending, Extent, LeavingSink, Streamed, TarEnd, TarFault, Told,
@@ -436,7 +436,14 @@ fn extract_into(
     gauge.clear();
     name_others(rt, gauge, given, &run)?;
     let told = Told::by(&writer, bootstrap);
-    report(rt, gauge, given, &told, &run, (left_out(&restore.sink), None))
+    report(
+        rt,
+        gauge,
+        given,
+        &told,
+        &run,
+        (left_out(&restore.sink), None),
+    )
 }
 
 /// Restores into the tar stream of a sink, with the manifest to this writer: standard output, or something

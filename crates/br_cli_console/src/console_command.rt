@@ -21,8 +21,8 @@ use br_cli_progress::{Gauge, WatchedSink, WatchedWriter};
 use br_cli_target::{
     BAD_STREAM, Channel, Ending, Extent, HostSink, Streamed, TarFault, Told, add_tar_end,
     end_stream, folder_of, gauge_of, lacks_volumes, log_fault, refuse_log, refuse_place,
-    restore_over, say_nowhere, say_stop, say_volumes, sink_over, tar_into, tar_onto,
-    tell_outcomes, with_watched_drives, with_watched_sink,
+    restore_over, say_nowhere, say_stop, say_volumes, sink_over, tar_into, tar_onto, tell_outcomes,
+    with_watched_drives, with_watched_sink,
 };
 use br_console::{ConsoleFault, ConsoleRun, End, JobSelection, Lines, run_console};
 use br_engine::{Flush, Restore, RestoreEnd};
@@ -401,7 +401,13 @@ fn restore_into<C: Catalogue, R: BufRead + Drop>(
     tell_chosen(rt, &jobs.history, &jobs.request)?;
     let mut restore = with_watched_sink(with_watched_drives(restore, gauge)?, gauge);
     let mut writer = WatchedWriter::new(writer, gauge);
-    let run = run_console(threads, &mut restore, &jobs.selection(), reader, &mut writer);
+    let run = run_console(
+        threads,
+        &mut restore,
+        &jobs.selection(),
+        reader,
+        &mut writer,
+    );
     gauge.clear();
     let ending = console_ending(rt.alloc(), &run)?;
     let told = Told::of_session(&writer);

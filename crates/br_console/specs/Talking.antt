@@ -72,11 +72,11 @@ pub record Talk : Type 0 where
 -- the same of a reader and a writer
 abbrev pub talk : {R W : Type 0} → read.Ghosts R → write.Ghosts W → R × W → R × W → Talk
 talk reader writer old new = record {
-    known = reader.remaining old.0;
-    left = reader.remaining new.0;
-    before = writer.contents old.1;
-    after = writer.contents new.1;
-  }
+  known = reader.remaining old.0;
+  left = reader.remaining new.0;
+  before = writer.contents old.1;
+  after = writer.contents new.1;
+}
 
 -- the session is so, as a contract states it
 abbrev pub Converses : Talk → Situation → Result Session ConsoleFault → Type 0

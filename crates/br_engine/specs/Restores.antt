@@ -32,10 +32,10 @@ pub record Change : Type 0 where
 -- what is seen of a restore and of its writer
 abbrev pub seen : {D W S : Type 0} → drive.Ghosts D → write.Ghosts W → sink.Ghosts S → Restore D S × W → Seen
 seen drives writer sink at = record {
-    told = map drives.shows at.0.drives.items;
-    written = writer.contents at.1;
-    has = option_map sink.has at.0.sink;
-  }
+  told = map drives.shows at.0.drives.items;
+  written = writer.contents at.1;
+  has = option_map sink.has at.0.sink;
+}
 
 -- what a run changes of it
 abbrev pub change : {D W S : Type 0} → drive.Ghosts D → write.Ghosts W → sink.Ghosts S → Restore D S × W → Restore D S × W → Change

@@ -35,12 +35,7 @@ fn run_engine(case: &mut Case, threads: &(impl Threads + Wait + Sync), fields: &
 }
 
 /// Does what the call of a row says.
-fn run_call(
-    case: &mut Case,
-    rt: &HostRuntime,
-    threads: &(impl Threads + Wait + Sync),
-    call: &str,
-) {
+fn run_call(case: &mut Case, rt: &HostRuntime, threads: &(impl Threads + Wait + Sync), call: &str) {
     match call.split_once(' ') {
         Some(("line", line)) => command_lines::run(case, line),
         Some(("engine", call)) => {
