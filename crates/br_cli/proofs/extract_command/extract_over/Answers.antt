@@ -1,0 +1,11 @@
+use Rattle.std.proofs.Common.{None, refl}
+use Rattle.br_engine.specs.Restores.{change}
+use Rattle.br_engine.proofs.RestoreLaws.{by_order}
+use Rattle.br_cli.proofs.extract_command.extract_over.Goals as goal
+
+pub returns-in-Ok-clause-extracts : goal.returns-in-Ok-clause-extracts
+returns-in-Ok-clause-extracts g c =
+    rw c.in-Ok.is
+    (by_order (record { asked = c.counted.result; names = None; wanted = c.args.extraction.now.wanted })
+    (change g.D.Drive g.W.Write g.S.Sink (c.args.restore.now, c.args.writer.now) (c.run.new.self, c.run.new.writer)) c.run.result c.in-Ok.read.bootstrap
+    c.in-Ok.read.counts.items c.counted.ensures.bootstrap c.counted.ensures.counts refl c.run.ensures.restores)
