@@ -108,6 +108,7 @@ def play(program, words, lines, folder):
     lines, and standard output."""
     terminal, inner = pty.openpty()
     modes = termios.tcgetattr(inner)
+    modes[0] &= ~termios.ICRNL
     modes[3] &= ~termios.ECHO
     termios.tcsetattr(inner, termios.TCSANOW, modes)
     ends, shown = time.monotonic() + SECONDS, ""
