@@ -1,10 +1,10 @@
 //! Which numbers seats draw, in turn and in threads.
 ghost use Rattle.std.specs.Prelude.{◌≡◌, true};
 
-use crate::streams::shown;
 use br_claim::{ClaimFault, ClaimSeat, Claims};
 use br_test_support::Case;
 use std::alloc::{AllocError, Global};
+use std::io::Write;
 use std::sync::Wait;
 use std::thread::{Threads, join};
 
@@ -16,6 +16,14 @@ fn draw(case: &mut Case, claims: &Claims, seat: &mut ClaimSeat)
     let drawn = claims.draw(seat);
     case.number_or_none(drawn.map(|number| u64::from(number)));
     case.text(" ");
+}
+
+/// Prints what gathering seats returned: the numbers of each, or the number of the refusal.
+fn push_gathered(case: &mut Case, gathered: Result<Vec<Vec<u32>>, ClaimFault>) {
+    let gathered = gathered.map_err(|fault| fault.number());
+    if write!(case.out(), "{gathered:?}").is_err() {
+        case.fail("out of memory");
+    }
 }
 
 /// Returns the numbers that two seats drew.
@@ -43,8 +51,8 @@ fn in_turn(case: &mut Case, n: u32) -> Result<(), AllocError> {
     draw(case, &claims, &mut s);
     draw(case, &claims, &mut t);
     draw(case, &claims, &mut s);
-    let gathered = gathered(case.alloc(), claims, s, t).map_err(|fault| fault.number());
-    shown(case, &gathered);
+    let gathered = gathered(case.alloc(), claims, s, t);
+    push_gathered(case, gathered);
     Ok(())
 }
 
@@ -55,8 +63,7 @@ fn missing(case: &mut Case, n: u32) -> Result<(), AllocError> {
     let t = claims.seat()?;
     drop(t);
     let seats = Vec::from_array(case.alloc(), [s])?;
-    let gathered = claims.gather(seats).map_err(|fault| fault.number());
-    shown(case, &gathered);
+    push_gathered(case, claims.gather(seats));
     Ok(())
 }
 

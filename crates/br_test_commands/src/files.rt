@@ -3,42 +3,28 @@ use br_test_support::Case;
 use std::fs;
 use std::os::unix::fs::symlink;
 
-/// Prints bytes: as a text, `look`; their number, `size`; each line that does not begin with two blanks,
-/// `lines`; or the last ones, as many as the way says.
-fn push_bytes(case: &mut Case, way: &str, bytes: &[u8]) {
-    match way {
-        "look" => case.lines(bytes),
-        "size" => {
-            case.number(bytes.len() as u64);
-            case.text(" ");
-        }
-        "lines" => {
+/// Prints each line of a file that does not begin with two blanks.
+fn push_lines(case: &mut Case, rt: &HostRuntime, name: &str) {
+    match fs::read(rt, name) {
+        Ok(bytes) => {
             for line in bytes.split(|byte| *byte == b'\n') {
                 if !line.starts_with(b"  ") {
                     case.lines(line);
                 }
             }
         }
-        count => {
-            let count = case.u64_of(count) as usize;
-            let end = bytes.get(bytes.len().saturating_sub(count)..);
-            case.lines(end.unwrap_or(bytes));
-        }
+        Err(_fault) => case.text("none "),
     }
 }
 
-/// Prints what is there under a name: the bytes of a file in this way, the number of entries of a folder, or
-/// `none`.
-fn push_there(case: &mut Case, rt: &HostRuntime, way: &str, name: &str) {
-    match fs::read(rt, name) {
-        Ok(bytes) => push_bytes(case, way, &bytes),
-        Err(_fault) => match fs::read_dir(rt, name) {
-            Ok(entries) => {
-                case.number(entries.count() as u64);
-                case.text(" ");
-            }
-            Err(_fault) => case.text("none "),
-        },
+/// Prints the number of entries of a folder, or `none`.
+fn push_count(case: &mut Case, rt: &HostRuntime, name: &str) {
+    match fs::read_dir(rt, name) {
+        Ok(entries) => {
+            case.number(entries.count() as u64);
+            case.text(" ");
+        }
+        Err(_fault) => case.text("none "),
     }
 }
 
@@ -52,12 +38,12 @@ pub(crate) fn run(case: &mut Case, rt: &HostRuntime, step: &[&str]) {
             let text = case.text_of(text);
             fs::write(rt, *name, &text)
         }
-        ["bytes", name, bytes] => {
-            let bytes = case.bytes_of(bytes);
-            fs::write(rt, *name, &bytes)
+        ["lines", name] => {
+            push_lines(case, rt, name);
+            Ok(())
         }
-        [way, name] => {
-            push_there(case, rt, way, name);
+        ["count", name] => {
+            push_count(case, rt, name);
             Ok(())
         }
         _ => {

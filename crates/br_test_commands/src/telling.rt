@@ -1,8 +1,11 @@
-//! What is told of a restore while it runs, what passes a writer that is watched, and why a file could not be
-//! written or read.
-use crate::refusal_rows::{self, number_of};
+//! What is told of a restore while it runs, what passes a writer that is watched, why a file could not be
+//! written or read, and what refusals mean.
+use crate::files;
 use br_bsr::write_bootstrap;
-use br_cli_common::{reason_of_file, reason_of_folder, reason_of_new_file, reason_of_read};
+use br_cli_common::{
+    push_with_words, reason_of_file, reason_of_folder, reason_of_new_file, reason_of_read,
+    refused_number,
+};
 use br_cli_progress::{Faults, Gauge, Log, Standing, WatchedWriter, push_key, seconds_left};
 use br_test_support::Case;
 use br_types::push_number;
@@ -91,6 +94,14 @@ fn pass(
     push_passed(text, rt.alloc(), &gauge, &writer)
 }
 
+/// Reads a number, if there is one.
+fn number_of(case: &mut Case, field: &str) -> Option<u64> {
+    if field == "-" {
+        return None;
+    }
+    Some(case.u64_of(field))
+}
+
 /// Runs a step. Of one that is told here it prints the text.
 pub(crate) fn run(case: &mut Case, rt: &HostRuntime, step: &[&str]) {
     let mut text = Vec::new(case.alloc());
@@ -118,7 +129,15 @@ pub(crate) fn run(case: &mut Case, rt: &HostRuntime, step: &[&str]) {
             let lines = case.text_of(lines);
             pass(&mut text, rt, log, len, &lines).is_ok()
         }
-        _ => return refusal_rows::run(case, rt, step),
+        ["with_words", lines] => {
+            let lines = case.text_of(lines);
+            push_with_words(&mut text, &lines).is_ok()
+        }
+        ["number", line] => {
+            let line = case.text_of(line);
+            write!(text, "{:?}", refused_number(&line)).is_ok()
+        }
+        _ => return files::run(case, rt, step),
     };
     if !is_made {
         case.fail("a text is not made");
