@@ -10,6 +10,8 @@ from common import ORDER_SQL
 # A job of the client `mars` and the file set `home`: its files are tuples of index, path and numbers, and its span is a tuple of the
 # volume, the first and the last index, and the first and the last address.
 Job = namedtuple("Job", "id level start session files span")
+# The numbers of a file of so many bytes, which are written in base 64.
+NUMBERS = b"A A IGk B A A A %s A A A A A A"
 
 
 def tables():
@@ -53,3 +55,10 @@ def write_catalogue(file, jobs):
         for job in jobs:
             add_job(connection, job)
         connection.commit()
+
+
+def write_one_job(file, second):
+    """Makes the catalogue of a job that wrote two files, `/a` and this path, of five bytes each, into the first 160 bytes of the volume V.
+    The job began on 2106-02-07, which 32 bits can't hold."""
+    files = [(index, path, NUMBERS % b"F") for index, path in ((1, b"/a"), (2, second))]
+    write_catalogue(file, [Job(1, "F", 2**32 + 1, (1, 100), files, ("V", 1, 2, 0, 159))])

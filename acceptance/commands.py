@@ -1,7 +1,7 @@
 #!/usr/bin/env python3
 """Runs the commands over volumes of a block or two, and compares status, what is printed and which files are there afterwards.
 
-    acceptance/commands.py                     needs sqlite3, and the program in crates/brestore/out
+    acceptance/commands.py                     needs the program in crates/brestore/out
     acceptance/commands.py --program FILE      another program
 
 All that is expected was worked out by hand. The status is 1 if something is not as expected.
@@ -19,7 +19,8 @@ from pathlib import Path
 # Nothing is left beside the script.
 sys.dont_write_bytecode = True
 sys.path.insert(0, os.path.join(os.path.dirname(os.path.dirname(os.path.abspath(__file__))), "tools"))
-from common import ORDER_SQL, PROGRAM, Checks
+from catalogued import write_one_job
+from common import PROGRAM, Checks
 
 STAT = b"A A IGk B A A A F A A A A A A"
 NUMBERS = b"0,0,33188,1,0,0,0,%d,0,0,0,0,0,0"
@@ -152,20 +153,8 @@ class Place:
         return self.folder / "x.bsr"
 
     def catalogue(self, second=b"/d/b"):
-        """Makes the catalogue of the job that wrote the whole block. The job began on 2106-02-07, which 32 bits can't hold."""
-        path, name = second.rsplit(b"/", 1)
-        tables = "".join(line for line in Path(ORDER_SQL).read_text().splitlines(keepends=True) if not line.startswith("INSERT"))
-        rows = f"""INSERT INTO Version VALUES (2);
-            INSERT INTO Client VALUES (1, 'mars');
-            INSERT INTO FileSet VALUES (1, 'home');
-            INSERT INTO Media VALUES (1, 'V', 'File');
-            INSERT INTO Path VALUES (1, x'2f');
-            INSERT OR IGNORE INTO Path VALUES (2, x'{path.hex()}2f');
-            INSERT INTO Job VALUES (1, 'B', 'F', 1, 'T', 4294967297, 1, 1, 100);
-            INSERT INTO JobMedia VALUES (1, 1, 1, 1, 2, 0, 0, 0, 159, 1);
-            INSERT INTO File VALUES (1, 1, 1, 1, x'61', '{STAT.decode()}', '');
-            INSERT INTO File SELECT 2, 2, 1, PathId, x'{name.hex()}', '{STAT.decode()}', '' FROM Path WHERE Path = x'{path.hex()}2f';"""
-        subprocess.run(["sqlite3", self.folder / "c.db"], input=tables + rows, text=True, check=True)
+        """Makes the catalogue of the job that wrote the whole block."""
+        write_one_job(self.folder / "c.db", second)
         return self.folder / "c.db"
 
     def files(self, top="into"):

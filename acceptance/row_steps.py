@@ -10,7 +10,9 @@ import socket
 import subprocess
 from pathlib import Path
 
-from catalogued import Job, write_catalogue
+from catalogued import NUMBERS, Job, write_catalogue, write_one_job
+from common import MIB
+from leaving import write_volume
 from preloaded import compiled
 from row_fields import bytes_of, shown, text_of
 from scripting import base64_of
@@ -21,7 +23,6 @@ AFTER = "2106-02-07 06:28:18"
 # What the program says of a stream that it could not read or write.
 ERRORS = {"pipe": errno.EPIPE, "memory": errno.ENOMEM}
 SECONDS = 60
-NUMBERS = b"A A IGk B A A A %s A A A A A A"
 # What is said of each kind of fault of a command line, by clap and by the program itself.
 KINDS = (
     (r"error: the following required arguments were not provided|.* must be given (together|with '.*)$", "MissingRequiredArgument"),
@@ -156,12 +157,6 @@ def check(place, bsr, word):
     return [*[shown(it) for it in [printed + told] if it], str(status)]
 
 
-def one_job(place, file, second):
-    """Makes the catalogue of the job that wrote V, whose second file has this path."""
-    files = [(index, path, NUMBERS % b"F") for index, path in ((1, b"/a"), (2, bytes_of(second)))]
-    write_catalogue(place.path(file), [Job(1, "F", 2**32 + 1, (1, 100), files, ("V", 1, 2, 0, 159))])
-
-
 def input_of(script):
     """Returns the lines of a script, none for `input`."""
     return b"" if script == "input" else text_of(script)
@@ -169,7 +164,7 @@ def input_of(script):
 
 def console(place, script, target, second, client, before, db, log):
     if db == "c.db":
-        one_job(place, db, second)
+        write_one_job(place.path(db), bytes_of(second))
     words = ["console", "--db", db, "--volumes", "volumes", "--client", client, "--fileset", "home"]
     words += ["--before", AFTER if before == "after" else before, "--drives", "2", "--quiet"]
     return place.command([*words, *target_words(target), *log_words(log)], input_of(script))
@@ -177,7 +172,7 @@ def console(place, script, target, second, client, before, db, log):
 
 def serve(place, script, volumes, db, call=None):
     if db == "c.db":
-        one_job(place, db, "/d/b")
+        write_one_job(place.path(db), b"/d/b")
     stops = {"STOPPED_CALL": call, "STOPPED_WAY": "failing"}
     more = {"env": place.preload("stopping_calls", stops)} if call else {}
     return place.command(["serve", "--db", db, "--volumes", volumes], input_of(script), **more)
@@ -342,6 +337,20 @@ def status_of(place, line):
 LINE_CALLS = {"read": read, "status": status_of}
 
 
+def counted(place, words):
+    """Returns the memory that a check counts."""
+    printed = place.run(["check", "--bsr", "x.bsr", "--volumes", "volumes", *words])[1]
+    return int(re.search(rb"^memory (\d+)$", printed, re.M)[1])
+
+
+def held(place, memory):
+    """Returns how many bytes of the data of a file of 3 MiB may be held with this memory, `-` for none that is given."""
+    if not place.path("volumes").exists():
+        write_volume(place.folder, [(b"/a", bytes(3 * MIB))])
+    words = [] if memory == "-" else ["--memory", memory]
+    return [str(counted(place, words) - counted(place, ["--memory", "0"]))]
+
+
 # At a terminal.
 
 
@@ -392,6 +401,7 @@ STEPS = {
     "restore": restore,
     "session": session,
     "turns": turns,
+    "held": held,
     "asked": asked,
     "name": name_line,
 }
