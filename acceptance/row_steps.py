@@ -20,7 +20,7 @@ from terminal import PROMPT, play
 
 # The second after the job of the catalogue began. 32 bits can't hold it.
 AFTER = "2106-02-07 06:28:18"
-# What the program says of a stream that it could not read or write.
+# The error with which reading fails, by its word in a row.
 ERRORS = {"pipe": errno.EPIPE, "memory": errno.ENOMEM}
 SECONDS = 60
 # What is said of each kind of fault of a command line, by clap and by the program itself.
@@ -115,15 +115,15 @@ def look(place, name):
     return there(place, name, lambda data: [shown(data)])
 
 
-def size(place, name):
+def size_of(place, name):
     return there(place, name, lambda data: [str(len(data))])
 
 
-def lines(place, name):
+def lines_of(place, name):
     return there(place, name, lambda data: [shown(line) for line in data.split(b"\n") if not line.startswith(b"  ")])
 
 
-def last(place, count, name):
+def last_of(place, count, name):
     return there(place, name, lambda data: [shown(data[-int(count) :])])
 
 
@@ -327,7 +327,7 @@ def read(place, line):
         return [*[kind for said, kind in KINDS if re.match(said, told.decode(), re.M)], "2"]
     if b"Usage: " in printed or printed.startswith(b"brestore "):
         return ["DisplayHelp" if b"Usage: " in printed else "DisplayVersion", str(status)]
-    return ["accepted"]
+    return ["accepted" if status in (0, 1, 3) else str(status)]
 
 
 def status_of(place, line):
@@ -355,19 +355,20 @@ def held(place, memory):
 
 
 def at_terminal(place, files, text):
-    """Types a text and the end of the input at the prompt of a console over a job of these files. Returns what the terminal showed, and
-    standard output."""
+    """Types a text and the end of the input at the prompt of a console over a job of these files. Returns what the terminal showed."""
     db = place.path("t.db")
     write_catalogue(db, [Job(1, "F", 100, (1, 7), files, ("V", 1, 1, 0, 0))])
     words = ["console", "--db", str(db), "--volumes", str(place.folder), "--client", "mars", "--fileset", "home"]
     ends = "\x04" if text.endswith("\n") or not text else "\x04\x04"
-    _, terminal, printed = play(place.program, [*words, "--before", AFTER], [(PROMPT, text + ends)], place.folder)
-    return terminal, printed
+    status, terminal, _ = play(place.program, [*words, "--before", AFTER], [(PROMPT, text + ends)], place.folder)
+    if status not in (0, 1):
+        raise ValueError(f"the console ends with status {status}")
+    return terminal
 
 
 def asked(place, line):
     """Returns what a line asks for at a terminal: `Help` or `Dir`, or `Other`."""
-    terminal, printed = at_terminal(place, [(1, b"/f2", NUMBERS % b"Y")], text_of(line).decode())
+    terminal = at_terminal(place, [(1, b"/f2", NUMBERS % b"Y")], text_of(line).decode())
     if any(it.startswith("unmarkdir") for it in terminal):
         return ["Help"]
     return ["Dir" if any(it.endswith(" f2") for it in terminal) else "Other"]
@@ -380,7 +381,7 @@ def name_line(place, name, number, moment):
     numbers[7] = b"A" if number == "-" else base64_of(int(number)) or b"A"
     numbers[11] = b"-B" if moment == "-" else base64_of(int(moment)) or b"A"
     path = b"/" + name + (b"x" if number == "-" else b"")
-    terminal, _ = at_terminal(place, [(1, path, b" ".join(numbers))], "dir\n")
+    terminal = at_terminal(place, [(1, path, b" ".join(numbers))], "dir\n")
     found = next(it for it in terminal if it.startswith(PROMPT)).removeprefix(PROMPT)
     return [shown(found.encode() + b"\n")]
 
@@ -391,8 +392,8 @@ STEPS = {
     "bytes": write_bytes,
     "remove": remove,
     "look": look,
-    "size": size,
-    "lines": lines,
+    "size": size_of,
+    "lines": lines_of,
     "extract": extract,
     "check": check,
     "console": console,
@@ -413,5 +414,5 @@ def take(place, step):
     if name == "line":
         return LINE_CALLS[fields[0]](place, step.split(" ", 2)[2])
     if name.isdigit():
-        return last(place, name, *fields)
+        return last_of(place, name, *fields)
     return STEPS[name](place, *fields)
