@@ -1,5 +1,5 @@
 -- The commands and options of the program, by the definitions of clap.
-use Rattle.std.specs.Prelude.{ℕ, List, [], ◌∷◌, Bool, codes, Some, false, true}
+use Rattle.std.specs.Prelude.{List, [], ◌∷◌, Bool, codes, fold, Some, false, true}
 use Rattle.clap.specs.Simple.{App, new_app, new_rule, on_top, with_rule, with_subcommand}
 use Rattle.clap.specs.Walk.{Rule, Text}
 use Rattle.clap.specs.declared.builder.action.ArgAction.TheVariants.{Set, SetTrue}
@@ -19,103 +19,101 @@ value_rule name is_required = record (new_rule name) {
 abbrev pub flag_rule : Text → Rule
 flag_rule name = record (new_rule name) { long = Some name; action = Some SetTrue }
 
--- `--drives N`, a number from 1 to 16, which is 1 if the option is left out
-abbrev pub drives_rule : Rule
-drives_rule = record (value_rule (codes "drives") false) { parser = Some (Unsigned 1 16); defaults = codes "1" ∷ [] }
+-- an option `--name N`, a number from 1 to 16, which is 1 if the option is left out
+abbrev pub drives_rule : Text → Rule
+drives_rule name = record (value_rule name false) { parser = Some (Unsigned 1 16); defaults = codes "1" ∷ [] }
 
--- `--memory SIZE`, which is 1 GiB if the option is left out
-abbrev pub memory_rule : Rule
-memory_rule = record (value_rule (codes "memory") false) { defaults = codes "1G" ∷ [] }
+-- an option `--name SIZE`, which is 1 GiB if the option is left out
+abbrev pub memory_rule : Text → Rule
+memory_rule name = record (value_rule name false) { defaults = codes "1G" ∷ [] }
 
--- a command with `--into DIR` and `--tar FILE`, which may be left out
-abbrev pub with_target_rules : App → App
-with_target_rules app = with_rule (with_rule app (value_rule (codes "into") false)) (value_rule (codes "tar") false)
+-- a number after the command, which may be left out
+abbrev pub number_rule : Text → Rule
+number_rule name = record (new_rule name) { action = Some Set; value_names = 1; parser = Some (Unsigned 0 4294967295) }
 
--- a command with `--drives N` and `--memory SIZE`, which may be left out
-abbrev pub with_reading_rules : App → App
-with_reading_rules app = with_rule (with_rule app drives_rule) memory_rule
+-- a command of this name with these options
+abbrev pub command_with : Text → List Rule → App
+command_with name rules = fold with_rule (new_app name) rules
 
--- a command with `--into DIR`, `--tar FILE`, `--drives N`, `--memory SIZE`, `--quiet` and `--log FILE`, which may be left out
-abbrev pub with_run_rules : App → App
-with_run_rules app =
-    with_rule (with_rule (with_reading_rules (with_target_rules app)) (flag_rule (codes "quiet"))) (value_rule (codes "log") false)
+-- `--into DIR`, `--tar FILE`, `--drives N`, `--memory SIZE`, `--quiet` and `--log FILE`, which may be left out
+abbrev pub with_restoring : App → App
+with_restoring app =
+    fold with_rule app
+    (value_rule (codes "into") false ∷
+    value_rule (codes "tar") false ∷
+    drives_rule (codes "drives") ∷
+    memory_rule (codes "memory") ∷
+    flag_rule (codes "quiet") ∷
+    value_rule (codes "log") false ∷
+    [])
 
--- a command with `--newest`, `--complete`, `--keep-going` and `--resume`, which may be left out
-abbrev pub with_wanted_rules : App → App
-with_wanted_rules app =
-    with_rule (with_rule (with_rule (with_rule app (flag_rule (codes "newest"))) (flag_rule (codes "complete"))) (flag_rule (codes "keep-going")))
-    (flag_rule (codes "resume"))
+-- `--newest`, `--complete`, `--keep-going` and `--resume`, which may be left out
+abbrev pub with_choices : App → App
+with_choices app =
+    fold with_rule app
+    (flag_rule (codes "newest") ∷ flag_rule (codes "complete") ∷ flag_rule (codes "keep-going") ∷ flag_rule (codes "resume") ∷ [])
 
 -- `extract --bsr FILE --volumes DIR`, and the options that may be left out
 unfoldable pub extract_app : App
 extract_app =
-    with_wanted_rules
-    (with_run_rules (with_rule (with_rule (new_app (codes "extract")) (value_rule (codes "bsr") true)) (value_rule (codes "volumes") true)))
+    with_choices (with_restoring (command_with (codes "extract") (value_rule (codes "bsr") true ∷ value_rule (codes "volumes") true ∷ [])))
 
--- `console --db FILE --volumes DIR`, which is not all of it
-unfoldable pub console_start_app : App
-console_start_app = with_rule (with_rule (new_app (codes "console")) (value_rule (codes "db") true)) (value_rule (codes "volumes") true)
-
--- `console --db FILE --volumes DIR --client NAME --fileset NAME --before MOMENT`
-unfoldable pub console_jobs_app : App
-console_jobs_app =
-    with_rule (with_rule (with_rule console_start_app (value_rule (codes "client") true)) (value_rule (codes "fileset") true))
-    (value_rule (codes "before") true)
-
--- the same, and the options that may be left out
+-- `console --db FILE --volumes DIR --client NAME --fileset NAME --before MOMENT`, and the options that may be left out
 unfoldable pub console_app : App
-console_app = with_run_rules console_jobs_app
-
--- a number after the command, which may be left out
-abbrev pub number_rule : Rule
-number_rule = record (new_rule (codes "number")) { action = Some Set; value_names = 1; parser = Some (Unsigned 0 4294967295) }
-
--- `explain [N]`
-unfoldable pub explain_app : App
-explain_app = with_rule (new_app (codes "explain")) number_rule
-
--- `serve` with `--db FILE`, `--volumes DIR` and `--memory SIZE`, which may be left out
-unfoldable pub serve_app : App
-serve_app = with_rule (with_rule (with_rule (new_app (codes "serve")) (value_rule (codes "db") false)) (value_rule (codes "volumes") false)) memory_rule
-
--- `migrate --db FILE`
-unfoldable pub migrate_app : App
-migrate_app = with_rule (new_app (codes "migrate")) (value_rule (codes "db") true)
-
--- `jobs --db FILE` with `--client NAME`, which may be left out; this is not all of it
-unfoldable pub jobs_start_app : App
-jobs_start_app = with_rule (with_rule (new_app (codes "jobs")) (value_rule (codes "db") true)) (value_rule (codes "client") false)
-
--- `jobs --db FILE` with `--client NAME`, `--fileset NAME`, `--before MOMENT` and `--local`, which may be left out
-unfoldable pub jobs_app : App
-jobs_app =
-    with_rule (with_rule (with_rule jobs_start_app (value_rule (codes "fileset") false)) (value_rule (codes "before") false))
-    (flag_rule (codes "local"))
+console_app =
+    with_restoring
+    (command_with (codes "console")
+    (value_rule (codes "db") true ∷
+    value_rule (codes "volumes") true ∷
+    value_rule (codes "client") true ∷
+    value_rule (codes "fileset") true ∷
+    value_rule (codes "before") true ∷
+    []))
 
 -- `check --bsr FILE --volumes DIR` with `--checksums` and `--memory SIZE`, which may be left out
 unfoldable pub check_app : App
 check_app =
-    with_rule
-    (with_rule (with_rule (with_rule (new_app (codes "check")) (value_rule (codes "bsr") true)) (value_rule (codes "volumes") true))
-    (flag_rule (codes "checksums")))
-    memory_rule
+    command_with (codes "check")
+    (value_rule (codes "bsr") true ∷
+    value_rule (codes "volumes") true ∷
+    flag_rule (codes "checksums") ∷
+    memory_rule (codes "memory") ∷
+    [])
 
--- the program with its version and the command `extract`
-unfoldable pub extracting_app : App
-extracting_app = with_subcommand (on_top (λ s. record s { has_version = true }) (new_app (codes "brestore"))) extract_app.top
+-- `jobs --db FILE` with `--client NAME`, `--fileset NAME`, `--before MOMENT` and `--local`, which may be left out
+unfoldable pub jobs_app : App
+jobs_app =
+    command_with (codes "jobs")
+    (value_rule (codes "db") true ∷
+    value_rule (codes "client") false ∷
+    value_rule (codes "fileset") false ∷
+    value_rule (codes "before") false ∷
+    flag_rule (codes "local") ∷
+    [])
 
--- the program also has the command `console`
-unfoldable pub restoring_app : App
-restoring_app = with_subcommand extracting_app console_app.top
+-- `explain [N]`
+unfoldable pub explain_app : App
+explain_app = command_with (codes "explain") (number_rule (codes "number") ∷ [])
 
--- the program also has the commands `check` and `jobs`
-unfoldable pub listing_app : App
-listing_app = with_subcommand (with_subcommand restoring_app check_app.top) jobs_app.top
+-- `serve` with `--db FILE`, `--volumes DIR` and `--memory SIZE`, which may be left out
+unfoldable pub serve_app : App
+serve_app =
+    command_with (codes "serve") (value_rule (codes "db") false ∷ value_rule (codes "volumes") false ∷ memory_rule (codes "memory") ∷ [])
 
--- the program also has the commands `explain` and `serve`
-unfoldable pub serving_app : App
-serving_app = with_subcommand (with_subcommand listing_app explain_app.top) serve_app.top
+-- `migrate --db FILE`
+unfoldable pub migrate_app : App
+migrate_app = command_with (codes "migrate") (value_rule (codes "db") true ∷ [])
 
--- the program also has the command `migrate`
+-- the program with its version, without a command
+abbrev pub bare_app : App
+bare_app = on_top (λ s. record s { has_version = true }) (new_app (codes "brestore"))
+
+-- a program with the commands of this one after its own
+abbrev pub with_all_commands : App → App
+with_all_commands app =
+    fold (λ a (command : App). with_subcommand a command.top) app
+    (extract_app ∷ console_app ∷ check_app ∷ jobs_app ∷ explain_app ∷ serve_app ∷ migrate_app ∷ [])
+
+-- the program with its version and its commands
 unfoldable pub program_app : App
-program_app = with_subcommand serving_app migrate_app.top
+program_app = with_all_commands bare_app

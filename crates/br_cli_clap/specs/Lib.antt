@@ -1,1 +1,2 @@
 pub mod ClapCommands
+pub mod CommandRows

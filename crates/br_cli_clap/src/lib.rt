@@ -1,7 +1,9 @@
-//! The commands and options of the program, as clap takes them.
+//! The commands and options of the program, as clap takes them: a table of both, and what makes
+//! clap's own values of it.
 #![tactic(auto)]
 
-mod clap_commands;
-mod clap_options;
+mod command_row;
+mod command_table;
+mod option_row;
 
-pub use clap_commands::program;
+pub use command_table::program;

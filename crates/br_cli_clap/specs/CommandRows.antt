@@ -1,0 +1,34 @@
+-- The commands and options that rows say, by the definitions of clap.
+use Rattle.std.specs.Prelude.{List, fold, false, true}
+use Rattle.clap.specs.Simple.{App, new_app, with_rule, with_subcommand}
+use Rattle.clap.specs.Walk.{Rule, Text}
+use Rattle.br_cli_clap.specs.ClapCommands.{drives_rule, flag_rule, memory_rule, number_rule, value_rule}
+use Rattle.br_cli_clap.specs.declared.command_row.CommandRow.{CommandRow}
+use Rattle.br_cli_clap.specs.declared.option_row.OptionRow.{OptionRow}
+use Rattle.br_cli_clap.specs.declared.option_row.Takes.{Takes}
+use Rattle.br_cli_clap.specs.declared.option_row.Takes.TheVariants.{Nothing, Value, Needed, Drives, Memory, Number}
+
+-- an option of this name, by what it takes
+abbrev pub rule_by : Takes → Text → Rule
+rule_by Nothing name = flag_rule name
+rule_by Value name = value_rule name false
+rule_by Needed name = value_rule name true
+rule_by Drives name = drives_rule name
+rule_by Memory name = memory_rule name
+rule_by Number name = number_rule name
+
+-- the option of a row
+abbrev pub rule_of_row : OptionRow → Rule
+rule_of_row row = rule_by row.takes row.name.now
+
+-- a command with the options of rows after its own
+abbrev pub with_rows : List OptionRow → App → App
+with_rows rows app = fold (λ a row. with_rule a (rule_of_row row)) app rows
+
+-- the command of a row
+abbrev pub app_of_row : CommandRow → App
+app_of_row row = with_rows row.by_bootstrap.now (with_rows row.restoring.now (with_rows row.own.now (new_app row.name.now)))
+
+-- a program with the commands of rows after its own
+abbrev pub with_commands_of : List CommandRow → App → App
+with_commands_of rows app = fold (λ a row. with_subcommand a (app_of_row row).top) app rows

@@ -1,0 +1,280 @@
+//! The table of the commands, and the program that has them.
+ghost use Rattle.std.specs.Prelude.{◌≡◌, false, IfOk};
+ghost use Rattle.clap.specs.Words.{app_of};
+ghost use Rattle.clap.specs.declared.builder.command.Command.TheViews.{out-Command as fields_of};
+ghost use Rattle.br_cli_clap.specs.ClapCommands.{program_app, with_all_commands};
+
+use crate::command_row::{CommandRow, with_commands};
+use crate::option_row::{OptionRow, Takes};
+use clap::Command;
+use std::alloc::{AllocError, Global};
+
+/// The option for the bootstrap.
+const BSR: OptionRow = OptionRow {
+    name: "bsr",
+    value: "FILE",
+    takes: Takes::Needed,
+    help: "The file of the bootstrap",
+};
+
+/// The option for the volumes.
+const VOLUMES: OptionRow = OptionRow {
+    name: "volumes",
+    value: "DIR",
+    takes: Takes::Needed,
+    help: "The folder of the volumes",
+};
+
+/// The option for the catalogue.
+const DB: OptionRow = OptionRow {
+    name: "db",
+    value: "FILE",
+    takes: Takes::Needed,
+    help: "The file of the catalogue",
+};
+
+/// The option for the memory.
+const MEMORY: OptionRow = OptionRow {
+    name: "memory",
+    value: "SIZE",
+    takes: Takes::Memory,
+    help: "The memory for data: bytes, or a number with K, M or G; what is beyond it is read again",
+};
+
+/// The options of each restore.
+const RESTORING: [OptionRow; 6] = [
+    OptionRow {
+        name: "into",
+        value: "DIR",
+        takes: Takes::Value,
+        help: "The empty folder to write the restored files into",
+    },
+    OptionRow {
+        name: "tar",
+        value: "FILE",
+        takes: Takes::Value,
+        help: "The new file to write the restored files into as a tar stream, - for standard output",
+    },
+    OptionRow {
+        name: "drives",
+        value: "N",
+        takes: Takes::Drives,
+        help: "The number of drives that read the volumes at once, 1 to 16",
+    },
+    MEMORY,
+    OptionRow {
+        name: "quiet",
+        value: "",
+        takes: Takes::Nothing,
+        help: "Does not show at a terminal how far the restore is",
+    },
+    OptionRow {
+        name: "log",
+        value: "FILE",
+        takes: Takes::Value,
+        help: "The file to append a log to: each file as it is written, and what went wrong",
+    },
+];
+
+/// The options for what a restore by a bootstrap does beside.
+const CHOICES: [OptionRow; 4] = [
+    OptionRow {
+        name: "newest",
+        value: "",
+        takes: Takes::Nothing,
+        help: "Writes the newest copy alone of a path that comes several times",
+    },
+    OptionRow {
+        name: "complete",
+        value: "",
+        takes: Takes::Nothing,
+        help: "Reports the files that the bootstrap asks for and that are not there",
+    },
+    OptionRow {
+        name: "keep-going",
+        value: "",
+        takes: Takes::Nothing,
+        help: "Leaves out a file that can't be written, and writes the others",
+    },
+    OptionRow {
+        name: "resume",
+        value: "",
+        takes: Takes::Nothing,
+        help: "Goes on with a restore that was cut off: of the files in DIR those that are whole stay",
+    },
+];
+
+/// The options of `extract` alone.
+const EXTRACT: [OptionRow; 2] = [BSR, VOLUMES];
+
+/// The options of `console` alone.
+const CONSOLE: [OptionRow; 5] = [
+    DB,
+    VOLUMES,
+    OptionRow {
+        name: "client",
+        value: "NAME",
+        takes: Takes::Needed,
+        help: "The name of the client",
+    },
+    OptionRow {
+        name: "fileset",
+        value: "NAME",
+        takes: Takes::Needed,
+        help: "The name of the file set",
+    },
+    OptionRow {
+        name: "before",
+        value: "MOMENT",
+        takes: Takes::Needed,
+        help: "Uses only jobs that began before YYYY-MM-DD HH:MM:SS, in UTC",
+    },
+];
+
+/// The options of `check`.
+const CHECK: [OptionRow; 4] = [
+    BSR,
+    VOLUMES,
+    OptionRow {
+        name: "checksums",
+        value: "",
+        takes: Takes::Nothing,
+        help: "Reads whole blocks, and compares the checksum that each has",
+    },
+    MEMORY,
+];
+
+/// The options of `jobs`.
+const JOBS: [OptionRow; 5] = [
+    DB,
+    OptionRow {
+        name: "client",
+        value: "NAME",
+        takes: Takes::Value,
+        help: "Lists only jobs of this client",
+    },
+    OptionRow {
+        name: "fileset",
+        value: "NAME",
+        takes: Takes::Value,
+        help: "Lists only jobs of this file set",
+    },
+    OptionRow {
+        name: "before",
+        value: "MOMENT",
+        takes: Takes::Value,
+        help: "Lists only jobs that began before YYYY-MM-DD HH:MM:SS, in UTC",
+    },
+    OptionRow {
+        name: "local",
+        value: "",
+        takes: Takes::Nothing,
+        help: "Shows each moment in the time zone of this system, too",
+    },
+];
+
+/// The argument of `explain`.
+const EXPLAIN: [OptionRow; 1] = [OptionRow {
+    name: "number",
+    value: "N",
+    takes: Takes::Number,
+    help: "The number to explain; all numbers if it is left out",
+}];
+
+/// The options of `serve`.
+const SERVE: [OptionRow; 3] = [
+    OptionRow {
+        name: "db",
+        value: "FILE",
+        takes: Takes::Value,
+        help: "The file of the catalogue, which is made if it is not there",
+    },
+    OptionRow {
+        name: "volumes",
+        value: "DIR",
+        takes: Takes::Value,
+        help: "The folder of the volumes; given with --db, or neither is",
+    },
+    MEMORY,
+];
+
+/// The option of `migrate`.
+const MIGRATE: [OptionRow; 1] = [DB];
+
+/// No options.
+const NONE: [OptionRow; 0] = [];
+
+/// The commands, in the order of the help.
+const COMMANDS: [CommandRow; 7] = [
+    CommandRow {
+        name: "extract",
+        about: "Restores the files of a bootstrap from a folder of volumes",
+        own: &EXTRACT,
+        restoring: &RESTORING,
+        by_bootstrap: &CHOICES,
+    },
+    CommandRow {
+        name: "console",
+        about: "Marks files as they were at a moment, and restores them",
+        own: &CONSOLE,
+        restoring: &RESTORING,
+        by_bootstrap: &NONE,
+    },
+    CommandRow {
+        name: "check",
+        about: "Checks a bootstrap over its volumes, and restores nothing",
+        own: &CHECK,
+        restoring: &NONE,
+        by_bootstrap: &NONE,
+    },
+    CommandRow {
+        name: "jobs",
+        about: "Lists the jobs of a catalogue, and which of them would be chosen",
+        own: &JOBS,
+        restoring: &NONE,
+        by_bootstrap: &NONE,
+    },
+    CommandRow {
+        name: "explain",
+        about: "Says what a refusal number means and what to do next",
+        own: &EXPLAIN,
+        restoring: &NONE,
+        by_bootstrap: &NONE,
+    },
+    CommandRow {
+        name: "serve",
+        about: "Runs a script from standard input, as with no command",
+        own: &SERVE,
+        restoring: &NONE,
+        by_bootstrap: &NONE,
+    },
+    CommandRow {
+        name: "migrate",
+        about: "Makes a catalogue of version 1 one of version 2",
+        own: &MIGRATE,
+        restoring: &NONE,
+        by_bootstrap: &NONE,
+    },
+];
+
+/// Returns the program with the commands of the table.
+fn with_table<'a>(alloc: Global, program: Command<'a>) -> Result<Command<'a>, AllocError>
+    requires { (fields_of program).has_globals ≡ false }
+    ensures { IfOk result (λ r. app_of r ≡ with_all_commands (app_of program.entry)) }
+{
+    with_commands(alloc, program, &COMMANDS)
+}
+
+/// Returns the program with its commands and options, as clap takes them.
+///
+/// # Errors
+///
+/// Out of memory.
+pub fn program<'a>(alloc: Global) -> Result<Command<'a>, AllocError>
+    ensures { IfOk result (λ command. app_of command ≡ program_app) }
+{
+    let program = Command::new(alloc, "brestore")
+        .about("Restores files from Bacula volumes")
+        .version("0.1.0");
+    with_table(alloc, program)
+}
