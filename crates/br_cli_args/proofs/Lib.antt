@@ -1,1 +1,2 @@
+pub mod AppLaws
 pub mod WordsLaws

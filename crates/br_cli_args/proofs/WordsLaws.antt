@@ -21,8 +21,8 @@ use Rattle.clap.specs.declared.parser.matches.SubCommand.{SubCommand}
 use Rattle.clap.proofs.FaultLemmas.{first_fails}
 use Rattle.clap.proofs.WalkLemmas.{both, one_text-rows}
 use Rattle.clap.proofs.ValueTestLemmas.{Accepts-accepts, accepts-Accepts}
-use Rattle.br_cli_clap.specs.ClapCommands.{program_app}
-use Rattle.br_cli_clap.proofs.AppLaws.{program_is_free, program_is_simple}
+use Rattle.br_cli_args.specs.ClapCommands.{program_app}
+use Rattle.br_cli_args.proofs.AppLaws.{program_is_free, program_is_simple}
 use Rattle.br_cli_args.specs.Words.{Asked, asked_by, kind_by, number_in, words_asked, words_fault, words_kind}
 
 -- what clap finds in words is what the program's commands say of them

@@ -1,2 +1,4 @@
 pub mod ByteSize
+pub mod ClapCommands
+pub mod CommandRows
 pub mod Words

@@ -11,7 +11,7 @@ use Rattle.clap.specs.declared.error.kind.ErrorKind.{ErrorKind}
 use Rattle.clap.specs.declared.error.kind.ErrorKind.TheVariants.{ArgumentConflict, MissingRequiredArgument, ValueValidation}
 use Rattle.clap.specs.Simple.{subcommand_rows_of}
 use Rattle.clap.specs.declared.parser.matches.ArgMatches.{ArgMatches}
-use Rattle.br_cli_clap.specs.ClapCommands.{program_app}
+use Rattle.br_cli_args.specs.ClapCommands.{program_app}
 use Rattle.br_cli_args.specs.ByteSize.{size_spelled}
 use Rattle.br_types.specs.declared.wanted.Copies.{Copies}
 use Rattle.br_types.specs.declared.wanted.Copies.TheVariants as copies

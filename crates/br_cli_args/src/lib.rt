@@ -1,7 +1,11 @@
-//! What the words of a command line ask for, read by clap.
+//! The command line: a table of the commands and their options, and what the words of a command line
+//! ask for, read by clap.
 #![tactic(auto)]
 
 mod byte_size;
+mod command_row;
+mod command_table;
+mod option_row;
 mod words;
 
 pub use words::read_words;

@@ -2,7 +2,7 @@
 ghost use Rattle.std.specs.Prelude.{◌≡◌, codes, Some, true, false, map, option_map, string_bytes, IfOk, IfSome};
 ghost use Rattle.clap.specs.Walk.{first_of};
 ghost use Rattle.clap.specs.Words.{FailsBy, app_of, fault_of, found_of, rows_of, subcommand_rows_of};
-ghost use Rattle.br_cli_clap.specs.ClapCommands.{program_app};
+ghost use Rattle.br_cli_args.specs.ClapCommands.{program_app};
 ghost use Rattle.br_cli_common.specs.Options.{AreFew, HasDrives};
 ghost use Rattle.br_cli_args.specs.Words.{copies_asked, copies_by, gaps_asked, gaps_by, is_given, wanted_asked};
 ghost use Rattle.br_cli_args.specs.Words.{checksums_asked, checksums_by, progress_asked, progress_by, stops_asked, stops_by};
@@ -14,7 +14,7 @@ ghost use Rattle.br_cli_args.specs.Words.{jobs_asked, migrate_asked, number_aske
 ghost use Rattle.br_cli_args.specs.Words.{kind_by, kind_in, tar_target, target, target_by};
 
 use crate::byte_size::read_size;
-use br_cli_clap::program;
+use crate::command_table::program;
 use br_cli_common::{
     CheckOptions, Checksums, Clock, ConsoleOptions, ExtractOptions, Invocation, JobsOptions,
     Progress, ServeOptions, Target,

@@ -1,7 +1,7 @@
 use br_types::{Start, Wanted};
 
 /// Where the restored files go.
-#[derive(Clone, Copy, Debug, PartialEq, Eq)]
+#[derive(Clone, Copy)]
 pub enum Target<'a> {
     /// Nowhere: the manifest alone is printed.
     Nowhere,
@@ -14,7 +14,7 @@ pub enum Target<'a> {
 }
 
 /// If a terminal on standard error is told how far a restore is.
-#[derive(Clone, Copy, Debug, PartialEq, Eq)]
+#[derive(Clone, Copy)]
 pub enum Progress {
     /// A line tells it while the restore runs.
     Shown,
@@ -23,7 +23,7 @@ pub enum Progress {
 }
 
 /// The options of `extract`.
-#[derive(Clone, Copy, Debug, PartialEq, Eq)]
+#[derive(Clone, Copy)]
 pub struct ExtractOptions<'a> {
     /// The file of the bootstrap.
     pub bsr: &'a str,
@@ -43,7 +43,7 @@ pub struct ExtractOptions<'a> {
 }
 
 /// What `check` does with the checksums of blocks.
-#[derive(Clone, Copy, Debug, PartialEq, Eq)]
+#[derive(Clone, Copy)]
 pub enum Checksums {
     /// It passes over them.
     Passed,
@@ -52,7 +52,7 @@ pub enum Checksums {
 }
 
 /// The options of `check`.
-#[derive(Clone, Copy, Debug, PartialEq, Eq)]
+#[derive(Clone, Copy)]
 pub struct CheckOptions<'a> {
     /// The file of the bootstrap.
     pub bsr: &'a str,
@@ -64,7 +64,7 @@ pub struct CheckOptions<'a> {
 }
 
 /// The options of `console`.
-#[derive(Clone, Copy, Debug, PartialEq, Eq)]
+#[derive(Clone, Copy)]
 pub struct ConsoleOptions<'a> {
     /// The file of the catalogue.
     pub db: &'a str,
@@ -85,7 +85,7 @@ pub struct ConsoleOptions<'a> {
 }
 
 /// The options of `serve` over files.
-#[derive(Clone, Copy, Debug, PartialEq, Eq)]
+#[derive(Clone, Copy)]
 pub struct ServeOptions<'a> {
     /// The file of the catalogue.
     pub db: &'a str,
@@ -96,7 +96,7 @@ pub struct ServeOptions<'a> {
 }
 
 /// In which time the moments of jobs are shown.
-#[derive(Clone, Copy, Debug, PartialEq, Eq)]
+#[derive(Clone, Copy)]
 pub enum Clock {
     /// In UTC.
     Utc,
@@ -106,7 +106,7 @@ pub enum Clock {
 
 /// The options of `jobs`. A job is listed if it is of the client and of the file set and began before the moment, of those
 /// that are given.
-#[derive(Clone, Copy, Debug, PartialEq, Eq)]
+#[derive(Clone, Copy)]
 pub struct JobsOptions<'a> {
     /// The file of the catalogue.
     pub db: &'a str,
@@ -118,7 +118,7 @@ pub struct JobsOptions<'a> {
 }
 
 /// A command of the program with its options.
-#[derive(Clone, Copy, Debug, PartialEq, Eq)]
+#[derive(Clone, Copy)]
 pub enum Invocation<'a> {
     /// Runs a script from standard input, with its jobs and volumes in memory, and this number of bytes
     /// of data that a restore holds.

@@ -1,14 +1,14 @@
 use br_engine::RestoreEnd;
 
 /// Which lines of a dialogue were accepted.
-#[derive(Clone, Copy, Debug, PartialEq, Eq)]
+#[derive(Clone, Copy)]
 pub enum Lines {
     AllAccepted,
     SomeRefused,
 }
 
 /// How a session ended.
-#[derive(Clone, Copy, Debug, PartialEq, Eq)]
+#[derive(Clone, Copy)]
 pub enum SessionEnd {
     /// By `done`.
     Done,
@@ -17,14 +17,14 @@ pub enum SessionEnd {
 }
 
 /// What came of a console session.
-#[derive(Clone, Copy, Debug, PartialEq, Eq)]
+#[derive(Clone, Copy)]
 pub struct Session {
     pub lines: Lines,
     pub end: SessionEnd,
 }
 
 /// How a run of the console ended.
-#[derive(Debug, Drop)]
+#[derive(Drop)]
 pub enum End {
     /// The dialogue ended by `done`, and the marked files were restored.
     Done(RestoreEnd),
@@ -33,7 +33,7 @@ pub enum End {
 }
 
 /// What came of a run of the console.
-#[derive(Debug, Drop)]
+#[derive(Drop)]
 pub struct ConsoleRun {
     pub lines: Lines,
     pub end: End,

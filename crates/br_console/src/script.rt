@@ -24,7 +24,7 @@ use std::io::{self, Write};
 pub(crate) const BAD_SCRIPT: u32 = 90;
 
 /// How a script ended.
-#[derive(Clone, Copy, Debug, PartialEq, Eq)]
+#[derive(Clone, Copy)]
 pub enum ScriptEnd {
     /// Nothing was refused, and every outcome was a file.
     Clean,

@@ -2,9 +2,9 @@ use Rattle.std.proofs.Common.{◌∙◌, ap}
 use Rattle.std.proofs.lemmas.Result.{IfOk-weaker}
 use Rattle.clap.specs.Simple.{app_of_fields}
 use Rattle.clap.specs.declared.builder.command.Command.TheViews.{out-Command}
-use Rattle.br_cli_clap.specs.ClapCommands.{program_app, with_all_commands}
-use Rattle.br_cli_clap.proofs.AppLaws.{of_version, with_version}
-use Rattle.br_cli_clap.proofs.command_table.program.Goals as goal
+use Rattle.br_cli_args.specs.ClapCommands.{program_app, with_all_commands}
+use Rattle.br_cli_args.proofs.AppLaws.{of_version, with_version}
+use Rattle.br_cli_args.proofs.command_table.program.Goals as goal
 
 pub returns : goal.returns
 unfolding program_app

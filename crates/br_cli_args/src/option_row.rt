@@ -3,8 +3,8 @@ ghost use Rattle.std.specs.Prelude.{◌≡◌, false, fold, IfOk};
 ghost use Rattle.clap.specs.Simple.{with_rule};
 ghost use Rattle.clap.specs.Words.{app_of, rule_of};
 ghost use Rattle.clap.specs.declared.builder.command.Command.TheViews.{out-Command as fields_of};
-ghost use Rattle.br_cli_clap.specs.ClapCommands.{drives_rule, flag_rule, memory_rule, number_rule, value_rule};
-ghost use Rattle.br_cli_clap.specs.CommandRows.{rule_of_row, with_rows};
+ghost use Rattle.br_cli_args.specs.ClapCommands.{drives_rule, flag_rule, memory_rule, number_rule, value_rule};
+ghost use Rattle.br_cli_args.specs.CommandRows.{rule_of_row, with_rows};
 
 use clap::builder::ValueParser;
 use clap::{Arg, ArgAction, Command};

@@ -1,8 +1,8 @@
 use Rattle.std.proofs.Common.{◌∙◌, ◌||◌, ap₂, sym, arith}
 use Rattle.std.proofs.lemmas.List.Sums.{fold_more}
 use Rattle.clap.specs.Simple.{with_rule}
-use Rattle.br_cli_clap.specs.CommandRows.{rule_of_row}
-use Rattle.br_cli_clap.proofs.option_row.with_options.Goals as goal
+use Rattle.br_cli_args.specs.CommandRows.{rule_of_row}
+use Rattle.br_cli_args.proofs.option_row.with_options.Goals as goal
 
 pub loop-row-preserved : goal.loop-row-preserved
 loop-row-preserved c = record {

@@ -2,11 +2,11 @@
 use Rattle.std.specs.Prelude.{List, fold, false, true}
 use Rattle.clap.specs.Simple.{App, new_app, with_rule, with_subcommand}
 use Rattle.clap.specs.Walk.{Rule, Text}
-use Rattle.br_cli_clap.specs.ClapCommands.{drives_rule, flag_rule, memory_rule, number_rule, value_rule}
-use Rattle.br_cli_clap.specs.declared.command_row.CommandRow.{CommandRow}
-use Rattle.br_cli_clap.specs.declared.option_row.OptionRow.{OptionRow}
-use Rattle.br_cli_clap.specs.declared.option_row.Takes.{Takes}
-use Rattle.br_cli_clap.specs.declared.option_row.Takes.TheVariants.{Nothing, Value, Needed, Drives, Memory, Number}
+use Rattle.br_cli_args.specs.ClapCommands.{drives_rule, flag_rule, memory_rule, number_rule, value_rule}
+use Rattle.br_cli_args.specs.declared.command_row.CommandRow.{CommandRow}
+use Rattle.br_cli_args.specs.declared.option_row.OptionRow.{OptionRow}
+use Rattle.br_cli_args.specs.declared.option_row.Takes.{Takes}
+use Rattle.br_cli_args.specs.declared.option_row.Takes.TheVariants.{Nothing, Value, Needed, Drives, Memory, Number}
 
 -- an option of this name, by what it takes
 abbrev pub rule_by : Takes → Text → Rule

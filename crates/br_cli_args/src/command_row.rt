@@ -2,7 +2,7 @@
 ghost use Rattle.std.specs.Prelude.{◌≡◌, false, IfOk};
 ghost use Rattle.clap.specs.Words.{app_of};
 ghost use Rattle.clap.specs.declared.builder.command.Command.TheViews.{out-Command as fields_of};
-ghost use Rattle.br_cli_clap.specs.CommandRows.{app_of_row, with_commands_of};
+ghost use Rattle.br_cli_args.specs.CommandRows.{app_of_row, with_commands_of};
 
 use crate::option_row::{OptionRow, with_options};
 use clap::Command;

@@ -2,7 +2,7 @@
 ghost use Rattle.std.specs.Prelude.{◌≡◌, false, IfOk};
 ghost use Rattle.clap.specs.Words.{app_of};
 ghost use Rattle.clap.specs.declared.builder.command.Command.TheViews.{out-Command as fields_of};
-ghost use Rattle.br_cli_clap.specs.ClapCommands.{program_app, with_all_commands};
+ghost use Rattle.br_cli_args.specs.ClapCommands.{program_app, with_all_commands};
 
 use crate::command_row::{CommandRow, with_commands};
 use crate::option_row::{OptionRow, Takes};
@@ -270,7 +270,7 @@ fn with_table<'a>(alloc: Global, program: Command<'a>) -> Result<Command<'a>, Al
 /// # Errors
 ///
 /// Out of memory.
-pub fn program<'a>(alloc: Global) -> Result<Command<'a>, AllocError>
+pub(crate) fn program<'a>(alloc: Global) -> Result<Command<'a>, AllocError>
     ensures { IfOk result (λ command. app_of command ≡ program_app) }
 {
     let program = Command::new(alloc, "brestore")

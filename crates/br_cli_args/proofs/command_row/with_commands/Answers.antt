@@ -1,8 +1,8 @@
 use Rattle.std.proofs.Common.{◌∙◌, ◌||◌, ap, ap₂, sym, arith}
 use Rattle.std.proofs.lemmas.List.Sums.{fold_more}
 use Rattle.clap.specs.Simple.{App, with_subcommand}
-use Rattle.br_cli_clap.specs.CommandRows.{app_of_row}
-use Rattle.br_cli_clap.proofs.command_row.with_commands.Goals as goal
+use Rattle.br_cli_args.specs.CommandRows.{app_of_row}
+use Rattle.br_cli_args.proofs.command_row.with_commands.Goals as goal
 
 pub loop-row-preserved : goal.loop-row-preserved
 loop-row-preserved c = record {

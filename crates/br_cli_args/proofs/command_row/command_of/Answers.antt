@@ -1,8 +1,8 @@
 use Rattle.std.proofs.Common.{◌∙◌, ap}
 use Rattle.std.proofs.lemmas.Result.{IfOk-weaker}
 use Rattle.clap.specs.Simple.{app_of_fields}
-use Rattle.br_cli_clap.specs.CommandRows.{with_rows}
-use Rattle.br_cli_clap.proofs.command_row.command_of.Goals as goal
+use Rattle.br_cli_args.specs.CommandRows.{with_rows}
+use Rattle.br_cli_args.proofs.command_row.command_of.Goals as goal
 
 pub returns-clause-app : goal.returns-clause-app
 returns-clause-app c =

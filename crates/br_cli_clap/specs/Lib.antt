@@ -1,2 +1,0 @@
-pub mod ClapCommands
-pub mod CommandRows
