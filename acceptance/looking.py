@@ -1,13 +1,13 @@
 #!/usr/bin/env python3
 """Looks at catalogues by `brestore console` and `brestore jobs`, and compares what lies there before and after.
 
-    acceptance/looking.py                      needs sqlite3, and the program in crates/brestore/out
-    acceptance/looking.py --program FILE       another program
+    acceptance/looking.py [--program FILE] [PART ..]     all parts, or these; needs sqlite3 and cc
 
 Both must leave each file as it was and make none, also in a folder that it can't write, on an empty file and on one that is no
 database. It must wait while another program writes, for five seconds at most, and must refuse a journal that has to be rolled back and a
 log that was not put into the file. After `serve` and `migrate` ended, a copy of the catalogue's file alone must have all jobs, by the
-real sqlite3. After a `serve` that was killed it must once `serve` ran again. The status is 1 if something is not as expected.
+real sqlite3. After a `serve` that was killed it must once `serve` ran again. The part `moments` counts the moments of a wait, which
+`passing_moments.c` lets pass at once. The status is 1 if something is not as expected.
 """
 
 import argparse
@@ -27,6 +27,7 @@ sys.path.insert(0, os.path.join(os.path.dirname(os.path.dirname(os.path.abspath(
 from catalogue import FILES, JOBS, VERSION_1_SQL, VOLUMES, ConsoleChecks, answers, listed
 from catalogue import sqlite3 as by_sqlite3
 from common import ORDER_SQL, PROGRAM
+from preloaded import compiled
 
 REFUSED = (1, "", "refused 45\n")
 NOBODY = ["setpriv", "--reuid=65534", "--regid=65534", "--clear-groups"]
@@ -209,6 +210,36 @@ def log(checks, folder):
     checks.look("a catalogue with an empty log", left, SHOWN)
 
 
+# How many times a file in use is tried, with a moment between two.
+TRIES = 50
+
+
+def moments(checks, folder):
+    """Counts the moments for which a file in use is waited for, without waiting."""
+    library, data = compiled(folder, "passing_moments"), Path(new_catalogue(folder)).read_bytes()
+    for name, content, end, busy, most, expected, waited in [
+        ("a catalogue with a journal for 49 moments", data, "-journal", 49, 9999, CHOSEN, 49),
+        ("a catalogue with a journal for 50 moments", data, "-journal", 50, 9999, REFUSED, 50),
+        ("a catalogue with a log for 3 moments, read in parts", data, "-wal", 3, 1000, CHOSEN, 3),
+        ("a catalogue with a log", data, "-wal", 0, 9999, REFUSED, TRIES),
+        ("a catalogue with a journal", data, "-journal", 0, 9999, REFUSED, TRIES),
+        ("an empty file with a journal for 49 moments", b"", "-journal", 49, 9999, (1, "", "refused 53\n"), 49),
+        ("an empty file with a log", b"", "-wal", 0, 9999, REFUSED, TRIES),
+        ("a text", b"S" * 5000, "", 0, 9999, REFUSED, 0),
+    ]:
+        place = tempfile.mkdtemp(dir=folder)
+        db, log = os.path.join(place, "c.db"), os.path.join(place, "waited")
+        Path(db).write_bytes(content)
+        if end:
+            Path(db + end).write_bytes(b"x" * 100)
+        waits = {"MOMENTS_LOG": log, "MOMENTS_BUSY": str(busy), "MOMENTS_FILE": db + end, "MOMENTS_MOST": str(most)}
+        words = [checks.program, "jobs", "--db", db, *PEER]
+        ran = subprocess.run(words, capture_output=True, text=True, env=os.environ | waits | {"LD_PRELOAD": library})
+        checks.check(name, (ran.returncode, ran.stdout, ran.stderr), expected)
+        checks.check("and the moments", os.path.getsize(log) if os.path.exists(log) else 0, waited)
+        checks.check("and its bytes", Path(db).read_bytes() == content, True)
+
+
 def is_folded(checks, name, db, selects, rows):
     """Compares the rows of a copy of the catalogue's file alone."""
     left = db + "-wal"
@@ -273,13 +304,20 @@ def kills(checks, folder):
     checks.look("the catalogue afterwards", db, SHOWN)
 
 
+PARTS = {it.__name__: it for it in (only_reads, waits, moments, journal, log, ends, kills)}
+
+
 def main():
     parser = argparse.ArgumentParser(description="Looks at catalogues, and compares what lies there before and after.")
     parser.add_argument("--program", default=PROGRAM, help="the program (default: %(default)s)")
-    checks = LookChecks(os.path.abspath(parser.parse_args().program))
+    parser.add_argument("parts", nargs="*", metavar="PART", help=f"the parts (default: all): {', '.join(PARTS)}")
+    given = parser.parse_args()
+    if not PARTS.keys() >= set(given.parts):
+        parser.error("there is no such part")
+    checks = LookChecks(os.path.abspath(given.program))
     with tempfile.TemporaryDirectory() as folder:
-        for part in (only_reads, waits, journal, log, ends, kills):
-            part(checks, folder)
+        for name in given.parts or PARTS:
+            PARTS[name](checks, folder)
     return 1 if checks.failed else 0
 
 
