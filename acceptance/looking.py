@@ -37,6 +37,8 @@ PEER = ["--client", "peer-fd", "--fileset", "Peer", "--before", "2026-11-21 23:1
 CHOSEN = (0, listed("***"), "")
 # From the first refusal to the last try, and what the program and a busy machine may add.
 LONGEST, SLACK = 5, 5
+# How many times a file in use is tried, with a moment of a tenth of a second after each.
+TRIES = 50
 
 JOB = b"""job 4 B F T 1795302950 4 1795302950 64512 mars home
 put 3 /etc/motd 616263 - A A IGk B A A A D A A A A A A
@@ -89,25 +91,37 @@ class Writer:
 
 
 class LookChecks(ConsoleChecks):
-    def still(self, name, db, words, expected, prefix=(), is_still=True):
+    def __init__(self, program, folder):
+        super().__init__(program)
+        self.folder, self.library = folder, compiled(folder, "passing_moments")
+
+    def still(self, name, db, words, expected, prefix=(), is_still=True, faults=None):
         """Runs a command over a catalogue. What is printed must be this, and if nobody else is at work nothing may change beside it.
         Returns the seconds that it took."""
         before = contents(os.path.dirname(db))
-        start = time.monotonic()
-        ran = subprocess.run([*prefix, self.program, *words], input="mark *\ndone\n", capture_output=True, text=True)
+        start, env = time.monotonic(), os.environ | (faults or {})
+        ran = subprocess.run([*prefix, self.program, *words], input="mark *\ndone\n", capture_output=True, text=True, env=env)
         took = time.monotonic() - start
         self.check(name, (ran.returncode, ran.stdout, ran.stderr), expected)
         if is_still:
             self.check("and leaves no trace", contents(os.path.dirname(db)) == before, True)
         return took
 
-    def look(self, name, db, expected, prefix=(), is_still=True):
+    def look(self, name, db, expected, prefix=(), is_still=True, faults=None):
         """Looks at a catalogue by `console`, which must print this."""
-        return self.still(name, db, ["console", "--db", db, "--volumes", VOLUMES, *PEER], expected, prefix, is_still)
+        return self.still(name, db, ["console", "--db", db, "--volumes", VOLUMES, *PEER], expected, prefix, is_still, faults)
 
-    def list(self, name, db, expected, prefix=(), is_still=True):
+    def list(self, name, db, expected, prefix=(), is_still=True, faults=None):
         """Looks at a catalogue by `jobs`, which must print this."""
-        return self.still(f"{name}, by its jobs", db, ["jobs", "--db", db, *PEER], expected, prefix, is_still)
+        return self.still(f"{name}, by its jobs", db, ["jobs", "--db", db, *PEER], expected, prefix, is_still, faults)
+
+    def passes(self, look, name, db, expected, waited, **more):
+        """Looks at a catalogue while the moments of waiting pass at once, and counts these."""
+        log = os.path.join(self.folder, "moments")
+        Path(log).write_bytes(b"")
+        faults = {"LD_PRELOAD": self.library, "MOMENTS_LOG": log, **more}
+        look(name, db, expected, is_still="MOMENTS_FILE" not in more, faults=faults)
+        self.check("and the moments that it waits", os.path.getsize(log), waited)
 
     def serve(self, db, volumes, script):
         ran = subprocess.run([self.program, "serve", "--db", db, "--volumes", volumes], input=script, capture_output=True)
@@ -163,8 +177,7 @@ def waits(checks, folder):
         with Writer(db, begin + ";") as writer:
             checks.look(f"a catalogue after {begin}", db, SHOWN)
             writer.tell(f"PRAGMA cache_size = 1; CREATE TABLE Notes(Note); {NOTES}")
-            took = checks.look(f"a catalogue after {begin} and changes of its file", db, REFUSED)
-            checks.check("and waits for five seconds", LONGEST - 1 <= took <= LONGEST + SLACK, True)
+            checks.passes(checks.look, f"a catalogue after {begin} and changes of its file", db, REFUSED, TRIES)
             timer = threading.Timer(1, writer.tell, ["ROLLBACK;"])
             timer.start()
             took = checks.look(f"a catalogue soon after {begin}", db, SHOWN, is_still=False)
@@ -191,9 +204,9 @@ def journal(checks, folder):
     checks.check("and waits for five seconds", LONGEST - 1 <= took <= LONGEST + SLACK, True)
     checks.check("which sqlite3 rolls back", by_sqlite3(hot, "SELECT count(*) FROM Job;"), "3\n")
     checks.look("and is shown then", hot, SHOWN)
-    for data, expected in ((b"", SHOWN), (b"\0" * 512, SHOWN), (b"\xd9", REFUSED)):
+    for data, expected, waited in ((b"", SHOWN, 0), (b"\0" * 512, SHOWN, 0), (b"\xd9", REFUSED, TRIES)):
         Path(hot + "-journal").write_bytes(data)
-        checks.look(f"a journal of {len(data)} bytes", hot, expected)
+        checks.passes(checks.look, f"a journal of {len(data)} bytes", hot, expected, waited)
 
 
 def log(checks, folder):
@@ -202,21 +215,16 @@ def log(checks, folder):
     with Writer(db, "PRAGMA journal_mode = WAL; INSERT INTO Client(Name) VALUES ('venus-fd');"):
         left = copied(db, "-wal")
         for look in (checks.look, checks.list):
-            took = look("a catalogue with a log", left, REFUSED)
-            checks.check("and waits for five seconds", LONGEST - 1 <= took <= LONGEST + SLACK, True)
+            checks.passes(look, "a catalogue with a log", left, REFUSED, TRIES)
     checks.check("the log is gone once its program ended", os.path.exists(db + "-wal"), False)
     checks.look("and is shown then", db, SHOWN)
     Path(left + "-wal").write_bytes(b"")
     checks.look("a catalogue with an empty log", left, SHOWN)
 
 
-# How many times a file in use is tried, with a moment between two.
-TRIES = 50
-
-
 def moments(checks, folder):
     """Counts the moments for which a file in use is waited for, without waiting."""
-    library, data = compiled(folder, "passing_moments"), Path(new_catalogue(folder)).read_bytes()
+    data = Path(new_catalogue(folder)).read_bytes()
     for name, content, end, busy, most, expected, waited in [
         ("a catalogue with a journal for 49 moments", data, "-journal", 49, 9999, CHOSEN, 49),
         ("a catalogue with a journal for 50 moments", data, "-journal", 50, 9999, REFUSED, 50),
@@ -227,16 +235,12 @@ def moments(checks, folder):
         ("an empty file with a log", b"", "-wal", 0, 9999, REFUSED, TRIES),
         ("a text", b"S" * 5000, "", 0, 9999, REFUSED, 0),
     ]:
-        place = tempfile.mkdtemp(dir=folder)
-        db, log = os.path.join(place, "c.db"), os.path.join(place, "waited")
+        db = os.path.join(tempfile.mkdtemp(dir=folder), "c.db")
         Path(db).write_bytes(content)
         if end:
             Path(db + end).write_bytes(b"x" * 100)
-        waits = {"MOMENTS_LOG": log, "MOMENTS_BUSY": str(busy), "MOMENTS_FILE": db + end, "MOMENTS_MOST": str(most)}
-        words = [checks.program, "jobs", "--db", db, *PEER]
-        ran = subprocess.run(words, capture_output=True, text=True, env=os.environ | waits | {"LD_PRELOAD": library})
-        checks.check(name, (ran.returncode, ran.stdout, ran.stderr), expected)
-        checks.check("and the moments", os.path.getsize(log) if os.path.exists(log) else 0, waited)
+        more = {"MOMENTS_BUSY": str(busy), "MOMENTS_FILE": db + end, "MOMENTS_MOST": str(most)}
+        checks.passes(checks.list, name, db, expected, waited, **more)
         checks.check("and its bytes", Path(db).read_bytes() == content, True)
 
 
@@ -293,12 +297,12 @@ def kills(checks, folder):
     db, volumes = new_catalogue(folder), tempfile.mkdtemp(dir=folder)
     ran, printed = running(checks.program, db, volumes, JOB, 1)
     checks.check("a job is stored", printed, [b"stored 4\n"])
-    checks.look("a catalogue while serve runs", db, REFUSED)
+    checks.passes(checks.look, "a catalogue while serve runs", db, REFUSED, TRIES)
     ran.kill()
     checks.check("serve is killed", ended(ran), -signal.SIGKILL)
     both = copied(db, "-wal")
     checks.check("file and log have the job", by_sqlite3(both, "SELECT JobId FROM Job ORDER BY JobId;"), "1\n2\n3\n4\n")
-    checks.look("the catalogue without serve", db, REFUSED)
+    checks.passes(checks.look, "the catalogue without serve", db, REFUSED, TRIES)
     checks.check("an empty script", checks.serve(db, volumes, b""), (0, b"", b""))
     is_folded(checks, "it", db, "SELECT JobId FROM Job ORDER BY JobId;", "1\n2\n3\n4\n")
     checks.look("the catalogue afterwards", db, SHOWN)
@@ -314,8 +318,8 @@ def main():
     given = parser.parse_args()
     if not PARTS.keys() >= set(given.parts):
         parser.error("there is no such part")
-    checks = LookChecks(os.path.abspath(given.program))
     with tempfile.TemporaryDirectory() as folder:
+        checks = LookChecks(os.path.abspath(given.program), folder)
         for name in given.parts or PARTS:
             PARTS[name](checks, folder)
     return 1 if checks.failed else 0
