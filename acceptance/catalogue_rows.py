@@ -4,9 +4,9 @@
     acceptance/catalogue_rows.py [--program FILE] [NAME, NAME ..]     all rows, or those with these names
 
 The rows are in catalogue_rows.txt, which says what each step of a row does. SQLite's own library carries out the statements of a row, and
-`brestore` all else: `serve` opens a catalogue and commits jobs to it, `jobs` and `console` load it, and `migrate` migrates it. What the
-last two of a step print is compared with the rows that SQLite's own library finds, by the second reading of the formats. The status is 1
-if something is not as expected.
+`brestore` all else: `serve` opens a catalogue and commits jobs to it, `jobs` and `console` load it, and `migrate` migrates it. What `jobs`
+and `console` print is compared with the rows that SQLite's own library finds, by the second reading of the formats. The status is 1 if
+something is not as expected.
 """
 
 import contextlib
@@ -15,7 +15,6 @@ import hashlib
 import os
 import re
 import sqlite3
-import subprocess
 import sys
 from pathlib import Path
 
@@ -42,7 +41,7 @@ FILES = """SELECT CAST(CAST(Path AS BLOB) || CAST(Filename AS BLOB) AS BLOB), Fi
     FROM File JOIN Path USING (PathId) WHERE JobId = ? ORDER BY FileId"""
 SPANS = """SELECT VolumeName, FirstIndex, LastIndex, (StartFile << 32) + StartBlock, (EndFile << 32) + EndBlock, VolIndex
     FROM JobMedia JOIN Media USING (MediaId) WHERE JobId = ? ORDER BY VolIndex"""
-
+# For each volume the length that the catalogue vouches for.
 VOUCHED = "SELECT VolumeName, max((EndFile << 32) + EndBlock) + 1 FROM JobMedia JOIN Media USING (MediaId) GROUP BY VolumeName"
 
 
@@ -134,13 +133,18 @@ def lines_of(field):
     return [b"job " + head, DIGEST_LINE, *places, b"end"]
 
 
-def part_of(path, start, end):
-    """Returns the digest of bytes of a volume, and a blank, or nothing if they are not all there or are more than a mebibyte."""
+def digest_of(path, start, end):
+    """Returns the digest of bytes of a volume, or an empty text if they are not all there or are more than a mebibyte."""
     if not path.exists() or path.stat().st_size <= end or end - start > MIB:
         return ""
     with open(path, "rb") as file:
         file.seek(start)
-        return hashlib.md5(file.read(end - start + 1)).hexdigest() + " "
+        return hashlib.md5(file.read(end - start + 1)).hexdigest()
+
+
+def spans_text(job):
+    """Returns the number of a job and its spans."""
+    return " ".join([str(job["id"]), *(f"{volume.decode()}{start}-{end}" for volume, _, _, start, end in job["spans"])]) + ";"
 
 
 class World:
@@ -167,6 +171,7 @@ class World:
             do(text)
 
     def show(self, value):
+        """Prints a value."""
         self.gave.append(str(value))
 
     def serve(self, lines):
@@ -181,6 +186,7 @@ class World:
         return told.decode().splitlines()
 
     def run(self, *words, lines=b""):
+        """Runs a command over the catalogue. Returns exit status, standard output and standard error."""
         return self.place.run(words[0], "--db", str(self.db), *words[1:], lines=lines)
 
     def do_new(self, _):
@@ -190,10 +196,9 @@ class World:
         self.begin("second")
 
     def do_sql(self, text):
-        text = WORDS.get(text, text)
         with contextlib.closing(sqlite3.connect(self.db)) as connection:
             try:
-                connection.executescript(text)
+                connection.executescript(WORDS.get(text, text))
             except sqlite3.Error:
                 self.db = None
 
@@ -202,15 +207,13 @@ class World:
 
     def do_load(self, _):
         db = self.db
-        is_loaded = self.serve([]) is not None
-        status, told, refused = self.place.run("jobs", "--db", str(db))
-        if not is_loaded:
-            if (status, told, refused.decode()) != (1, b"", self.gave[-1] + "\n"):
-                raise BadRow(f"jobs gave {status}, {told} and {refused}")
-            return
-        self.jobs = jobs_of(db)
-        if (status, told.decode(), refused) != (0, "".join(map(listed, self.jobs)), b""):
-            raise BadRow(f"jobs gave {status}, {told} and {refused}")
+        if self.serve([]) is None:
+            expected = 1, b"", self.gave[-1].encode() + b"\n"
+        else:
+            self.jobs = jobs_of(db)
+            expected = 0, "".join(map(listed, self.jobs)).encode(), b""
+        if (found := self.place.run("jobs", "--db", str(db))) != expected:
+            raise BadRow(f"jobs gave {found}, and not {expected}")
 
     def do_count(self, _):
         self.show(len(self.jobs))
@@ -219,8 +222,8 @@ class World:
         for job in self.jobs:
             self.look_at(job)
             self.show(job_text(job))
-            self.gave += [part_of(self.volumes / it[0].decode(), *it[3:5]).strip() for it in job["spans"]]
-        self.gave = [it for it in self.gave if it]
+            digests = [digest_of(self.volumes / it[0].decode(), *it[3:5]) for it in job["spans"]]
+            self.gave += [it for it in digests if it]
 
     def look_at(self, job):
         """Restores what was there once a job was stored, by `console`, and compares what it prints."""
@@ -241,20 +244,22 @@ class World:
             with open(self.volumes / name.decode(), "ab") as file:
                 file.truncate(vouched.get(name, 0))
 
+    def store(self, lines):
+        """Runs a script that commits jobs, and prints what it refuses."""
+        self.gave += [line for line in self.serve(lines) or [] if not line.startswith("stored ")]
+
     def do_insert(self, text):
         if text and not text.isdecimal():
             raise BadRow("a field is no number")
         jobs = [self.jobs[int(text) - 1]] if text else self.jobs
         self.fit()
-        lines = self.serve([line for job in jobs for line in script_of(job)])
-        self.gave += [line for line in lines or [] if not line.startswith("stored ")]
+        self.store([line for job in jobs for line in script_of(job)])
 
     def do_keep(self, text):
         self.gave += self.serve([line for field in text.split(" ") for line in lines_of(field)]) or []
 
     def do_commit(self, _):
-        lines = self.serve(COMMITS)
-        self.gave += [line for line in lines or [] if not line.startswith("stored ")]
+        self.store(COMMITS)
 
     def do_migrate(self, _):
         status, told, refused = self.run("migrate")
@@ -267,7 +272,7 @@ class World:
         self.gave += [f"{it.name}={it.stat().st_size}" for it in sorted(self.volumes.iterdir())]
 
     def do_spans(self, _):
-        self.gave += [" ".join([str(job["id"]), *(f"{it[0].decode()}{it[3]}-{it[4]}" for it in job["spans"])]) + ";" for job in self.jobs]
+        self.gave += map(spans_text, self.jobs)
 
 
 def run_row(place, fields, _):
