@@ -16,6 +16,7 @@ import os
 import re
 import sqlite3
 import sys
+import tempfile
 from pathlib import Path
 
 # Nothing is left beside the script.
@@ -27,7 +28,7 @@ from reading import stat_of
 from row_text import BadRow, main
 from scripting import put_line
 from stops import COMMITS, text_of
-from stored import served
+from stored import memory, served
 
 HERE = Path(__file__).resolve().parent
 ROWS = HERE / "catalogue_rows.txt"
@@ -286,4 +287,5 @@ def run_row(place, fields, _):
 
 
 if __name__ == "__main__":
+    tempfile.tempdir = memory()
     main(__doc__.splitlines()[0], ROWS, run_row)

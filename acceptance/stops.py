@@ -38,7 +38,7 @@ from common import ORDER_SQL, PROGRAM, SETS, VERSION_1_SQL
 from preloaded import compiled
 from scripting import Script, put_line, served
 from serving import wrong_volumes
-from stored import differences, opened_copy, rows_by, volumes_of, vouched_by
+from stored import differences, memory, opened_copy, rows_by, volumes_of, vouched_by
 from stored import rows_of as sound_rows
 
 WAYS = ("before", "within", "failing")
@@ -59,7 +59,7 @@ def faults_of(given, words, call, way, log):
     faults = {"LD_PRELOAD": given.library, "STOPPED_CALL": str(call), "STOPPED_LOG": log}
     if way not in LOST:
         return faults | {"STOPPED_WAY": way}
-    catalogue = words[words.index("--db") + 1]
+    catalogue = os.path.realpath(words[words.index("--db") + 1])
     return faults | {"STOPPED_WAY": "lost", "STOPPED_FILE": catalogue + way.removeprefix("lost"), "STOPPED_LOST": catalogue}
 
 
@@ -325,11 +325,12 @@ def main():
     given, failed = parser.parse_args(), 0
     if not PARTS.keys() >= set(given.parts):
         parser.error("there is no such part")
-    for name in given.parts or PARTS:
-        with tempfile.TemporaryDirectory() as folder:
-            given.library = compiled(folder, "stopping_calls")
-            os.mkdir(os.path.join(folder, "run"))
-            failed += PARTS[name](given, folder)
+    with tempfile.TemporaryDirectory() as place:
+        given.library = compiled(place, "stopping_calls")
+        for name in given.parts or PARTS:
+            with tempfile.TemporaryDirectory(dir=memory()) as folder:
+                os.mkdir(os.path.join(folder, "run"))
+                failed += PARTS[name](given, folder)
     return 1 if failed else 0
 
 
