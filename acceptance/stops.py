@@ -184,6 +184,8 @@ def stop_migrations(given, folder, kept):
                 wrong.append(f"{way} call {call}: {found}")
             if fault := versions.fault(given, catalogue, found == versions.migrated):
                 wrong.append(f"after a stop {way} call {call}: {fault}")
+        if call == 1:
+            wrong.append(f"{way}: no call is stopped")
     return stops, wrong
 
 
