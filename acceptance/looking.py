@@ -1,13 +1,13 @@
 #!/usr/bin/env python3
 """Looks at catalogues by `brestore console` and `brestore jobs`, and compares what lies there before and after.
 
-    acceptance/looking.py                      needs sqlite3, and the program in crates/brestore/out
-    acceptance/looking.py --program FILE       another program
+    acceptance/looking.py [--program FILE] [PART ..]     all parts, or these; needs sqlite3 and cc
 
 Both must leave each file as it was and make none, also in a folder that it can't write, on an empty file and on one that is no
 database. It must wait while another program writes, for five seconds at most, and must refuse a journal that has to be rolled back and a
 log that was not put into the file. After `serve` and `migrate` ended, a copy of the catalogue's file alone must have all jobs, by the
-real sqlite3. After a `serve` that was killed it must once `serve` ran again. The status is 1 if something is not as expected.
+real sqlite3. After a `serve` that was killed it must once `serve` ran again. The part `moments` counts the moments of a wait, which
+`passing_moments.c` lets pass at once. The status is 1 if something is not as expected.
 """
 
 import argparse
@@ -27,6 +27,7 @@ sys.path.insert(0, os.path.join(os.path.dirname(os.path.dirname(os.path.abspath(
 from catalogue import FILES, JOBS, VERSION_1_SQL, VOLUMES, ConsoleChecks, answers, listed
 from catalogue import sqlite3 as by_sqlite3
 from common import ORDER_SQL, PROGRAM
+from preloaded import compiled
 
 REFUSED = (1, "", "refused 45\n")
 NOBODY = ["setpriv", "--reuid=65534", "--regid=65534", "--clear-groups"]
@@ -36,6 +37,8 @@ PEER = ["--client", "peer-fd", "--fileset", "Peer", "--before", "2026-11-21 23:1
 CHOSEN = (0, listed("***"), "")
 # From the first refusal to the last try, and what the program and a busy machine may add.
 LONGEST, SLACK = 5, 5
+# How many times a file in use is tried, with a moment of a tenth of a second after each.
+TRIES = 50
 
 JOB = b"""job 4 B F T 1795302950 4 1795302950 64512 mars home
 put 3 /etc/motd 616263 - A A IGk B A A A D A A A A A A
@@ -88,25 +91,37 @@ class Writer:
 
 
 class LookChecks(ConsoleChecks):
-    def still(self, name, db, words, expected, prefix=(), is_still=True):
+    def __init__(self, program, folder):
+        super().__init__(program)
+        self.folder, self.library = folder, compiled(folder, "passing_moments")
+
+    def still(self, name, db, words, expected, prefix=(), is_still=True, faults=None):
         """Runs a command over a catalogue. What is printed must be this, and if nobody else is at work nothing may change beside it.
         Returns the seconds that it took."""
         before = contents(os.path.dirname(db))
-        start = time.monotonic()
-        ran = subprocess.run([*prefix, self.program, *words], input="mark *\ndone\n", capture_output=True, text=True)
+        start, env = time.monotonic(), os.environ | (faults or {})
+        ran = subprocess.run([*prefix, self.program, *words], input="mark *\ndone\n", capture_output=True, text=True, env=env)
         took = time.monotonic() - start
         self.check(name, (ran.returncode, ran.stdout, ran.stderr), expected)
         if is_still:
             self.check("and leaves no trace", contents(os.path.dirname(db)) == before, True)
         return took
 
-    def look(self, name, db, expected, prefix=(), is_still=True):
+    def look(self, name, db, expected, prefix=(), is_still=True, faults=None):
         """Looks at a catalogue by `console`, which must print this."""
-        return self.still(name, db, ["console", "--db", db, "--volumes", VOLUMES, *PEER], expected, prefix, is_still)
+        return self.still(name, db, ["console", "--db", db, "--volumes", VOLUMES, *PEER], expected, prefix, is_still, faults)
 
-    def list(self, name, db, expected, prefix=(), is_still=True):
+    def list(self, name, db, expected, prefix=(), is_still=True, faults=None):
         """Looks at a catalogue by `jobs`, which must print this."""
-        return self.still(f"{name}, by its jobs", db, ["jobs", "--db", db, *PEER], expected, prefix, is_still)
+        return self.still(f"{name}, by its jobs", db, ["jobs", "--db", db, *PEER], expected, prefix, is_still, faults)
+
+    def passes(self, look, name, db, expected, waited, **more):
+        """Looks at a catalogue while the moments of waiting pass at once, and counts these."""
+        log = os.path.join(self.folder, "moments")
+        Path(log).write_bytes(b"")
+        faults = {"LD_PRELOAD": self.library, "MOMENTS_LOG": log, **more}
+        look(name, db, expected, is_still="MOMENTS_FILE" not in more, faults=faults)
+        self.check("and the moments that it waits", os.path.getsize(log), waited)
 
     def serve(self, db, volumes, script):
         ran = subprocess.run([self.program, "serve", "--db", db, "--volumes", volumes], input=script, capture_output=True)
@@ -162,8 +177,7 @@ def waits(checks, folder):
         with Writer(db, begin + ";") as writer:
             checks.look(f"a catalogue after {begin}", db, SHOWN)
             writer.tell(f"PRAGMA cache_size = 1; CREATE TABLE Notes(Note); {NOTES}")
-            took = checks.look(f"a catalogue after {begin} and changes of its file", db, REFUSED)
-            checks.check("and waits for five seconds", LONGEST - 1 <= took <= LONGEST + SLACK, True)
+            checks.passes(checks.look, f"a catalogue after {begin} and changes of its file", db, REFUSED, TRIES)
             timer = threading.Timer(1, writer.tell, ["ROLLBACK;"])
             timer.start()
             took = checks.look(f"a catalogue soon after {begin}", db, SHOWN, is_still=False)
@@ -190,9 +204,9 @@ def journal(checks, folder):
     checks.check("and waits for five seconds", LONGEST - 1 <= took <= LONGEST + SLACK, True)
     checks.check("which sqlite3 rolls back", by_sqlite3(hot, "SELECT count(*) FROM Job;"), "3\n")
     checks.look("and is shown then", hot, SHOWN)
-    for data, expected in ((b"", SHOWN), (b"\0" * 512, SHOWN), (b"\xd9", REFUSED)):
+    for data, expected, waited in ((b"", SHOWN, 0), (b"\0" * 512, SHOWN, 0), (b"\xd9", REFUSED, TRIES)):
         Path(hot + "-journal").write_bytes(data)
-        checks.look(f"a journal of {len(data)} bytes", hot, expected)
+        checks.passes(checks.look, f"a journal of {len(data)} bytes", hot, expected, waited)
 
 
 def log(checks, folder):
@@ -201,12 +215,33 @@ def log(checks, folder):
     with Writer(db, "PRAGMA journal_mode = WAL; INSERT INTO Client(Name) VALUES ('venus-fd');"):
         left = copied(db, "-wal")
         for look in (checks.look, checks.list):
-            took = look("a catalogue with a log", left, REFUSED)
-            checks.check("and waits for five seconds", LONGEST - 1 <= took <= LONGEST + SLACK, True)
+            checks.passes(look, "a catalogue with a log", left, REFUSED, TRIES)
     checks.check("the log is gone once its program ended", os.path.exists(db + "-wal"), False)
     checks.look("and is shown then", db, SHOWN)
     Path(left + "-wal").write_bytes(b"")
     checks.look("a catalogue with an empty log", left, SHOWN)
+
+
+def moments(checks, folder):
+    """Counts the moments for which a file in use is waited for, without waiting."""
+    data = Path(new_catalogue(folder)).read_bytes()
+    for name, content, end, busy, most, expected, waited in [
+        ("a catalogue with a journal for 49 moments", data, "-journal", 49, 9999, CHOSEN, 49),
+        ("a catalogue with a journal for 50 moments", data, "-journal", 50, 9999, REFUSED, 50),
+        ("a catalogue with a log for 3 moments, read in parts", data, "-wal", 3, 1000, CHOSEN, 3),
+        ("a catalogue with a log", data, "-wal", 0, 9999, REFUSED, TRIES),
+        ("a catalogue with a journal", data, "-journal", 0, 9999, REFUSED, TRIES),
+        ("an empty file with a journal for 49 moments", b"", "-journal", 49, 9999, (1, "", "refused 53\n"), 49),
+        ("an empty file with a log", b"", "-wal", 0, 9999, REFUSED, TRIES),
+        ("a text", b"S" * 5000, "", 0, 9999, REFUSED, 0),
+    ]:
+        db = os.path.join(tempfile.mkdtemp(dir=folder), "c.db")
+        Path(db).write_bytes(content)
+        if end:
+            Path(db + end).write_bytes(b"x" * 100)
+        more = {"MOMENTS_BUSY": str(busy), "MOMENTS_FILE": db + end, "MOMENTS_MOST": str(most)}
+        checks.passes(checks.list, name, db, expected, waited, **more)
+        checks.check("and its bytes", Path(db).read_bytes() == content, True)
 
 
 def is_folded(checks, name, db, selects, rows):
@@ -262,24 +297,31 @@ def kills(checks, folder):
     db, volumes = new_catalogue(folder), tempfile.mkdtemp(dir=folder)
     ran, printed = running(checks.program, db, volumes, JOB, 1)
     checks.check("a job is stored", printed, [b"stored 4\n"])
-    checks.look("a catalogue while serve runs", db, REFUSED)
+    checks.passes(checks.look, "a catalogue while serve runs", db, REFUSED, TRIES)
     ran.kill()
     checks.check("serve is killed", ended(ran), -signal.SIGKILL)
     both = copied(db, "-wal")
     checks.check("file and log have the job", by_sqlite3(both, "SELECT JobId FROM Job ORDER BY JobId;"), "1\n2\n3\n4\n")
-    checks.look("the catalogue without serve", db, REFUSED)
+    checks.passes(checks.look, "the catalogue without serve", db, REFUSED, TRIES)
     checks.check("an empty script", checks.serve(db, volumes, b""), (0, b"", b""))
     is_folded(checks, "it", db, "SELECT JobId FROM Job ORDER BY JobId;", "1\n2\n3\n4\n")
     checks.look("the catalogue afterwards", db, SHOWN)
 
 
+PARTS = {it.__name__: it for it in (only_reads, waits, moments, journal, log, ends, kills)}
+
+
 def main():
     parser = argparse.ArgumentParser(description="Looks at catalogues, and compares what lies there before and after.")
     parser.add_argument("--program", default=PROGRAM, help="the program (default: %(default)s)")
-    checks = LookChecks(os.path.abspath(parser.parse_args().program))
+    parser.add_argument("parts", nargs="*", metavar="PART", help=f"the parts (default: all): {', '.join(PARTS)}")
+    given = parser.parse_args()
+    if not PARTS.keys() >= set(given.parts):
+        parser.error("there is no such part")
     with tempfile.TemporaryDirectory() as folder:
-        for part in (only_reads, waits, journal, log, ends, kills):
-            part(checks, folder)
+        checks = LookChecks(os.path.abspath(given.program), folder)
+        for name in given.parts or PARTS:
+            PARTS[name](checks, folder)
     return 1 if checks.failed else 0
 
 

@@ -4,6 +4,9 @@
  * - `before`: the process ends before the call.
  * - `within`: as `before`, but of a write half the bytes are written.
  * - `failing`: the call and each later one fails with EIO, and the process goes on.
+ * - `lost`: as `failing`, but of the file STOPPED_FILE alone, whose calls are counted. When the process
+ *   ends, what was written and not flushed is undone in each file whose path begins with STOPPED_LOST, as
+ *   if the machine had stopped.
  *
  * A byte is appended to the file STOPPED_LOG at the stop. The calls are those that write, flush, cut,
  * make or remove files; what goes to the standard streams does not count. */
@@ -11,7 +14,9 @@
 #include <dlfcn.h>
 #include <errno.h>
 #include <fcntl.h>
+#include <limits.h>
 #include <stdarg.h>
+#include <stdio.h>
 #include <stdlib.h>
 #include <string.h>
 #include <sys/stat.h>
@@ -21,6 +26,107 @@
 static long made;
 static long stopped;
 static const char *way = "before";
+
+/* A change that was not flushed: the bytes that were there before, and the length of the file. */
+struct change {
+    struct change *before;
+    char path[PATH_MAX];
+    off_t place;
+    ssize_t size;
+    off_t length;
+    char bytes[];
+};
+
+static struct change *last;
+
+static void path_of(int file, char *path)
+{
+    char name[64];
+    ssize_t length;
+    snprintf(name, sizeof name, "/proc/self/fd/%d", file);
+    length = readlink(name, path, PATH_MAX - 1);
+    path[length < 0 ? 0 : length] = 0;
+}
+
+/* Notes what the bytes of a file are that are about to change. */
+static void note_change(int file, off_t place, size_t size)
+{
+    const char *lost = getenv("STOPPED_LOST");
+    char path[PATH_MAX];
+    struct stat found;
+    struct change *change;
+    path_of(file, path);
+    if (lost == NULL || strncmp(path, lost, strlen(lost)) != 0 || fstat(file, &found) != 0)
+        return;
+    if (place + (off_t)size > found.st_size)
+        size = place < found.st_size ? (size_t)(found.st_size - place) : 0;
+    change = malloc(sizeof *change + size);
+    if (change == NULL)
+        abort();
+    strcpy(change->path, path);
+    change->before = last;
+    change->place = place;
+    change->length = found.st_size;
+    change->size = syscall(SYS_pread64, file, change->bytes, size, place);
+    last = change;
+}
+
+/* Forgets the changes of a file that was flushed. */
+static void forget_changes(int file)
+{
+    struct change **next = &last;
+    char path[PATH_MAX];
+    path_of(file, path);
+    while (*next != NULL) {
+        struct change *change = *next;
+        if (strcmp(change->path, path) == 0) {
+            *next = change->before;
+            free(change);
+        } else {
+            next = &change->before;
+        }
+    }
+}
+
+/* Undoes the changes that were not flushed, the last one first. */
+static void undo_changes(void)
+{
+    for (; last != NULL; last = last->before) {
+        int file = (int)syscall(SYS_open, last->path, O_RDWR);
+        if (file < 0)
+            continue;
+        if (last->size > 0)
+            (void)!syscall(SYS_pwrite64, file, last->bytes, last->size, last->place);
+        (void)!syscall(SYS_ftruncate, file, last->length);
+        syscall(SYS_close, file);
+    }
+}
+
+/* A program ends by returning from its main function, or by this call. */
+__attribute__((destructor)) static void end(void)
+{
+    undo_changes();
+}
+
+void _exit(int status)
+{
+    undo_changes();
+    for (;;)
+        syscall(SYS_exit_group, status);
+}
+
+/* Returns whether the calls of a file are counted. */
+static int is_counted(int file)
+{
+    const char *own = getenv("STOPPED_FILE");
+    char path[PATH_MAX];
+    if (own == NULL)
+        return 1;
+    if (file < 0)
+        return 0;
+    path_of(file, path);
+    return strcmp(path, own) == 0;
+}
 
 static void end_process(void)
 {
@@ -46,12 +152,14 @@ static int is_stopped(int file, const void *bytes, size_t size, off_t place)
         stopped = call == NULL ? -1 : atol(call);
         way = getenv("STOPPED_WAY") == NULL ? way : getenv("STOPPED_WAY");
     }
+    if (!is_counted(file))
+        return 0;
     made += 1;
     if (stopped < 0 || made < stopped)
         return 0;
     if (made == stopped)
         note();
-    if (strcmp(way, "failing") == 0) {
+    if (strcmp(way, "failing") == 0 || strcmp(way, "lost") == 0) {
         errno = EIO;
         return 1;
     }
@@ -65,7 +173,10 @@ static int is_stopped(int file, const void *bytes, size_t size, off_t place)
 
 ssize_t pwrite(int file, const void *bytes, size_t size, off_t place)
 {
-    return is_stopped(file, bytes, size, place) ? -1 : NEXT(pwrite)(file, bytes, size, place);
+    if (is_stopped(file, bytes, size, place))
+        return -1;
+    note_change(file, place, size);
+    return NEXT(pwrite)(file, bytes, size, place);
 }
 
 ssize_t write(int file, const void *bytes, size_t size)
@@ -77,17 +188,28 @@ ssize_t write(int file, const void *bytes, size_t size)
 
 int fsync(int file)
 {
-    return is_stopped(file, NULL, 0, 0) ? -1 : NEXT(fsync)(file);
+    if (is_stopped(file, NULL, 0, 0) || NEXT(fsync)(file) != 0)
+        return -1;
+    forget_changes(file);
+    return 0;
 }
 
 int fdatasync(int file)
 {
-    return is_stopped(file, NULL, 0, 0) ? -1 : NEXT(fdatasync)(file);
+    if (is_stopped(file, NULL, 0, 0) || NEXT(fdatasync)(file) != 0)
+        return -1;
+    forget_changes(file);
+    return 0;
 }
 
 int ftruncate(int file, off_t size)
 {
-    return is_stopped(file, NULL, 0, 0) ? -1 : NEXT(ftruncate)(file, size);
+    struct stat found;
+    if (is_stopped(file, NULL, 0, 0))
+        return -1;
+    if (fstat(file, &found) == 0)
+        note_change(file, size, found.st_size > size ? (size_t)(found.st_size - size) : 0);
+    return NEXT(ftruncate)(file, size);
 }
 
 int unlink(const char *path)

@@ -1,7 +1,7 @@
 #!/usr/bin/env python3
 """Stops `brestore` at each of its calls that change a file, and compares what is found afterwards.
 
-    acceptance/stops.py [--program FILE]
+    acceptance/stops.py [--program FILE] [PART ..]     all parts, or these: openings, migrations, commits
 
 `stopping_calls.c`, which is compiled by `cc` and preloaded, ends the process before a call or within a write, or lets the call and each
 later one fail. The program makes a catalogue of an empty file, or opens the catalogue of three jobs that `sqlite3` made, or one that
@@ -14,8 +14,11 @@ A catalogue of version 1 is migrated, and stopped in the same ways. Afterwards i
 another migration goes on from there. After an answer without a refusal it is of version 2.
 
 A script that commits two jobs to a catalogue and to a folder of volumes is stopped in the same ways. Afterwards the catalogue has the
-first 0, 1 or 2 of the jobs, each that was acknowledged among them, and a restore gives all that these jobs saved. The status is 1 if
-something differs.
+first 0, 1 or 2 of the jobs, each that was acknowledged among them, and a restore gives all that these jobs saved. The rows and the bytes
+of the volumes are those of these jobs by the second reading of scripts.
+
+Migrations and commits are also stopped with the machine: the call of one of the catalogue's two files, and each later one of that file,
+fails, and when the program ends, what it wrote to either and did not flush is undone. The status is 1 if something differs.
 """
 
 import argparse
@@ -34,9 +37,13 @@ sys.path.insert(0, os.path.join(os.path.dirname(os.path.dirname(os.path.abspath(
 from common import ORDER_SQL, PROGRAM, SETS, VERSION_1_SQL
 from preloaded import compiled
 from scripting import Script, put_line, served
-from stored import opened_copy
+from serving import wrong_volumes
+from stored import differences, memory, opened_copy, rows_by, volumes_of, vouched_by
+from stored import rows_of as sound_rows
 
 WAYS = ("before", "within", "failing")
+# The machine stops: the calls of the log fail, or those of the database.
+LOST = ("lost-wal", "lost")
 REFUSED = (1, b"", b"refused 45\n")
 STOPPED = (137, b"", b"")
 # What `console` says of a catalogue of version 1, and `migrate` of one of version 2.
@@ -47,9 +54,18 @@ LOOK = [b"restore peer-fd Peer 2026-11-21 23:15:46", b"mark *", b"done"]
 LOG_ROOM = 56
 
 
+def faults_of(given, words, call, way, log):
+    """Returns the variables that stop a run at a call."""
+    faults = {"LD_PRELOAD": given.library, "STOPPED_CALL": str(call), "STOPPED_LOG": log}
+    if way not in LOST:
+        return faults | {"STOPPED_WAY": way}
+    catalogue = os.path.realpath(words[words.index("--db") + 1])
+    return faults | {"STOPPED_WAY": "lost", "STOPPED_FILE": catalogue + way.removeprefix("lost"), "STOPPED_LOST": catalogue}
+
+
 def run(given, words, lines, call, way, log):
     """Runs the program, with a stop if a call is named."""
-    faults = {"LD_PRELOAD": given.library, "STOPPED_CALL": str(call), "STOPPED_WAY": way, "STOPPED_LOG": log} if call else {}
+    faults = faults_of(given, words, call, way, log) if call else {}
     ran = subprocess.run([given.program, *words], input=lines, capture_output=True, env=os.environ | faults, timeout=60)
     return ran.returncode, ran.stdout, ran.stderr
 
@@ -155,7 +171,7 @@ def stop_migrations(given, folder, kept):
     versions, log = Versions(given, folder, kept), os.path.join(folder, "log")
     is_migrated = (versions.migrated, versions.new[1][0]) == ((0, b"migrated 3\n", b""), 0)
     stops, wrong = 0, [] if is_migrated else [f"without a stop: {versions.migrated} {versions.new}"]
-    for way in WAYS:
+    for way in WAYS + LOST:
         call, was_stopped = 0, True
         while was_stopped:
             call, catalogue = call + 1, copied(folder, kept)
@@ -163,11 +179,13 @@ def stop_migrations(given, folder, kept):
             found = migrate(given, catalogue, call, way, log)
             was_stopped = os.path.getsize(log) > 0
             stops += was_stopped
-            allowed = (versions.migrated, REFUSED) if way == "failing" else (STOPPED,)
+            allowed = (STOPPED,) if way in ("before", "within") else (versions.migrated, REFUSED)
             if found not in (allowed if was_stopped else (versions.migrated,)):
                 wrong.append(f"{way} call {call}: {found}")
             if fault := versions.fault(given, catalogue, found == versions.migrated):
                 wrong.append(f"after a stop {way} call {call}: {fault}")
+        if call == 1:
+            wrong.append(f"{way}: no call is stopped")
     return stops, wrong
 
 
@@ -216,7 +234,7 @@ def is_stop(found, way):
     status, printed, told = found
     stored = [line for line in printed.splitlines() if line.startswith(b"stored ")]
     others = [line for line in printed.splitlines() if not line.startswith(b"stored ")]
-    if way == "failing":
+    if way not in ("before", "within"):
         # A volume to which an append failed is retired: a job that names it is refused 43.
         lines = {b"refused 44", b"refused 45"} | ({b"refused 43"} if others[:1] == [b"refused 44"] else set())
         is_refused = status == 1 and (told == b"refused 45\n" or (told == b"" and lines.issuperset(others)))
@@ -225,11 +243,23 @@ def is_stop(found, way):
     return len(stored) if status == 137 and told == b"" and printed in FRONTS else None
 
 
+def wrong_rows(places, count):
+    """Returns what of a catalogue and its volumes is not as the first jobs leave it."""
+    whole = Script(text_of(COMMITS))
+    whole.run()
+    jobs = whole.jobs[:count]
+    try:
+        wrong = differences(sound_rows(places[0]), rows_by(jobs))
+    except (sqlite3.Error, ValueError) as error:
+        wrong = [error]
+    return wrong + wrong_volumes(volumes_of(places[1]), whole.volumes, vouched_by(jobs))
+
+
 def stop_commits(given, folder):
     """Stops the commits at each call in each way. Returns how many stops there were, and what differed."""
     stops, wrong, log = 0, [], os.path.join(folder, "..", "log")
-    for way in WAYS:
-        call, was_stopped = 0, True
+    for way in WAYS + LOST:
+        call, was_stopped, counts = 0, True, []
         while was_stopped:
             call, places = call + 1, new_places(folder)
             Path(log).write_bytes(b"")
@@ -241,9 +271,11 @@ def stop_commits(given, folder):
             count = next((count for count in range(3) if left == restored(count)), None)
             if told is None or count is None or count < told:
                 wrong.append(f"{way} call {call}: {found}, and then {left}")
-            with contextlib.closing(sqlite3.connect(places[0])) as connection:
-                if connection.execute("PRAGMA integrity_check").fetchall() != [("ok",)]:
-                    wrong.append(f"{way} call {call}: the catalogue is not sound")
+            elif rows := wrong_rows(places, count):
+                wrong.append(f"{way} call {call}: {rows}")
+            counts.append(count)
+        if counts != sorted(counts, key=str) or set(counts) != {0, 1, 2} and way != "lost":
+            wrong.append(f"{way}: the numbers of jobs are {counts}")
     return stops, wrong
 
 
@@ -268,19 +300,39 @@ def told(name, stops, wrong):
     return bool(wrong)
 
 
+def openings(given, folder):
+    """Stops the openings of catalogues. Returns how many differed."""
+    *current, _ = catalogues(given, folder)
+    return sum(told(os.path.basename(kept), *stop_in_turn(given, os.path.join(folder, "run"), kept)) for kept in current)
+
+
+def migrations(given, folder):
+    """Stops the migration of a catalogue of version 1. Returns how many differed."""
+    *_, old = catalogues(given, folder)
+    return told(os.path.basename(old), *stop_migrations(given, os.path.join(folder, "run"), old))
+
+
+def commits(given, folder):
+    """Stops the commits of two jobs. Returns how many differed."""
+    return told("two commits", *stop_commits(given, os.path.join(folder, "run")))
+
+
+PARTS = {it.__name__: it for it in (openings, migrations, commits)}
+
+
 def main():
     parser = argparse.ArgumentParser(description="Stops brestore at each call that changes a file.")
     parser.add_argument("--program", type=os.path.abspath, default=PROGRAM, help="the program (default: %(default)s)")
+    parser.add_argument("parts", nargs="*", metavar="PART", help=f"the parts (default: all): {', '.join(PARTS)}")
     given, failed = parser.parse_args(), 0
-    with tempfile.TemporaryDirectory() as folder:
-        given.library = compiled(folder, "stopping_calls")
-        os.mkdir(os.path.join(folder, "run"))
-        *current, old = catalogues(given, folder)
-        for kept in current:
-            failed += told(os.path.basename(kept), *stop_in_turn(given, os.path.join(folder, "run"), kept))
-        failed += told(os.path.basename(old), *stop_migrations(given, os.path.join(folder, "run"), old))
-        os.mkdir(os.path.join(folder, "commits"))
-        failed += told("two commits", *stop_commits(given, os.path.join(folder, "commits")))
+    if not PARTS.keys() >= set(given.parts):
+        parser.error("there is no such part")
+    with tempfile.TemporaryDirectory() as place:
+        given.library = compiled(place, "stopping_calls")
+        for name in given.parts or PARTS:
+            with tempfile.TemporaryDirectory(dir=memory()) as folder:
+                os.mkdir(os.path.join(folder, "run"))
+                failed += PARTS[name](given, folder)
     return 1 if failed else 0
 
 

@@ -6,32 +6,23 @@ use br_test_support::Case;
 use std::os::unix::fs::{PermissionsExt, symlink};
 use std::{fs, io};
 
-/// Makes or removes what a step says.
-fn change<M: FileMaker>(
-    maker: &mut M,
-    word: &str,
-    path: &str,
-    bytes: &[u8],
-) -> Result<(), DiskFault> {
-    match word {
-        "enter" => enter_folder(maker, path),
-        "clear" => clear_path(maker, path),
-        "put" => put_file(maker, path, bytes),
-        "folder" => maker.make_folder(path),
-        "file" => match maker.make_file(path) {
-            Ok(_file) => Ok(()),
-            Err(fault) => Err(fault),
-        },
-        _ => maker.remove(path),
-    }
-}
-
 /// Does a step by the trait alone, and prints what that gave.
 fn make<M: FileMaker>(case: &mut Case, maker: &mut M, word: &str, path: &str, bytes: &[u8]) {
     match word {
         "look" => shown(case, &maker.look(path)),
         "empty" => shown(case, &maker.is_empty(path)),
-        _ => shown(case, &change(maker, word, path, bytes)),
+        "enter" => shown(case, &enter_folder(maker, path)),
+        "clear" => shown(case, &clear_path(maker, path)),
+        "put" => shown(case, &put_file(maker, path, bytes)),
+        "folder" => shown(case, &maker.make_folder(path)),
+        "file" => {
+            let made: Result<(), DiskFault> = match maker.make_file(path) {
+                Ok(_file) => Ok(()),
+                Err(fault) => Err(fault),
+            };
+            shown(case, &made);
+        }
+        _ => shown(case, &maker.remove(path)),
     }
 }
 

@@ -4,12 +4,10 @@
 use crate::mem_jobs::MemJobs;
 use crate::saved_jobs::saved_job;
 use br_history::{History, JobRows};
-use br_keeper::{JobStoreFault, Keeper, KeeperFault, Receipt, Session};
-use br_session::Span;
+use br_keeper::{Keeper, KeeperFault, Receipt, Session};
 use br_test_support::Case;
 use br_types::VolName;
 use br_volume::MemStore;
-use std::alloc::Global;
 use std::sync::Wait;
 
 pub(crate) type MemKeeper = Keeper<MemJobs, MemStore>;
@@ -117,81 +115,34 @@ fn push_volumes(case: &mut Case, volumes: &[(VolName, Vec<u8>)]) {
     }
 }
 
-/// Prints the spans of a job.
-fn push_spans(case: &mut Case, spans: &[Span]) {
-    for span in spans {
-        case.text(" ");
-        case.bytes(span.vol.bytes());
-        case.number(span.start);
-        case.text("-");
-        case.number(span.end);
-    }
-}
-
 /// Prints the numbers of jobs, and their spans.
 fn push_jobs(case: &mut Case, jobs: &[JobRows]) {
     for rows in jobs {
         case.number(u64::from(rows.row().id.get()));
-        push_spans(case, rows.spans());
+        for span in rows.spans() {
+            case.text(" ");
+            case.bytes(span.vol.bytes());
+            case.number(span.start);
+            case.text("-");
+            case.number(span.end);
+        }
         case.text(";");
     }
 }
 
-/// Makes the rows of a job, 9, whose span on Z ends at the greatest address, 2^63 - 2.
-fn rows_to_the_end(alloc: Global) -> Option<JobRows> {
-    let vol = VolName::new(alloc, b"Z").ok()?;
-    let mut spans = Vec::new(alloc);
-    let span = Span {
-        vol,
-        first: 1,
-        last: 1,
-        start: 5,
-        end: 9_223_372_036_854_775_806,
-        vol_index: 1,
-    };
-    spans.push(span).ok()?;
-    let job = saved_job(alloc, "9 B F T 100 9 100 64 c f\nplace Z 0")?;
-    job.rows(alloc, &spans).ok()
-}
-
-/// Makes the catalogue of a row: without jobs, or with the job 9 that ends at the greatest address. It may refuse
-/// each job, or not be loaded.
-fn catalogue_of(case: &mut Case, word: &str) -> MemJobs {
+/// Runs a call: makes a keeper of sixteen sessions over a catalogue without jobs, does the steps, and prints what one
+/// of the sessions sees after the keeper has ended, and what is left. `NUMBER:KEPT` says which append fails, 0 for
+/// none, and how many of its bytes are kept.
+pub(crate) fn run<R: Wait>(rt: &R, case: &mut Case, failure: &str, steps: &[&str]) {
     let alloc = case.alloc();
-    let mut history = History::new(alloc);
-    if word == "to_the_end"
-        && let Some(rows) = rows_to_the_end(alloc)
-        && history.push(rows).is_err()
-    {
-        case.fail("the opening job was refused");
-    }
-    MemJobs {
-        alloc,
-        history,
-        fails: word == "full",
-        fault: match word {
-            "broken" => Some(JobStoreFault::BadCatalogue),
-            "failed" => Some(JobStoreFault::Store),
-            _ => None,
-        },
-    }
-}
-
-/// Makes the volumes of a row. `NUMBER:KEPT` says which append fails, 0 for none, and how many of its bytes are kept.
-fn volumes_of(case: &mut Case, field: &str) -> MemStore {
-    let (number, kept) = case.split(field, ':');
+    let (number, kept) = case.split(failure, ':');
     let (number, kept) = (case.u64_of(number), case.u32_of(kept));
-    MemStore::failing_at(case.alloc(), number, kept as usize)
-}
-
-/// Runs a call: makes a keeper of sixteen sessions, does the steps, and prints what one of the sessions sees after
-/// the keeper has ended, and what is left.
-pub(crate) fn run<R: Wait>(rt: &R, case: &mut Case, call: &[&str]) {
-    let [catalogue, volumes, steps @ ..] = call else {
-        return case.fail("a call has a field too few");
+    let volumes = MemStore::failing_at(alloc, number, kept as usize);
+    let catalogue = MemJobs {
+        alloc,
+        history: History::new(alloc),
     };
-    let (catalogue, volumes) = (catalogue_of(case, catalogue), volumes_of(case, volumes));
-    match Keeper::new(rt, case.alloc(), catalogue, volumes, 16) {
+    match Keeper::new(rt, alloc, catalogue, volumes, 16) {
         Ok((mut keeper, mut sessions)) => {
             let session = match sessions.pop() {
                 Some(session) => Some(act_each(rt, case, &mut keeper, session, steps)),

@@ -8,10 +8,6 @@ use std::alloc::Global;
 pub(crate) struct MemJobs {
     pub(crate) alloc: Global,
     pub(crate) history: History,
-    /// Whether each insertion fails.
-    pub(crate) fails: bool,
-    /// Why the jobs cannot be loaded.
-    pub(crate) fault: Option<JobStoreFault>,
 }
 
 impl JobStore for MemJobs {
@@ -21,11 +17,8 @@ impl JobStore for MemJobs {
 
     ghost loads = { λ old new result. Unit {0} };
 
-    /// Appends a copy of a job, unless it is to fail.
+    /// Appends a copy of a job.
     fn insert_job(&mut self, rows: &JobRows) -> Result<(), JobStoreFault> {
-        if self.fails {
-            return Err(JobStoreFault::Store);
-        }
         let Ok(copy) = rows.copy(self.alloc) else {
             return Err(JobStoreFault::Store);
         };
@@ -35,11 +28,8 @@ impl JobStore for MemJobs {
         }
     }
 
-    /// Returns a copy of the jobs, unless they cannot be loaded.
+    /// Returns a copy of the jobs.
     fn load_history(&mut self) -> Result<History, JobStoreFault> {
-        if let Some(fault) = self.fault {
-            return Err(fault);
-        }
         match self.history.copy(self.alloc) {
             Ok(history) => Ok(history),
             Err(_) => Err(JobStoreFault::Memory),

@@ -251,8 +251,6 @@ pub(crate) fn run<R: Threads + Wait + Copy + Send + 'static>(
     let catalogue = MemJobs {
         alloc,
         history: History::new(alloc),
-        fails: false,
-        fault: None,
     };
     let sessions = if watchers < 15 { watchers + 2 } else { 16 };
     match Keeper::new(&rt, alloc, catalogue, MemStore::new(alloc), sessions) {
