@@ -112,6 +112,13 @@ def make_catalogue(file, jobs):
         connection.commit()
 
 
+def span_shown(row):
+    """Returns a span as it is shown, from its row in a catalogue as stored.py asks for it."""
+    _, volume, _, first, last, start_high, end_high, start, end, number = row
+    ends = f"start: {start_high * 2**32 + start}, end: {end_high * 2**32 + end}"
+    return f'Span {{ vol: VolName {{ name: "{volume}" }}, first: {first}, last: {last}, {ends}, vol_index: {number} }}'
+
+
 def job_lines(job, limit=64, lines=b""):
     """Returns the lines of a script that commit a job with these lines between its first and its last."""
     kind, level, status = job["letters"]

@@ -12,7 +12,6 @@ that do not hold are printed, and then the numbers of all. The status is 1 if on
 
 import os
 import re
-import sqlite3
 import sys
 
 # Nothing is left beside the script.
@@ -21,7 +20,7 @@ sys.path.insert(0, os.path.join(os.path.dirname(os.path.dirname(os.path.abspath(
 from bacula import block_of
 from commands import TWO_VOLUMES
 from common import ROOT, escaped, unescaped
-from job_rows import LATEST, job_lines, job_of, lstat_of, make_catalogue, moment_of
+from job_rows import LATEST, job_lines, job_of, lstat_of, make_catalogue, moment_of, span_shown
 from odd import record
 from row_text import BadRow, bytes_of, main, printed
 from scripting import put_line
@@ -97,24 +96,13 @@ def rows(place, field):
     return "taken" if is_listed else {"47": "42"}.get(refusal(told), "neither taken nor refused")
 
 
-def history_of(place, name):
-    """Returns the length of the history in a catalogue and its first jobs, as a history is shown."""
-    connection = sqlite3.connect(place.folder / name)
-    jobs = connection.execute("SELECT JobId, VolSessionId, VolSessionTime FROM Job ORDER BY JobId").fetchall()
-    connection.close()
-    shown = [f"({number}, SessionKey {{ id: {id_}, time: {time} }}) " for number, id_, time in jobs]
-    return f"({len(jobs)}, {len(jobs)}) " + "".join((shown + ["none "] * 3)[:3])
-
-
-def histories(place, first, others):
-    """Commits jobs to a catalogue, and them and others to another one. Prints twice what becomes of each, and both histories."""
+def histories(place, fields):
+    """Commits jobs to a catalogue. Prints what becomes of each, and number and session of those that the catalogue has."""
     (place.folder / "volumes").mkdir()
-    told = b""
-    for name, jobs in (("first", first), ("both", [*first, *others])):
-        words = ["serve", "--db", place.folder / name, "--volumes", place.folder / "volumes"]
-        told = place.run(*words, lines=b"".join(job_lines(job_of(field)) for field in jobs))[1]
-    fates = [fate(line) for line in told.splitlines(keepends=True)]
-    return "".join(f"{it} {it} " for it in fates) + history_of(place, "first") + history_of(place, "both")
+    words = ["serve", "--db", place.folder / "c.db", "--volumes", place.folder / "volumes"]
+    told = place.run(*words, lines=b"".join(job_lines(job_of(field)) for field in fields))[1]
+    jobs = [f"({row[0]}, SessionKey {{ id: {row[7]}, time: {row[8]} }})" for row in rows_of(place.folder / "c.db")["Job"]]
+    return " ".join([fate(line) for line in told.splitlines(keepends=True)] + jobs)
 
 
 def many(place, count):
@@ -135,13 +123,12 @@ def many(place, count):
 
 
 def history(place, fields, _wanted):
+    """Adds jobs to a history."""
     match fields:
         case ["rows", field]:
             return rows(place, field)
         case ["jobs", *jobs]:
-            return histories(place, jobs, [])
-        case ["copies", first, *others]:
-            return histories(place, [first], others)
+            return histories(place, jobs)
         case ["many", count]:
             return many(place, count)
     raise BadRow("no such call")
@@ -212,6 +199,7 @@ def view_by(place, request, fields):
 
 
 def choice(place, fields, _wanted):
+    """Chooses jobs, or shows a view."""
     match fields:
         case ["jobs", request, *jobs]:
             return chosen(place, request, jobs)
@@ -300,6 +288,7 @@ def counts(place, field):
 
 
 def tree(place, fields, wanted):
+    """Finds and marks paths in a tree."""
     match fields:
         case ["matches", pattern, name]:
             return is_match(place, pattern, name)
@@ -322,6 +311,7 @@ def answer_shown(line, output):
 
 
 def dialogue(place, fields, _wanted):
+    """Reads lines of the console."""
     if fields[0] == "line":
         output = console(place, [job_of("1:BFT:100")], [bytes_of(fields[1])])[1]
         return {b"cwd is: /\n": "read"}.get(output, f"refused {refusal(output)}")
@@ -402,6 +392,7 @@ def request(place, client, fileset, before, wanted):
 
 
 def plans(place, fields, wanted):
+    """Makes a plan, or reads a moment or a request."""
     match fields:
         case ["for", asked, marks, *jobs]:
             return plan(place, asked, [bytes_of(it) for it in marks.split(",") if it != "-"], jobs)
@@ -454,7 +445,7 @@ def saved_rows(place, row, fields):
     session = f"start: {start}, session: SessionKey {{ id: {id_}, time: {time} }}"
     head = f'id: JobId {{ id: {number} }}, {", ".join(letters)}, {session}, client: "{client}", fileset: "{fileset}"'
     files = ", ".join(file_shown(*it[1:]) for it in found["File"])
-    spans = ", ".join(span_shown(*it[1:]) for it in found["JobMedia"])
+    spans = ", ".join(span_shown(it) for it in found["JobMedia"])
     return f"Ok(JobRows {{ row: JobRow {{ {head} }}, files: [{files}], spans: [{spans}] }})"
 
 
@@ -464,13 +455,8 @@ def file_shown(index, path, name, lstat, digest):
     return f'FileRow {{ path: "{(path + name).decode()}", index: {index}, lstat: "{lstat}", md5: {sum_} }}'
 
 
-def span_shown(volume, _kind, first, last, start_high, end_high, start, end, number):
-    """Returns a span as it is shown."""
-    ends = f"start: {start_high * 2**32 + start}, end: {end_high * 2**32 + end}"
-    return f'Span {{ vol: VolName {{ name: "{volume}" }}, first: {first}, last: {last}, {ends}, vol_index: {number} }}'
-
-
 def saved(place, fields, _wanted):
+    """Commits a job."""
     word, row, *files = fields
     if word == "rows":
         return saved_rows(place, row, files)

@@ -1,6 +1,7 @@
-//! Which rows make a job; copies of jobs and their rows.
+//! Which rows make a job; copies of jobs and their rows; jobs at places of a history.
 
-use crate::jobs::{job_of, made, shown};
+use crate::jobs::{history_of, job_of, made, shown};
+use br_history::History;
 use br_test_support::Case;
 
 /// Prints whether the rows of a job are taken.
@@ -25,11 +26,28 @@ fn copied(case: &mut Case, field: &str) {
     }
 }
 
+/// Prints number and session of the job at a place.
+fn push_at(case: &mut Case, history: &History, place: usize) {
+    match history.get(place) {
+        Some(job) => shown(case, &(job.row().id.get(), job.row().session)),
+        None => case.text("none "),
+    }
+}
+
+/// Prints the jobs at the first three places of a history.
+fn jobs(case: &mut Case, fields: &[&str]) {
+    let history = history_of(case, fields);
+    for place in 0..3 {
+        push_at(case, &history, place);
+    }
+}
+
 /// Runs a call.
 pub(crate) fn run(case: &mut Case, call: &[&str]) {
     match call {
         ["rows", field] => rows(case, field),
         ["copied", field] => copied(case, field),
+        ["jobs", fields @ ..] => jobs(case, fields),
         _ => case.fail("there is no such call"),
     }
 }

@@ -1,11 +1,12 @@
-//! Runs rows over jobs that no catalogue can hold, copies of jobs, and plans that are made of paths.
-//! It prints the rows that gave something else than wanted. `acceptance/selection_rows.py` runs all
-//! other rows over the selection.
+//! Runs rows over jobs that no catalogue can hold, copies of jobs, what histories and views have at
+//! a place, and plans that are made of paths. It prints the rows that gave something else than
+//! wanted. `acceptance/selection_rows.py` runs all other rows over the selection.
 #![tactic(auto)]
 
 mod histories;
 mod jobs;
 mod plans;
+mod views;
 
 use br_test_support::{Case, Rows, fields_of};
 use std::io;
@@ -15,6 +16,7 @@ fn run(case: &mut Case, fields: &[&str]) {
     match fields {
         ["history", call @ ..] => histories::run(case, call),
         ["plan", call @ ..] => plans::run(case, call),
+        ["view", path, job] => views::run(case, path, job),
         _ => case.fail("there is no such call"),
     }
 }
