@@ -1,16 +1,14 @@
-//! Runs rows over the formats that a restore reads, what a bootstrap asks for and is missing,
-//! checks of it, the sessions that write them, drives and stores over memory, bytes that are read
-//! again, for their digest and when they are written, and the table of refusals. It prints the rows
-//! that gave something else than wanted.
+//! Runs rows over names, attributes and headers of blocks, what the groups of a bootstrap select,
+//! drives over memory, bytes that are read again, for their digest and when they are written, and
+//! long files that are saved. It prints the rows that gave something else than wanted.
+//! `acceptance/format_rows.py` runs the other rows over formats.
 #![tactic(auto)]
 
 mod again;
 mod attributes;
 mod blocks;
 mod bootstraps;
-mod checks;
 mod names;
-mod packing;
 mod printing;
 mod sessions;
 mod volumes;
@@ -25,13 +23,13 @@ fn run(case: &mut Case, fields: &[&str]) {
         ["attributes", call @ ..] => attributes::run(case, call),
         ["block", call @ ..] => blocks::run(case, call),
         ["bootstrap", call, text, rest @ ..] => bootstraps::run(case, call, text, rest),
-        ["check", call @ ..] => checks::run(case, call),
-        ["volume", call @ ..] => volumes::run(case, call),
+        ["volume", "drive", kind, volumes, tails, reads @ ..] => {
+            volumes::read_all(case, kind, volumes, tails, reads);
+        }
         ["again", kind, volumes, tails, places @ ..] => {
             again::read_all(case, kind, volumes, tails, places);
         }
         ["session", call @ ..] => sessions::run(case, call),
-        ["pack", head, first, second] => packing::run(case, head, first, second),
         _ => case.fail("there is no such call"),
     }
 }

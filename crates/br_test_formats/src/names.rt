@@ -1,7 +1,6 @@
-//! Names, paths, keys and numbers, how they are printed and read, and the table of refusals.
+//! Names, paths, keys and numbers, and how they are printed and read.
 
 use crate::printing::{push, shown};
-use br_cli_common::{explain, push_refusals};
 use br_test_support::Case;
 use br_types::{
     FileKey, Name, Names, Path, SessionKey, VolName, push_escaped, push_hexadecimal, push_number,
@@ -9,7 +8,7 @@ use br_types::{
 };
 
 /// Reads `ID:TIME:INDEX`.
-pub(crate) fn key_of(case: &mut Case, field: &str) -> Option<FileKey> {
+fn key_of(case: &mut Case, field: &str) -> Option<FileKey> {
     let (id, rest) = case.split(field, ':');
     let (time, index) = case.split(rest, ':');
     let session = SessionKey {
@@ -42,18 +41,6 @@ fn names(case: &mut Case, asked: &str, fields: &[&str]) {
         shown(case, &names.get(key));
     }
     shown(case, &names.copy(case.alloc()));
-}
-
-/// Prints what the table says of a number.
-fn explanation(case: &mut Case, number: &str) {
-    let mut text = Vec::new(case.alloc());
-    match explain(case.u32_of(number)) {
-        Some(refusal) => {
-            case.done(push_refusals(&mut text, &[*refusal]));
-            case.bytes(&text);
-        }
-        None => case.text("none"),
-    }
 }
 
 /// Runs a call that makes something of bytes.
@@ -96,7 +83,6 @@ fn run_printed(case: &mut Case, call: &str, field: &str) {
 pub(crate) fn run(case: &mut Case, call: &[&str]) {
     match call {
         ["names", asked, set @ ..] => names(case, asked, set),
-        ["explain", n] => explanation(case, n),
         ["print", call, field] => run_printed(case, call, field),
         [call, field] => {
             let text = case.bytes_of(field);

@@ -1,4 +1,4 @@
-//! Which files can be saved, and the blocks and spans that a session is written as.
+//! Which files can be saved, and the blocks and the span that a long file is written as.
 ghost use Rattle.std.specs.Prelude.{◌≡◌, true, []};
 ghost use Rattle.br_block.specs.Building.{IsBlockLimit};
 ghost use Rattle.br_session.specs.Outcome.{ArePlaces};
@@ -7,7 +7,7 @@ use crate::printing::shown;
 use br_attr::Stat;
 use br_session::{Place, SavedFile, SessionFault, Written, write_session};
 use br_test_support::Case;
-use br_types::{Path, SessionKey, VolName};
+use br_types::{Path, SessionKey};
 use std::alloc::AllocError;
 
 /// Makes the file of the fields `PATH,TYPE,NUMBERS,LINK,BYTES,DIGEST`, if it can be saved.
@@ -36,77 +36,32 @@ fn file_of(case: &mut Case, field: &str) -> Option<Result<SavedFile, SessionFaul
     file
 }
 
-/// Prints the parts of a file: path, type, size, bytes, link, and whether it has a digest.
-fn push_file(case: &mut Case, file: &SavedFile) {
-    case.bytes(file.path().bytes());
-    case.text(" ");
-    case.numbers(&[i64::from(file.kind()), file.stat().size()]);
-    case.bytes(file.bytes());
-    case.text(" ");
-    case.bytes(file.link());
-    case.text(" ");
-    case.test(file.digest());
-}
-
-/// Makes a file, and prints its parts.
+/// Makes a file, and prints whether a digest of it is wanted.
 fn file(case: &mut Case, field: &str) {
     match file_of(case, field) {
-        Some(Ok(file)) => push_file(case, &file),
+        Some(Ok(file)) => case.test(file.digest()),
         Some(Err(fault)) => case.refused(fault.number()),
         None => {}
     }
 }
 
-/// Makes the files of fields.
-fn files_of(case: &mut Case, fields: &[&str]) -> Vec<SavedFile> {
-    let mut files = Vec::new(case.alloc());
-    for field in fields {
-        match file_of(case, field) {
-            Some(Ok(file)) => case.done(files.push(file).map_err(AllocError::from)),
-            _ => case.fail("a file is refused"),
-        }
-    }
-    files
-}
-
-/// Appends the name and the number of `VOL:NUMBER`.
-fn push_start(case: &mut Case, starts: &mut Vec<(VolName, u64)>, field: &str) {
-    let (name, number) = case.split(field, ':');
-    let number = case.u64_of(number);
-    if let Some(vol) = case.vol_of(name) {
-        case.done(starts.push((vol, number)).map_err(AllocError::from));
-    }
-}
-
-/// Makes the lengths of volumes of `VOL:LENGTH,..`; `-` is none.
-fn starts_of(case: &mut Case, field: &str) -> Vec<(VolName, u64)> {
-    let mut starts = Vec::new(case.alloc());
-    if field != "-" {
-        for part in field.split(',') {
-            push_start(case, &mut starts, part);
-        }
-    }
-    starts
-}
-
-/// Makes the places of `VOL:BLOCKS,..`.
-fn places_of(case: &mut Case, field: &str) -> Vec<Place> {
+/// Returns one place, which takes all blocks.
+fn one_place(case: &mut Case) -> Vec<Place> {
     let mut places = Vec::new(case.alloc());
-    for (vol, blocks) in starts_of(case, field) {
-        let blocks = u32::try_from(blocks).unwrap_or(u32::MAX);
-        case.done(places.push(Place { vol, blocks }).map_err(AllocError::from));
+    if let Some(vol) = case.vol_of("V") {
+        let place = Place { vol, blocks: 0 };
+        case.done(places.push(place).map_err(AllocError::from));
     }
     places
 }
 
-/// Returns whether there is a place or two, of which the first takes a block.
-fn are_places(places: &[Place]) -> bool
+/// Returns whether it is one place.
+fn is_one(places: &[Place]) -> bool
     ensures some { result ≡ true → places.now ≡ [] → ⊥ }
     ensures are { result ≡ true → ArePlaces places.now }
 {
     match places {
         [_place] => true,
-        [first, _second] => 1 <= first.blocks,
         _ => false,
     }
 }
@@ -138,9 +93,9 @@ fn push_written(case: &mut Case, written: &Written) {
 
 /// What a session is written with: its number and time, and the greatest length of its blocks.
 #[derive(Drop)]
-pub(crate) struct Head {
-    pub(crate) session: SessionKey,
-    pub(crate) limit: u32,
+struct Head {
+    session: SessionKey,
+    limit: u32,
     ghost bounds: { IsBlockLimit limit },
 }
 
@@ -154,7 +109,7 @@ fn head_with(session: SessionKey, limit: u32) -> Option<Head> {
 }
 
 /// Reads such a head as `ID:TIME:LIMIT`.
-pub(crate) fn head_of(case: &mut Case, field: &str) -> Option<Head> {
+fn head_of(case: &mut Case, field: &str) -> Option<Head> {
     let (id, rest) = case.split(field, ':');
     let (time, limit) = case.split(rest, ':');
     let session = SessionKey {
@@ -168,40 +123,34 @@ pub(crate) fn head_of(case: &mut Case, field: &str) -> Option<Head> {
     head
 }
 
-/// Writes a session of files to places, and prints its blocks and spans.
-fn push_session(
-    case: &mut Case,
-    head: &Head,
-    places: &[Place],
-    starts: &[(VolName, u64)],
-    files: &[SavedFile],
-) {
-    if are_places(places) {
-        let alloc = case.alloc();
-        match write_session(alloc, files, head.session, head.limit, places, starts) {
+/// Writes a session of files to a new volume, and prints its blocks and spans.
+fn push_session(case: &mut Case, head: &Head, places: &[Place], files: &[SavedFile]) {
+    if is_one(places) {
+        let (alloc, starts) = (case.alloc(), Vec::new(case.alloc()));
+        match write_session(alloc, files, head.session, head.limit, places, &starts) {
             Ok(written) => push_written(case, &written),
             Err(fault) => case.refused(fault.number()),
         }
     } else {
-        case.fail("there are no places");
+        case.fail("there is no place");
     }
 }
 
-/// Writes a session of files, and prints its blocks and spans.
-fn session(case: &mut Case, head: &str, places: &str, starts: &str, files: &[&str]) {
-    let Some(head) = head_of(case, head) else {
-        return;
-    };
-    let (places, starts) = (places_of(case, places), starts_of(case, starts));
-    let files = files_of(case, files);
-    push_session(case, &head, &places, &starts, &files);
+/// Writes a session of a file, and prints its blocks and spans.
+fn session(case: &mut Case, head: &str, field: &str) {
+    let places = one_place(case);
+    if let Some(head) = head_of(case, head)
+        && let Some(Ok(file)) = file_of(case, field)
+    {
+        push_session(case, &head, &places, &[file]);
+    }
 }
 
 /// Runs a call.
 pub(crate) fn run(case: &mut Case, call: &[&str]) {
     match call {
         ["file", field] => file(case, field),
-        ["write", head, places, starts, files @ ..] => session(case, head, places, starts, files),
+        ["write", head, field] => session(case, head, field),
         _ => case.fail("there is no such call"),
     }
 }

@@ -1,9 +1,9 @@
-//! Drives and stores over memory.
+//! Drives over memory.
 
 use crate::printing::shown;
 use br_test_support::Case;
 use br_types::VolName;
-use br_volume::{BorrowedDrive, Drive, MemDrive, MemStore, VolumeStore};
+use br_volume::{Drive, MemDrive};
 use std::alloc::AllocError;
 
 type Volumes = Vec<(VolName, Vec<u8>)>;
@@ -66,81 +66,16 @@ fn read(case: &mut Case, drive: &mut impl Drive, buf: &mut Vec<u8>, field: &str)
     }
 }
 
-/// Reads with one buffer, which is not empty at first, and prints what each read gave.
-fn read_all(case: &mut Case, drive: &mut impl Drive, reads: &[&str]) {
+/// Reads with one buffer, which is not empty at first, and prints what each read gave; then the volumes
+/// that the drive gives back and the bytes that it gave.
+pub(crate) fn read_all(case: &mut Case, kind: &str, volumes: &str, tails: &str, reads: &[&str]) {
+    let mut drive = drive_of(case, kind, volumes, tails);
     let mut buf = case.bytes_of("50*b");
     for field in reads {
-        read(case, drive, &mut buf, field);
+        read(case, &mut drive, &mut buf, field);
     }
-}
-
-/// Reads from a drive over memory, and prints the volumes that it gives back and the bytes that it
-/// gave.
-fn read_owned(case: &mut Case, drive: MemDrive, reads: &[&str]) {
-    let mut drive = drive;
-    read_all(case, &mut drive, reads);
     let given = drive.bytes_read();
     push_volumes(case, &drive.into_volumes());
     case.text("gave ");
     case.number(given);
-}
-
-/// Reads from two drives that borrow the same volumes.
-fn read_borrowed(case: &mut Case, volumes: &str, reads: &[&str]) {
-    let volumes = volumes_of(case, volumes);
-    let (mut first, mut second) = (BorrowedDrive::new(&volumes), BorrowedDrive::new(&volumes));
-    read_all(case, &mut first, reads);
-    read_all(case, &mut second, reads);
-}
-
-/// Appends by the trait alone as `NAME:TEXT` says.
-fn append(case: &mut Case, store: &mut impl VolumeStore, field: &str) {
-    let (name, text) = case.split(field, ':');
-    let text = case.bytes_of(text);
-    if let Some(vol) = case.vol_of(name)
-        && store.append(&vol, &text).is_err()
-    {
-        case.fail("the store did not append");
-    }
-}
-
-/// Prints the lengths of the volumes V, E, W and v by the trait alone.
-fn push_lengths(case: &mut Case, store: &mut impl VolumeStore) {
-    for name in ["V", "E", "W", "v"] {
-        if let Some(vol) = case.vol_of(name) {
-            case.text(name);
-            case.text(" ");
-            shown(case, &store.length(&vol));
-        }
-    }
-}
-
-/// Appends to a new store what each field says and copies it, and appends `f` to V of the store.
-/// Prints the volumes of the store and their lengths, and those of the copy.
-fn store(case: &mut Case, fields: &[&str]) {
-    let mut store = MemStore::new(case.alloc());
-    for field in fields {
-        append(case, &mut store, field);
-    }
-    let copy = store.copy(case.alloc());
-    append(case, &mut store, "V:f");
-    push_volumes(case, store.volumes());
-    push_lengths(case, &mut store);
-    match copy {
-        Ok(copy) => push_volumes(case, copy.volumes()),
-        Err(_fault) => case.fail("out of memory"),
-    }
-}
-
-/// Runs a call.
-pub(crate) fn run(case: &mut Case, call: &[&str]) {
-    match call {
-        ["drive", kind, volumes, tails, reads @ ..] => {
-            let drive = drive_of(case, kind, volumes, tails);
-            read_owned(case, drive, reads);
-        }
-        ["borrowed", volumes, reads @ ..] => read_borrowed(case, volumes, reads),
-        ["store", fields @ ..] => store(case, fields),
-        _ => case.fail("there is no such call"),
-    }
 }

@@ -35,7 +35,7 @@ pub(crate) fn path_of(case: &mut Case, field: &str) -> Option<Path> {
 }
 
 /// Reads a text.
-pub(crate) fn text_of(case: &mut Case, field: &str) -> Option<String> {
+fn text_of(case: &mut Case, field: &str) -> Option<String> {
     String::from_utf8(case.bytes_of(field)).ok()
 }
 
@@ -96,7 +96,7 @@ fn row_with(case: &mut Case, job: &str, session: &str, names: &str) -> Option<Jo
 }
 
 /// Reads the row of a job.
-pub(crate) fn row_of(case: &mut Case, field: &str) -> Option<JobRow> {
+fn row_of(case: &mut Case, field: &str) -> Option<JobRow> {
     let (job, names) = field.split_once('/').unwrap_or((field, "mars/home"));
     let (job, session) = job.split_once('@').unwrap_or((job, ""));
     let row = row_with(case, job, session, names);
@@ -123,7 +123,7 @@ fn lstat_by(word: &str) -> &str {
 }
 
 /// Reads an LStat.
-pub(crate) fn lstat_of(case: &mut Case, field: &str) -> Option<String> {
+fn lstat_of(case: &mut Case, field: &str) -> Option<String> {
     text_of(case, lstat_by(field))
 }
 
@@ -175,7 +175,7 @@ fn push_span(case: &mut Case, spans: &mut Vec<Span>, field: &str) {
 }
 
 /// Reads rows of files with `;` between them.
-pub(crate) fn files_of(case: &mut Case, fields: &str) -> Vec<FileRow> {
+fn files_of(case: &mut Case, fields: &str) -> Vec<FileRow> {
     let mut files = Vec::new(case.alloc());
     if !fields.is_empty() {
         for field in fields.split(';') {
@@ -186,7 +186,7 @@ pub(crate) fn files_of(case: &mut Case, fields: &str) -> Vec<FileRow> {
 }
 
 /// Reads spans with `!` between them.
-pub(crate) fn spans_of(case: &mut Case, fields: &str) -> Vec<Span> {
+fn spans_of(case: &mut Case, fields: &str) -> Vec<Span> {
     let mut spans = Vec::new(case.alloc());
     if !fields.is_empty() {
         for field in fields.split('!') {

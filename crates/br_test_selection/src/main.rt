@@ -1,16 +1,12 @@
-//! Runs rows over the selection, from the request and the rows of jobs to the chosen jobs, their
-//! view, the marks in it and the plan for these. It prints the rows that gave something else than
-//! wanted.
+//! Runs rows over jobs that no catalogue can hold, copies of jobs, what histories and views have at
+//! a place, and plans that are made of paths. It prints the rows that gave something else than
+//! wanted. `acceptance/selection_rows.py` runs all other rows over the selection.
 #![tactic(auto)]
 
-mod choices;
-mod dialogues;
 mod histories;
 mod jobs;
-mod listings;
 mod plans;
-mod saved;
-mod trees;
+mod views;
 
 use br_test_support::{Case, Rows, fields_of};
 use std::io;
@@ -19,13 +15,8 @@ use std::io;
 fn run(case: &mut Case, fields: &[&str]) {
     match fields {
         ["history", call @ ..] => histories::run(case, call),
-        ["choice", call @ ..] => choices::run(case, call),
-        ["list", call @ ..] => listings::run(case, call),
-        ["local", call @ ..] => listings::run_local(case, call),
-        ["tree", call @ ..] => trees::run(case, call),
-        ["dialogue", call @ ..] => dialogues::run(case, call),
         ["plan", call @ ..] => plans::run(case, call),
-        ["saved", call @ ..] => saved::run(case, call),
+        ["view", path, job] => views::run(case, path, job),
         _ => case.fail("there is no such call"),
     }
 }
