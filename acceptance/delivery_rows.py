@@ -3,7 +3,7 @@
 
     acceptance/delivery_rows.py                     needs the program in crates/brestore/out, sqlite3 and `cc`
     acceptance/delivery_rows.py --program FILE      another program
-    acceptance/delivery_rows.py windows hits        the rows with these names
+    acceptance/delivery_rows.py windows hits        the rows with these names, in which `_` may be a blank
     acceptance/delivery_rows.py --rows FILE         the rows of another text
 
 For each row it writes the volumes that the fields describe, runs the program on them, and writes what comes of it as the row does: the
@@ -62,8 +62,9 @@ def main():
     parser.add_argument("--rows", type=Path, default=HERE / "rows" / "delivery", metavar="FILE", help="default: %(default)s")
     parser.add_argument("--program", type=os.path.abspath, default=PROGRAM, help="the program (default: %(default)s)")
     options = parser.parse_args()
-    rows = [row for row in rows_of(options.rows) if not options.names or row.name in options.names]
-    unknown = set(options.names) - {row.name for row in rows}
+    names = {name.replace("_", " ") for name in options.names}
+    rows = [row for row in rows_of(options.rows) if not names or row.name in names]
+    unknown = names - {row.name for row in rows}
     if unknown:
         parser.error(f"there are no rows {', '.join(sorted(unknown))}")
     with tempfile.TemporaryDirectory() as folder:
