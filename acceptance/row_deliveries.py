@@ -6,7 +6,6 @@ from collections import namedtuple
 from pathlib import Path
 
 from common import escaped
-from delivered import is_on_the_way
 from row_fields import Item, block_of, item_of, lines_of, outcomes_of, records_of, text_of
 
 # The program, the library that is preloaded, and the folder of a row.
@@ -147,6 +146,7 @@ def shown_step(step, found, before, is_last):
 
 
 def is_by_parts(steps):
+    """Returns whether bytes are read again while files are put."""
     return any(step.startswith(("parts:", "two:")) for step in steps)
 
 
@@ -170,7 +170,7 @@ def shown_bytes(data):
 
 
 def there(tools, path, files=()):
-    """Returns what is at a path: the bytes of a file, `part` if no file of the restore has them, `folder`, `link` or `none`."""
+    """Returns what is at a path: the bytes of a file, `part` if they are not those of a file of the restore, `folder`, `link` or `none`."""
     at = os.fsencode(into(tools)) + path
     if os.path.islink(at):
         return "link"
@@ -184,6 +184,7 @@ def there(tools, path, files=()):
 
 
 def shown_paths(tools, field, files):
+    """Returns what is at each of the paths of a field."""
     paths = [] if field == "-" else field.split(";")
     return " ".join(there(tools, text_of(path), files) for path in paths)
 
@@ -264,6 +265,7 @@ def kept_apart(tools, fields, _wanted, *options):
 
 
 def newest_apart(tools, fields, wanted):
+    """Runs `newest`."""
     return kept_apart(tools, fields, wanted, "--newest")
 
 

@@ -3,7 +3,7 @@
 import hashlib
 import subprocess
 
-from common import ORDER_SQL, escaped
+from common import ORDER_SQL
 from reading import fragments_of, manifest_of
 from row_fields import block_of, lines_of, outcomes_of, records_of, text_of
 
@@ -27,8 +27,8 @@ def fields_of_refusal(printed):
     return lines[0] if len(lines) == 1 and lines[0].startswith("refused ") else None
 
 
-def hit_in(shown, volume, word):
-    """Returns the file, the place and the fragment of a hit of a volume, of which a row prints group, address and ordinal."""
+def hit_in(volume, word):
+    """Returns the file, the place and the fragment of a hit of a volume, of which a row has group, address and ordinal."""
     group, address, ordinal = map(int, word.split(":"))
     end = address + int.from_bytes(volume[address + 4 : address + 8], "big")
     session, index, *fragment = fragments_of(volume[address:end])[ordinal]
@@ -36,16 +36,17 @@ def hit_in(shown, volume, word):
 
 
 def spots_in(volume, words):
-    return [hit_in("spots", volume, word) for word in words]
+    """Returns the hits of which a row has group, address and ordinal."""
+    return [hit_in(volume, word) for word in words]
 
 
 def indexes_in(volume, words):
     """Returns the hits that are records of these files: each is the record of that number in the one block of a volume."""
-    return [hit_in("indexes", volume, f"0:0:{int(word) - 1}") for word in words]
+    return [hit_in(volume, f"0:0:{int(word) - 1}") for word in words]
 
 
 def records_in(_volume, words):
-    """Returns the hits of which a row prints session, index, stream, size and bytes."""
+    """Returns the hits of which a row has session, index, stream, size and bytes."""
     found = []
     for at in range(0, len(words), 6):
         session, time, index, stream, size = map(int, words[at : at + 5])
@@ -157,8 +158,8 @@ def joined(tools, fields, wanted):
     return f"{found} {lines[-1]}, and not {outcomes} {totals}"
 
 
-def manifests(tools, fields, _wanted):
-    """Runs `manifest`. Returns the manifest and the totals."""
+def manifests(tools, fields):
+    """Restores the outcomes of a row, whose first file has the index that is named. Returns the manifest, and its totals."""
     blocks = [block_of(records_of(index, it)) for index, it in enumerate(outcomes_of(fields[1]), int(fields[0]))]
     (tools.folder / "volumes").mkdir()
     (tools.folder / "volumes" / "V").write_bytes(b"".join(blocks))
@@ -169,12 +170,14 @@ def manifests(tools, fields, _wanted):
 
 
 def whole_manifest(tools, fields, wanted):
-    printed, totals = manifests(tools, fields, wanted)
+    """Runs `manifest`. Returns the manifest and the totals."""
+    printed, totals = manifests(tools, fields)
     return f"{lines_of(printed)} {totals}"
 
 
 def length_of_manifest(tools, fields, wanted):
-    printed, totals = manifests(tools, fields, wanted)
+    """Runs `length`. Returns the length of the manifest, and the totals."""
+    printed, totals = manifests(tools, fields)
     return f"{len(printed)} {totals}"
 
 
