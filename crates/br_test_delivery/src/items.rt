@@ -12,9 +12,6 @@ use std::alloc::AllocError;
 /// The numbers, the link and the skipped records of a file that has none.
 const PLAIN: &str = "A_A_A_A_A_A_A_A_A_A_A_A_A,-,0";
 
-/// The outcomes that have the name `small`.
-const SMALL: &str = "/a,3,hello;/d/b,3,more;/d/e/,5,-;/d/e/c,2,letters";
-
 /// Returns the key of the file with this index, of session 1, 100.
 pub(crate) fn key_of(case: &mut Case, index: u32) -> Option<FileKey> {
     let session = SessionKey { id: 1, time: 100 };
@@ -28,7 +25,7 @@ pub(crate) fn key_of(case: &mut Case, index: u32) -> Option<FileKey> {
 }
 
 /// Reads a path.
-pub(crate) fn path_of(case: &mut Case, field: &str) -> Option<Path> {
+fn path_of(case: &mut Case, field: &str) -> Option<Path> {
     let text = text_of(case, field);
     let path = Path::new(case.alloc(), &text).ok();
     if path.is_none() {
@@ -38,7 +35,7 @@ pub(crate) fn path_of(case: &mut Case, field: &str) -> Option<Path> {
 }
 
 /// Reads the bytes of a file.
-pub(crate) fn file_bytes(case: &mut Case, field: &str) -> Option<FileBytes> {
+fn file_bytes(case: &mut Case, field: &str) -> Option<FileBytes> {
     let text = text_of(case, field);
     let bytes = FileBytes::new(case.alloc(), text).ok();
     if bytes.is_none() {
@@ -93,20 +90,17 @@ fn outcome_of(case: &mut Case, field: &str) -> Option<Outcome> {
     })
 }
 
-/// Reads outcomes, of files with the indexes from this one on.
-pub(crate) fn outcomes_of(case: &mut Case, first: u32, field: &str) -> Vec<(FileKey, Outcome)> {
+/// Reads outcomes, of files with the indexes from 1 on.
+pub(crate) fn outcomes_of(case: &mut Case, field: &str) -> Vec<(FileKey, Outcome)> {
     let mut outcomes = Vec::new(case.alloc());
-    let field = if field == "small" { SMALL } else { field };
-    let mut index = first;
-    if field != "-" {
-        for part in field.split(';') {
-            if let Some(key) = key_of(case, index)
-                && let Some(outcome) = outcome_of(case, part)
-            {
-                case.done(outcomes.push((key, outcome)).map_err(AllocError::from));
-            }
-            index = index.saturating_add(1);
+    let mut index = 1u32;
+    for part in field.split(';') {
+        if let Some(key) = key_of(case, index)
+            && let Some(outcome) = outcome_of(case, part)
+        {
+            case.done(outcomes.push((key, outcome)).map_err(AllocError::from));
         }
+        index = index.saturating_add(1);
     }
     outcomes
 }

@@ -1,35 +1,16 @@
 //! Which files a joiner makes of what is found of two pieces.
 
-use crate::items::{key_of, path_of};
+use crate::items::key_of;
 use crate::matches::pieces_of;
 use crate::texts::text_of;
 use br_data::Data;
-use br_join::{Item, JoinFault, Joiner, Outcome};
+use br_join::{JoinFault, Joiner, Outcome};
 use br_match::{Batch, Found, Hit, Spot};
 use br_test_support::Case;
-use br_types::{FileKey, Names, push_hexadecimal};
+use br_types::FileKey;
 use std::alloc::AllocError;
 use std::sync::ArcSlice;
 use std::thread::Threads;
-
-/// Reads the names of planned files `INDEX,PATH`; `-` is none.
-fn names_of(case: &mut Case, field: &str) -> Option<Names> {
-    if field == "-" {
-        return None;
-    }
-    let mut names = Names::new(case.alloc());
-    for part in field.split(';') {
-        let (index, path) = case.split(part, ',');
-        let index = case.u32_of(index);
-        if let Some(key) = key_of(case, index)
-            && let Some(path) = path_of(case, path)
-            && names.insert(key, path).is_err()
-        {
-            case.fail("out of memory");
-        }
-    }
-    Some(names)
-}
 
 /// Reads the data of a fragment.
 fn data_of(case: &mut Case, field: &str) -> Option<Data> {
@@ -87,59 +68,33 @@ fn push_ready(case: &mut Case, joiner: &Joiner) {
     case.text(if joiner.ready() { "ready " } else { "open " });
 }
 
-/// Prints the data of a fragment, or that they are not in memory.
-pub(crate) fn push_held(case: &mut Case, hit: &Hit) {
-    match hit.data.held() {
-        Some(bytes) => case.lines(bytes),
-        None => case.text("left"),
-    }
-}
-
-/// Prints the number of a refusal, and how many hits come back with it and the last of them.
+/// Prints the number of a refusal, and how many hits come back with it and the data of the last of them.
 fn push_refused(case: &mut Case, fault: JoinFault, hits: &[Hit]) {
     case.refused(fault.number());
     case.text(" ");
     case.number(hits.len() as u64);
     case.text(" ");
     if let Some(last) = hits.last() {
-        push_held(case, last);
+        match last.data.held() {
+            Some(bytes) => case.lines(bytes),
+            None => case.text("left"),
+        }
     }
 }
 
-/// Prints a file: type, path, mode and size, link, bytes, their number and their digest, and the
-/// number of records that were passed over.
-fn push_item(case: &mut Case, item: &Item) {
-    case.numbers(&[i64::from(item.kind)]);
-    case.lines(item.path.bytes());
-    case.numbers(&[item.stat.mode(), item.stat.size()]);
-    case.lines(&item.link);
-    match item.bytes.to_vec(case.alloc()) {
-        Ok(bytes) => case.lines(&bytes),
-        Err(_fault) => case.fail("out of memory"),
-    }
-    case.number(item.bytes.len());
-    case.text(" ");
-    let done = push_hexadecimal(case.out(), &item.bytes.digest());
-    case.done(done);
-    case.text(" ");
-    case.number(item.skipped);
-    case.text(" ");
-}
-
-/// Prints the index of a file, and the file or its fault.
-fn push_outcome(case: &mut Case, key: FileKey, outcome: &Outcome) {
-    if key.session.id != 1 || key.session.time != 100 {
-        case.fail("a file is of another session");
-    }
+/// Prints the index of a file, its path and its bytes.
+fn push_file(case: &mut Case, key: FileKey, outcome: &Outcome) {
     case.number(u64::from(key.index.get()));
     case.text(": ");
     match outcome {
-        Outcome::File(item) => push_item(case, item),
-        Outcome::Fault { number, stream } => {
-            case.text("fault ");
-            case.numbers(&[i64::from(*number), i64::from(*stream)]);
+        Outcome::File(item) => {
+            case.bytes(item.path.bytes());
+            case.text(" ");
+            case.made(item.bytes.to_vec(case.alloc()));
         }
+        Outcome::Fault { .. } => case.text("fault"),
     }
+    case.text(" ");
 }
 
 /// Prints the files that a joiner makes, if it is ready.
@@ -150,7 +105,7 @@ fn push_files(case: &mut Case, threads: &(impl Threads + Sync), joiner: &mut Joi
     match joiner.finish(threads) {
         Ok(outcomes) => {
             for (key, outcome) in &outcomes {
-                push_outcome(case, *key, outcome);
+                push_file(case, *key, outcome);
             }
         }
         Err(_fault) => case.text("refused 1 "),
@@ -195,9 +150,9 @@ fn step(case: &mut Case, threads: &(impl Threads + Sync), joiner: &mut Joiner, f
 }
 
 /// Takes steps with a joiner of the pieces 0 and 1, of the volumes A and B, that has room for a number of bytes, `-`
-/// for any, and planned files. Prints before and after each whether it is ready.
+/// for any. Prints before and after each whether it is ready.
 pub(crate) fn run(case: &mut Case, threads: &(impl Threads + Sync), call: &[&str]) {
-    let [room, names, steps @ ..] = call else {
+    let [room, steps @ ..] = call else {
         return case.fail("a call has another number of fields");
     };
     let room = if *room == "-" {
@@ -206,8 +161,7 @@ pub(crate) fn run(case: &mut Case, threads: &(impl Threads + Sync), call: &[&str
         case.u64_of(room)
     };
     let pieces = pieces_of(case, "Volume=A|Volume=B|");
-    let names = names_of(case, names);
-    match Joiner::with_room(case.alloc(), &pieces, names, room) {
+    match Joiner::with_room(case.alloc(), &pieces, None, room) {
         Ok(joiner) => {
             let mut joiner = joiner;
             push_ready(case, &joiner);

@@ -1,26 +1,20 @@
-//! Runs rows over matching, joining and delivering: the hits of pieces, the files that a joiner
-//! makes of them, manifests, and files that are put into memory and into folders. It prints the
-//! rows that gave something else than wanted.
+//! Runs rows over what only a call shows of matching, joining and delivering: drives that fail, pieces that a joiner does
+//! not know, the room of a joiner, and sinks that fail. It prints the rows that gave something else than wanted.
+//! `acceptance/delivery_rows.py` has the rows that the program shows.
 #![tactic(auto)]
 
-mod disks;
-mod given;
+mod deliveries;
 mod items;
 mod joins;
-mod manifests;
 mod matches;
-mod printed;
-mod sinks;
-mod steps;
 mod texts;
-mod trap;
 
 use br_test_support::{Case, Rows, fields_of};
 use std::io;
 use std::thread::Threads;
 
 /// Does what a call says and prints what it gave.
-fn run(case: &mut Case, rt: &HostRuntime, threads: &(impl Threads + Sync), fields: &[&str]) {
+fn run(case: &mut Case, threads: &(impl Threads + Sync), fields: &[&str]) {
     let Some((name, call)) = fields.split_first() else {
         return case.fail("there is no call");
     };
@@ -29,26 +23,10 @@ fn run(case: &mut Case, rt: &HostRuntime, threads: &(impl Threads + Sync), field
         "bare" => matches::bare(case, call),
         "walk" => matches::walk(case, call),
         "join" => joins::run(case, threads, call),
-        "manifest" | "length" => manifests::run(case, name, call),
-        "apart" => manifests::apart(case, call),
-        "memory" => sinks::memory(case, rt, threads, call),
-        "folder" => sinks::folder(case, rt, threads, call),
-        "resume" => sinks::resume(case, rt, threads, call),
-        "leave" => sinks::leave(case, rt, threads, call),
-        "tar" => sinks::tar(case, rt, threads, call),
-        "watch" | "disk" => {
-            if disks::run(case, rt, threads, name, call).is_err() {
-                case.fail("a folder fails");
-            }
-        }
+        "manifest" => deliveries::whole_manifest(case, call),
+        "memory" => deliveries::memory(case, threads, call),
+        "folder" => deliveries::folder(case, threads, call),
         _ => case.fail("there is no such call"),
-    }
-}
-
-/// Does what the call of a row says.
-fn run_call(case: &mut Case, rt: &HostRuntime, threads: &(impl Threads + Sync), call: &str) {
-    if let Some(fields) = fields_of(case, call) {
-        run(case, rt, threads, &fields);
     }
 }
 
@@ -61,7 +39,9 @@ fn run_line(
 ) -> io::Result<()> {
     if let Some(row) = rows.read(rt, line)? {
         let mut case = Case::new(rt.alloc());
-        run_call(&mut case, rt, threads, row.call);
+        if let Some(fields) = fields_of(&mut case, row.call) {
+            run(&mut case, threads, &fields);
+        }
         rows.compare(rt, row, &case)?;
     }
     Ok(())

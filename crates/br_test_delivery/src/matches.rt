@@ -1,6 +1,5 @@
 //! Which records of a volume the pieces of a bootstrap find, and how a walk over it goes.
 
-use crate::joins::push_held;
 use crate::texts::text_of;
 use br_bsr::read_bootstrap;
 use br_match::{Hit, PieceFault, Walk, match_piece};
@@ -64,37 +63,15 @@ fn push_fault(case: &mut Case, shown: &str, fault: &PieceFault) {
     case.text(" ");
 }
 
-/// Prints of a hit its `spots`, group, address and ordinal; its `records`, session, index, stream, size and bytes; or
-/// its `indexes`, of a hit that is the record of that number.
-fn push_hit(case: &mut Case, shown: &str, hit: &Hit) {
-    let (spot, key) = (hit.spot, hit.key);
-    let index = i64::from(key.index.get());
-    match shown {
-        "spots" => {
-            if write!(case.out(), "{}:{}:{} ", spot.group, spot.addr, spot.ordinal).is_err() {
-                case.fail("out of memory");
-            }
-        }
-        "records" => {
-            case.numbers(&[
-                i64::from(key.session.id),
-                i64::from(key.session.time),
-                index,
-            ]);
-            case.numbers(&[i64::from(hit.stream), i64::from(hit.size)]);
-            push_held(case, hit);
-        }
-        "indexes" => {
-            if i64::from(spot.ordinal).saturating_add(1) != index {
-                case.fail("a hit is another record");
-            }
-            case.numbers(&[index]);
-        }
-        _ => {}
+/// Prints group, address and ordinal of a hit.
+fn push_spot(case: &mut Case, hit: &Hit) {
+    let spot = hit.spot;
+    if write!(case.out(), "{}:{}:{} ", spot.group, spot.addr, spot.ordinal).is_err() {
+        case.fail("out of memory");
     }
 }
 
-/// Prints the number of a piece and what it finds.
+/// Prints the number of a piece and its hits, unless `bytes` are shown.
 fn push_piece(case: &mut Case, shown: &str, drive: &mut MemDrive, piece: &Piece) {
     match match_piece(case.alloc(), piece, drive) {
         Ok(found) => {
@@ -104,7 +81,9 @@ fn push_piece(case: &mut Case, shown: &str, drive: &mut MemDrive, piece: &Piece)
             case.number(u64::from(found.piece));
             case.text(": ");
             for hit in &found.hits {
-                push_hit(case, shown, hit);
+                if shown != "bytes" {
+                    push_spot(case, hit);
+                }
             }
         }
         Err(fault) => push_fault(case, shown, &fault),

@@ -20,12 +20,6 @@ static FIRST: &[u8] = b"1 3 /a\0A A IGk B A A A O A A A A A A\0\0";
 
 static SECOND: &[u8] = b"2 3 /b\0A A IGk B A A A O A A A A A A\0\0";
 
-/// The attributes of a directory /d/, as file 1.
-static DIRECTORY: &[u8] = b"1 5 /d/\0A A IGk B A A A F A A A A A A\0\0";
-
-/// The attributes of a file of size 14, after its path.
-static REMAINDER: &[u8] = b"\0A A IGk B A A A O A A A A A A\0\0";
-
 /// Returns the bytes of a name.
 fn named(case: &mut Case, name: &str) -> &'static [u8] {
     match name {
@@ -34,8 +28,6 @@ fn named(case: &mut Case, name: &str) -> &'static [u8] {
         "file" => FILE,
         "first" => FIRST,
         "second" => SECOND,
-        "directory" => DIRECTORY,
-        "remainder" => REMAINDER,
         _ => {
             case.fail("a field has no name of bytes");
             b""
