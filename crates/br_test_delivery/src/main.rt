@@ -1,22 +1,27 @@
 //! Runs rows over what only a call shows of matching, joining and delivering: drives that fail, pieces that a joiner does
-//! not know, the room of a joiner, and sinks that fail. It prints the rows that gave something else than wanted.
-//! `acceptance/delivery_rows.py` has the rows that the program shows.
+//! not know, the room of a joiner, sinks that fail, what is told of a restore, why a file could not be written or read,
+//! and numbers that threads draw. It prints the rows that gave something else than wanted. `acceptance/delivery_rows.py`
+//! and `acceptance/rows.py` have the rows that the program shows.
 #![tactic(auto)]
 
+mod claims;
 mod deliveries;
+mod files;
 mod items;
 mod joins;
 mod matches;
+mod telling;
 mod texts;
 
 use br_test_support::{Case, Rows, fields_of};
 use std::io;
+use std::sync::Wait;
 use std::thread::Threads;
 
-/// Does what a call says and prints what it gave.
-fn run(case: &mut Case, threads: &(impl Threads + Sync), fields: &[&str]) {
-    let Some((name, call)) = fields.split_first() else {
-        return case.fail("there is no call");
+/// Does what a step says and prints what it gave.
+fn run(case: &mut Case, rt: &HostRuntime, threads: &(impl Threads + Wait + Sync), step: &[&str]) {
+    let Some((name, call)) = step.split_first() else {
+        return case.fail("there is no step");
     };
     match *name {
         "match" | "failing" => matches::found(case, name, call),
@@ -25,22 +30,25 @@ fn run(case: &mut Case, threads: &(impl Threads + Sync), fields: &[&str]) {
         "join" => joins::run(case, threads, call),
         "manifest" => deliveries::whole_manifest(case, call),
         "memory" => deliveries::memory(case, threads, call),
-        "folder" => deliveries::folder(case, threads, call),
-        _ => case.fail("there is no such call"),
+        "unfinished" => deliveries::folder(case, threads, call),
+        "claims" => claims::run(case, threads, call),
+        _ => telling::run(case, rt, step),
     }
 }
 
-/// Runs the row of a line, if it has one.
+/// Runs the row of a line, if it has one: its steps, one after another.
 fn run_line(
     rt: &HostRuntime,
-    threads: &(impl Threads + Sync),
+    threads: &(impl Threads + Wait + Sync),
     rows: &mut Rows,
     line: &str,
 ) -> io::Result<()> {
     if let Some(row) = rows.read(rt, line)? {
         let mut case = Case::new(rt.alloc());
-        if let Some(fields) = fields_of(&mut case, row.call) {
-            run(&mut case, threads, &fields);
+        for step in row.call.split(" ; ") {
+            if let Some(fields) = fields_of(&mut case, step) {
+                run(&mut case, rt, threads, &fields);
+            }
         }
         rows.compare(rt, row, &case)?;
     }

@@ -1,16 +1,22 @@
 //! Runs rows over names, attributes and headers of blocks, what the groups of a bootstrap select,
-//! drives over memory, bytes that are read again, for their digest and when they are written, and
-//! long files that are saved. It prints the rows that gave something else than wanted.
-//! `acceptance/format_rows.py` runs the other rows over formats.
+//! drives over memory, bytes that are read again, for their digest and when they are written, long
+//! files that are saved, jobs that no catalogue can hold, copies of jobs, what histories and views
+//! have at a place, and plans that are made of paths. It prints the rows that gave something else
+//! than wanted. `acceptance/format_rows.py` and `acceptance/selection_rows.py` run the other rows over
+//! formats and over the selection.
 #![tactic(auto)]
 
 mod again;
 mod attributes;
 mod blocks;
 mod bootstraps;
+mod histories;
+mod jobs;
 mod names;
+mod plans;
 mod printing;
 mod sessions;
+mod views;
 mod volumes;
 
 use br_test_support::{Case, Rows, fields_of};
@@ -30,6 +36,9 @@ fn run(case: &mut Case, fields: &[&str]) {
             again::read_all(case, kind, volumes, tails, places);
         }
         ["session", call @ ..] => sessions::run(case, call),
+        ["history", call @ ..] => histories::run(case, call),
+        ["plan", call @ ..] => plans::run(case, call),
+        ["view", path, job] => views::run(case, path, job),
         _ => case.fail("there is no such call"),
     }
 }

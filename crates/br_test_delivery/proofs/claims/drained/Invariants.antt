@@ -1,5 +1,5 @@
 use Rattle.std.proofs.Common.{◌≡◌, ◌-◌, ◌+◌, length}
-use Rattle.br_test_commands.proofs.claims.drained.Given as goal
+use Rattle.br_test_delivery.proofs.claims.drained.Given as goal
 
 abbrev pub invariant-loop-number : goal.invariant-loop-number
 invariant-loop-number l = (l.seat.claims ≡ l.initial.seat.claims) × (l.seat.limit ≡ l.initial.seat.limit)

@@ -1,6 +1,7 @@
 //! Which rows make a job; copies of jobs and their rows; jobs at places of a history.
 
-use crate::jobs::{history_of, job_of, made, shown};
+use crate::jobs::{history_of, job_of, made};
+use crate::printing::shown;
 use br_history::History;
 use br_test_support::Case;
 

@@ -1,7 +1,8 @@
 //! What the view of a job has.
 ghost use Rattle.br_model.specs.Job.{no_pair};
 
-use crate::jobs::{job_of, path_of, shown};
+use crate::jobs::{job_of, path_of};
+use crate::printing::shown;
 use br_history::JobRows;
 use br_test_support::Case;
 use br_view::View;

@@ -12,15 +12,6 @@ use br_session::Span;
 use br_test_support::Case;
 use br_types::{JobId, Letter, Name, Path, SessionKey};
 use std::alloc::AllocError;
-use std::fmt::Debug;
-use std::io::Write;
-
-/// Prints a value as `{:?}` does, and a blank.
-pub(crate) fn shown<T: Debug>(case: &mut Case, value: &T) {
-    if write!(case.out(), "{value:?} ").is_err() {
-        case.fail("out of memory");
-    }
-}
 
 /// Reads a name.
 fn name_of(case: &mut Case, field: &str) -> Option<Name> {
