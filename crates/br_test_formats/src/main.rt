@@ -1,6 +1,6 @@
 //! Runs rows over names, attributes and headers of blocks, what the groups of a bootstrap select,
-//! drives over memory, bytes that are read again, for their digest and when they are written, long
-//! files that are saved, jobs that no catalogue can hold, copies of jobs, what histories and views
+//! drives over memory, bytes that are read again, for their digest and when they are written, a
+//! record that is packed, long files that are saved, jobs that no catalogue can hold, copies of jobs, what histories and views
 //! have at a place, and plans that are made of paths. It prints the rows that gave something else
 //! than wanted. `acceptance/format_rows.py` and `acceptance/selection_rows.py` run the other rows over
 //! formats and over the selection.
@@ -13,6 +13,7 @@ mod bootstraps;
 mod histories;
 mod jobs;
 mod names;
+mod packing;
 mod plans;
 mod printing;
 mod sessions;
@@ -35,6 +36,7 @@ fn run(case: &mut Case, fields: &[&str]) {
         ["again", kind, volumes, tails, places @ ..] => {
             again::read_all(case, kind, volumes, tails, places);
         }
+        ["pack", head, bytes] => packing::run(case, head, bytes),
         ["session", call @ ..] => sessions::run(case, call),
         ["history", call @ ..] => histories::run(case, call),
         ["plan", call @ ..] => plans::run(case, call),

@@ -93,9 +93,9 @@ fn push_written(case: &mut Case, written: &Written) {
 
 /// What a session is written with: its number and time, and the greatest length of its blocks.
 #[derive(Drop)]
-struct Head {
-    session: SessionKey,
-    limit: u32,
+pub(crate) struct Head {
+    pub(crate) session: SessionKey,
+    pub(crate) limit: u32,
     ghost bounds: { IsBlockLimit limit },
 }
 
@@ -109,7 +109,7 @@ fn head_with(session: SessionKey, limit: u32) -> Option<Head> {
 }
 
 /// Reads such a head as `ID:TIME:LIMIT`.
-fn head_of(case: &mut Case, field: &str) -> Option<Head> {
+pub(crate) fn head_of(case: &mut Case, field: &str) -> Option<Head> {
     let (id, rest) = case.split(field, ':');
     let (time, limit) = case.split(rest, ':');
     let session = SessionKey {
