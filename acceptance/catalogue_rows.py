@@ -3,7 +3,7 @@
 
     acceptance/catalogue_rows.py [--program FILE] [NAME, NAME ..]     all rows, or those with these names
 
-The rows are in catalogue_rows.txt, which says what each step of a row does. SQLite's own library carries out the statements of a row, and
+The rows are in rows/catalogues, which says what each step of a row does. SQLite's own library carries out the statements of a row, and
 `brestore` all else: `serve` opens a catalogue and commits jobs to it, `jobs` and `console` load it, and `migrate` migrates it. What `jobs`
 and `console` print is compared with the rows that SQLite's own library finds, by the second reading of the formats. The status is 1 if
 something is not as expected.
@@ -31,7 +31,7 @@ from stops import COMMITS, text_of
 from stored import memory, served
 
 HERE = Path(__file__).resolve().parent
-ROWS = HERE / "catalogue_rows.txt"
+ROWS = HERE / "rows" / "catalogues"
 # The statements of the words.
 WORDS = {it.stem.replace("_", " "): it.read_text() for it in (HERE / "catalogues" / "rows").iterdir()}
 DIGEST_LINE = put_line(b"/a", b"message digest", b"putd", stat=b"A A IGk B A A A A A A A A A A")

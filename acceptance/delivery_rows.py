@@ -16,6 +16,7 @@ import argparse
 import os
 import sys
 import tempfile
+from collections import namedtuple
 from pathlib import Path
 
 # Nothing is left beside the script.
@@ -26,8 +27,9 @@ import row_deliveries
 import row_volumes
 from common import PROGRAM
 from preloaded import compiled
-from row_items import rows_of
+from row_text import rows_in
 
+Row = namedtuple("Row", "name call wanted")
 CALLS = {**row_volumes.CALLS, **row_deliveries.CALLS}
 # These rows show that rows can fail: none of them may hold.
 WRONG = "rows that do not hold"
@@ -63,7 +65,7 @@ def main():
     parser.add_argument("--program", type=os.path.abspath, default=PROGRAM, help="the program (default: %(default)s)")
     options = parser.parse_args()
     names = {name.replace("_", " ") for name in options.names}
-    rows = [row for row in rows_of(options.rows) if not names or row.name in names]
+    rows = [row for row in map(Row._make, rows_in(options.rows)) if not names or row.name in names]
     unknown = names - {row.name for row in rows}
     if unknown:
         parser.error(f"there are no rows {', '.join(sorted(unknown))}")

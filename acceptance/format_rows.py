@@ -5,7 +5,7 @@
     acceptance/format_rows.py --program FILE   another program
     acceptance/format_rows.py checks           only the rows of that name; with `,` between two names
 
-The rows are in format_rows.txt, with what each call means. Their volumes and bootstraps are files for `check` and `extract`, and their
+The rows are in rows/formats, with what each call means. Their volumes and bootstraps are files for `check` and `extract`, and their
 files are saved by scripts of `serve`. What a row wants was worked out by hand. Rows that do not hold are printed, and then the numbers of
 all. The status is 1 if one does not hold.
 """
@@ -24,11 +24,12 @@ from common import ROOT, unescaped
 from job_rows import job_of, make_catalogue, span_shown
 from odd import record
 from reading import groups_of, hits, manifest_of
-from row_text import BadRow, bytes_of, lines_printed, main, printed, text_of
+from row_fields import bytes_of, shown, text_of
+from row_text import BadRow, main, printed
 from scripting import put_line
 from stored import rows_of
 
-FILE = os.path.join(ROOT, "acceptance", "format_rows.txt")
+FILE = os.path.join(ROOT, "acceptance", "rows", "formats")
 STAT = b"A A IGk B A A A F A A A A A A"
 # The most bytes of a volume that a file here is made to have.
 MOST = 1 << 30
@@ -147,7 +148,7 @@ def bootstrap(place, fields, _wanted):
     call, text, *rest = fields
     text = text_of(text)
     if call == "report":
-        return lines_printed(complete(place, text, rest))
+        return shown(complete(place, text, rest))
     if call == "missing":
         return missing(place, text, rest)
     return {"refusal": refusal, "pieces": pieces}[call](place, text)
@@ -163,7 +164,7 @@ def check(place, fields, _wanted):
     if tails != "-":
         raise BadRow("no volume grows here")
     status, output, told = run_bootstrap(place, "check", text, volumes, *(["--memory", *memory] if memory else []))
-    return f"{lines_printed(output)} {({0: 'true', 1: 'false'}).get(status, status)}" if not told else printed(told)
+    return f"{shown(output)} {({0: 'true', 1: 'false'}).get(status, status)}" if not told else printed(told)
 
 
 def explanation(place, fields, _wanted):

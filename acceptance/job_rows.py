@@ -12,7 +12,7 @@ import sqlite3
 from pathlib import Path
 
 from common import ORDER_SQL, escaped
-from row_text import bytes_of
+from row_fields import bytes_of
 
 # What the words for an LStat mean: sizes of 0, 3, 14 and -7 bytes; hard links of 14 bytes to the files 1 and 2, and of 80 to file 3.
 LSTATS = {

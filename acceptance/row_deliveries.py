@@ -6,7 +6,8 @@ from collections import namedtuple
 from pathlib import Path
 
 from common import escaped
-from row_items import Item, block_of, item_of, lines_of, outcomes_of, records_of, text_of
+from row_fields import shown
+from row_items import Item, block_of, item_of, outcomes_of, records_of, text_of
 
 # The program, the library that is preloaded, and the folder of a row.
 Tools = namedtuple("Tools", "program library folder")
@@ -231,7 +232,7 @@ def watched(tools, fields, _wanted):
     begin = f"  {into(tools)}/"
     failed = "".join(f"/{line.removeprefix(begin).split(' ')[0]} " for line in found.log if line.startswith(begin))
     text = "".join(line + "\n" for line in lines).encode()
-    return f"{gave}{failed}{shown_paths(tools, paths, volume.files)} {lines_of(text)}"
+    return f"{gave}{failed}{shown_paths(tools, paths, volume.files)} {shown(text)}"
 
 
 def streamed(tools, fields, _wanted):
@@ -294,7 +295,7 @@ def looked(tools, step, field):
     for outcome in outcomes_of(field):
         volume.add(outcome)
     found = restored(tools, volume, "--into", into(tools), "--resume")
-    return lines_of("".join(line + "\n" for line in found.told if line.startswith("other ")).encode())
+    return shown("".join(line + "\n" for line in found.told if line.startswith("other ")).encode())
 
 
 def on_disk(tools, fields, _wanted):

@@ -1,16 +1,10 @@
-"""Rows, which are tests written as text: what they say, and the volumes that their fields describe.
+"""Files and faults that fields of rows/delivery describe, and the records and blocks of them."""
 
-The texts in rows/ begin with what their fields mean. A row is `CALL FIELD .. = WANTED`; `## NAME` names the rows after it, and other
-lines that begin with `#` are for the reader.
-"""
-
-import re
 import struct
 from collections import namedtuple
 
-from common import unescaped
+import row_fields
 
-Row = namedtuple("Row", "name call wanted")
 # What becomes of a file: its path, type, bytes, numbers, link and the number of records that are passed over.
 Item = namedtuple("Item", "path kind data stat link skipped")
 # What is in the place of a file that can't be restored: the number, and the stream of 65.
@@ -31,27 +25,13 @@ NAMED = {
 }
 
 
-def rows_of(file):
-    """Returns the rows of a text."""
-    rows, name = [], ""
-    for line in file.read_text().splitlines():
-        if line.startswith("## "):
-            name = line[3:]
-        elif line and not line.startswith("#"):
-            call, _, wanted = (line.rstrip() + " ").partition(" = ")
-            rows.append(Row(name, call.removesuffix(" ="), wanted.rstrip()))
-    return rows
-
-
 def part_of(part):
     """Returns the bytes of a part of a text."""
     if part.startswith("$"):
         return NAMED[part[1:]]
     if part.startswith("#"):
         return bytes.fromhex(part[1:])
-    count, star, text = part.partition("*")
-    data = unescaped(text.encode()) * int(count) if star else unescaped(part.encode())
-    return data.translate(bytes.maketrans(b"_|", b" \n"))
+    return row_fields.part_of(part).translate(row_fields.READ)
 
 
 def text_of(field):
@@ -102,9 +82,3 @@ def records_of(index, outcome, is_sparse=False):
         return fault_records(index, outcome)
     data = [whole(index, 6, bytes(8) + outcome.data) if is_sparse else whole(index, 2, outcome.data)]
     return [attributes_of(index, outcome), *(data if outcome.data else []), *[whole(index, 10, b"x")] * outcome.skipped]
-
-
-def lines_of(data):
-    """Returns bytes as a field that is a text of lines."""
-    text = "".join(chr(it) if 0x21 <= it <= 0x7E and it != 0x5C else {0x20: "_", 0x0A: "|"}.get(it, f"\\x{it:02x}") for it in data)
-    return re.sub("^$", "-", text)

@@ -13,7 +13,7 @@ import sys
 import tempfile
 from pathlib import Path
 
-from common import PROGRAM, escaped, unescaped
+from common import PROGRAM, escaped
 
 FAILING = "rows that do not hold"
 
@@ -22,34 +22,9 @@ class BadRow(Exception):
     """A row that can't be run, with the reason."""
 
 
-def bytes_of(field):
-    """Returns the bytes of a field: `-` for none, or parts with `+` between them."""
-    if field == "-":
-        return b""
-    parts = []
-    for part in field.split("+"):
-        if part.startswith("#"):
-            parts.append(bytes.fromhex(part[1:]))
-            continue
-        count, text = part.split("*", 1) if "*" in part else ("1", part)
-        parts.append(unescaped(text.encode()) * int(count))
-    return b"".join(parts)
-
-
-def text_of(field):
-    """Returns the bytes of a field in which `_` is a blank and `|` a line feed."""
-    return bytes_of(field).replace(b"_", b" ").replace(b"|", b"\n")
-
-
 def printed(data):
     """Returns bytes as a row prints them."""
     return escaped(data) or "-"
-
-
-def lines_printed(data):
-    """Returns bytes as a row prints them with `_` for a blank and `|` for a line feed."""
-    marked = data.replace(b" ", b"_").replace(b"\n", b"|")
-    return escaped(marked) or "-"
 
 
 class Place:

@@ -5,7 +5,8 @@ import subprocess
 
 from common import ORDER_SQL
 from reading import fragments_of, manifest_of
-from row_items import block_of, lines_of, outcomes_of, records_of, text_of
+from row_fields import shown
+from row_items import block_of, outcomes_of, records_of, text_of
 
 ENDS = ("open", "ready")
 
@@ -68,7 +69,7 @@ def matched(tools, fields, wanted):
     for key, place, fragment in READERS[shown](volume, [it for it in wanted.split(" ") if it[-1:] != ":" and it]):
         found.setdefault(key, {})[place] = fragment
     manifest, is_clean = manifest_of(found)
-    return wanted if (status, printed) == (0 if is_clean else 1, manifest) else f"{status} {lines_of(printed)}, and not {lines_of(manifest)}"
+    return wanted if (status, printed) == (0 if is_clean else 1, manifest) else f"{status} {shown(printed)}, and not {shown(manifest)}"
 
 
 def hits_of(steps):
@@ -172,7 +173,7 @@ def manifests(tools, fields):
 def whole_manifest(tools, fields, wanted):
     """Runs `manifest`. Returns the manifest and the totals."""
     printed, totals = manifests(tools, fields)
-    return f"{lines_of(printed)} {totals}"
+    return f"{shown(printed)} {totals}"
 
 
 def length_of_manifest(tools, fields, wanted):

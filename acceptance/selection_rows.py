@@ -5,7 +5,7 @@
     acceptance/selection_rows.py --program FILE   another program
     acceptance/selection_rows.py long plans       only the rows of that name; with `,` between two names
 
-The rows are in selection_rows.txt, with what each call means. Their jobs are made rows of a catalogue by SQLite's own library, or lines of
+The rows are in rows/selection, with what each call means. Their jobs are made rows of a catalogue by SQLite's own library, or lines of
 a script that commits them; `console`, `jobs` and `serve` then show what is chosen of them. What a row wants was worked out by hand. Rows
 that do not hold are printed, and then the numbers of all. The status is 1 if one does not hold.
 """
@@ -22,11 +22,12 @@ from commands import TWO_VOLUMES
 from common import ROOT, escaped, unescaped
 from job_rows import LATEST, job_lines, job_of, lstat_of, make_catalogue, moment_of, span_shown
 from odd import record
-from row_text import BadRow, bytes_of, main, printed
+from row_fields import bytes_of
+from row_text import BadRow, main, printed
 from scripting import put_line
 from stored import rows_of
 
-FILE = os.path.join(ROOT, "acceptance", "selection_rows.txt")
+FILE = os.path.join(ROOT, "acceptance", "rows", "selection")
 REFUSED = re.compile(rb"refused (\d+)(?: \S+ \d+)?\n")
 DIRECTORIES, PATTERNS = (b"/", b"/etc/", b"/home/"), (b"*", b"?????", b"e*", b"*s*")
 
