@@ -19,7 +19,11 @@ pub fn gauge_of<'r>(
         Some(path) => Some(Log::open(rt, path)?),
         None => None,
     };
-    let gauge = Gauge::new(rt, volumes, matches!(progress, Progress::Shown) && is_shown(rt));
+    let gauge = Gauge::new(
+        rt,
+        volumes,
+        matches!(progress, Progress::Shown) && is_shown(rt),
+    );
     Ok(gauge.with_log(log))
 }
 
