@@ -23,7 +23,7 @@ from pathlib import Path
 sys.dont_write_bytecode = True
 sys.path.insert(0, os.path.join(os.path.dirname(os.path.dirname(os.path.abspath(__file__))), "tools"))
 from choosing import consoled
-from common import MIB, escaped
+from common import MIB, VERSION_1_SQL, escaped
 from reading import stat_of
 from row_text import BadRow, main
 from scripting import put_line
@@ -34,6 +34,9 @@ HERE = Path(__file__).resolve().parent
 ROWS = HERE / "rows" / "catalogues"
 # The statements of the words.
 WORDS = {it.stem.replace("_", " "): it.read_text() for it in (HERE / "catalogues" / "rows").iterdir()}
+TWO_JOBS, OLD_TABLES = WORDS.pop("two jobs"), Path(VERSION_1_SQL).read_text().partition("INSERT")[0]
+WORDS["jobs"] = TWO_JOBS + WORDS["jobs"]
+WORDS["version 1"] = f"BEGIN; {OLD_TABLES} {TWO_JOBS} {WORDS['version 1']} COMMIT;"
 DIGEST_LINE = put_line(b"/a", b"message digest", b"putd", stat=b"A A IGk B A A A A A A A A A A")
 ASKED = b"find *\nmark *\nestimate\ndone\n"
 JOBS = """SELECT JobId, Type, Level, JobStatus, StartTime, VolSessionId, VolSessionTime, Name, FileSet

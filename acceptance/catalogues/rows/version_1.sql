@@ -1,31 +1,9 @@
--- The tables of version 1, with two jobs, in one transaction.
-BEGIN;
-CREATE TABLE Version(VersionId INTEGER NOT NULL);
-CREATE TABLE Client(ClientId INTEGER PRIMARY KEY, Name TEXT NOT NULL UNIQUE);
-CREATE TABLE FileSet(FileSetId INTEGER PRIMARY KEY, FileSet TEXT NOT NULL UNIQUE);
-CREATE TABLE Media(MediaId INTEGER PRIMARY KEY, VolumeName TEXT NOT NULL UNIQUE, MediaType TEXT NOT NULL);
-CREATE TABLE Path(PathId INTEGER PRIMARY KEY, Path BLOB NOT NULL UNIQUE);
-CREATE TABLE Filename(FilenameId INTEGER PRIMARY KEY, Name BLOB NOT NULL UNIQUE);
-CREATE TABLE Job(JobId INTEGER PRIMARY KEY, Type TEXT NOT NULL, Level TEXT NOT NULL, ClientId INTEGER NOT NULL REFERENCES Client(ClientId), JobStatus TEXT NOT NULL, StartTime INTEGER NOT NULL, FileSetId INTEGER NOT NULL REFERENCES FileSet(FileSetId), VolSessionId INTEGER NOT NULL, VolSessionTime INTEGER NOT NULL, UNIQUE(VolSessionId, VolSessionTime));
-CREATE TABLE JobMedia(JobMediaId INTEGER PRIMARY KEY, JobId INTEGER NOT NULL REFERENCES Job(JobId), MediaId INTEGER NOT NULL REFERENCES Media(MediaId), FirstIndex INTEGER NOT NULL, LastIndex INTEGER NOT NULL, StartFile INTEGER NOT NULL, EndFile INTEGER NOT NULL, StartBlock INTEGER NOT NULL, EndBlock INTEGER NOT NULL, VolIndex INTEGER NOT NULL, UNIQUE(JobId, VolIndex));
-CREATE TABLE File(FileId INTEGER PRIMARY KEY, FileIndex INTEGER NOT NULL, JobId INTEGER NOT NULL REFERENCES Job(JobId), PathId INTEGER NOT NULL REFERENCES Path(PathId), FilenameId INTEGER NOT NULL REFERENCES Filename(FilenameId), LStat TEXT NOT NULL, MD5 TEXT NOT NULL);
+-- The files of two_jobs.sql in version 1, whose tables are those of ../order_version_1.sql.
 INSERT INTO Version VALUES (1);
-INSERT INTO Client VALUES (1, 'web');
-INSERT INTO FileSet VALUES (1, 'all');
-INSERT INTO Media VALUES (1, 'V1', 'File');
-INSERT INTO Media VALUES (2, 'V2', 'File');
-INSERT INTO Path VALUES (1, x'2f612f');
-INSERT INTO Path VALUES (2, x'2f612f676f6e652f');
 INSERT INTO Filename VALUES (1, x'74776f');
 INSERT INTO Filename VALUES (2, x'');
 INSERT INTO Filename VALUES (3, x'6f6e65');
-INSERT INTO Job VALUES (2, 'B', 'F', 1, 'T', 4999999998, 1, 1, 9);
-INSERT INTO Job VALUES (1, 'B', 'F', 1, 'T', 4999999999, 1, 2, 9);
-INSERT INTO JobMedia VALUES (1, 2, 1, 1, 1, 1, 2, 1, 7, 1);
-INSERT INTO JobMedia VALUES (2, 1, 1, 1, 1, 1, 2, 1, 7, 1);
-INSERT INTO JobMedia VALUES (3, 1, 2, 1, 1, 1, 2, 1, 7, 2);
 INSERT INTO File VALUES (1, 1, 2, 1, 1, '1 2 33188 1 0 0 0 5 4096 1 3 4 5', 'abababababababababababababababab');
 INSERT INTO File VALUES (2, 0, 2, 2, 2, '', '');
 INSERT INTO File VALUES (9, 0, 1, 2, 2, '', '');
 INSERT INTO File VALUES (5, 1, 1, 1, 3, '1 2 33188 1 0 0 0 5 4096 1 3 4 5', 'abababababababababababababababab');
-COMMIT;
