@@ -5,7 +5,7 @@ use Rattle.std.specs.Prelude.{◌≡◌, ℕ, zero, suc, ◌+◌, ◌*◌, ◌/�
 abbrev pub generator : ℕ
 generator = 3988292384
 
--- what is taken off after a bit fell out of the register: the generator, if it was 1
+-- what is subtracted after a bit left the register: the generator if it was 1
 abbrev pub taken : ℕ → ℕ
 taken zero = 0
 taken (suc bit) = generator
@@ -27,14 +27,14 @@ next register byte = shifted_by 8 (bit_xor register byte)
 abbrev pub after : ℕ → List ℕ → ℕ
 after register bytes = fold next register bytes
 
--- the CRC-32: the register begins and ends with all its bits turned
+-- the CRC-32: the register is inverted at the beginning and at the end
 abbrev pub crc32 : List ℕ → ℕ
 crc32 bytes = bit_xor (after 4294967295 bytes) 4294967295
 
 -- ---- the table
 
--- The entry at a place of the table: what comes of a byte, the place's rest by 256, after one byte of bits in the first row of 256
--- places, after two in the second, and so on.
+-- The entry at a place of the table: the register that begins as the place modulo 256, after 8 bits
+-- in the first row of 256 places, after 16 in the second, and so on.
 abbrev pub entry : ℕ → ℕ
 entry place = shifted_by (8 * (place / 256 + 1)) (place % 256)
 

@@ -1,4 +1,4 @@
-//! The register, by a table.
+//! The register of the CRC-32, by a table.
 ghost use Rattle.std.specs.Prelude.{◌≡◌, ◌+◌, ◌*◌, ◌/◌, ◌%◌, ◌<◌, ◌≤◌, length, drop, take, bit_xor};
 ghost use Rattle.std.specs.Int.{from_le_bytes, w64};
 ghost use Rattle.br_block.specs.Crc as model;
@@ -52,7 +52,7 @@ impl Crc {
         Ok(Crc { entries })
     }
 
-    /// Returns what comes of the lowest byte of a number after the bits of `row + 1` bytes.
+    /// Returns what the lowest byte of a number becomes after the bits of `row + 1` bytes.
     fn entry(&self, row: usize, number: u64) -> u32
         requires { row < 8 }
         ensures { result ≡ model.shifted_by (8 * (row + 1)) (number % 256) }
@@ -60,7 +60,7 @@ impl Crc {
         self.entries[row * 256 + (number % 256) as usize]
     }
 
-    /// Returns what comes of a number of 64 bits after all of them.
+    /// Returns what a number of 64 bits becomes after all its bits.
     fn shifted_word(&self, word: u64) -> u32
         ensures { result ≡ model.shifted_by 64 word }
     {

@@ -1,4 +1,4 @@
-//! The register, bit by bit.
+//! The register of the CRC-32, bit by bit.
 ghost use Rattle.std.specs.Prelude.{◌≡◌, ◌<◌};
 ghost use Rattle.br_block.specs.Crc as model;
 

@@ -8,7 +8,7 @@ use Rattle.br_bsr.specs.declared.criterion.Criterion.TheVariants.{SessionId, Ses
 use Rattle.br_bsr.specs.Statement.{criterion_of}
 use Rattle.br_bsr.specs.Keyword.{is_name_of, is_among, criterion_named, passed_over, unsupported}
 
--- the value beside the first name that passes
+-- the value of the first name that passes
 abbrev value_in : {K : Type 0} → (List ℕ → Bool) → List (List ℕ × K) → Option K
 value_in test [] = None
 value_in test (x ∷ xs) = cond (test x.0) (Some x.1) (value_in test xs)

@@ -7,7 +7,7 @@ use Rattle.br_model.specs.Bootstrap.{Group}
 use Rattle.br_model.specs.BootstrapText.{before_comment, is_equals, read_bootstrap, trimmed}
 use Rattle.br_types.specs.DecimalField.{number_spelled}
 
--- what a line states: it without its comment and the blanks at its ends
+-- the contents of a line: the text without its comment and the blanks at its ends
 abbrev pub stated : List ℕ → List ℕ
 stated text = trimmed (before_comment false text)
 
@@ -26,7 +26,7 @@ abbrev pub with_number : Option ℕ → List (Option ℕ) → List (Option ℕ)
 with_number None counts = counts
 with_number (Some n) counts = with_last n counts
 
--- the counts after a value of `Count`: one that is no number, or is above 2 ^ 64 - 1, is passed over
+-- the counts after a value of `Count`; a value that is no number up to 2 ^ 64 - 1 is ignored
 abbrev pub with_value : List ℕ → List (Option ℕ) → List (Option ℕ)
 with_value value counts = with_number (number_spelled 18446744073709551615 value) counts
 

@@ -1,4 +1,4 @@
-//! What the counts of a text say of its groups.
+//! How the counts of a text match its groups.
 ghost use Rattle.br_bsr.specs.Counts.{EachGroupHasOne};
 
 /// Each group that a text states has one place among the counts of the text.

@@ -15,7 +15,7 @@ fn is_word(word: &[u8], name: &[u8]) -> bool
     word.eq_ignore_ascii_case(name)
 }
 
-/// Gives the last group this number.
+/// Sets the count of the last group to this number.
 fn set_last(counts: &mut Vec<Option<u64>>, number: u64)
     ensures { counts.new.items ≡ model.with_last number counts.old.items }
 {
@@ -24,7 +24,7 @@ fn set_last(counts: &mut Vec<Option<u64>>, number: u64)
     }
 }
 
-/// Gives the last group the number that a value spells, if it spells one.
+/// Sets the count of the last group to the number that a value spells, if it spells one.
 fn set_value(counts: &mut Vec<Option<u64>>, value: &[u8])
     ensures { counts.new.items ≡ model.with_value value.now counts.old.items }
 {
@@ -33,7 +33,7 @@ fn set_value(counts: &mut Vec<Option<u64>>, value: &[u8])
     }
 }
 
-/// Takes in what a line assigns to the keyword that a word names.
+/// Applies the value that a line assigns to the keyword with this name.
 fn take_in(counts: &mut Vec<Option<u64>>, word: &[u8], value: &[u8]) -> Result<(), AllocError>
     ensures { OnOk result (counts.new.items ≡ model.with_word word.now value.now counts.old.items) }
 {
@@ -45,7 +45,7 @@ fn take_in(counts: &mut Vec<Option<u64>>, word: &[u8], value: &[u8]) -> Result<(
     Ok(())
 }
 
-/// Takes in what a line states.
+/// Applies the contents of a line.
 fn take_line(counts: &mut Vec<Option<u64>>, line: &[u8]) -> Result<(), AllocError>
     ensures { OnOk result (counts.new.items ≡ model.with_line counts.old.items line.now) }
 {
@@ -57,8 +57,8 @@ fn take_line(counts: &mut Vec<Option<u64>>, line: &[u8]) -> Result<(), AllocErro
 
 /// Returns for each group of a bootstrap's text its `Count`, in the order of the groups; `None` if it has none.
 ///
-/// The last `Count` of a group holds that is a number in decimal of at most 2^64 - 1. Any other value is passed
-/// over, and so is a `Count` before the first `Volume`.
+/// The last `Count` of a group counts that is a decimal number of at most 2^64 - 1. Any other value
+/// is ignored, and so is a `Count` before the first `Volume`.
 #[tactic(auto, unfolding(crate::specs::Counts::counts))]
 pub fn counts_of(alloc: Global, text: &[u8]) -> Result<Vec<Option<u64>>, AllocError>
     ensures { IfOk result (λ found. found.items ≡ counts text.now) }

@@ -48,7 +48,7 @@ impl Criterion {
         }
     }
 
-    /// Returns the range from `low` to `high`, if the criterion may have it.
+    /// Returns the range from `low` to `high`, if the criterion allows it.
     pub fn range(self, low: u128, high: u128) -> Option<Range>
         ensures { result ≡ if is_range (criterion_of self) (range_between (low, high)) then Some (range_between (low, high)) else None }
     {
@@ -62,14 +62,14 @@ impl Criterion {
         }
     }
 
-    /// Returns whether the criterion may have the range.
+    /// Returns whether the criterion allows the range.
     pub fn takes(self, range: Range) -> bool
         ensures { result ≡ is_range (criterion_of self) range }
     {
         self.least() <= range.low && range.low <= range.high && range.high <= self.greatest()
     }
 
-    /// Returns whether the criterion may have each of the ranges.
+    /// Returns whether the criterion allows each of the ranges.
     pub fn takes_all(self, ranges: &[Range]) -> bool
         ensures { result ≡ list_all (is_range (criterion_of self)) ranges.now }
     {

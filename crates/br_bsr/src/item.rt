@@ -30,7 +30,7 @@ fn ends_of(text: &[u8]) -> Option<(u128, u128)>
     }
 }
 
-/// Reads an item as a range, if the criterion may have it.
+/// Reads an item as a range, if the criterion allows it.
 #[tactic(auto, unfolding(br_model::specs::BootstrapText::read_item))]
 fn range_of(criterion: Criterion, text: &[u8]) -> Option<Range>
     ensures { some_or result 33 ≡ read_item (criterion_of criterion) text.now }

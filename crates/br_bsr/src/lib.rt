@@ -3,7 +3,7 @@
 //!
 //! A `Bootstrap` is read from its text and written as its canonical text, and its groups say which
 //! records they select. `counts_of` reads the `Count` of each group, the number of files that the
-//! group asks for, which reading the bootstrap passes over. `first_line`, `without_comment`, `cut`
+//! group asks for; reading the bootstrap ignores it. `first_line`, `without_comment`, `cut`
 //! and `trimmed_of` take a text apart as the reader does.
 //!
 //! Any call that returns a `Result` may also fail because memory ran out.

@@ -7,7 +7,7 @@ ghost use Rattle.br_bsr.specs.Scan.{AreAround, LacksByte};
 use br_types::is_blank_byte;
 use bstr::ByteSlice;
 
-/// Returns the text without the blanks at its front.
+/// Returns the text without the blanks at its beginning.
 fn trimmed_front(text: &[u8]) -> &[u8]
     ensures { result.now ≡ trim_front is_blank text.now }
 {

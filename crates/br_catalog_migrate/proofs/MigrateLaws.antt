@@ -40,7 +40,7 @@ sorted_in v up t =
 pub same_trees : (a b : View) → Reads a b → b.trees ≡ a.trees
 same_trees a b reads = ap (λ (v : View). v.trees) reads.same
 
--- a version is put over the one with its rowid
+-- a version is written over the one with its rowid
 put_over : (id : ℤ) → put_row (Int id ∷ Int (pos 2) ∷ []) ((Int id ∷ Int (pos 1) ∷ []) ∷ []) ≡ (Int id ∷ Int (pos 2) ∷ []) ∷ []
 put_over id = rw (tied_itself value_cmp_total (Int id)) refl
 

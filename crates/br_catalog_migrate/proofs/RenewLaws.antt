@@ -37,7 +37,7 @@ altered_then u v w trees more one two =
     two ∙ ap (λ (x : View). record x { trees = more v.trees; shape = w.shape; reals = w.reals; cursors = w.cursors }) one
     ∙ ap (λ (t : Trees). record u { trees = more t; shape = w.shape; reals = w.reals; cursors = w.cursors }) (ap (λ (v : View). v.trees) one)
 
--- ---- rows that are put one after another
+-- ---- rows that are inserted one after another
 
 all_at : (P : Row → Type 0) (rows : List Row) (at : ℕ) (row : Row) → AllByRecursion P rows → slice_get rows at ≡ Some row → P row
 all_at P [] at row all has = absurd cc

@@ -1,4 +1,4 @@
--- What functions of this crate say of rows, given names that were read.
+-- What functions of this crate state about rows, for names that were read.
 use Rattle.std.specs.Prelude.{◌≡◌, ◌++◌, ℕ, List, [], ◌∷◌, map, slice_get, Some, Ok}
 use Rattle.std.specs.BTreeMap.{BTreeMap}
 use Rattle.sqlite.specs.Effect.{IsDatabase}
@@ -29,7 +29,7 @@ abbrev pub IsMovedAt : Files → NameTable → ℕ → Row → Type 0
 IsMovedAt files names at row =
     (rows ns : List Row) → AreFiles files rows → AreNames names ns → IsTable ns → slice_get (map (moved_row ns) rows) at ≡ Some row
 
--- a row of File was taken: with those before it, it is one of a history
+-- a row of File was accepted: together with those before it, it is one of a history
 abbrev pub TakesFile : NameTable → NameTable → Row → BTreeMap ℕ Indexes → BTreeMap ℕ Indexes → Type 0
 TakesFile paths names row old new =
     (jobs : List JobRow) (ps ns rows : List Row) → AreNames paths ps → AreNames names ns → IsTable ps → IsTable ns
@@ -73,10 +73,11 @@ AreBareJobs trees history = AreSorted trees → read_loaded (jobs_in trees) (spa
 
 -- ---- the whole
 
--- version 2 was written in place of the catalogue of version 1 that was read
+-- version 2 was written over the catalogue of version 1 that was read
 abbrev pub WritesNew : Old → View → View → Type 0
 WritesNew old before after = IsReadOld old before.trees → IsWritten old.version before after
 
--- the rows of a sound database of version 1 formed as many jobs as this number, and those of version 2 form the same
+-- the rows of a sound database of version 1 formed this number of jobs, and those of version 2
+-- form the same
 abbrev pub CountsJobs : Trees → Trees → ℕ → Type 0
 CountsJobs old new n = IsDatabase (database old_schema old) → KeepsJobs old new n

@@ -1,4 +1,4 @@
--- What a call does to a store.
+-- The effect of a call on a store.
 use Rattle.std.specs.Prelude.{◌≡◌, ℕ, Bool, true, false, List, [], ◌∷◌, IsTrue}
 use Rattle.sqlite.specs.Order.{Row}
 use Rattle.sqlite_trees.specs.View.{View, IsClean, IsQuiet}
@@ -33,7 +33,7 @@ abbrev pub Gives : Row → List Row → List Row → Bool → Type 0
 Gives row old new true = old ≡ row ∷ new
 Gives row old new false = old ≡ []
 
--- the cursor has all rows of the tree to give
+-- the cursor still has all rows of the tree to give
 pub record Starts (old new : View) (tree : ℕ) : Type 0 where
   pub reads : Reads old new
   pub left : left_of new 0 ≡ old.trees tree

@@ -1,4 +1,4 @@
--- A store whose catalogue of version 1 was made one of version 2.
+-- A store whose catalogue was migrated from version 1 to version 2.
 use Rattle.std.specs.Prelude.{◌≡◌, ◌≢◌, ◌⊎◌, ◌≤◌, ℕ, ℤ, pos, List, [], ◌∷◌, length, map, false, Ok, IsTrue}
 use Rattle.sqlite.specs.declared.types.Value.TheVariants.{Int}
 use Rattle.sqlite.specs.Order.{Row}
@@ -28,7 +28,7 @@ use Rattle.br_catalog_migrate.specs.Sound.{AreMovedRows, moved_schema, moved_tre
 abbrev pub moved_files : Trees → List Row
 moved_files trees = map (moved_row (trees name_tree)) (trees file_tree)
 
--- the trees of version 2 that are made of those of version 1, with these lists of objects in between
+-- the trees of version 2 made from those of version 1, with these lists of objects in between
 abbrev pub trees_of : ℤ → Trees → List Row → List Row → List Row → List Row → Trees
 trees_of id trees a b c d = moved_trees trees a b c d (moved_files trees) ((Int id ∷ Int (pos 2) ∷ []) ∷ [])
 
@@ -48,7 +48,7 @@ pub record IsWritten (id : ℤ) (old new : View) : Type 0 where
   pub moved : IsMovedFrom id old.trees new.trees
   pub is : IsAltered old new new.trees
 
--- the rows were those of a history of this many jobs, and the catalogue of version 2 has them
+-- the rows were those of a history of this number of jobs, and the catalogue of version 2 has them
 pub record IsMoved (old new : View) (n : ℕ) : Type 0 where
   pub id : ℤ
   pub version_was : old.trees version_tree ≡ (Int id ∷ Int (pos 1) ∷ []) ∷ []
@@ -70,11 +70,12 @@ pub record IsKept (old new : View) (n : ℕ) : Type 0 where
   pub loaded : read_loaded (jobs_in old.trees) (spans_in old.trees) (files_in old.trees) ≡ Ok all
   pub many : n ≡ length all
 
--- these trees are what is made of the others, whose rows ascended
+-- these trees are made from the others, whose rows ascended
 abbrev pub IsMadeOf : Trees → Trees → Type 0
 IsMadeOf old new = AreSorted old × ((id : ℤ) × IsMovedFrom id old new)
 
--- No fault is forgotten, only a fault shuts the store, and a crash leaves what it could leave before or what is made.
+-- No fault is forgotten, only a fault shuts the store, and a crash leaves what it could leave
+-- before, or the migrated catalogue.
 pub record MayMove {S : Type 0} (g : Ghosts S) (old new : S) : Type 0 where
   pub shield : g.is_shielded old → g.is_shielded new
   pub clean : doubt (g.view old).is_clean ≤ doubt (g.view new).is_clean
@@ -91,13 +92,13 @@ database schema trees = record { schema = schema; trees = trees }
 abbrev pub Migrates : Trees → Trees → Type 0
 Migrates old new = IsDatabase (database old_schema old) → IsMigrated (database old_schema old) (database moved_schema new)
 
--- the store is open, all that is seen is committed, and it is the catalogue
+-- the store is open, all visible data is committed, and it is the catalogue
 pub record HasMigrated (old new : View) : Type 0 where
   pub is_open : IsTrue new.is_open
   pub settled : new.trees ≡ new.committed
   pub catalogue : Migrates old.trees new.trees
 
--- the rows of version 1 formed as many jobs as this number, and the rows of version 2 form the same jobs
+-- the rows of version 1 formed this number of jobs, and the rows of version 2 form the same jobs
 abbrev pub KeepsJobs : Trees → Trees → ℕ → Type 0
 KeepsJobs old new n =
     (jobs : List JobRows) × (read_old (old_rows_in old) ≡ Ok jobs) × (read_history (rows_in new) ≡ Ok jobs) × (n ≡ length jobs)
@@ -110,14 +111,14 @@ pub record Survives {S : Type 0} (g : Ghosts S) (old new : S) : Type 0 where
   pub closes : IsClean (g.view new) → IsTrue (g.view old).is_open → IsTrue (g.view new).is_open ⊎ MoreFaults (g.faults old) (g.faults new)
   pub crash : IsClean (g.view new) → (db : Trees) → g.recovers new db → g.recovers old db ⊎ Migrates (g.view old).trees db
 
--- unless it is the store that failed, a crash leaves only what it could leave before
+-- unless the store failed, a crash leaves only what it could leave before
 abbrev pub KeepsUnlessFailed : {S : Type 0} → Ghosts S → S → S → StoreFault → Type 0
 KeepsUnlessFailed g old new fault = fault_number fault ≢ 45 → (db : Trees) → g.recovers new db → g.recovers old db
 
--- a crash leaves just these trees
+-- a crash leaves exactly these trees
 abbrev pub LeavesOnly : {S : Type 0} → Ghosts S → S → Trees → Type 0
 LeavesOnly g s trees = (db : Trees) → g.recovers s db → db ≡ trees
 
--- the trees that are seen and those that are committed are as before
+-- the visible and the committed trees are unchanged
 abbrev pub IsSame : View → View → Type 0
 IsSame old new = (new.trees ≡ old.trees) × (new.committed ≡ old.committed)

@@ -1,5 +1,5 @@
 -- A catalogue of version 1, which keeps the names of files in a table of their own, and the
--- catalogue that is made of it.
+-- catalogue that is made from it.
 use Rattle.std.specs.Prelude.{◌≡◌, ℕ, pos, if◌then◌else◌, List, [], ◌∷◌, codes, map, Result, Err}
 use Rattle.std.specs.List.{AllByRecursion}
 use Rattle.sqlite.specs.declared.types.Value.TheVariants.{Int}
@@ -36,7 +36,7 @@ pub record HasOld (db : Database) : Type 0 where
   pub sound : IsDatabase db
   pub rising : AllByRecursion (λ (t : Table). IsShaped Shaped (db.trees t.tree)) old_schema.tables
 
--- it is a catalogue with the rows that the catalogue of version 1 had
+-- the catalogue has the rows that the catalogue of version 1 had
 pub record IsMigrated (old new : Database) : Type 0 where
   pub tables : HasTables new
   pub rows : rows_in new.trees ≡ renewed (old_rows_in old.trees)

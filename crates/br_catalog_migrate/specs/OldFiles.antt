@@ -18,7 +18,7 @@ numbers_of row = column row row_number ∷ column row file_index ∷ column row 
 abbrev pub number_cells : Numbers → Row
 number_cells n = Int n.id ∷ Int (pos n.index) ∷ Int (pos n.job) ∷ Int n.path ∷ Int n.name ∷ []
 
--- the numbers of a file as `stat` gives them, in a row of File
+-- the numbers that `stat` returned for a file, in a row of File
 abbrev pub lstat_of : Row → Value
 lstat_of row = column row file_lstat
 

@@ -1,4 +1,4 @@
--- What is read of a catalogue of version 1.
+-- The data that is read from a catalogue of version 1.
 use Rattle.std.specs.Prelude.{◌≡◌, pos, List, [], ◌∷◌, length, map, Ok}
 use Rattle.sqlite.specs.declared.types.Value.TheVariants.{Int}
 use Rattle.sqlite.specs.Order.{Row}
@@ -36,7 +36,7 @@ spans_in trees = map (span_shown (trees media_tree)) (trees span_tree)
 abbrev pub files_in : Trees → List Row
 files_in trees = map (shown_row (trees path_tree) (trees name_tree)) (trees file_tree)
 
--- these are the one version, the names, the files and the number of the jobs
+-- the one version, the names, the files and the number of jobs are these
 pub record IsReadOld (old : Old) (trees : Trees) : Type 0 where
   pub version_is : trees version_tree ≡ (Int old.version ∷ Int (pos 1) ∷ []) ∷ []
   pub sorted : AreSorted trees

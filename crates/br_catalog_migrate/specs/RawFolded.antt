@@ -1,4 +1,4 @@
--- What the two files hold once the log is in the database file.
+-- The contents of the two files once the log is in the database file.
 use Rattle.std.specs.Prelude.{◌≡◌, List, ℕ, [], IsTrue}
 use Rattle.sqlite_disk.specs.declared.Disk.{Ghosts}
 use Rattle.sqlite_disk.specs.declared.Files.{Files}
@@ -21,7 +21,8 @@ pub record IsCopied {D : Type 0} {g : Ghosts D} (it : FileStore D g) (files : Fi
 abbrev pub alone : List ℕ → Image
 alone bytes = record { log = []; db = bytes }
 
--- the database file alone holds what was committed, as it reads now and whatever a crash leaves of it, and the log is empty
+-- the database file alone holds what was committed, as it reads now and after any crash, and the
+-- log is empty
 pub record IsFolded {D : Type 0} {g : Ghosts D} (it : FileStore D g) (files : Files D) : Type 0 where
   pub emptied : g.seen files.log ≡ []
   pub seen : ∥ HoldsDatabase (alone (g.seen files.db)) (view it).committed ∥₁

@@ -1,4 +1,4 @@
--- What the contracts of this crate say of two files, and of the rows that list their schema.
+-- What the contracts of this crate state about two files, and about the rows of their schema.
 use Rattle.std.specs.Prelude.{◌≡◌, ℕ, Bool, List, All, map, Option, MatchOption, ⊤}
 use Rattle.sqlite.specs.declared.error.Error.{Error}
 use Rattle.sqlite_disk.specs.declared.Disk.{Ghosts}
@@ -31,8 +31,8 @@ abbrev pub UsesSized : ℕ → Bool → Image → Type 0
 UsesSized size has_sums image =
     (db : Trees) (held : HoldsDatabase image db) → stored_size held.0 ≡ size → held.0 ≡ used_size size has_sums
 
--- There is no database yet, and one is to be made with sums as asked, unless the other kind has all but
--- been made; or there is something.
+-- There is no database yet, and one is to be made with sums as asked, unless one of the other kind
+-- has almost been made; or there is something.
 abbrev pub IsNothingAs : Bool → Image → Option Bool → Type 0
 IsNothingAs asked image found =
     MatchOption found (¬ IsNothing image) (λ has_sums. IsBlankAs has_sums image × (IsBlankAs asked image → has_sums ≡ asked))
@@ -53,11 +53,12 @@ AreToSealIn g size has_sums files numbers = AreToSeal (used_size size has_sums) 
 
 -- ---- rows
 
--- the claim holds of the layouts that any trees give to the rows, if they have the schema and these shapes
+-- the claim holds for the layouts that any trees give to the rows, if they have the schema and
+-- these shapes
 abbrev pub OfLayouts : Schema → List Row → List Shape → (List (Shape × ℕ) → Type 0) → Type 0
 OfLayouts schema rows shapes claim =
     (v : View) → Knows v schema → All (HasTree schema) rows → shapes ≡ map (shape_of v) rows → claim (map (layout_of v) rows)
 
--- the claim holds of all that any trees list which these rows and roots describe
+-- the claim holds for any trees whose list is described by these rows and roots
 abbrev pub OfListed : List Row → List Bool → (List Wanted → Type 0) → Type 0
 OfListed rows roots claim = (schema : Schema) (wanted : List Wanted) → Meets schema wanted rows roots → claim wanted

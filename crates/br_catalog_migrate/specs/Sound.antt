@@ -9,11 +9,12 @@ use Rattle.br_catalog_rows.specs.TreePlaces.{moved_layout}
 use Rattle.br_catalog_rows.specs.Tables.{only_tables}
 use Rattle.br_catalog_migrate.specs.Renewed.{replaced}
 
--- the schema that is made of that of version 1
+-- the schema that is made from that of version 1
 abbrev pub moved_schema : Schema
 moved_schema = only_tables moved_layout
 
--- a row of File of version 2 and the row of version 1 of which it is made: both have the numbers of one job and one path
+-- a row of File of version 2 and the row of version 1 from which it is made: both have the numbers
+-- of one job and one path
 pub record IsMovedRow (old new : Row) : Type 0 where
   pub id : ℤ
   pub index : ℤ

@@ -1,5 +1,5 @@
-//! Makes a catalogue of version 1 one of version 2, by the calls of its store, which is opened in a
-//! database's file without a test of its rows.
+//! Migrates a catalogue from version 1 to version 2, by the calls of its store, which is opened in
+//! a database's file without a test of its rows.
 #![tactic(auto)]
 
 mod migrating;

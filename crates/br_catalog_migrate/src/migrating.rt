@@ -1,4 +1,4 @@
-//! A catalogue of version 1 made one of version 2, in one transaction.
+//! Migrates a catalogue from version 1 to version 2, in one transaction.
 
 ghost use Rattle.std.specs.Prelude.{◌≡◌, false, IsTrue, IfErr, IfOk, OnOk, OnErr};
 ghost use Rattle.sqlite.specs.Steps.{IsFresh};
@@ -19,8 +19,8 @@ use br_catalog_rows::StoreFault;
 use sqlite_trees::store::{Alter, Store};
 use std::alloc::Global;
 
-/// What is read of a catalogue of version 1: the rowid of its version, the names and the rows of its files, and
-/// the number of its jobs.
+/// The data that is read from a catalogue of version 1: the rowid of its version, the names and the
+/// rows of its files, and the number of its jobs.
 #[derive(Drop)]
 pub(crate) struct Old {
     version: i64,
@@ -53,7 +53,7 @@ fn read_old<S: Alter>(alloc: Global, store: &mut S) -> Result<Old, StoreFault>
     })
 }
 
-/// Writes a catalogue of version 2 in place of the one of version 1 that was read.
+/// Writes a catalogue of version 2 over the one of version 1 that was read.
 fn write_new<S: Alter>(alloc: Global, store: &mut S, old: &Old) -> Result<(), StoreFault>
     requires numbered { IsClean (S.Store.view store.old) → IsTrue (S.Store.view store.old).is_numbered }
     ensures written { OnCleanStore S.Store store.old store.new (λ before after. OnOk result (WritesNew old.now before after)) }
@@ -77,7 +77,7 @@ fn rewrite<S: Alter>(alloc: Global, store: &mut S) -> Result<u64, StoreFault>
     Ok(old.jobs)
 }
 
-/// Makes a catalogue of version 1 one of version 2, and commits it. Returns the number of jobs.
+/// Migrates a catalogue from version 1 to version 2, and commits it. Returns the number of jobs.
 fn move_all<S: Alter>(alloc: Global, store: &mut S) -> Result<u64, StoreFault>
     requires { IsClean (S.Store.view store.old) → IsFresh (S.Store.view store.old) }
     ensures moved { OnCleanStore S.Store store.old store.new (λ old new. IfOk result (IsKept old new)) }
@@ -92,18 +92,20 @@ fn move_all<S: Alter>(alloc: Global, store: &mut S) -> Result<u64, StoreFault>
     }
 }
 
-/// Makes a catalogue of version 1 one of version 2, in one transaction: a row of File has the name of its file, and the
-/// table of names goes. Returns the number of jobs. Afterwards the rows form the history that the rows of version 1
-/// formed (`jobs`). A crash meanwhile leaves what it could leave before, or version 2 whole (`crash`); a crash after `Ok`
-/// leaves version 2 (`durable`), and one after a refusal other than `Store` what it could leave before (`unchanged`).
+/// Migrates a catalogue from version 1 to version 2, in one transaction: a row of File gets the
+/// name of its file, and the table of names is dropped. Returns the number of jobs. Afterwards the
+/// rows form the history that the rows of version 1 formed (`jobs`). A crash during the call leaves
+/// what it could leave before, or all of version 2 (`crash`); a crash after `Ok` leaves version 2
+/// (`durable`), and one after a refusal other than `Store` what it could leave before
+/// (`unchanged`).
 ///
 /// # Errors
 ///
 /// `BadCatalogue` if the database is empty or of version 2, the version is not the one row 1, or the rows form no
 /// history; `Store`, with its cause, if the store fails or has other tables; `Memory` if memory runs out. If the store
-/// is still open then, the trees are as before (`refused`).
+/// is still open then, the trees are unchanged (`refused`).
 ///
-/// A store that is still open afterwards is as one that was just opened (`fresh`).
+/// A store that is still open afterwards is like one that was just opened (`fresh`).
 pub fn migrate<S: Alter>(alloc: Global, store: &mut S) -> Result<u64, StoreFault>
     requires { IsClean (S.Store.view store.old) → IsFresh (S.Store.view store.old) }
     ensures migrated { OnCleanStore S.Store store.old store.new (λ old new. OnOk result (HasMigrated old new)) }

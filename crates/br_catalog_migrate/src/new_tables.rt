@@ -29,7 +29,7 @@ use std::alloc::Global;
 const CREATE_FILE: &str =
     "CREATE TABLE File(FileId INTEGER PRIMARY KEY, FileIndex INTEGER NOT NULL, JobId INTEGER NOT NULL REFERENCES Job(JobId), PathId INTEGER NOT NULL REFERENCES Path(PathId), Filename BLOB NOT NULL, LStat TEXT NOT NULL, MD5 TEXT NOT NULL)";
 
-/// Puts a row into a table. `BadCatalogue` if the tree is none.
+/// Inserts a row into a table. `BadCatalogue` if the tree is not a table.
 fn put_in<S: Store>(store: &mut S, tree: u32, row: &Row) -> Result<(), StoreFault>
     requires keyed { IsTrue (is_int (rowid row.now)) }
     ensures put { OnCleanStore S.Store store.old store.new (λ old new. OnOk result (SetsTree old new tree (put_row row.now))) }
@@ -45,7 +45,8 @@ fn put_in<S: Store>(store: &mut S, tree: u32, row: &Row) -> Result<(), StoreFaul
     }
 }
 
-/// Frees a tree, and takes it off the list of objects. `BadCatalogue` if there is none that can be written.
+/// Frees a tree, and removes it from the list of objects. `BadCatalogue` if it is no
+/// table or index.
 fn drop_tree<S: Alter>(store: &mut S, tree: u32) -> Result<(), StoreFault>
     requires numbered { IsClean (S.Store.view store.old) → IsTrue (S.Store.view store.old).is_numbered }
     ensures dropped { OnCleanStore S.Store store.old store.new (λ old new. OnOk result (Destroys old new tree)) }
@@ -95,7 +96,8 @@ fn make_file<S: Alter>(alloc: Global, store: &mut S) -> Result<(), StoreFault>
     }
 }
 
-/// Makes the table of files anew, in which a row has the name of its file, and drops the table of names.
+/// Makes the table of files again, in which a row has the name of its file, and drops the
+/// table of names.
 #[tactic(auto, using(crate::proofs::StepLaws::stays_numbered))]
 pub(crate) fn replace_tables<S: Alter>(alloc: Global, store: &mut S) -> Result<(), StoreFault>
     requires numbered { IsClean (S.Store.view store.old) → IsTrue (S.Store.view store.old).is_numbered }
@@ -108,7 +110,7 @@ pub(crate) fn replace_tables<S: Alter>(alloc: Global, store: &mut S) -> Result<(
     make_file(alloc, store)
 }
 
-/// Puts the rows of files into their table, which has none yet.
+/// Inserts the rows of files into their table, which is empty.
 pub(crate) fn put_files<S: Store>(
     alloc: Global,
     store: &mut S,

@@ -1,4 +1,4 @@
-//! The test of a digest, which decodes nothing.
+//! Tests a digest without decoding it.
 
 ghost use Rattle.std.specs.Prelude.{◌≡◌, is_ok};
 ghost use Rattle.std.specs.List.{list_all};
@@ -22,7 +22,7 @@ fn are_digits(text: &[u8]) -> bool
     text.iter().all(|byte| is_digit(*byte))
 }
 
-/// Returns whether a text writes a digest in lower case digits, or is empty.
+/// Returns whether a text spells a digest in lower case digits, or is empty.
 #[tactic(auto, using(crate::proofs::DigestLaws::digest_reads))]
 pub(crate) fn is_digest(text: &[u8]) -> bool
     ensures { result ≡ is_ok (digest text.now) }

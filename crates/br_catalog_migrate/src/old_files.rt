@@ -45,7 +45,7 @@ pub(crate) struct Numbers {
     pub(crate) name: i64,
 }
 
-/// What a row of File has in version 1.
+/// A row of File in version 1.
 #[derive(Clone, Copy)]
 pub(crate) struct OldFile<'a> {
     numbers: Numbers,
@@ -111,7 +111,7 @@ fn check_path(buffer: &mut Vec<u8>, front: &[u8], rest: &[u8]) -> Result<(), Sto
     Err(StoreFault::BadCatalogue)
 }
 
-/// Returns whether a file has the numbers that one with its index has.
+/// Returns whether the index of a file is 0 or its numbers can be read.
 fn has_numbers(file: &OldFile<'_>) -> bool
     ensures { result ≡ (file.now.numbers.index == 0 || is_ok (read_stat file.now.lstat.now)) }
 {
@@ -212,7 +212,7 @@ impl Files {
     }
 }
 
-/// The rows of File as they are read.
+/// The rows of File while they are read.
 #[derive(Drop)]
 struct Reading {
     files: Files,
@@ -232,7 +232,7 @@ impl Reading {
         })
     }
 
-    /// Takes the next row of File, if a history can have the file.
+    /// Adds the next row of File, if a history can have the file.
     fn take(&mut self, paths: &NameTable, names: &NameTable, row: &Row) -> Result<(), StoreFault>
         ensures files { OnOk result ((rows : _) → AreFiles self.old.files rows → AreFiles self.new.files (rows ++ row.now ∷ [])) }
         ensures moved { OnOk result ((ns : _) → AreNames names.now ns → IsTable ns → IsMovedRow row.now (moved_row ns row.now)) }
@@ -250,8 +250,8 @@ impl Reading {
     }
 }
 
-/// Reads the rows of File, if a history with these jobs can have the files. `paths` and `names` are the
-/// names that rows of File have numbers of.
+/// Reads the rows of File, if a history with these jobs can have the files. `paths` and `names` are
+/// the names to which rows of File refer by number.
 ///
 /// # Errors
 ///

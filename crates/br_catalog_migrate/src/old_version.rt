@@ -1,4 +1,4 @@
-//! The version of a catalogue, and which tables it has.
+//! The version of a catalogue, and its tables.
 
 ghost use Rattle.std.specs.Prelude.{◌≡◌, ◌∷◌, [], pos, false, IsTrue, IfOk, OnOk};
 ghost use Rattle.sqlite_value.specs.declared.value.Value.TheVariants.{Int};

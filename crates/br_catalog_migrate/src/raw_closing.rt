@@ -1,4 +1,4 @@
-//! The end of a store's use.
+//! Ends the use of a store.
 
 ghost use Rattle.std.specs.Prelude.{◌≡◌, [], IfOk, IsTrue};
 ghost use Rattle.sqlite_store.specs.FileStore.{recovers, view};
@@ -51,13 +51,12 @@ fn emptied<D: Disk + Drop>(files: Files<D>) -> Result<Files<D>, Error>
     }
 }
 
-/// Puts all that was committed into the database file, and empties the log. Returns both files:
-/// while they are there, no other program opens them. What is not committed is lost. If each
+/// Copies all that was committed into the database file, and empties the log. Returns both files:
+/// while they are held, no other program opens them. What is not committed is lost. If each
 /// database that a crash could leave is sound, the database file alone holds what was committed
 /// (`folded`).
 ///
-/// A crash between the two leaves the log with a new header, which makes nothing of what comes
-/// after it.
+/// A crash between the two leaves the log with a new header, which makes what follows it invalid.
 ///
 /// # Errors
 ///

@@ -16,9 +16,9 @@ const CANNOT_OPEN: Error = Error::SqliteFailure(ErrorCode::CannotOpen);
 
 const NO_MEMORY: Error = Error::SqliteFailure(ErrorCode::OutOfMemory);
 
-/// The pages that are kept in memory, enough for the way from a root to a leaf. A table that is
-/// read from its first row to its last one comes back to no other page, and few pages stay in the
-/// processor's own memory.
+/// The number of pages that are kept in memory, enough for the way from a root to a leaf. A table
+/// that is read from its first row to its last one needs no other page twice, and few pages fit
+/// into the processor's own memory.
 const CACHE_PAGES: usize = 100;
 
 /// Opens the database file at a path and its log.
@@ -63,11 +63,11 @@ fn open_from<S: Start>(
 }
 
 /// Opens the store in the database file at a path, or makes an empty one in a file that is empty or
-/// not there. No row is tested against the tables, so that this takes a tenth of the time of
-/// `Connection::open`. A path that SQLite takes for no file, as `:memory:`, is refused.
+/// does not exist. No row is tested against the tables, so this takes a tenth of the time of
+/// `Connection::open`. A path that SQLite does not take for a file, such as `:memory:`, is refused.
 ///
-/// Over a file that is not empty no proof shows that the clauses on values of this store say
-/// anything, since no clause can say what a file holds.
+/// For a file that is not empty, no proof shows that the clauses on values of this store state
+/// anything, since no clause can state the contents of a file.
 pub fn open(rt: &HostRuntime, path: &str) -> Result<FileStore<File>, Error>
     ensures { IfOk result (λ store. IsClean (view store) → IsFresh (view store)) }
 {

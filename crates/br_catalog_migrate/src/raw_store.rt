@@ -377,7 +377,7 @@ fn attach<D: Disk>(
     }
 }
 
-/// The same, once these pages of the log have their sums.
+/// The same, after these pages of the log got their sums.
 fn adopt<D: Disk>(
     alloc: Global,
     mut files: Unopened<D>,
@@ -478,7 +478,7 @@ fn is_blank_as<D: Disk>(
 }
 
 /// Returns whether the new database gets sums, if there is none yet: as asked, unless an earlier
-/// open has all but made one of the other kind.
+/// open has almost made one of the other kind.
 fn finds_nothing<D: Disk>(
     alloc: Global,
     files: &mut Files<D>,
@@ -505,7 +505,7 @@ fn finds_nothing<D: Disk>(
 }
 
 /// Returns whether the pages end in sums, by the header's count of reserved bytes. It refuses what
-/// is plainly no database, before recovery writes the log.
+/// is clearly not a database, before recovery writes the log.
 fn finds_sums<D: Disk>(alloc: Global, files: &mut Files<D>, size: PageSize) -> Result<bool, Error>
     requires log { IsTrue (D.Disk.is_usable files.old.log) }
     requires db { IsTrue (D.Disk.is_usable files.old.db) }

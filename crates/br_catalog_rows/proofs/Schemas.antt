@@ -8,7 +8,7 @@ use Rattle.br_catalog_rows.specs.SchemaShapes.{Fits, HasShape, column_of, orders
 use Rattle.br_catalog_rows.specs.KnownSchemas.{Own, with_own}
 use Rattle.br_catalog_rows.specs.declared.schema_shape.TableShape.{TableShape}
 
--- what comes after a list is what was put after it
+-- what comes after a list is what was appended to it
 drop_front : {X : Type 0} (xs ys : List X) → drop (length xs) (xs ++ ys) ≡ ys
 drop_front [] ys = refl
 drop_front (x ∷ xs) ys = drop_front xs ys
@@ -17,7 +17,7 @@ drop_mapped : {X Y : Type 0} (f : X → Y) (xs : List X) (ys : List Y) → drop 
 drop_mapped f [] ys = refl
 drop_mapped f (x ∷ xs) ys = drop_mapped f xs ys
 
--- what a table has of somebody's own is what was put after its shape
+-- what a table has of somebody's own is what was appended after its shape
 own_is : (s : TableShape) (tree : ℕ) (own : Own) → own_of s (with_own (table_of s tree) own) ≡ own
 own_is s tree own =
     let a = own_of s (with_own (table_of s tree) own) in

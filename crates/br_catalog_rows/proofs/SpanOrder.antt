@@ -1,4 +1,4 @@
--- A stable sort by number puts spans in their order.
+-- A stable sort by number brings spans into order.
 use Rattle.std.proofs.Common.{◌≡◌, ℕ, ◌≤◌, ◌<◌, Bool, true, false, cond, not, ◌&&◌, ◌==◌, nat_le, List, [], ◌∷◌, filter, length, get_or, suc, refl, sym, ap, ap₂, arith, ◌∙◌}
 use Rattle.std.specs.List.{AllByRecursion}
 use Rattle.std.specs.List.Sorted.{IsStableByKey, IsSortedByKey, ties}
@@ -83,7 +83,7 @@ unique (y ∷ ys) (z ∷ zs) up on same =
     let one : y ≡ z = heads y z (filter (at y) ys) (filter (at y) zs) (sym (kept_first y y ys (itself y)) ∙ same y ∙ kept_first y z zs tie) in
     ap₂ ◌∷◌ one (unique ys zs up.1 on.1 (rest_same y z ys zs one same))
 
--- ---- spans put in order
+-- ---- sorted spans
 
 put_from : (n : ℕ) (s : Span) (ts : List Span) → n ≤ s.vol_index → From n ts → From n (put_span s ts)
 unfolding put_span

@@ -1,4 +1,4 @@
--- A job, a span and a file as rows of the catalogue, and read from such rows.
+-- A job, a span and a file as rows of the catalogue, and read back from these rows.
 use Rattle.std.specs.Prelude.{◌≡◌, ⊤, length, ℕ, ◌+◌, ◌*◌, ◌/◌, ◌%◌, ◌^◌, ◌<◌, true, pos, ◌==◌, nat_le, if◌then◌else◌, List, [], ◌∷◌, ◌++◌, Option, Some, None, bytes_eq, Result, Ok, Err}
 use Rattle.std.specs.List.{list_any}
 use Rattle.std.specs.Str.{is_utf8}
@@ -12,7 +12,7 @@ use Rattle.br_model.specs.Text.{is_empty}
 use Rattle.br_model.specs.Name.{is_letter, is_path, is_slash, is_volume_name, checked_name, checked_volume_name, checked_path}
 use Rattle.br_model.specs.Job.{JobRow, FileRow, Span}
 
--- a number from 0, else 47
+-- a number that is 0 or more, else 47
 abbrev pub natural : Value → Result ℕ ℕ
 natural (Int (pos n)) = Ok n
 natural _ = Err 47
@@ -45,7 +45,7 @@ letter_in v = do
   t ← text v
   letter t
 
--- the refusal of a value is that of the catalogue
+-- the refusal of a value as one of the catalogue
 abbrev pub refused : {X : Type 0} → Result X ℕ → Result X ℕ
 refused (Ok x) = Ok x
 refused (Err e) = Err 47
@@ -64,7 +64,7 @@ volume_in v = do
 
 -- ---- paths, in two parts
 
--- the front of a path, to its last slash
+-- the front of a path, up to and including its last slash
 unfoldable pub front : List ℕ → List ℕ
 front [] = []
 front (c ∷ cs) = if list_any is_slash (c ∷ cs) then c ∷ front cs else []
@@ -93,7 +93,7 @@ abbrev pub IsDigest : Option (List ℕ) → Type 0
 IsDigest None = ⊤
 IsDigest (Some bytes) = (length bytes ≡ 16) × IsBytes bytes
 
--- the digest, if the text writes these bytes in lower case digits
+-- the digest, if the text spells these bytes in lower case digits
 abbrev pub if_written : List ℕ → Result (List ℕ) FromHexError → Result (Option (List ℕ)) ℕ
 if_written t (Ok bytes) = if bytes_eq (encode_lower bytes) t then Ok (Some bytes) else Err 47
 if_written t (Err e) = Err 47
@@ -135,24 +135,24 @@ address_in v w = do
 
 -- ---- rows
 
--- the row that shows a job, with the names of its client and its file set
+-- the row of a job, with the names of its client and its file set
 abbrev pub job_row : JobRow → Row
 job_row j =
     Int (pos j.id) ∷ Text (j.kind ∷ []) ∷ Text (j.level ∷ []) ∷ Text j.client ∷ Text (j.status ∷ []) ∷ Int (pos j.start) ∷ Text j.fileset
     ∷ Int (pos j.session.id) ∷ Int (pos j.session.time) ∷ []
 
--- the row that shows a span of a job, with the name of its volume
+-- the row of a span of a job, with the name of its volume
 abbrev pub span_row : ℕ → Span → Row
 span_row job s =
     Int (pos job) ∷ Text s.volume ∷ Int (pos s.first) ∷ Int (pos s.last) ∷ Int (pos (high s.start)) ∷ Int (pos (high s.end))
     ∷ Int (pos (low s.start)) ∷ Int (pos (low s.end)) ∷ Int (pos s.vol_index) ∷ []
 
--- the row that shows a file of a job, with the two parts of its path
+-- the row of a file of a job, with the two parts of its path
 abbrev pub file_row : ℕ → FileRow → Row
 file_row job f =
     Int (pos job) ∷ Int (pos f.index) ∷ Blob (front f.path) ∷ Blob (rest f.path) ∷ Text f.lstat ∷ Text (digest_text f.digest) ∷ []
 
--- the job that a row shows, else 47
+-- the job in a row, else 47
 unfoldable pub read_job : Row → Result JobRow ℕ
 read_job row = do
   id ← small (column row 0)
@@ -167,7 +167,7 @@ read_job row = do
   time ← small (column row 8)
   Ok (record { id = id; kind = kind; level = level; status = status; start = start; session = record { id = session; time = time }; client = client; fileset = fileset })
 
--- the span that a row shows, else 47
+-- the span in a row, else 47
 unfoldable pub read_span : Row → Result Span ℕ
 read_span row = do
   volume ← volume_in (column row 1)
@@ -178,7 +178,7 @@ read_span row = do
   vol_index ← small (column row 8)
   Ok (record { volume = volume; first = first; last = last; start = start; end = end; vol_index = vol_index })
 
--- the file that a row shows, else 47
+-- the file in a row, else 47
 unfoldable pub read_file : Row → Result FileRow ℕ
 read_file row = do
   index ← small (column row 1)
@@ -193,7 +193,7 @@ SpansReadBack =
     (job : ℕ) (s : Span) → is_volume_name s.volume ≡ true → s.first < 2 ^ 32 → s.last < 2 ^ 32 → s.start < 2 ^ 64 → s.end < 2 ^ 64 → s.vol_index < 2 ^ 32
     → read_span (span_row job s) ≡ Ok s
 
--- a file is read back from its row if what it has is of its types
+-- a file is read back from its row if its values are of their types
 abbrev pub FilesReadBack : Type 0
 FilesReadBack =
     (job : ℕ) (f : FileRow) → f.index < 2 ^ 32 → is_path f.path ≡ true → is_utf8 f.lstat ≡ true → IsDigest f.digest

@@ -15,15 +15,15 @@ fault_number (Store why) = 45
 fault_number BadCatalogue = 47
 fault_number OldCatalogue = 48
 
--- the refusal that the rows have, which is that of a bad catalogue also for the rows of an old one;
--- none if memory ran out or the store failed
+-- the refusal that the rows decide, which is that of a bad catalogue also for the rows of an old
+-- one; none if memory ran out or the store failed
 abbrev pub cause : StoreFault → Option ℕ
 cause Memory = None
 cause (Store why) = None
 cause BadCatalogue = Some 47
 cause OldCatalogue = Some 47
 
--- a bad name or path is a bad catalogue, and out of memory stays so
+-- a bad name or path is a bad catalogue, and out of memory is out of memory
 abbrev pub of_name_fault : NameFault → StoreFault
 of_name_fault names.Memory = Memory
 of_name_fault names.BadName = BadCatalogue

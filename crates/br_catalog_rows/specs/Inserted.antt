@@ -15,7 +15,7 @@ unfoldable pub rows_of : List JobRows → Rows
 rows_of [] = no_rows
 rows_of (j ∷ jobs) = with_rows j (rows_of jobs)
 
--- a job inserted before the first whose number is not below its own
+-- a job is inserted before the first job whose number is not below its own
 unfoldable pub put_job : JobRows → List JobRows → List JobRows
 put_job j [] = j ∷ []
 put_job j (k ∷ ks) = if nat_lt k.row.id j.row.id then k ∷ put_job j ks else j ∷ k ∷ ks
@@ -48,24 +48,24 @@ pub record IsWhole (j : JobRows) : Type 0 where
   pub spans : AllByRecursion IsSpan j.spans
   pub fit : are_rows j ≡ true
 
--- no job among the rows has its number, and none has its session
+-- no job among the rows has the job's number or session
 pub record IsNewIn (j : JobRow) (rows : Rows) : Type 0 where
   pub number : (r : Row) → Has rows.jobs r → column r shown_number ≡ Int (pos j.id) → ⊥
   pub session : (r : Row) → Has rows.jobs r → column r shown_session ≡ Int (pos j.session.id) → column r shown_session_time ≡ Int (pos j.session.time) → ⊥
 
--- a job, new among the rows before, was added to them
+-- a new job was added to the rows
 pub record Adds (j : JobRows) (before after : Rows) : Type 0 where
   pub whole : IsWhole j
   pub fresh : IsNewIn j.row before
   pub rows : after ≡ with_rows j before
 
 -- The rows of a fresh catalogue after each of these jobs was tried, the last of the list first. A
--- job that was taken was added; one that was refused changed nothing.
+-- job that was accepted was added; one that was refused changed nothing.
 unfoldable pub Tried : List (JobRows × Bool) → Rows → Type 0
 Tried [] rows = rows ≡ no_rows
 Tried (t ∷ tries) rows = (before : Rows) × Tried tries before × MatchBool t.1 (Adds t.0 before rows) (rows ≡ before)
 
--- the jobs that were taken
+-- the accepted jobs
 unfoldable pub taken : List (JobRows × Bool) → List JobRows
 taken [] = []
 taken (t ∷ tries) = if t.1 then t.0 ∷ taken tries else taken tries

@@ -1,4 +1,4 @@
--- Schemas that have the catalogue's tables, among tables of somebody's own.
+-- Schemas that have the catalogue's tables, perhaps with a user's additions.
 use Rattle.std.specs.Prelude.{◌≡◌, ℕ, ◌^◌, nat_le, false, List, [], ◌++◌, Some, None, codes, ◌==◌, slice_get}
 use Rattle.std.specs.List.{position_from}
 use Rattle.sqlite.specs.Table.{Table}
@@ -11,8 +11,8 @@ use Rattle.sqlite_schema.specs.Names.{column_named, same_name}
 use Rattle.br_catalog_rows.specs.TreePlaces.{Layout}
 use Rattle.br_catalog_rows.specs.Tables.{version, client, fileset, media, path, job, job_media, file}
 
--- What a table has of somebody's own: columns after those of the catalogue, and keys, orders and
--- references after its keys, orders and references. The checks are somebody's own.
+-- A user's additions to a table: columns after those of the catalogue, and keys, orders and
+-- references after its keys, orders and references. The checks are all the user's.
 pub record Own : Type 0 where
   pub columns : List Column
   pub uniques : List (List ℕ)
@@ -20,7 +20,7 @@ pub record Own : Type 0 where
   pub checks : List Term
   pub references : List Reference
 
--- the table with what is somebody's own
+-- the table with the user's additions
 abbrev pub with_own : Table → Own → Table
 with_own t own = record t {
   columns = t.columns ++ own.columns;
@@ -30,9 +30,9 @@ with_own t own = record t {
   references = t.references ++ own.references;
 }
 
--- The table is in the schema: it is the first with its name, in whatever letters, and the first in
--- its tree, which is a tree of stored tables. If it has no key, no column has the name of a row's
--- number.
+-- The table is in the schema: it is the first with its name, in upper or lower case, and the first
+-- in its tree, which is a tree of stored tables. If it has no key, no column has the name of a
+-- row's number.
 pub record Stands (schema : Schema) (t : Table) : Type 0 where
   pub place : ℕ
   pub named : position_from (λ (u : Table). same_name u.name t.name) 0 schema.tables ≡ Some place
@@ -41,7 +41,7 @@ pub record Stands (schema : Schema) (t : Table) : Type 0 where
   pub stored : nat_le (2 ^ 31) t.tree ≡ false
   pub numbered : t.key ≡ None → column_named t (codes "rowid") ≡ None
 
--- what the catalogue's tables have of somebody's own
+-- the user's additions to the catalogue's tables
 pub record Owns : Type 0 where
   pub version : Own
   pub client : Own
@@ -52,7 +52,7 @@ pub record Owns : Type 0 where
   pub job_media : Own
   pub file : Own
 
--- the schema has the catalogue's tables, in these trees and with these columns of somebody's own
+-- the schema has the catalogue's tables, in these trees and with these columns of the user
 pub record HasAll (schema : Schema) (l : Layout) (o : Owns) : Type 0 where
   pub version : Stands schema (with_own (version l.version) o.version)
   pub client : Stands schema (with_own (client l.client) o.client)
@@ -63,7 +63,7 @@ pub record HasAll (schema : Schema) (l : Layout) (o : Owns) : Type 0 where
   pub job_media : Stands schema (with_own (job_media l.job_media) o.job_media)
   pub file : Stands schema (with_own (file l.file) o.file)
 
--- nothing of somebody's own
+-- no additions
 abbrev pub no_own : Own
 no_own = record { columns = []; uniques = []; orders = []; checks = []; references = [] }
 

@@ -1,4 +1,4 @@
--- The history that the rows of a catalogue are.
+-- The history of the rows of a catalogue.
 use Rattle.std.specs.Prelude.{◌≡◌, ℕ, ◌++◌, Bool, false, not, ◌==◌, nat_le, if◌then◌else◌, List, Vec, [], ◌∷◌, map, filter, Option, Some, None, is_some, Result, Ok, Err}
 use Rattle.std.specs.List.{list_all, list_any}
 use Rattle.std.specs.Borrow.{Bor}
@@ -48,7 +48,7 @@ has_job jobs row = list_any (λ (j : JobRow). is_of j.id row) jobs
 unfoldable pub by_job : List JobRow → List Row → Result (ℕ → List Row) ℕ
 by_job jobs rows = if list_all (has_job jobs) rows then Ok (λ id. filter (is_of id) rows) else Err 47
 
--- a span inserted before the first whose number is not below its own
+-- a span is inserted before the first span whose number is not below its own
 unfoldable pub put_span : Span → List Span → List Span
 put_span s [] = s ∷ []
 put_span s (t ∷ ts) = if nat_le s.vol_index t.vol_index then s ∷ t ∷ ts else t ∷ put_span s ts

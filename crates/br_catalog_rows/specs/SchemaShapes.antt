@@ -38,8 +38,8 @@ column_of (Any name) = column name.now kind.Any
 abbrev pub reference_of : ReferenceShape → Reference
 reference_of s = refers s.place s.parent.now s.name.now
 
--- a change of the row that is referred to does nothing, and the test of the reference does not wait
--- for the commit
+-- a change of the row that is referred to causes no action, and the test of the reference does not
+-- wait for the commit
 abbrev pub HasNoAction : Reference → Type 0
 HasNoAction reference = (reference.on_delete ≡ NoAction) × (reference.on_update ≡ NoAction) × (reference.is_deferred ≡ false)
 
@@ -67,7 +67,7 @@ abbrev pub orders_of : Option (Bor (List ℕ)) → List Order
 orders_of None = []
 orders_of (Some places) = record { digits = 0 } ∷ []
 
--- a list begins with these elements
+-- the list begins with these elements
 abbrev pub Begins : {A : Type 0} → List A → List A → Type 0
 Begins front xs = xs ≡ front ++ drop (length front) xs
 
@@ -112,7 +112,7 @@ abbrev pub placed : List TableShape → List ℕ → List Table
 placed (s ∷ shapes) (tree ∷ trees) = table_of s tree ∷ placed shapes trees
 placed _ _ = []
 
--- what a table has after what its shape has
+-- the additions of a table to its shape
 abbrev pub own_of : TableShape → Table → Own
 own_of s t = record {
   columns = drop (length s.columns.now) t.columns;
@@ -131,10 +131,10 @@ IsReadable t = (nat_le (2 ^ 31) t.tree ≡ false) × (t.key ≡ None → column_
 abbrev pub IsFound : Schema → ℕ → Table → Type 0
 IsFound schema place t = (position_from (λ (u : Table). u.tree == t.tree) 0 schema.tables ≡ Some place) × IsReadable t
 
--- the table at a place of a schema has this shape and more at most, and is where it is found
+-- the table at a place of a schema has this shape, perhaps with additions, and is where it is found
 abbrev pub Fits : Schema → TableShape → ℕ → Table → Type 0
 Fits schema s place t = (t ≡ with_own (table_of s t.tree) (own_of s t)) × IsFound schema place t
 
--- the schema has a table of this shape, with more at most
+-- the schema has a table of this shape, perhaps with additions
 abbrev pub HasShape : Schema → TableShape → Type 0
 HasShape schema s = (tree : ℕ) × (own : Own) × Stands schema (with_own (table_of s tree) own)

@@ -59,7 +59,7 @@ refers at parent name =
 abbrev pub plain_order : Order
 plain_order = record { digits = 0 }
 
--- a table whose key is its first column, whose rows differ in the columns of each list of
+-- a table whose first column is its key, whose rows differ in the columns of each list of
 -- `uniques`, and which has no check, no computed default and no count
 abbrev pub keyed_table : List ℕ → ℕ → List Column → List (List ℕ) → List Reference → Table
 keyed_table name tree columns uniques references = record {

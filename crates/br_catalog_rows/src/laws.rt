@@ -1,4 +1,4 @@
-//! Facts about jobs and the rows of a catalogue. The calls do nothing: a caller makes one to have
+//! Facts about jobs and the rows of a catalogue. The calls do nothing: a caller makes one for
 //! its clauses.
 
 ghost use Rattle.std.specs.Prelude.{◌≡◌, ◌<◌, ◌≤◌, ◌^◌, Bool, List, Ok, true, length};
@@ -14,15 +14,15 @@ use br_history::{FileRow, JobRow};
 use br_session::Span;
 use br_types::SessionKey;
 
-/// Shows that a job, a span and a file are read back from the rows that are written of them.
+/// States that a job, a span and a file are read back from the rows that are written for them.
 pub fn rows_read_back()
     ensures job { (j : Job) → is_job_row j ≡ true → read_job (job_row j) ≡ Ok j }
     ensures span { SpansReadBack }
     ensures file { FilesReadBack }
 {}
 
-/// Shows which history is loaded after jobs were tried one after another on a fresh catalogue. The
-/// jobs that were taken have different numbers and sessions. They are loaded in order of their
+/// States which history is loaded after jobs were tried one after another on a fresh catalogue. The
+/// accepted jobs have different numbers and sessions. They are loaded in order of their
 /// numbers, and refused jobs change nothing.
 pub fn inserted_jobs_load()
     ensures loads { (tries : List (Whole × Bool)) (rows : Rows) → Tried tries rows → read_history rows ≡ Ok (by_id (taken tries)) }
@@ -83,7 +83,7 @@ fn are_words(row: &JobRow)
     let _fileset = row.fileset.bytes();
 }
 
-/// Shows that a job's number, letters, session and names are of their types.
+/// States that a job's number, letters, session and names are of their types.
 pub fn job_is_whole(row: &JobRow)
     ensures { is_job_row row.now ≡ true }
 {
@@ -92,7 +92,7 @@ pub fn job_is_whole(row: &JobRow)
     session_fits(row.session);
 }
 
-/// Shows that the numbers of a span and the name of its volume are of their types.
+/// States that the numbers of a span and the name of its volume are of their types.
 pub fn span_is_whole(span: &Span)
     ensures { IsSpan span.now }
 {
@@ -104,7 +104,7 @@ pub fn span_is_whole(span: &Span)
     fits_64(span.end);
 }
 
-/// Shows that the index, the path, the numbers and the digest of a file are of their types.
+/// States that the index, the path, the numbers and the digest of a file are of their types.
 pub fn file_is_whole(file: &FileRow)
     ensures { IsFile file.now }
 {

@@ -1,4 +1,4 @@
-//! Whether a schema is the catalogue's, or that of version 1.
+//! Tests whether a schema is the catalogue's, or that of version 1.
 
 ghost use Rattle.std.specs.Prelude.{◌≡◌, ◌↔◌, IsTrue, [], ◌∷◌, ◌++◌, ◌^◌, ◌==◌, nat_le, false, Some, None};
 ghost use Rattle.std.specs.Prelude.{codes, drop, length, map, slice_get};
@@ -267,7 +267,7 @@ fn begin_references(references: &[Reference], shapes: &[ReferenceShape]) -> bool
     }
 }
 
-/// Returns whether orders begin with a plain one.
+/// Returns whether orders begin with a plain order.
 fn begin_plain(orders: &[Order]) -> bool
     ensures { IsTrue result ↔ (orders.now ≡ record { digits = 0 } ∷ drop 1 orders.now) }
 {
@@ -305,7 +305,7 @@ fn is_simple(table: &Table, name: &[u8]) -> bool
         && !table.is_counted
 }
 
-/// Returns whether a table has this shape, and what is somebody's own after it.
+/// Returns whether a table has this shape, perhaps with a user's additions after it.
 fn begins_as(table: &Table, shape: &TableShape) -> bool
     ensures { IsTrue result ↔ (table.now ≡ with_own (table_of shape.now table.now.tree) (own_of shape.now table.now)) }
 {
@@ -400,7 +400,7 @@ fn have_shapes(schema: &Schema, shapes: &[TableShape]) -> bool
 }
 
 /// Returns whether a schema has the catalogue's tables, in any order and in any trees. Each may have
-/// columns of somebody's own after those of the catalogue, and there may be other tables, any
+/// a user's columns after those of the catalogue, and there may be other tables, any
 /// indexes and any views.
 pub fn is_ours(schema: &Schema) -> bool
     ensures ours { IsTrue result → IsStoreSchema schema.now }

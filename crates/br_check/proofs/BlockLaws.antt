@@ -137,7 +137,7 @@ first_then gs bytes a = enough gs bytes (length bytes + 1) (suc (length bytes)) 
 
 -- ---- lines from an address on
 
--- no lines, where there is no block
+-- no lines, if there is no block
 lines_end : (volume : List ℕ) (gs : List (ℕ × Group)) (bytes : List ℕ) (a : ℕ) → block_at gs bytes a ≡ Ok None → lines_from volume gs bytes a ≡ []
 unfolding lines_from
 lines_end volume gs bytes a is = ap (flat_map (block_line volume gs)) (first_then gs bytes a ∙ ap (and_after (blocks_until gs bytes (length bytes))) is)

@@ -1,4 +1,4 @@
--- The lines of paths that conflict, told of one file after the other.
+-- The lines of paths that conflict, one file after the other.
 use Rattle.std.proofs.Common.{◌≡◌, ℕ, ◌+◌, ◌<◌, Bool, true, false, not, cond, List, [], ◌∷◌, ◌++◌, length, take, flat_map, map, get_or, refl, ap, sym, subst, ◌∙◌, append_assoc, append-nil, codes}
 use Rattle.std.specs.List.{list_any}
 use Rattle.std.proofs.lemmas.List.{take_more}
@@ -36,7 +36,7 @@ not_false : (b : Bool) → false ≡ not b → b ≡ true
 not_false true h = refl
 not_false false h = absurd cc
 
--- the copies that were told, one more, and those that come after them
+-- the copies whose lines were appended, one more, and those that come after them
 one_after : (told more : List Copy) (c : Copy) → told ++ c ∷ more ≡ (told ++ c ∷ []) ++ more
 one_after told more c = sym (append_assoc told (c ∷ []) more)
 
@@ -69,7 +69,7 @@ told_left ways later text longer c free way_is same is line_is = λ before told 
 
 -- ---- all copies
 
--- nothing is told of no copy
+-- no line is appended for no copy
 pub told_none : (ways : Ways) (text : List ℕ) → TellsMore ways ways text text []
 told_none ways text = λ before told t. subst (λ (cs : List Copy). Told ways before text cs) (sym (append-nil told)) t
 

@@ -18,15 +18,15 @@ copy_paths cs = map (λ (c : Copy). c.path) cs
 abbrev item_paths : List Item → List (List ℕ)
 item_paths items = map (λ (i : Item). i.path) items
 
--- ---- files that are put after those of some paths
+-- ---- files that are written after those at some paths
 
--- they are put up to the first of these copies
+-- they are written up to the first of these copies
 abbrev PutsTo : List (List ℕ) → List Copy → List Copy → Result (Unit {0}) Stop → Type 0
 PutsTo paths copies [] result = result ≡ Ok tt
 PutsTo paths copies (c ∷ more) result =
     (before : List Copy) × (after : List Copy) × (copies ≡ before ++ c ∷ after) × (result ≡ Err (record { number = 81; done = length paths + length before }))
 
--- with one more before them that is put
+-- with one more before them that is written
 puts_more : (paths : List (List ℕ)) (c : Copy) (cs left : List Copy) (result : Result (Unit {0}) Stop) → PutsTo (c.path ∷ paths) cs left result → PutsTo paths (c ∷ cs) left result
 puts_more paths c cs [] result h = h
 puts_more paths c cs (d ∷ more) result h =

@@ -1,4 +1,4 @@
--- What callers see of the blocks that are asked for.
+-- How callers see the blocks that are asked for.
 use Rattle.std.specs.Prelude.{ℕ, List, Option}
 use Rattle.br_model.specs.Bootstrap.{Group}
 use Rattle.br_model.specs.Volume.{Volume}

@@ -1,4 +1,4 @@
--- What a check finds.
+-- The result of a check.
 use Rattle.std.specs.Prelude.{◌≡◌, ℕ, List, ◌∷◌, ◌++◌, length, flat_map, map, Option, codes, decimal}
 use Rattle.std.specs.FinMap.{entries}
 use Rattle.br_model.specs.Bootstrap.{Group}
@@ -14,7 +14,7 @@ use Rattle.br_check.specs.Label.{TellLabels}
 use Rattle.br_check.specs.Search.{AreSearched, Searched, all_found}
 use Rattle.br_check.specs.declared.run.Checked.{Checked}
 
--- the outlines of the files of which there is one of these hits, in order of key
+-- the outlines of the files with one of these hits, in order of key
 abbrev pub outlines_in : List Hit → List Outlined
 outlines_in hits = outlines_found (entries (hits_of hits))
 
@@ -26,24 +26,28 @@ outlines_of results = outlines_in (all_found results)
 abbrev pub keys_of : List Outlined → List FileKey
 keys_of os = map (λ (o : Outlined). o.key) os
 
--- the lines of files that a folder can't take: their paths are no names of files there, are too long, or conflict
+-- the lines of files that a folder can't take: their paths are no file names there, are too
+-- long, or conflict
 abbrev pub folder_lines : List Outlined → List ℕ
 folder_lines os = flat_map name_line os ++ flat_map long_line os ++ conflict_lines os
 
--- the lines of what files a bootstrap asks for and does not get, of groups that get fewer than their counts, of files that can't be restored,
--- of those that a folder can't take, and of paths that come more than once
+-- the lines of the files that a bootstrap asks for and does not get, of groups that get fewer files
+-- than their counts, of files that can't be restored, of those that a folder can't take, and of
+-- paths that come more than once
 abbrev pub lines_of : List Group → List (Option ℕ) → List Outlined → List ℕ
 lines_of groups counts os = report groups counts (keys_of os) ++ flat_map file_line os ++ folder_lines os ++ copy_lines os
 
--- A check says of what was found of each piece: which volumes can't be searched, what there is to say of labels, and the lines of the files;
--- and how many files would be restored, their bytes, and the memory that a restore asks for which holds so many bytes of data.
+-- The findings of a check: the volumes that can't be searched, the lines about labels, and the
+-- lines of the files. Also the number of files that would be restored, their bytes, and the memory
+-- that a restore needs if it holds this number of bytes of data.
 pub record IsChecked (groups : List Group) (counts : List (Option ℕ)) (budget : ℕ) (results : List Searched) (labels : List ℕ) (checked : Checked) : Type 0 where
   pub findings : checked.findings.items ≡ flat_map volume_line results ++ labels ++ lines_of groups counts (outlines_of results)
   pub files : checked.files ≡ files_in (outlines_of results)
   pub bytes : checked.bytes ≡ bytes_in (outlines_of results)
   pub memory : checked.memory ≡ memory_for budget (length (all_found results)) (outlines_of results)
 
--- what was found, over the volumes that the drive may be taken to show, is what is checked, with what is said of labels
+-- what was found, over the volumes that the drive may be taken to show, is what is checked,
+-- together with the lines about labels
 abbrev pub ChecksOver : {D : Type 0} → (D → Option (List Volume)) → (D → ℕ) → D → D → List Group → List (Option ℕ) → ℕ → Checked → Type 0
 ChecksOver shows failures earlier later groups counts budget checked =
     (results : List Searched) × (labels : List (List ℕ)) × AreSearched (shows earlier) (shows later) (pieces_of groups) results

@@ -13,7 +13,7 @@ use Rattle.br_block.specs.Crc.{crc32}
 abbrev pub sum_of : List ℕ → ℕ
 sum_of block = crc32 (drop 4 block)
 
--- the checksum of a block, which is not 0, is not that sum
+-- the checksum of a block is not 0, and is not this CRC-32
 abbrev pub differs : List ℕ → Bool
 differs block = not (u32_at 0 block == 0) && not (u32_at 0 block == sum_of block)
 
@@ -25,7 +25,7 @@ sum_line volume address = line (codes "checksum " ++ escaped volume ++ 32 ∷ de
 abbrev pub differing_line : List ℕ → ℕ → List ℕ → List ℕ
 differing_line volume address block = if differs block then sum_line volume address else []
 
--- the same, if one of the groups asks for records of the block
+-- the line of a block, if one of the groups asks for its records and its checksum differs
 abbrev pub block_line : List ℕ → List (ℕ × Group) → LaidBlock → List ℕ
 block_line volume numbered b = if is_covered (just_groups numbered) b.address then differing_line volume b.address b.bytes else []
 
@@ -54,11 +54,11 @@ lines_from volume numbered bytes address = flat_map (block_line volume numbered)
 abbrev pub sum_lines : Piece → List ℕ → List ℕ
 sum_lines piece bytes = lines_from piece.volume piece.groups bytes 0
 
--- bytes, or none
+-- the bytes, if there are some, else no bytes
 abbrev pub or_none : Option (List ℕ) → List ℕ
 or_none None = []
 or_none (Some bytes) = bytes
 
--- the bytes of a volume, none if it is not there
+-- the bytes of a volume; none if it does not exist
 abbrev pub bytes_in : List Volume → List ℕ → List ℕ
 bytes_in volumes name = or_none (volume_bytes volumes name)

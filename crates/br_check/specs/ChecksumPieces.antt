@@ -1,4 +1,4 @@
--- What is said of the checksums of the pieces of a bootstrap.
+-- The lines about the checksums of the pieces of a bootstrap.
 use Rattle.std.specs.Prelude.{◌≡◌, ◌⊎◌, ℕ, ◌<◌, List, ◌∷◌, ◌++◌, flat_map, codes, decimal, Option, Some, None, ⊤}
 use Rattle.std.specs.List.{AllZip}
 use Rattle.br_model.specs.Meaning.{Piece}
@@ -19,38 +19,40 @@ pub record TellsFront (volume lines told : List ℕ) : Type 0 where
   pub whole : lines ≡ front ++ rest
   pub said : told ≡ front ++ failed_line volume address
 
--- What is said of a piece over the volumes that a drive shows, where it tells them, by the failures of the drive before and after: the lines of
--- its blocks; or the first of them, and that the drive failed.
+-- The lines about a piece over the volumes that a drive shows, if it tells them, by the failures
+-- of the drive before and after: the lines of its blocks; or the first of these, and that the
+-- drive failed.
 abbrev pub TellsSums : Option (List Volume) → ℕ → ℕ → Piece → List ℕ → Type 0
 TellsSums None failures failed piece told = ⊤
 TellsSums (Some volumes) failures failed piece told =
     (told ≡ sum_lines piece (bytes_in volumes piece.volume))
     ⊎ (TellsFront piece.volume (sum_lines piece (bytes_in volumes piece.volume)) told × (failures < failed))
 
--- the same of volumes that the drive showed meanwhile
+-- the same for volumes that the drive showed in the meantime
 pub record TellsBetween (earlier later : Option (List Volume)) (failures failed : ℕ) (piece : Piece) (told : List ℕ) : Type 0 where
   pub shown : Option (List Volume)
   pub grew : OnlyGrows earlier shown
   pub grows : OnlyGrows shown later
   pub tells : TellsSums shown failures failed piece told
 
--- what is said of each piece
+-- the lines about each piece
 abbrev pub TellEach : Option (List Volume) → Option (List Volume) → ℕ → ℕ → List Piece → List (List ℕ) → Type 0
 TellEach earlier later failures failed pieces told = AllZip (λ p t. TellsBetween earlier later failures failed p t) pieces told
 
--- what is said of a piece was appended
+-- the lines about a piece were appended
 abbrev pub AppendsSums : Option (List Volume) → ℕ → ℕ → Piece → List ℕ → List ℕ → Type 0
 AppendsSums shown failures failed piece before after = (told : List ℕ) × TellsSums shown failures failed piece told × (after ≡ before ++ told)
 
--- what is said of each piece was appended
+-- the lines about each piece were appended
 abbrev pub AppendEach : Option (List Volume) → Option (List Volume) → ℕ → ℕ → List Piece → List ℕ → List ℕ → Type 0
 AppendEach earlier later failures failed pieces before after =
     (told : List (List ℕ)) × TellEach earlier later failures failed pieces told × (after ≡ before ++ flat_map (λ lines. lines) told)
 
--- what is said of the volumes of a bootstrap's pieces was appended, over the volumes that a drive may be taken to show
+-- the lines about the volumes of a bootstrap's pieces were appended, over the volumes that a drive
+-- may be taken to show
 abbrev pub SumsOver : {D : Type 0} → (D → Option (List Volume)) → (D → ℕ) → D → D → List Piece → List ℕ → List ℕ → Type 0
 SumsOver shows failures earlier later pieces before after = AppendEach (shows earlier) (shows later) (failures earlier) (failures later) pieces before after
 
--- the same of one piece
+-- the same for one piece
 abbrev pub PieceOver : {D : Type 0} → (D → Option (List Volume)) → (D → ℕ) → D → D → Piece → List ℕ → List ℕ → Type 0
 PieceOver shows failures earlier later piece before after = AppendsSums (shows later) (failures earlier) (failures later) piece before after

@@ -13,12 +13,12 @@ use Rattle.br_check.specs.declared.checksum_walk.Seen.TheVariants.{Bytes, Nothin
 use Rattle.br_check.specs.declared.checksum_walk.Step.{Step}
 use Rattle.br_check.specs.declared.checksum_walk.Step.TheVariants.{Passed, Ended, Failed}
 
--- what holds of the bytes of a volume that a drive shows, if it tells its volumes
+-- this holds for the bytes of a volume that a drive shows, if it tells its volumes
 abbrev pub InShown : Option (List Volume) → List ℕ → (List ℕ → Type 0) → Type 0
 InShown None volume P = ⊤
 InShown (Some volumes) volume P = P (bytes_in volumes volume)
 
--- what holds of them, whatever the volumes grow to
+-- this holds for them, however much the volumes grow
 abbrev pub InLater : Option (List Volume) → List ℕ → (List ℕ → Type 0) → Type 0
 InLater None volume P = ⊤
 InLater (Some volumes) volume P = (later : List Volume) → Extends later volumes → P (bytes_in later volume)
@@ -28,12 +28,12 @@ pub record AreAt (bytes : List ℕ) (address size : ℕ) (got : List ℕ) : Type
   pub within : address < length bytes
   pub taken : take size (drop address bytes) ≡ got
 
--- what was seen, if a drive read this
+-- what was seen if a drive read this
 abbrev pub seen_of : Got → Seen
 seen_of (Block n) = Bytes
 seen_of End = Nothing
 
--- what was seen, if a drive read nothing for this reason
+-- what was seen if a drive read nothing for this reason
 abbrev pub IsUnseen : DriveFault → Seen → Type 0
 IsUnseen fault s = ((s ≡ Unread) × (fault ≡ Fault)) ⊎ ((s ≡ Nothing) × (fault ≡ UnknownVolume))
 
@@ -50,7 +50,8 @@ pub record HasSize (bytes : List ℕ) (address size : ℕ) : Type 0 where
   pub read : read_header (drop address bytes) ≡ Ok head
   pub is : head.size ≡ size
 
--- A block of this size is whole, and its line was appended if its checksum differs; or it is not whole.
+-- A block of this size is whole, and its line was appended if its checksum differs; or it
+-- is not whole.
 abbrev pub IsCompared : List ℕ → ℕ → ℕ → List ℕ → List ℕ → List ℕ → Step → Type 0
 IsCompared volume address size block before after (Passed passed) =
     (passed ≡ size) × (size ≤ length block) × (after ≡ before ++ differing_line volume address block)
@@ -70,7 +71,7 @@ IsStep shown failures failed volume numbered address before after Ended =
     (after ≡ before) × InShown shown volume (λ bytes. lines_from volume numbered bytes address ≡ [])
 IsStep shown failures failed volume numbered address before after Failed = (after ≡ before) × (failures < failed)
 
--- a block that was passed has 16 bytes at least, and began below 2 ^ 63
+-- a block that was passed has at least 16 bytes, and began below 2 ^ 63
 abbrev pub GoesOn : ℕ → Step → Type 0
 GoesOn address (Passed size) = (address < 2 ^ 63) × (16 ≤ size)
 GoesOn address Ended = ⊤

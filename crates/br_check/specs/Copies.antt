@@ -1,11 +1,11 @@
--- Files as copies of paths, in sets that know the newest of each.
+-- Files as copies of paths, in sets that have the newest of each.
 use Rattle.std.specs.Prelude.{List, ◌++◌, filter}
 use Rattle.br_types.specs.Newest.{AreNoted, Copy, is_outdated}
 use Rattle.br_types.specs.declared.newest.NewestCopies.{NewestCopies}
 use Rattle.br_records.specs.Outline.{Outlined}
 use Rattle.br_check.specs.Findings.{copies_at}
 
--- whichever copies are noted, these are noted before them
+-- for any copies that were noted, these are noted before them
 abbrev pub NotesFirst : NewestCopies → NewestCopies → List Copy → Type 0
 NotesFirst before after cs = (copies : List Copy) → AreNoted before copies → AreNoted after (cs ++ copies)
 

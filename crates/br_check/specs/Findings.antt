@@ -1,4 +1,4 @@
--- The lines of what a check finds.
+-- The lines of the findings of a check.
 use Rattle.std.specs.Prelude.{ℕ, ◌+◌, ◌-◌, ◌*◌, ◌^◌, min, nat_lt, ◌==◌, ◌&&◌, ◌||◌, not, if◌then◌else◌, List, [], ◌∷◌, ◌++◌, length, filter, flat_map, sum_by, decimal, codes, Ok, Err, Bool}
 use Rattle.std.specs.List.{list_any, slice_split}
 use Rattle.std.specs.Str.{is_utf8}
@@ -19,7 +19,7 @@ abbrev pub fault_line : PieceFault → List ℕ
 fault_line Memory = []
 fault_line (Block why volume address) = line (codes "volume " ++ decimal (cause_number why) ++ 32 ∷ escaped volume ++ 32 ∷ decimal address)
 
--- the line of what was found of a piece, if its volume can't be searched
+-- the line of what was found for a piece, if its volume can't be searched
 abbrev pub volume_line : Searched → List ℕ
 volume_line (Ok found) = []
 volume_line (Err why) = fault_line why
@@ -34,7 +34,7 @@ key_text key = 32 ∷ decimal key.session.id ++ 32 ∷ decimal key.session.time 
 abbrev pub named_line : List ℕ → Copy → List ℕ
 named_line word c = line (word ++ key_text c.key ++ 32 ∷ escaped c.path)
 
--- the stream of 65, after a blank
+-- the stream of fault 65, after a blank
 abbrev pub stream_text : Fault → List ℕ
 stream_text f = if f.number == 65 then 32 ∷ decimal f.stream else []
 
@@ -56,7 +56,8 @@ file_line o = line_of o.outline
 abbrev pub is_on_disk : ℕ → Bool
 is_on_disk kind = has_bytes kind || kind == 5
 
--- a path under which a folder can't take what is of this type: it is not UTF-8, or it is that of a folder and the file has bytes
+-- a path under which a folder can't take a file of this type: it is not UTF-8, or it is that of a
+-- folder and the file has bytes
 abbrev pub is_no_name : ℕ → List ℕ → Bool
 is_no_name kind path = is_on_disk kind && (not (is_utf8 path) || (has_bytes kind && is_directory path))
 
@@ -68,7 +69,7 @@ no_name_line key path = line (codes "name" ++ key_text key ++ 32 ∷ escaped pat
 abbrev pub name_by : FileKey → Outline → List ℕ
 name_by key o = if is_no_name o.kind o.path then no_name_line key o.path else []
 
--- the line of a file, if a folder can't take it; a fault is none
+-- the line of a file, if a folder can't take it; none for a fault
 abbrev pub name_line : Outlined → List ℕ
 name_line o = line_of o.outline
   where
@@ -76,7 +77,7 @@ name_line o = line_of o.outline
     line_of (Ok outline) = name_by o.key outline
     line_of (Err f) = []
 
--- ---- names that are longer than a folder takes
+-- ---- names that are longer than a folder allows
 
 -- a name of more than 255 bytes
 abbrev pub is_long_name : List ℕ → Bool
@@ -86,15 +87,16 @@ is_long_name name = nat_lt 255 (length name)
 abbrev pub bare_length : List ℕ → ℕ
 bare_length path = if is_directory path then length path - 1 else length path
 
--- A name between two slashes is too long, or the path is: systems take 4,095 bytes, and the folder's own name comes before it.
+-- A name between two slashes is too long, or the path is: systems allow 4,095 bytes, and the
+-- folder's own name comes first.
 abbrev pub is_long : List ℕ → Bool
 is_long path = list_any is_long_name (slice_split is_slash path) || nat_lt 4094 (bare_length path)
 
--- the line of a file with an outline, if its path is longer than a folder takes
+-- the line of a file with an outline, if its path is longer than a folder allows
 abbrev pub long_by : FileKey → Outline → List ℕ
 long_by key o = if is_on_disk o.kind && is_long o.path then named_line (codes "long") (record { key = key; path = o.path }) else []
 
--- the line of a file, if its path is longer than a folder takes; a fault is none
+-- the line of a file, if its path is longer than a folder allows; none for a fault
 abbrev pub long_line : Outlined → List ℕ
 long_line o = line_of o.outline
   where
@@ -104,7 +106,7 @@ long_line o = line_of o.outline
 
 -- ---- paths that come more than once
 
--- a file as a copy of its path; a fault is none
+-- a file as a copy of its path; none for a fault
 abbrev pub copies_at : Outlined → List Copy
 copies_at o = of_outline o.outline
   where
@@ -116,7 +118,7 @@ copies_at o = of_outline o.outline
 abbrev pub copies_of : List Outlined → List Copy
 copies_of os = flat_map copies_at os
 
--- the copies of which there are newer ones
+-- the copies that have newer ones
 abbrev pub outdated : List Copy → List Copy
 outdated copies = filter (is_outdated copies) copies
 
@@ -138,7 +140,7 @@ copy_lines os = flat_map (lines_at (copies_of os)) os
 
 -- ---- what would be restored
 
--- the bytes of a file, none of one that can't be restored
+-- the number of bytes of a file; 0 if it can't be restored
 abbrev pub bytes_of : Outlined → ℕ
 bytes_of o = size_of o.outline
   where
@@ -146,7 +148,7 @@ bytes_of o = size_of o.outline
     size_of (Ok outline) = outline.size
     size_of (Err f) = 0
 
--- 1 for a file, 0 for what can't be restored
+-- 1 for a file; 0 if it can't be restored
 abbrev pub files_at : Outlined → ℕ
 files_at o = number_of o.outline
   where
@@ -158,13 +160,13 @@ files_at o = number_of o.outline
 abbrev pub files_in : List Outlined → ℕ
 files_in os = sum_by files_at os
 
--- their bytes together
+-- the number of their bytes
 abbrev pub bytes_in : List Outlined → ℕ
 bytes_in os = sum_by bytes_of os
 
 -- ---- the memory of a restore
 
--- the bytes that are held of a file beside its data: 400, and its path
+-- the number of bytes that are held for a file besides its data: 400, and its path
 abbrev pub held_of : Outlined → ℕ
 held_of o = 400 + path_of o.outline
   where
@@ -172,10 +174,11 @@ held_of o = 400 + path_of o.outline
     path_of (Ok outline) = length outline.path
     path_of (Err f) = 0
 
--- the bytes that are held beside the data: 64 MiB, 200 for each fragment, and those of each file
+-- the number of bytes that are held besides the data: 64 MiB, 200 for each fragment, and those
+-- of each file
 abbrev pub held_beside : ℕ → List Outlined → ℕ
 held_beside fragments os = 64 * 2 ^ 20 + 200 * fragments + sum_by held_of os
 
--- the memory that a restore asks for at most, which holds so many bytes of data
+-- the greatest amount of memory that a restore needs, if it holds this number of bytes of data
 abbrev pub memory_for : ℕ → ℕ → List Outlined → ℕ
 memory_for budget fragments os = min budget (bytes_in os) + held_beside fragments os

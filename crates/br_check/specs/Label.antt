@@ -8,24 +8,25 @@ use Rattle.br_model.specs.Text.{line, escaped}
 use Rattle.br_model.specs.Volume.{Volume, volume_bytes}
 use Rattle.br_volume.specs.Drive.{OnlyGrows}
 
--- what a label begins with
+-- the beginning of a label
 unfoldable pub mark : List ℕ
 mark = codes "Bacula 1.0 immortal" ++ 10 ∷ 0 ∷ []
 
--- bytes up to a place, or all of them
+-- the bytes up to a place, or all of them
 abbrev pub up_to : Option ℕ → List ℕ → List ℕ
 up_to None bytes = bytes
 up_to (Some at) bytes = take at bytes
 
--- bytes up to the first zero, or all of them
+-- the bytes up to the first zero, or all of them
 abbrev pub before_zero : List ℕ → List ℕ
 before_zero bytes = up_to (position (λ b. b == 0) bytes) bytes
 
--- the name in a label that begins with the mark: after that, the version of four bytes and four times of eight bytes it goes up to a zero
+-- the name in a label that begins with the mark: it follows a version of four bytes and four times
+-- of eight bytes, and ends at a zero
 abbrev pub marked_name : List ℕ → Option (List ℕ)
 marked_name label = if bytes_eq (take 21 label) mark then Some (before_zero (drop 57 label)) else None
 
--- the name in a label; one that ends before it has none
+-- the name in a label; none if the label ends before it
 unfoldable pub name_in : List ℕ → Option (List ℕ)
 name_in label = if nat_le 57 (length label) then marked_name label else None
 
@@ -55,43 +56,43 @@ name_at bytes = name_read (read_block bytes)
 abbrev pub other_line : List ℕ → List ℕ → List ℕ
 other_line volume name = line (codes "label " ++ escaped volume ++ 32 ∷ escaped name)
 
--- the same, if it is the name of another volume
+-- the line of a volume, if the label has the name of another volume
 abbrev pub named_line : List ℕ → List ℕ → List ℕ
 named_line volume name = if bytes_eq name volume then [] else other_line volume name
 
--- the same, if the label has a name
+-- the line of a volume, if the label has the name of another one
 abbrev pub line_by : List ℕ → Option (List ℕ) → List ℕ
 line_by volume None = []
 line_by volume (Some name) = named_line volume name
 
--- the line of a volume, if it is there and the label in its first 65,536 bytes names another volume
+-- the line of a volume, if it exists and the label in its first 65,536 bytes names another volume
 abbrev pub label_line : List ℕ → Option (List ℕ) → List ℕ
 label_line volume None = []
 label_line volume (Some bytes) = line_by volume (name_at (take 65536 bytes))
 
--- What is said of a volume over the volumes that a drive shows, where it tells them, by the failures of the drive before and after: the line
--- of the volume, or nothing if the drive failed.
+-- The line about a volume over the volumes that a drive shows, if it tells them, by the failures of
+-- the drive before and after: the line of the volume, or nothing if the drive failed.
 abbrev pub TellsLabel : Option (List Volume) → ℕ → ℕ → List ℕ → List ℕ → Type 0
 TellsLabel None failures later volume told = ⊤
 TellsLabel (Some volumes) failures later volume told =
     (told ≡ label_line volume (volume_bytes volumes volume)) ⊎ ((told ≡ []) × (failures < later))
 
--- the same of volumes that the drive showed meanwhile
+-- the same for volumes that the drive showed in the meantime
 pub record TellsBetween (earlier later : Option (List Volume)) (failures failed : ℕ) (volume told : List ℕ) : Type 0 where
   pub shown : Option (List Volume)
   pub grew : OnlyGrows earlier shown
   pub grows : OnlyGrows shown later
   pub tells : TellsLabel shown failures failed volume told
 
--- what is said of the volume of each piece
+-- the lines about the volume of each piece
 abbrev pub TellLabels : Option (List Volume) → Option (List Volume) → ℕ → ℕ → List Piece → List (List ℕ) → Type 0
 TellLabels earlier later failures failed pieces told = AllZip (λ (p : Piece) t. TellsBetween earlier later failures failed p.volume t) pieces told
 
--- what is said of a volume was appended
+-- the line about a volume was appended
 abbrev pub AppendsLabel : Option (List Volume) → ℕ → ℕ → List ℕ → List ℕ → List ℕ → Type 0
 AppendsLabel shown failures failed volume before after = (told : List ℕ) × TellsLabel shown failures failed volume told × (after ≡ before ++ told)
 
--- what is said of the volume of each piece was appended
+-- the lines about the volume of each piece were appended
 abbrev pub AppendsLabels : Option (List Volume) → Option (List Volume) → ℕ → ℕ → List Piece → List ℕ → List ℕ → Type 0
 AppendsLabels earlier later failures failed pieces before after =
     (told : List (List ℕ)) × TellLabels earlier later failures failed pieces told × (after ≡ before ++ flat_map (λ line. line) told)

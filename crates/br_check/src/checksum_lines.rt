@@ -1,4 +1,4 @@
-//! Checksums of blocks, and lines.
+//! Checksums of blocks, and their lines.
 ghost use Rattle.std.specs.Prelude.{◌≡◌, ◌++◌, ◌≤◌, drop, length, OnOk};
 ghost use Rattle.br_model.specs.Block.{u32_at};
 ghost use Rattle.br_check.specs.ChecksumBlocks as model;
@@ -9,7 +9,7 @@ use br_block::Crc;
 use br_types::{VolName, push_escaped, push_number};
 use std::alloc::AllocError;
 
-/// Returns the checksum at the front of a block.
+/// Returns the checksum at the beginning of a block.
 fn checksum(block: &[u8]) -> u32
     requires { 4 ≤ length block.now }
     ensures { result ≡ u32_at 0 block.now }

@@ -12,8 +12,8 @@ use br_piece::{Piece, split};
 use br_volume::Drive;
 use std::alloc::{AllocError, Global};
 
-/// Appends the lines of a piece's blocks. If the drive fails, it appends a line that says so and goes
-/// no further.
+/// Appends the lines of a piece's blocks. If the drive fails, it appends a line that says so and
+/// stops there.
 fn push_piece<D: Drive>(
     crc: &Crc,
     text: &mut Vec<u8>,
@@ -60,7 +60,7 @@ fn push_pieces<D: Drive>(
 /// the order in which the bootstrap first names them, and the blocks in the order of their addresses, up to
 /// the end of the volume or the first block that can't be read.
 ///
-/// If the drive fails, the line `volume 13 VOLUME ADDRESS` comes in place of those of the volume's blocks
+/// If the drive fails, the line `volume 13 VOLUME ADDRESS` replaces those of the volume's blocks
 /// from there on.
 ///
 /// # Errors

@@ -21,9 +21,9 @@ const HEADER_LEN: u32 = 24;
 enum Seen {
     /// Bytes, which are in the buffer.
     Bytes,
-    /// Nothing: the volume ends there, or is not there.
+    /// Nothing: the volume ends there, or does not exist.
     Nothing,
-    /// Nothing, since the drive failed.
+    /// Nothing, because the drive failed.
     Unread,
 }
 
@@ -32,13 +32,13 @@ enum Seen {
 pub(crate) enum Step {
     /// The walk passed a block of this number of bytes.
     Passed(u32),
-    /// The walk is at its end.
+    /// The walk has reached its end.
     Ended,
     /// The drive failed.
     Failed,
 }
 
-/// Returns what was seen, if a drive read this.
+/// Returns what was seen if a drive read this.
 fn seen_by(got: Got) -> Seen
     ensures { result ≡ seen_of got }
 {
@@ -48,7 +48,7 @@ fn seen_by(got: Got) -> Seen
     }
 }
 
-/// Returns what was seen, if a drive read nothing for this reason, unless memory ran out.
+/// Returns what was seen if a drive read nothing for this reason, unless memory ran out.
 fn unseen(fault: DriveFault) -> Result<Seen, AllocError>
     ensures { IfOk result (IsUnseen fault) }
 {
@@ -113,7 +113,7 @@ pub(crate) struct AskedBlocks<'p> {
     crc: &'p Crc,
     vol: &'p VolName,
     groups: &'p [(u32, Group)],
-    /// There is no such block above this address; none if a group asks for blocks everywhere.
+    /// Such blocks begin at this address or below; none if a group asks for blocks everywhere.
     bound: Option<u64>,
     ghost bounded: { bound ≡ bound_of (just_groups groups.now) },
 }
@@ -134,7 +134,7 @@ impl<'p> AskedBlocks<'p> {
         }
     }
 
-    /// Returns whether the walk ends at this address, whatever the volume has.
+    /// Returns whether the walk ends at this address, for any contents of the volume.
     fn is_above(&self, addr: u64) -> bool
         ensures { result ≡ is_above (bound_of (just_groups (groups_of self.now))) addr }
     {

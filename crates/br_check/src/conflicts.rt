@@ -9,7 +9,7 @@ use br_records::Sketch;
 use br_types::{FileKey, Ways, is_next};
 use std::alloc::{AllocError, Global};
 
-/// Notes the path of a file. If it conflicts with one noted before, appends its line in place of that.
+/// Notes the path of a file. If it conflicts with one noted before, appends its line instead.
 fn push_path<'s>(
     text: &mut Vec<u8>,
     ways: &mut Ways<'s>,
@@ -40,7 +40,8 @@ fn push_conflict<'s>(
     }
 }
 
-/// Appends a line for each file whose path conflicts with one before it, unless that one conflicts itself.
+/// Appends a line for each file whose path conflicts with an earlier one, unless that one
+/// conflicts itself.
 pub(crate) fn push_conflicts(
     alloc: Global,
     text: &mut Vec<u8>,

@@ -48,7 +48,7 @@ fn is_old(copies: &NewestCopies<'_>, all: &[(FileKey, Sketch)], key: FileKey, pa
     copies.has_newer(key, path)
 }
 
-/// Adds a file to those of which there are newer copies, if it is one of them.
+/// Adds a file to those that have newer copies, if it has one.
 fn note_old<'s>(
     old: &mut NewestCopies<'s>,
     copies: &NewestCopies<'_>,
@@ -70,7 +70,7 @@ fn note_old<'s>(
     }
 }
 
-/// Returns the files of whose paths there are newer copies.
+/// Returns the files that have newer copies of their paths.
 fn outdated_of<'s>(
     alloc: Global,
     copies: &NewestCopies<'_>,
@@ -113,7 +113,7 @@ fn push_by(
     }
 }
 
-/// The files of a check, with the newest copy of each path, and those of which there are newer ones.
+/// The files of a check, with the newest copy of each path, and those that have newer copies.
 #[derive(Clone, Copy)]
 struct Known<'k, 's> {
     all: &'k [(FileKey, Sketch)],
@@ -154,7 +154,7 @@ fn push_lines(text: &mut Vec<u8>, known: &Known<'_, '_>) -> Result<(), AllocErro
 }
 
 /// Appends a line for each of the files whose path comes more than once: `older` if there is a newer copy,
-/// `newest` if there are older ones alone.
+/// `newest` if there are only older ones.
 pub(crate) fn push_copies(
     alloc: Global,
     text: &mut Vec<u8>,

@@ -1,4 +1,4 @@
-//! The lines of what was found.
+//! The lines of the findings.
 ghost use Rattle.std.specs.Prelude.{◌≡◌, ◌++◌, flat_map, map, OnOk};
 ghost use Rattle.br_records.specs.Making.{file_fault};
 ghost use Rattle.br_records.specs.ShownRecords.{outlined};

@@ -12,7 +12,7 @@ use br_types::{VolName, push_escaped};
 use br_volume::{Drive, DriveFault};
 use std::alloc::{AllocError, Global};
 
-/// What a label begins with.
+/// The beginning of a label, its mark.
 const MARK: &[u8] = b"Bacula 1.0 immortal\n\0";
 
 /// The number of bytes of the mark.
@@ -22,7 +22,7 @@ const MARK_LEN: usize = 21;
 /// bytes.
 const NAME_AT: usize = 57;
 
-/// The number of bytes of a volume among which its label is.
+/// The number of bytes at the beginning of a volume that contain its label.
 const LABEL_ROOM: u32 = 65_536;
 
 /// Returns the place of the first zero, if there is one.
@@ -42,7 +42,7 @@ fn before_zero(bytes: &[u8]) -> &[u8]
     }
 }
 
-/// Returns the bytes in the place of the mark.
+/// Returns the bytes at the place of the mark.
 fn front(label: &[u8]) -> &[u8]
     requires { 57 ≤ length label.now }
     ensures { result.now ≡ take 21 label.now }

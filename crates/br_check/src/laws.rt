@@ -1,8 +1,8 @@
-//! What the conflicts of a check say of a delivery.
+//! How the conflicts of a check affect a delivery.
 ghost use Rattle.br_check.specs.Conflicts.{ConflictsStop};
 
-/// A delivery of the files of a restore stops with 81 at the first of those that conflict, unless a digest
-/// differs. If none conflicts, it does not stop.
+/// States that a delivery of the files of a restore stops with 81 at the first file that conflicts,
+/// unless a digest differs. If none conflicts, it does not stop.
 #[tactic(auto, using(crate::proofs::StopLaws::conflicts_stop_lem))]
 pub fn conflicts_stop()
     ensures { ConflictsStop }

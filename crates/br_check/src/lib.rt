@@ -1,10 +1,10 @@
 //! A check of a bootstrap over its volumes: what a restore would meet, without the bytes of its
 //! files.
 //!
-//! `check` reads each block that the bootstrap asks for, and keeps record headers and attributes
-//! alone. It returns a line for each finding, the number of the files and of their bytes, and the
-//! memory that a restore asks for. `push_checksums` appends a line for each block whose checksum is
-//! not that of its bytes.
+//! `check` reads each block that the bootstrap asks for, and keeps only record headers and
+//! attributes. It returns a line for each finding, the number of the files and of their bytes, and
+//! the memory that a restore needs. `push_checksums` appends a line for each block whose checksum
+//! is not that of its bytes.
 //!
 //! Any call that returns a `Result` may also fail because memory ran out.
 #![tactic(auto)]

@@ -10,7 +10,7 @@ const DATA: u32 = 2;
 /// The stream of the data's MD5 digest.
 const DIGEST: u32 = 3;
 
-/// Lets the data of a hit go if they are plain data or a digest.
+/// Drops the data of a hit if they are plain data or a digest.
 fn lighten(hit: &mut Hit)
     ensures { hit.new ≡ hit.old }
 {
@@ -20,7 +20,7 @@ fn lighten(hit: &mut Hit)
     }
 }
 
-/// Lets the data go that are plain data or a digest. As contracts see them the hits are the same.
+/// Drops the data that are plain data or a digest. As contracts see them, the hits are unchanged.
 fn lightened(hits: Vec<Hit>) -> Vec<Hit>
     ensures { result.items ≡ hits.items }
 {

@@ -1,4 +1,4 @@
-//! The lines of files with names that are longer than a folder takes.
+//! The lines of files with names that are longer than a folder allows.
 ghost use Rattle.std.specs.Prelude.{◌≡◌, ◌++◌, flat_map, map, OnOk};
 ghost use Rattle.std.specs.List.{list_any, slice_split};
 ghost use Rattle.br_model.specs.Name.{is_slash};
@@ -15,17 +15,18 @@ use std::alloc::AllocError;
 /// The greatest number of bytes of a name.
 const NAME: usize = 255;
 
-/// The greatest number of bytes of a path. The system takes 4,095 bytes, and the folder's own name, of one byte at least, comes before.
+/// The greatest number of bytes of a path. The system allows 4,095 bytes, and the folder's own
+/// name, of at least one byte, comes first.
 const PATH: usize = 4094;
 
-/// Returns if a name is longer than a folder takes.
+/// Returns if a name is longer than a folder allows.
 fn is_long_name(name: &[u8]) -> bool
     ensures { result ≡ is_long_name name.now }
 {
     name.len() > NAME
 }
 
-/// Returns if a name in a path is longer than a folder takes.
+/// Returns if a name in a path is longer than a folder allows.
 fn has_long_name(path: &[u8]) -> bool
     ensures { result ≡ list_any is_long_name (slice_split is_slash path.now) }
 {
@@ -43,14 +44,14 @@ fn bare_length(path: &[u8]) -> usize
     path.len()
 }
 
-/// Returns if a path, or a name in it, is longer than a folder takes.
+/// Returns if a path, or a name in it, is longer than a folder allows.
 fn is_long(path: &[u8]) -> bool
     ensures { result ≡ model.is_long path.now }
 {
     has_long_name(path) || bare_length(path) > PATH
 }
 
-/// Appends the line of a file with an outline, if its path is longer than a folder takes.
+/// Appends the line of a file with an outline, if its path is longer than a folder allows.
 fn push_outlined(text: &mut Vec<u8>, key: FileKey, outline: &Outline) -> Result<(), AllocError>
     ensures { OnOk result (text.new.items ≡ text.old.items ++ long_by key outline.now) }
 {
@@ -60,7 +61,7 @@ fn push_outlined(text: &mut Vec<u8>, key: FileKey, outline: &Outline) -> Result<
     Ok(())
 }
 
-/// Appends the line of a file, if its path is longer than a folder takes.
+/// Appends the line of a file, if its path is longer than a folder allows.
 fn push_long_one(text: &mut Vec<u8>, key: FileKey, sketch: &Sketch) -> Result<(), AllocError>
     ensures { OnOk result (text.new.items ≡ text.old.items ++ long_line (outlined (key, sketch.now))) }
 {
@@ -70,7 +71,7 @@ fn push_long_one(text: &mut Vec<u8>, key: FileKey, sketch: &Sketch) -> Result<()
     }
 }
 
-/// Appends a line for each file whose path is longer than a folder takes.
+/// Appends a line for each file whose path is longer than a folder allows.
 pub(crate) fn push_long(
     text: &mut Vec<u8>,
     sketches: &[(FileKey, Sketch)],

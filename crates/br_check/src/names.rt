@@ -28,7 +28,7 @@ fn has_bytes(kind: u32) -> bool
     kind == 2 || kind == 3
 }
 
-/// Returns if a restore into a folder writes files of this type: those that have bytes, and folders.
+/// Returns if a restore into a folder writes files of this type: those with bytes, and folders.
 pub(crate) fn is_on_disk(kind: u32) -> bool
     ensures { result ≡ is_on_disk kind }
 {

@@ -1,4 +1,4 @@
-//! A whole check.
+//! The whole check.
 ghost use Rattle.std.specs.Prelude.{◌≡◌, ◌++◌, ◌∷◌, ◌≤◌, ◌*◌, ◌^◌, codes, decimal, flat_map, IfOk, map, OnOk};
 ghost use Rattle.br_check.specs.Check.{ChecksOver, IsChecked, checked_text, folder_lines, keys_of, lines_of, outlines_in};
 ghost use Rattle.br_check.specs.Findings.{bytes_in, bytes_of, files_at, files_in, memory_for};
@@ -23,7 +23,7 @@ use br_types::{FileKey, push_number, push_wide};
 use br_volume::Drive;
 use std::alloc::{AllocError, Global};
 
-/// What a check found.
+/// The result of a check.
 #[derive(Drop)]
 pub struct Checked {
     /// A line for each finding.
@@ -32,7 +32,7 @@ pub struct Checked {
     pub files: usize,
     /// The number of their bytes.
     pub bytes: u128,
-    /// The memory that a restore asks for at most, in bytes.
+    /// The greatest amount of memory that a restore needs, in bytes.
     pub memory: u128,
 }
 
@@ -76,7 +76,7 @@ fn push_total(text: &mut Vec<u8>, files: usize, bytes: u128) -> Result<(), Alloc
     Ok(())
 }
 
-/// Appends the hits that were found of a piece.
+/// Appends the hits that were found for a piece.
 fn append_found(hits: &mut Vec<Hit>, result_of: Result<Found, PieceFault>) -> Result<(), AllocError>
     ensures { OnOk result (hits.new.items ≡ hits.old.items ++ found_in result_of) }
 {
@@ -86,7 +86,7 @@ fn append_found(hits: &mut Vec<Hit>, result_of: Result<Found, PieceFault>) -> Re
     }
 }
 
-/// Returns the hits that were found of all pieces.
+/// Returns the hits that were found for all pieces.
 fn hits_of(alloc: Global, results: Vec<Result<Found, PieceFault>>) -> Result<Vec<Hit>, AllocError>
     ensures { IfOk result (λ hits. hits.items ≡ all_found results.items) }
 {
@@ -97,7 +97,7 @@ fn hits_of(alloc: Global, results: Vec<Result<Found, PieceFault>>) -> Result<Vec
     Ok(hits)
 }
 
-/// Returns a sketch of each file of which there is one of these hits, in order of key.
+/// Returns a sketch of each file with one of these hits, in order of key.
 fn sketches_in(alloc: Global, hits: Vec<Hit>) -> Result<Vec<(FileKey, Sketch)>, AllocError>
     ensures { IfOk result (λ sketches. map outlined sketches.items ≡ outlines_in hits.items) }
 {
@@ -117,8 +117,8 @@ fn keys_in(alloc: Global, sketches: &[(FileKey, Sketch)]) -> Result<Vec<FileKey>
     Ok(keys)
 }
 
-/// Appends the lines of files that a folder can't take: those whose paths are no names of files there, those
-/// whose paths are too long, and those whose paths conflict.
+/// Appends the lines of files that a folder can't take: those whose paths are no file names there,
+/// those whose paths are too long, and those whose paths conflict.
 fn push_folder_lines(
     alloc: Global,
     text: &mut Vec<u8>,
@@ -173,7 +173,7 @@ fn files_of(sketches: &[(FileKey, Sketch)]) -> usize
     files
 }
 
-/// Returns the bytes of a file, 0 if it would not be restored.
+/// Returns the number of bytes of a file; 0 if it would not be restored.
 fn size_of(sketch: &(FileKey, Sketch)) -> u64
     ensures { result ≡ bytes_of (outlined sketch.now) }
 {
@@ -183,7 +183,7 @@ fn size_of(sketch: &(FileKey, Sketch)) -> u64
     }
 }
 
-/// Returns the bytes of the files that would be restored.
+/// Returns the number of bytes of the files that would be restored.
 fn bytes_of(sketches: &[(FileKey, Sketch)]) -> u128
     ensures { result ≡ bytes_in (map outlined sketches.now) }
 {
@@ -194,14 +194,14 @@ fn bytes_of(sketches: &[(FileKey, Sketch)]) -> u128
     bytes
 }
 
-/// Returns the memory that a restore asks for at most if it holds up to `budget` bytes of data.
+/// Returns the most memory that a restore needs if it holds up to `budget` bytes of data.
 fn memory_for(budget: u64, fragments: usize, sketches: &[(FileKey, Sketch)]) -> u128
     ensures { result ≡ memory_for budget fragments (map outlined sketches.now) }
 {
     u128::from(budget).min(bytes_of(sketches)) + held_beside(fragments, sketches)
 }
 
-/// Returns what was found by what was found of each piece.
+/// Returns the result of a check from what was found for each piece.
 fn checked_of(
     alloc: Global,
     groups: &[Group],
@@ -230,9 +230,9 @@ fn checked_of(
 /// Checks a bootstrap over the volumes of a drive. Each finding is a line: the volumes that can't be
 /// searched, all of them; those whose labels name other volumes; the indexes that the bootstrap asks for and
 /// that are not there; the groups that get fewer files than their counts; the files that can't be restored;
-/// those that a folder can't take, since their paths are no names of files there, are too long, or conflict; and
-/// the copies of paths that come more than once. The memory is that of a restore which holds at most `budget`
-/// bytes of data.
+/// those that a folder can't take, because their paths are no file names there, are too long, or
+/// conflict; and the copies of paths that come more than once. The memory is that of a restore
+/// which holds at most `budget` bytes of data.
 ///
 /// The counts are those of the bootstrap's groups, in the same order, as `counts_of` of br_bsr returns them.
 ///

@@ -33,7 +33,7 @@ fn search_piece<D: Drive>(alloc: Global, piece: &Piece, drive: &mut D) -> Result
     })
 }
 
-/// Appends what was found of a piece.
+/// Appends what was found for a piece.
 fn push_result(
     results: &mut Vec<Result<Found, PieceFault>>,
     result_of: Result<Found, PieceFault>,
@@ -44,7 +44,7 @@ fn push_result(
     Ok(())
 }
 
-/// Returns of each piece its hits, or why its volume can't be searched.
+/// Returns for each piece its hits, or why its volume can't be searched.
 pub(crate) fn search<D: Drive>(
     alloc: Global,
     pieces: &[Piece],

@@ -1,4 +1,4 @@
--- What a chain that ends in `reduce` gives, where its closure answers by what the items show.
+-- What a chain that ends in `reduce` gives, if its closure returns by what the items show.
 use Rattle.std.proofs.Common.{◌≡◌, List, [], ◌∷◌, map, Option, Some, None, sym, ap, subst, ◌∙◌}
 use Rattle.std.proofs.lemmas.Iterator.{YieldsList, items_from_drains}
 use Rattle.std.specs.Prelude.{option_map}

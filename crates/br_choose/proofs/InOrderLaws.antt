@@ -46,7 +46,8 @@ last_of_some : {X : Type 0} (xs : List X) (y : X) → Contains xs y → last_or 
 last_of_some [] y inside e = none_in y inside
 last_of_some (x ∷ xs) y inside e = last_is_some x xs e
 
--- the last element in order of rank, where x is one of the list and none is above it: it has the rank of x
+-- the last element in order of rank, if x is one of the list and none is above it: it has
+-- the rank of x
 pub record IsLastLike {X : Type 0} (rank : X → List ℕ) (xs : List X) (x : X) : Type 0 where
   pub element : X
   pub last : last_or None (in_order rank xs) ≡ Some element

@@ -1,4 +1,4 @@
--- What a refused choice says.
+-- The numbers of refused choices.
 use Rattle.std.specs.Prelude.{ℕ, Option, Some, None}
 use Rattle.br_choose.specs.declared.fault.ChooseFault.{ChooseFault}
 use Rattle.br_choose.specs.declared.fault.ChooseFault.TheVariants.{Memory, NoFull, UnknownClient, UnknownFileSet}
@@ -10,7 +10,7 @@ fault_number NoFull = 50
 fault_number UnknownClient = 53
 fault_number UnknownFileSet = 54
 
--- the refusal that the model has, nothing for want of memory
+-- the refusal that the model decides; none if memory ran out
 abbrev pub cause : ChooseFault → Option ℕ
 cause Memory = None
 cause NoFull = Some 50

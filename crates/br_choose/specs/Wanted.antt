@@ -1,4 +1,4 @@
--- Tests of one job, and which of two is the later.
+-- Tests of one job, and the later of two jobs.
 use Rattle.std.specs.Prelude.{ℕ, Bool, true, ◌&&◌, ◌==◌, nat_lt, if◌then◌else◌, List, ◌∷◌, ◌++◌, map, filter, option_to_list, Option, Some, None, Result}
 use Rattle.std.specs.Borrow.{Bor}
 use Rattle.std.specs.Global.{Vec}
@@ -18,7 +18,7 @@ abbrev pub comes_after : Option JobRows → JobRows → Bool
 comes_after None j = true
 comes_after (Some earlier) j = is_after earlier j
 
--- a candidate of the level that comes after another job, if there is one
+-- whether the job is a candidate of the level, and comes after another job, if there is one
 abbrev pub is_wanted : Request → ℕ → Option JobRows → JobRows → Bool
 is_wanted q level earlier j = is_candidate q j && (j.row.level == level) && comes_after earlier j
 

@@ -77,7 +77,7 @@ fn joined<'h>(
 /// Chooses the jobs from which the state of a file set of a client before a moment (in seconds since 1970) is restored. Of the
 /// good jobs, which are of type `B` with the status `T` or `W`, of the client and the file set that started before the moment,
 /// these are the last Full, then the last Differential after it, if there is one, and then every Incremental after the later of
-/// these. The order is by start time, and of equal ones by number; no two of them have one number.
+/// these. The order is by start time, then by number; no two jobs have one number.
 ///
 /// # Errors
 ///

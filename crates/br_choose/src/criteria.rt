@@ -7,7 +7,7 @@ use br_history::JobRows;
 use br_types::Name;
 use std::marker::Model;
 
-/// Returns by what jobs are ordered: their start times, then their numbers.
+/// Returns the key by which jobs are ordered: the start time, then the number.
 pub(crate) fn rank(rows: &JobRows) -> (u64, u32)
     ensures start { result.0 ≡ rows.now.row.start }
     ensures number { result.1 ≡ rows.now.row.id }
@@ -45,7 +45,7 @@ fn ended_well(rows: &JobRows) -> bool
     row.kind.get() == b'B' && (row.status.get() == b'T' || row.status.get() == b'W')
 }
 
-/// What a chosen job has to meet: its client, its file set, and the moment before which it began.
+/// The conditions on a chosen job: its client, its file set, and the moment before which it began.
 #[derive(Drop)]
 pub(crate) struct Criteria<'r> {
     pub(crate) client: &'r Name,

@@ -1,4 +1,4 @@
-//! Which jobs a restore is made from: of a client's backups of a file set before a moment the last
+//! Chooses the jobs for a restore: of a client's backups of a file set before a moment the last
 //! Full, the last Differential after it, and every Incremental after the later of the two.
 //!
 //! Contracts see the chosen jobs, which borrow from a history, as the list of the rows of these

@@ -1,4 +1,4 @@
--- What callers see of claims and of their seats.
+-- How callers see claims and their seats.
 use Rattle.std.specs.Prelude.{◌≡◌, ℕ, ◌≤◌, ◌+◌, Bool, true, false, cond, List, [], ◌∷◌, ◌++◌, Option, MatchOption}
 use Rattle.std.specs.List.{AllByRecursion, list_any}
 use Rattle.atomic_table.specs.Seated.{TableId}
@@ -40,7 +40,7 @@ told_none s = record s { ended = true }
 abbrev pub HasDrawn : Seated → Seated → Option ℕ → Type 0
 HasDrawn before after result = MatchOption result (after ≡ told_none before) (λ x. (before.ended ≡ false) × (after ≡ with_number before x))
 
--- each is greater than the one before it
+-- each number is greater than the one before it
 abbrev pub IsAscending : List ℕ → Type 0
 IsAscending xs = RisesFrom 0 xs
 
@@ -71,7 +71,7 @@ pub record AreDealt (n : ℕ) (ended : Bool) (lists : List (List ℕ)) : Type 0 
 abbrev pub with_seat : Hand → Seated → Hand
 with_seat v s = hand v.limit (v.parts + 1) (v.drawn ++ s.drawn) (v.past + cond s.ended 1 0)
 
--- and after several, one after the other
+-- the view after several seats are joined, one after the other
 abbrev pub with_seats : Hand → List Seated → Hand
 with_seats v [] = v
 with_seats v (s ∷ ss) = with_seats (with_seat v s) ss

@@ -1,4 +1,4 @@
--- What the fields of the claims, of their word and of a seat mean.
+-- The fields of the claims, of their word and of a seat, as callers see them.
 use Rattle.std.specs.Prelude.{◌≡◌, ◌≤◌, cond, [], vec_capacity}
 use Rattle.br_claim.specs.declared.claims.Claims.TheInside.{Inside as ClaimFields}
 use Rattle.br_claim.specs.declared.word.ClaimWord.TheInside.{Inside as WordFields}

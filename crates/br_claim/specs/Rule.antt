@@ -16,7 +16,7 @@ abbrev pub times : ℕ → List ℕ → ℕ
 times x [] = 0
 times x (y ∷ ys) = cond (y == x) 1 0 + times x ys
 
--- f of each, added up
+-- the sum of f of each
 abbrev pub total : (Hand → ℕ) → List Hand → ℕ
 total f [] = 0
 total f (v ∷ vs) = f v + total f vs

@@ -34,7 +34,7 @@ impl Model for Claims {
 }
 
 impl Claims {
-    /// Makes claims of the numbers below `n`, without seats and with no number drawn. They take
+    /// Makes claims of the numbers below `n`, without seats and without drawn numbers. They take
     /// their memory from `alloc`.
     pub fn new(alloc: Global, n: u32) -> Result<Claims, AllocError>
         ensures { IfOk result (λ c. (c.limit ≡ n) × (c.seats ≡ 0)) }

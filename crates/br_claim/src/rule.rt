@@ -1,4 +1,4 @@
-//! What a seat knows of the claim word, and the rule that ties the seats to the word.
+//! What a seat knows of the claim word, and the rule that connects the seats with the word.
 use atomic_table::{Join, Play, Split, TableRule};
 use std::collections::LinkedList;
 

@@ -1,4 +1,4 @@
--- What the block that was read last says of the fragments that stand at their places.
+-- What the block that was read last says of the fragments at their places.
 use Rattle.std.proofs.Common.{◌≡◌, ℕ, Bool, true, false, cond, eqb, List, length, Option, Some, None, Result, Ok, Err, refl, ap, subst, ◌∙◌}
 use Rattle.std.proofs.lemmas.Bool.{and_parts, eqb-true, eq-eqb}
 use Rattle.std.proofs.lemmas.Slice.Eq.{bytes_eq-Decides}
@@ -15,7 +15,7 @@ use Rattle.br_data.specs.declared.reread_fault.AgainFault.{AgainFault}
 use Rattle.br_data.specs.declared.reread_fault.AgainFault.TheVariants.{Changed}
 use Rattle.br_data.proofs.ReadLaws.{shown_is_block}
 
--- a fragment that stands at a place of the block that was read last is the one of this block
+-- a fragment at a place of the block that was read last is the one of this block
 stands_known : (earlier later : Option (List Volume)) (place : FragmentPlace) (known : Option KnownBlock) → OnlyGrows earlier later → IsKnown later known → knows place known ≡ true
     → OfFragment earlier place (λ fragment. fragment_of known place.ordinal ≡ Ok fragment)
 stands_known earlier later place None grown is knows volumes fragment shows stands = absurd cc

@@ -1,4 +1,4 @@
--- Hits of a piece stand at their places, and stay there.
+-- Hits of a piece are at their places, and stay there.
 use Rattle.std.proofs.Common.{◌≡◌, ℕ, ◌+◌, ◌≤◌, Bool, true, false, cond, ltb, List, [], ◌∷◌, ◌++◌, length, drop, take, Option, Some, Result, Ok, Err, refl, sym, ap, subst, ◌∙◌, inl, inr, arith}
 use Rattle.std.proofs.lemmas.Bool.{le-ltb, ltb-false}
 use Rattle.std.proofs.lemmas.Option.{same_Some}
@@ -46,7 +46,7 @@ covered_or_none piece b hit inside = go (is_covered (just_groups piece.groups) b
     go true e = refl
     go false e = absurd (none_in hit (subst (λ (hs : List Hit). Contains hs hit) (uncovered_has_no_hits piece.groups b e) inside))
 
--- each hit of a piece stands at its place
+-- each hit of a piece is at its place
 pub hits_stand_lem : HitsStand
 unfolding hits_on hits_among
 hits_stand_lem volumes piece hits hit e inside =

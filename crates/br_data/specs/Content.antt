@@ -4,7 +4,7 @@ use Rattle.br_data.specs.declared.file_bytes.Content.{Content}
 use Rattle.br_data.specs.declared.file_bytes.Content.TheVariants.{Held, Left}
 use Rattle.br_data.specs.BodyParts.{joined}
 
--- those of the parts, or those that were read
+-- the bytes of the parts, or those that were read
 abbrev pub content_bytes : Content → List ℕ
 content_bytes (Held parts) = joined parts.items
 content_bytes (Left read) = read.bytes

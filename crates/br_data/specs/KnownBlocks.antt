@@ -1,4 +1,4 @@
--- The block that was read last, and what it says of fragments.
+-- The block that was read last, and its fragments.
 use Rattle.std.specs.Prelude.{◌≡◌, ◌==◌, ◌&&◌, if◌then◌else◌, ℕ, Bool, false, List, length, bytes_eq, slice_get, Option, Some, None, Result, Ok, Err, ⊤}
 use Rattle.br_model.specs.Answer.{◌>>=◌, some_or}
 use Rattle.br_model.specs.Block.{Fragment, fragments_of}
@@ -24,22 +24,22 @@ abbrev pub knows : FragmentPlace → Option KnownBlock → Bool
 knows place None = false
 knows place (Some known) = bytes_eq known.volume place.volume && known.address == place.address
 
--- the fragment of the block with so many before it
+-- the fragment of the block with this number of fragments before it
 abbrev pub fragment_of : Option KnownBlock → ℕ → Result Fragment AgainFault
 fragment_of None ordinal = Err Changed
 fragment_of (Some known) ordinal = some_or (slice_get (fragments_of known.bytes) ordinal) Changed
 
--- the bytes that are held, or else those of the fragment in the block, if they are as many
+-- the bytes in memory, or else those of the fragment in the block, if their number is equal
 abbrev pub bytes_of : Option KnownBlock → ℕ → Kept → Result (List ℕ) AgainFault
 bytes_of known ordinal kept = if kept.held then Ok kept.bytes else do
   fragment ← fragment_of known ordinal
   if length fragment.bytes == length kept.bytes then Ok fragment.bytes else Err Changed
 
--- of all fragments that the drive may be taken to have at the place, this holds
+-- this holds for all fragments that the drive may be taken to have at the place
 abbrev pub OfFragment : Option (List Volume) → FragmentPlace → (Fragment → Type 0) → Type 0
 OfFragment shown place P = (volumes : List Volume) (fragment : Fragment) → ShowsAll shown volumes → Stands volumes place fragment → P fragment
 
--- The bytes are given, or read of the block, if they are those of the fragment at the place.
+-- The bytes are given, or read from the block, if they are those of the fragment at the place.
 abbrev pub IsReady : Option (List Volume) → FragmentPlace → Kept → Option KnownBlock → Type 0
 IsReady shown place kept known =
     OfFragment shown place (λ fragment. fragment.bytes ≡ kept.bytes → bytes_of known place.ordinal kept ≡ Ok kept.bytes)

@@ -1,4 +1,4 @@
--- Data that the drives of a restore read again from the volumes of a bootstrap.
+-- Data that the drives of a restore reread from the volumes of a bootstrap.
 use Rattle.std.specs.Prelude.{◌≡◌, ◌<◌, ◌≤◌, ℕ, List, Option, Some, None, map, slice_get}
 use Rattle.std.specs.List.{AllByRecursion, AllZip}
 use Rattle.br_model.specs.Block.{Fragment}
@@ -32,15 +32,15 @@ GivesMany many spot bytes = AllByRecursion (λ (d : Driven). GivesOver d.shown m
 abbrev pub GoesOn : Driven → Driven → Type 0
 GoesOn before after = OnlyGrows before.shown after.shown × (before.failures ≤ after.failures)
 
--- each drive is in its place, and went on
+-- each drive is in its place, with its later state
 abbrev pub GoOn : RereadingMany → RereadingMany → Type 0
 GoOn before after = (after.groups ≡ before.groups) × AllZip GoesOn before.drives after.drives
 
--- each drive failed meanwhile
+-- each drive failed in the meantime
 abbrev pub HaveFailed : RereadingMany → RereadingMany → Type 0
 HaveFailed before after = AllZip (λ (x y : Driven). x.failures < y.failures) before.drives after.drives
 
--- ---- of the drives themselves
+-- ---- properties of the drives themselves
 
 -- the drive tells its volumes, and a fragment at the place has these bytes
 abbrev pub HasBytes : Option (List Volume) → FragmentPlace → List ℕ → Type 0
@@ -59,6 +59,6 @@ StayOn shows failures before after = AllZip (λ old new. OnlyGrows (shows old) (
 abbrev pub IsKnownAt : {D : Type 0} → (D → Option (List Volume)) → List D → ℕ → Option KnownBlock → Type 0
 IsKnownAt {D} shows drives at known = (d : D) → slice_get drives at ≡ Some d → IsKnown (shows d) known
 
--- the drive with this number failed meanwhile, if there is one
+-- the drive with this number failed in the meantime, if there is one
 abbrev pub FailsAt : {D : Type 0} → (D → ℕ) → List D → List D → ℕ → Type 0
 FailsAt {D} failures before after at = (x y : D) → slice_get before at ≡ Some x → slice_get after at ≡ Some y → failures x < failures y

@@ -1,4 +1,4 @@
--- Data that a drive reads again from the volumes of a bootstrap.
+-- Data that a drive rereads from the volumes of a bootstrap.
 use Rattle.std.specs.Prelude.{◌≡◌, ℕ, List, Option, Some, None, slice_get}
 use Rattle.br_model.specs.Block.{Fragment}
 use Rattle.br_model.specs.Bootstrap.{Group}

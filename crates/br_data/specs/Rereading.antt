@@ -1,15 +1,15 @@
--- What is read again of a volume.
+-- What is reread from a volume.
 use Rattle.std.specs.Prelude.{◌≡◌, ℕ, List, ◌++◌, length, take, drop, Option, Some, None, Result, Err, ⊤}
 use Rattle.br_model.specs.Volume.{Volume, volume_bytes}
 use Rattle.br_data.specs.StandingHits.{IsBlockAt, ShowsAll}
 use Rattle.br_data.specs.declared.reread_fault.AgainFault.{AgainFault}
 use Rattle.br_data.specs.declared.reread_fault.AgainFault.TheVariants.{Changed}
 
--- of all blocks that the drive may be taken to have at the address, this holds
+-- this holds for all blocks that the drive may be taken to have at the address
 abbrev pub OfBlock : Option (List Volume) → List ℕ → ℕ → (List ℕ → Type 0) → Type 0
 OfBlock shown name address P = (volumes : List Volume) (block : List ℕ) → ShowsAll shown volumes → IsBlockAt volumes name address block → P block
 
--- that the volume was changed is said only if there is no block at the address
+-- a refusal says that the volume was changed only if there is no block at the address
 abbrev pub IsGone : {A : Type 0} → Option (List Volume) → List ℕ → ℕ → Result A AgainFault → Type 0
 IsGone shown name address result = result ≡ Err Changed → OfBlock shown name address (λ block. ⊥)
 

@@ -1,4 +1,4 @@
--- Where the fragments that were found stand, and that they stay there.
+-- The places of the fragments that were found, which stay the same.
 use Rattle.std.specs.Prelude.{◌≡◌, ℕ, List, drop, Option, Some, None, Ok, slice_get, Contains, ⊤}
 use Rattle.br_model.specs.Block.{Fragment, read_block, fragments_of}
 use Rattle.br_model.specs.Volume.{Volume, volume_bytes, Extends}
@@ -26,19 +26,19 @@ pub record Stands (volumes : List Volume) (place : FragmentPlace) (fragment : Fr
   pub there : IsBlockAt volumes place.volume place.address block
   pub at : slice_get (fragments_of block) place.ordinal ≡ Some fragment
 
--- each hit of a piece stands at its place on the volume of the piece
+-- each hit of a piece is at its place on the volume of the piece
 abbrev pub HitsStand : Type 0
 HitsStand =
     (volumes : List Volume) (piece : Piece) (hits : List Hit) (hit : Hit) → hits_on volumes piece ≡ Ok hits → Contains hits hit
     → Stands volumes (place_on piece.volume hit.spot) hit.fragment
 
--- what stands at a place stays there while volumes grow
+-- what is at a place stays there while volumes grow
 abbrev pub StandingStays : Type 0
 StandingStays =
     (volumes later : List Volume) (place : FragmentPlace) (fragment : Fragment) → Extends later volumes
     → Stands volumes place fragment → Stands later place fragment
 
--- at one place there is one fragment
+-- there is one fragment at a place
 abbrev pub StandsOnce : Type 0
 StandsOnce =
     (volumes : List Volume) (place : FragmentPlace) (one other : Fragment)

@@ -62,7 +62,7 @@ fn digest_zeros(hasher: &mut Md5, count: usize)
     }
 }
 
-/// Writes `count` zeros, or if that fails the first of them.
+/// Writes `count` zeros, or the first of them if a write fails.
 fn write_zeros<W: Write>(writer: &mut W, count: usize) -> io::Result<()>
     ensures all { OnOk result (Appends (W.contents writer.old) (W.contents writer.new) (replicate count 0)) }
     ensures front { OnErr result (AppendsFront (W.contents writer.old) (W.contents writer.new) (replicate count 0)) }
@@ -86,7 +86,8 @@ fn digest_found(hasher: &mut Md5, kept: &Data, skip: usize) -> Result<(), AllocE
     Ok(())
 }
 
-/// Writes the data of a fragment without the first `skip` bytes, or if that fails the first of them.
+/// Writes the data of a fragment without the first `skip` bytes. If a write fails, the first of
+/// these are written.
 fn write_found<W: Write>(writer: &mut W, kept: &Data, skip: usize) -> io::Result<()>
     ensures all { OnOk result (Appends (W.contents writer.old) (W.contents writer.new) (drop skip kept.now.bytes)) }
     ensures front { OnErr result (AppendsFront (W.contents writer.old) (W.contents writer.new) (drop skip kept.now.bytes)) }
@@ -138,11 +139,11 @@ impl Part {
         }
     }
 
-    /// Writes the bytes of the part, or if that fails the first of them.
+    /// Writes the bytes of the part, or the first of them if a write fails.
     ///
     /// # Errors
     ///
-    /// Those of the writer, and `OutOfMemory` if the bytes are not in memory.
+    /// Those of the writer; `OutOfMemory` if the bytes are not in memory.
     pub(crate) fn write_to<W: Write>(&self, writer: &mut W) -> io::Result<()>
         ensures all { OnOk result (Appends (W.contents writer.old) (W.contents writer.new) (part_bytes self.now)) }
         ensures front { OnErr result (AppendsFront (W.contents writer.old) (W.contents writer.new) (part_bytes self.now)) }

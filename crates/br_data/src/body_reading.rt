@@ -8,7 +8,7 @@ use md5::{Digest, Md5};
 use std::alloc::{AllocError, Global};
 use std::marker::Model;
 
-/// The bytes of a file that were read so far. They are digested, and left where they were read.
+/// The bytes of a file that were read so far. They are digested, and stay where they were read.
 #[derive(Drop)]
 pub struct Reading {
     hasher: Md5,
@@ -40,7 +40,7 @@ fn left(alloc: Global, len: usize, read: ReadBytes) -> Content
 }
 
 impl Reading {
-    /// Returns one that has read nothing yet.
+    /// Returns a reading of no bytes.
     pub fn new() -> Reading
         ensures { result ≡ [] }
     {
@@ -51,11 +51,11 @@ impl Reading {
         }
     }
 
-    /// Takes the bytes that follow.
+    /// Adds the bytes that follow.
     ///
     /// # Errors
     ///
-    /// `AllocError` if the number of bytes is no `usize`.
+    /// `AllocError` if the number of bytes does not fit `usize`.
     pub fn push(&mut self, bytes: &[u8]) -> Result<(), AllocError>
         ensures { OnOk result (self.new ≡ self.old ++ bytes.now) }
     {

@@ -1,4 +1,4 @@
-//! Writes of bytes, of which a front is written if one fails.
+//! Writes bytes, or the first of them if a write fails.
 ghost use Rattle.std.specs.Prelude.{◌≡◌, ◌<◌, ◌≤◌, [], length, take, IfOk, OnErr, OnOk};
 ghost use Rattle.std.specs.Io.KnownBytes.{Appends, WriteAppends};
 ghost use Rattle.br_data.specs.BodyWritten.{AppendsFront};
@@ -6,10 +6,10 @@ ghost use Rattle.br_data.specs.BodyWritten.{AppendsFront};
 use std::io;
 use std::io::{Error, ErrorKind, Write};
 
-/// The number of bytes that one call writes. The system is slower with far more of them at a time.
+/// The number of bytes that one call writes. The system is slower with far more bytes per call.
 const WRITTEN_LEN: usize = 64 * 1024;
 
-/// The number of times that a write is tried which signals interrupt.
+/// The number of times that a write is tried if signals interrupt it.
 const TRIES: u32 = 1_000;
 
 /// Writes the first of the bytes, at most 64 KiB of them, by one call.
@@ -27,7 +27,7 @@ fn write_once<W: Write>(writer: &mut W, bytes: &[u8]) -> io::Result<usize>
 ///
 /// # Errors
 ///
-/// Those of the writer, and `WriteZero` if it takes no byte.
+/// Those of the writer; `WriteZero` if it takes no byte.
 pub(crate) fn write_some<W: Write>(writer: &mut W, bytes: &[u8]) -> io::Result<usize>
     ensures some { IfOk result (λ n. 0 < n) }
     ensures fits { IfOk result (λ n. n ≤ length bytes.now) }
@@ -48,11 +48,11 @@ pub(crate) fn write_some<W: Write>(writer: &mut W, bytes: &[u8]) -> io::Result<u
     Err(Error::from(ErrorKind::Interrupted))
 }
 
-/// Writes the bytes, at most 64 KiB by one call: all of them, or if that fails the first of them.
+/// Writes the bytes, at most 64 KiB per call: all of them, or the first of them if a write fails.
 ///
 /// # Errors
 ///
-/// Those of the writer, and `WriteZero` if it takes no byte.
+/// Those of the writer; `WriteZero` if it takes no byte.
 pub fn write_bytes<W: Write>(writer: &mut W, bytes: &[u8]) -> io::Result<()>
     ensures all { OnOk result (Appends (W.contents writer.old) (W.contents writer.new) bytes.now) }
     ensures front { OnErr result (AppendsFront (W.contents writer.old) (W.contents writer.new) bytes.now) }

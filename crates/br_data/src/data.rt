@@ -28,7 +28,7 @@ impl Model for Data {
 }
 
 impl Data {
-    /// Returns the data of these bytes, which are held.
+    /// Returns data with these bytes, which are in memory.
     pub fn new(bytes: ArcSlice<u8>) -> Data
         ensures { result ≡ record { bytes = arc_slice_items bytes; held = true } }
     {
@@ -39,7 +39,7 @@ impl Data {
         }
     }
 
-    /// Returns the data of these bytes, which are left on the volume.
+    /// Returns data with these bytes, which are left on the volume.
     pub fn left(bytes: &[u8]) -> Data
         ensures { result ≡ record { bytes = bytes.now; held = false } }
     {
@@ -71,7 +71,7 @@ impl Data {
         self.held = None;
     }
 
-    /// Returns the same data. Bytes that are held are shared, and none are copied.
+    /// Returns the same data. Bytes in memory are shared, and none are copied.
     ///
     /// # Errors
     ///

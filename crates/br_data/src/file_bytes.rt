@@ -20,7 +20,7 @@ use std::sync::ArcSlice;
 pub(crate) enum Content {
     /// Parts that are shared with the fragments in which they were found.
     Held(Vec<Part>),
-    /// Bytes that were read part by part, and left where they were read.
+    /// Bytes that were read part by part, and stay where they were read.
     Left(ReadBytes),
 }
 
@@ -59,7 +59,7 @@ fn digest_of(parts: &[Part]) -> Result<[u8; 16], AllocError>
     Ok(hasher.finalize())
 }
 
-/// Writes the bytes of the parts, one part after another, or if that fails the first of them. It
+/// Writes the bytes of the parts, one part after another, or the first of them if a write fails. It
 /// fails with `OutOfMemory` at the first bytes that are not in memory.
 fn write_parts<W: Write>(writer: &mut W, parts: &[Part]) -> io::Result<()>
     ensures all { OnOk result (Appends (W.contents writer.old) (W.contents writer.new) (joined parts.now)) }
@@ -106,8 +106,8 @@ fn let_go_all(parts: &mut [Part])
 }
 
 impl Content {
-    /// Writes the bytes, or if that fails the first of them. It fails with `OutOfMemory` at the first
-    /// bytes that are not in memory.
+    /// Writes the bytes, or the first of them if a write fails. It fails with `OutOfMemory` at the
+    /// first bytes that are not in memory.
     fn write_to<W: Write>(&self, writer: &mut W) -> io::Result<()>
         ensures all { OnOk result (Appends (W.contents writer.old) (W.contents writer.new) (content_bytes self.now)) }
         ensures front { OnErr result (AppendsFront (W.contents writer.old) (W.contents writer.new) (content_bytes self.now)) }
@@ -214,7 +214,7 @@ impl FileBytes {
         self.digest
     }
 
-    /// Writes all bytes, at most 64 KiB by one call. If a write fails, the first of the bytes are
+    /// Writes all bytes, at most 64 KiB per call. If a write fails, the first of the bytes are
     /// written, maybe none. It fails with `OutOfMemory` at the first bytes that are not in memory.
     pub fn write_to<W: Write>(&self, writer: &mut W) -> io::Result<()>
         ensures all { OnOk result (Appends (W.contents writer.old) (W.contents writer.new) self.now) }

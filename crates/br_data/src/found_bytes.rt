@@ -6,7 +6,7 @@ ghost use Rattle.std.specs.Borrow.{ftrue};
 use std::marker::Model;
 use std::sync::ArcSlice;
 
-/// The bytes of a fragment as they were when they were found. They are in no memory.
+/// The bytes of a fragment at the time when it was found. They are not stored.
 #[derive(Drop)]
 pub(crate) struct FoundBytes {
     pub ghost bytes: { List ℕ },
@@ -16,7 +16,7 @@ impl Model for FoundBytes {
     ghost also_owns = { λ _. ftrue };
 }
 
-// A struct with `also_owns` has neither by itself. This one owns nothing.
+// A struct with `also_owns` is neither `Send` nor `Sync` by itself. This one owns nothing.
 unsafe impl Send for FoundBytes {}
 
 unsafe impl Sync for FoundBytes {}

@@ -1,16 +1,16 @@
-//! The data of files: the bytes of fragments that were found, held in memory or left on their
-//! volumes, and the bodies of files that are made of them.
+//! The data of files: the bytes of fragments that were found, kept in memory or left on their
+//! volumes, and the bodies of files that are made from them.
 //!
-//! Volumes only grow, so a fragment that was found can be read again from the place at which it was
-//! found. For contracts a `Data` is its bytes, whether they are held or not. A `Fetch` gives these
-//! bytes: `InMemory` those that are held, and `OverMany` those that the drives of a restore read
-//! again from the volumes of its bootstrap, by one of the drives, and by the next one if that one
+//! Volumes only grow, so a fragment that was found can be reread from the place at which it was
+//! found. For contracts a `Data` is its bytes, in memory or not. A `Fetch` returns these
+//! bytes: `InMemory` those in memory, and `OverMany` those that the drives of a restore
+//! reread from the volumes of its bootstrap, by one of the drives, and by the next one if that one
 //! failed.
 //!
 //! A `Part` is zeros, bytes that were made, or the data of a fragment, with which they are shared.
 //! A `FileBytes` is all bytes of a file: in parts that are in memory, or read part by part by a
-//! `Reading`, which digests them and keeps none. `write_bytes` writes bytes, and if that fails the
-//! first of them.
+//! `Reading`, which digests them and keeps none. `write_bytes` writes bytes, or the first of them
+//! if a write fails.
 #![tactic(auto)]
 
 mod body_part;

@@ -14,8 +14,8 @@ use std::alloc::Global;
 use std::marker::Model;
 use std::mem;
 
-/// Reads data again from the volumes that its drives show, each of them all. One drive reads as long
-/// as it does not fail, and then the first of all that does not. The number of a group among the
+/// Rereads data from the volumes that its drives show; each drive shows all volumes. One drive
+/// reads until it fails, and then the first one that does not. The number of a group among the
 /// groups of the bootstrap says which volume that is.
 #[derive(Drop)]
 pub struct OverMany<'b, D: Drive> {
@@ -38,7 +38,7 @@ impl<'b, D: Drive> Model for OverMany<'b, D> {
 }
 
 impl<'b, D: Drive> OverMany<'b, D> {
-    /// Returns one that has read nothing yet, by these drives.
+    /// Returns a reader over these drives that has read nothing yet.
     pub fn new(alloc: Global, drives: Vec<D>, groups: &'b [Group]) -> OverMany<'b, D>
         ensures drives { result.drives ≡ driven_by D.shows D.failures drives.items }
         ensures groups { result.groups ≡ groups.now }
@@ -58,7 +58,7 @@ impl<'b, D: Drive> OverMany<'b, D> {
         self.drives
     }
 
-    /// Returns how many drives there are.
+    /// Returns the number of drives.
     pub fn count(&self) -> usize
         ensures { result ≡ length self.now.drives }
     {
@@ -72,7 +72,7 @@ impl<'b, D: Drive> OverMany<'b, D> {
         self.groups
     }
 
-    /// Takes all of it out: what reads the data again, by the same drives. It has no drives after that.
+    /// Takes the whole value out, with its drives. This one has no drives after that.
     pub fn take(&mut self, alloc: Global) -> OverMany<'b, D>
         ensures taken { result ≡ self.old }
         ensures none { self.new ≡ record { drives = []; groups = self.old.groups } }
@@ -81,7 +81,7 @@ impl<'b, D: Drive> OverMany<'b, D> {
         mem::replace(self, none)
     }
 
-    /// Puts in what was taken out.
+    /// Puts a value back that was taken out.
     pub fn put_back(&mut self, taken: OverMany<'b, D>)
         requires none { self.old.drives ≡ [] }
         ensures { self.new ≡ taken.entry }
@@ -90,7 +90,7 @@ impl<'b, D: Drive> OverMany<'b, D> {
         none.into_drives().destroy_empty();
     }
 
-    /// Takes the drives out, each in its place.
+    /// Takes the drives out, in order.
     pub fn take_drives(&mut self, alloc: Global) -> Vec<D>
         ensures drives { driven_by D.shows D.failures result.items ≡ self.old.drives }
         ensures none { self.new ≡ record { drives = []; groups = self.old.groups } }
@@ -99,7 +99,7 @@ impl<'b, D: Drive> OverMany<'b, D> {
         mem::replace(&mut self.drives, Vec::new(alloc))
     }
 
-    /// Puts drives in, after those that it had were taken out.
+    /// Puts drives back, after they were taken out.
     pub fn put_drives(&mut self, alloc: Global, drives: Vec<D>)
         requires none { self.old.drives ≡ [] }
         ensures { self.new ≡ record { drives = driven_by D.shows D.failures drives.items; groups = self.old.groups } }
@@ -110,7 +110,7 @@ impl<'b, D: Drive> OverMany<'b, D> {
         none.destroy_empty();
     }
 
-    /// Returns the data in memory: they are shared if they are held, or else read again.
+    /// Returns the data in memory: shared if they are in memory already, else reread.
     ///
     /// # Errors
     ///

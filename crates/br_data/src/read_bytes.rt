@@ -4,7 +4,7 @@ ghost use Rattle.std.specs.Borrow.{ftrue};
 
 use std::marker::Model;
 
-/// The bytes of a file that were read, one part after another. They are in no memory.
+/// The bytes of a file that were read, one part after another. They are not stored.
 #[derive(Drop)]
 pub(crate) struct ReadBytes {
     pub ghost bytes: { List ℕ },
@@ -14,7 +14,7 @@ impl Model for ReadBytes {
     ghost also_owns = { λ _. ftrue };
 }
 
-// A struct with `also_owns` has neither by itself. This one owns nothing.
+// A struct with `also_owns` is neither `Send` nor `Sync` by itself. This one owns nothing.
 unsafe impl Send for ReadBytes {}
 
 unsafe impl Sync for ReadBytes {}

@@ -19,7 +19,7 @@ use std::marker::Model;
 /// and of no other.
 #[derive(Drop)]
 pub struct Again {
-    /// The bytes of the block, anything if none is known.
+    /// The bytes of the block; anything if none is known.
     bytes: Vec<u8>,
     /// The volume and the address of the block.
     known: Option<(VolName, u64)>,
@@ -38,7 +38,7 @@ impl Model for Again {
 }
 
 impl Again {
-    /// Returns one that knows no block.
+    /// Returns a value without a known block.
     pub fn new(alloc: Global) -> Again
         ensures { result ≡ None }
     {
@@ -58,7 +58,7 @@ impl Again {
         }
     }
 
-    /// Reads the block of the place, unless it was read last. The drive is that of all calls before.
+    /// Reads the block of the place, unless it was read last. The drive is the same for all calls.
     ///
     /// # Errors
     ///
@@ -87,8 +87,9 @@ impl Again {
         Ok(())
     }
 
-    /// Makes ready to give the bytes of the data, by `bytes_of`: reads the block of the place, unless
-    /// the bytes are held or the block was read last. The drive is that of all calls before.
+    /// Gets ready to return the bytes of the data, by `bytes_of`: reads the block of the
+    /// place, unless the bytes are in memory or the block was read last. The drive is the same
+    /// for all calls.
     ///
     /// Over all volumes that the drive shows, whatever else it shows, the bytes are then those that
     /// were found, if the volumes have these at the place.
@@ -96,7 +97,7 @@ impl Again {
     /// # Errors
     ///
     /// `Failed` if the drive failed, `Changed` if there is no block at the address, `Memory` if
-    /// memory runs out. There is none if the bytes are held.
+    /// memory runs out. There is none if the bytes are in memory.
     pub fn prepare<D: Drive>(
         &mut self,
         drive: &mut D,
@@ -132,12 +133,12 @@ impl Again {
         }
     }
 
-    /// Returns the bytes of the data: those that are held, or those of the fragment of the block
+    /// Returns the bytes of the data: those in memory, or those of the fragment of the block
     /// that was read last with this number of fragments before it.
     ///
     /// # Errors
     ///
-    /// `Changed` if no bytes are held and there is no such fragment, or one of another length.
+    /// `Changed` if no bytes are in memory and there is no such fragment, or one of another length.
     #[tactic(auto, unfolding(crate::specs::KnownBlocks::bytes_of))]
     pub fn bytes_of<'a>(&'a self, ordinal: u32, found: &'a Data) -> Result<&'a [u8], AgainFault>
         ensures { AnswersAlways (λ bytes. bytes.now) (λ e. e) result (bytes_of self.now ordinal found.now) }

@@ -1,4 +1,4 @@
-//! Data that are read by one drive, and by the first of some drives that does not fail.
+//! Data that are read by one drive, and then by the first drive that does not fail.
 ghost use Rattle.std.specs.Prelude.{◌≡◌, ◌<◌, ◌≤◌, Err, IfOk};
 ghost use Rattle.std.specs.List.{AllZip};
 ghost use Rattle.br_volume.specs.Drive.{OnlyGrows};
@@ -66,8 +66,8 @@ fn read_at<D: Drive>(
     }
 }
 
-/// Returns the data in memory, read by the first of the drives that does not fail, and the number of
-/// this drive. The block that was read last is of it.
+/// Returns the data in memory, read by the first of the drives that does not fail, and the number
+/// of this drive. The block that was read last is of it.
 ///
 /// # Errors
 ///
@@ -97,12 +97,12 @@ fn read_any<D: Drive>(
     Err(AgainFault::Failed)
 }
 
-/// Returns the data in memory, read by the first of the drives that does not fail. It is the one that
-/// reads from now on: the one with the number `at`, of which the block is that was read last.
+/// Returns the data in memory, read by the first of the drives that does not fail. This drive reads
+/// from now on. The block that was read last is of the drive with the number `at`.
 ///
 /// # Errors
 ///
-/// As `read_any`.
+/// Those of `read_any`.
 fn read_by_another<D: Drive>(
     alloc: Global,
     drives: &mut Vec<D>,
@@ -128,8 +128,8 @@ fn read_by_another<D: Drive>(
     }
 }
 
-/// Returns the data in memory, read by the drive with the number `at`, or if it failed by the first that
-/// does not, which reads from now on. The block that was read last is of the drive that reads.
+/// Returns the data in memory, read by the drive with the number `at`, or if it fails, by the first
+/// that does not. This drive reads from now on, and the block that was read last is of it.
 ///
 /// # Errors
 ///

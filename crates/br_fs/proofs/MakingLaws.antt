@@ -84,7 +84,7 @@ pub free_was : (path : List ℕ) (earlier later : Option Nodes) → later ≡ ea
     → IsFileOrFree earlier path
 free_was path earlier later same free = inr (rw same at free)
 
--- where nothing is found, nothing is
+-- if nothing is found, nothing is
 pub no_kind : (node : Option Node) → None ≡ option_map kind_of node → node ≡ None
 no_kind None none = refl
 no_kind (Some node) none = absurd cc

@@ -108,7 +108,7 @@ whole_at_end (Some vs) path a wanted front fits (inr has) ends =
     let one = some_same has.0 ends.0 (sym has.1 ∙ ends.1) in
     (ends.0, ends.1, (all_of ends.0 a wanted front fits ends.2.0 (has.2.0 ∙ ap (λ (l : List ℕ). take (length front) (drop a l)) one), ends.2.1))
 
--- a front of so many bytes is whole
+-- a front of as many bytes is whole
 pub whole_at_count : (told : Option Tree) (path : List ℕ) (a wanted : ℕ) (front : List ℕ) → 0 < wanted → length front ≡ wanted
     → IsFront told path a front → IsWhole told path a wanted front
 whole_at_count told path a wanted front some full (inl none) = absurd (omega (arith, ap (λ (l : List ℕ). length l) none))
@@ -116,7 +116,7 @@ whole_at_count None path a wanted front some full (inr has) = tt
 whole_at_count (Some vs) path a wanted front some full (inr has) =
     (has.0, has.1, (has.2.0 ∙ ap (λ (k : ℕ). take k (drop a has.0)) full, has.2.1))
 
--- a read of no bytes, where the buffer has room for some, is at the file's end
+-- a read of no bytes, if the buffer has room for some, is at the file's end
 pub end_of : (told : Option Tree) (path : List ℕ) (a : ℕ) (front buffer : List ℕ) (n : ℕ) → n ≡ 0 → 0 < length buffer
     → IsReadAt told path (a + length front) buffer n → IsEnd told path a front
 end_of None path a front buffer n none room read = tt

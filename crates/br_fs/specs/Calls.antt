@@ -1,4 +1,4 @@
--- What a call on a disk says of its tree.
+-- The effect of a call on a disk, as its tree shows it.
 use Rattle.std.specs.Prelude.{◌≡◌, ℕ, ◌^◌, ◌<◌, ◌≤◌, List, length, take, drop, Option, Some, None, Result, Ok, Err, ⊤}
 use Rattle.br_fs.specs.Tree.{Tree, file_bytes, other_at, IsLonger}
 use Rattle.br_fs.specs.declared.kind.Kind.{Kind}
@@ -35,14 +35,14 @@ abbrev pub IsTaken : Option Tree → List ℕ → Type 0
 IsTaken None path = ⊤
 IsTaken (Some tree) path = IsNothing (Some tree) path → ⊥
 
--- A disk tells its tree always or never. If it tells it, all that is no file is as it was.
+-- A disk tells its tree always or never. If it tells it, all that is not a file is unchanged.
 abbrev pub KeepsFolders : Option Tree → Option Tree → Type 0
 KeepsFolders None None = ⊤
 KeepsFolders (Some earlier) (Some later) = later.others ≡ earlier.others
 KeepsFolders None (Some later) = ⊥
 KeepsFolders (Some earlier) None = ⊥
 
--- something else than a file is at the path
+-- something other than a file is at the path
 abbrev pub IsOther : Tree → List ℕ → Kind → Type 0
 IsOther tree path kind = (file_bytes tree path ≡ None) × (other_at tree path ≡ Some kind)
 
@@ -53,19 +53,19 @@ IsAt tree path Folder n = IsOther tree path Folder
 IsAt tree path Link n = IsOther tree path Link
 IsAt tree path Other n = IsOther tree path Other
 
--- If the tree is told, that is at the path.
+-- If the tree is told, this is what is at the path.
 abbrev pub IsFound : Option Tree → List ℕ → Kind → ℕ → Type 0
 IsFound None path kind n = ⊤
 IsFound (Some tree) path kind n = IsAt tree path kind n
 
--- The first n bytes of the buffer are the text's from an address on. There is one at least, unless
--- the text ends there or the buffer has no room. No file has 2^63 bytes.
+-- The first n bytes of the buffer are the text's from an address on. n is at least 1, unless the
+-- text ends there or the buffer has no room. No file has 2^63 bytes.
 pub record IsPartAt (bytes : List ℕ) (at : ℕ) (buffer : List ℕ) (n : ℕ) : Type 0 where
   pub same : take n buffer ≡ take n (drop at bytes)
   pub some : n ≡ 0 → 0 < length buffer → length bytes ≤ at
   pub below : length bytes < 2 ^ 63
 
--- If the tree is told, a read of the file at the path gave this.
+-- If the tree is told, this is a possible result of a read of the file at the path.
 abbrev pub IsReadAt : Option Tree → List ℕ → ℕ → List ℕ → ℕ → Type 0
 IsReadAt told path at buffer n = HasFile told path (λ bytes. IsPartAt bytes at buffer n)
 
@@ -76,8 +76,8 @@ Appends path bytes (Some earlier) (Some later) = IsLonger path bytes earlier lat
 Appends path bytes None (Some later) = ⊥
 Appends path bytes (Some earlier) None = ⊥
 
--- If a disk does not fail by itself, it does not fail here, and it is interrupted only as often as
--- is said.
+-- If a disk does not fail by itself, it does not fail here, and it is interrupted at most this
+-- number of times.
 abbrev pub IsSteady : {A : Type 0} → Option ℕ → Option ℕ → Result A DiskFault → Type 0
 IsSteady None later result = ⊤
 IsSteady (Some n) None result = ⊥
@@ -88,7 +88,7 @@ IsSteady (Some n) (Some m) (Err Exists) = m ≤ n
 IsSteady (Some n) (Some m) (Err Memory) = m ≤ n
 IsSteady (Some n) (Some m) (Err Failed) = ⊥
 
--- a disk that does not fail by itself stays so, and no more interrupts come
+-- a disk that does not fail by itself stays such, and no more interrupts come
 abbrev pub StaysSteady : Option ℕ → Option ℕ → Type 0
 StaysSteady None later = ⊤
 StaysSteady (Some n) None = ⊥

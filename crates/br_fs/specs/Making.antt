@@ -3,14 +3,14 @@ use Rattle.std.specs.Prelude.{◌≡◌, ℕ, Bool, true, false, ◌⊎◌, if�
 use Rattle.br_fs.specs.declared.kind.Kind.{Kind}
 use Rattle.br_fs.specs.declared.kind.Kind.TheVariants.{File, Folder}
 
--- a file and its bytes; a file that is being written, and its number, by which it is told from all
--- others that were made; or a folder, a link or something else
+-- a file and its bytes; a file that is being written, with its number, which no other file has; or
+-- a folder, a link or something else
 pub data Node : Type 0 where
   Bytes : List ℕ → Node
   Opened : ℕ → Node
   Else : Kind → Node
 
--- paths and what is at each; of the entries for one path the first counts
+-- paths and what is at each; of the entries for one path, the first counts
 abbrev pub Nodes : Type 0
 Nodes = List (List ℕ × Option Node)
 
@@ -22,7 +22,7 @@ first_node (Some entry) = entry.1
 abbrev pub node_at : Nodes → List ℕ → Option Node
 node_at nodes path = first_node (find (λ (e : List ℕ × Option Node). bytes_eq e.0 path) nodes)
 
--- what a call finds there
+-- the kind that a call finds there
 abbrev pub kind_of : Node → Kind
 kind_of (Bytes bytes) = File
 kind_of (Opened n) = File
@@ -38,22 +38,22 @@ abbrev pub IsFree : Option Nodes → List ℕ → Type 0
 IsFree None path = ⊤
 IsFree (Some nodes) path = node_at nodes path ≡ None
 
--- what is at `other` after `node` was put at `path`
+-- what is at `other` after `node` was placed at `path`
 abbrev pub node_after : Nodes → List ℕ → Option Node → List ℕ → Option Node
 node_after earlier path node other = if bytes_eq path other then node else node_at earlier other
 
--- the later nodes are the earlier ones but for one path, at which this is now
+-- the later nodes are the earlier ones, except that this is now at one path
 abbrev pub AreSet : List ℕ → Option Node → Nodes → Nodes → Type 0
 AreSet path node earlier later = (other : List ℕ) → node_at later other ≡ node_after earlier path node other
 
--- Nodes are told always or never. If they are told, only what is at the path is changed, to this.
+-- Nodes are told always or never. If they are told, only the node at the path changes, to this one.
 abbrev pub Sets : List ℕ → Option Node → Option Nodes → Option Nodes → Type 0
 Sets path left None None = ⊤
 Sets path left (Some earlier) (Some later) = AreSet path left earlier later
 Sets path left None (Some later) = ⊥
 Sets path left (Some earlier) None = ⊥
 
--- Nodes are told always or never. If they are told, every other path has what it had.
+-- Nodes are told always or never. If they are told, the nodes at all other paths are unchanged.
 abbrev pub KeepsOthers : List ℕ → Option Nodes → Option Nodes → Type 0
 KeepsOthers path None None = ⊤
 KeepsOthers path (Some earlier) (Some later) =
@@ -61,7 +61,7 @@ KeepsOthers path (Some earlier) (Some later) =
 KeepsOthers path None (Some later) = ⊥
 KeepsOthers path (Some earlier) None = ⊥
 
--- If the nodes are told, the path has a new file, which tells its number, and no bytes yet.
+-- If the nodes are told, the path has a new file with its number and no bytes yet.
 abbrev pub MakesFile : List ℕ → Option (List ℕ) → Option Nodes → Option Nodes → Type 0
 MakesFile path contents None None = ⊤
 MakesFile path contents (Some earlier) (Some later) =
@@ -69,7 +69,7 @@ MakesFile path contents (Some earlier) (Some later) =
 MakesFile path contents None (Some later) = ⊥
 MakesFile path contents (Some earlier) None = ⊥
 
--- If the nodes are told, the file that tells this is the one that is being written at the path.
+-- If the nodes are told, the file with this number is the one that is being written at the path.
 abbrev pub IsOpenedAs : Option Nodes → List ℕ → Option (List ℕ) → Type 0
 IsOpenedAs None path contents = ⊤
 IsOpenedAs (Some nodes) path contents =
@@ -83,7 +83,7 @@ PutsFile path contents (Some earlier) (Some later) =
 PutsFile path contents None (Some later) = ⊥
 PutsFile path contents (Some earlier) None = ⊥
 
--- The file that is finished at the path is put there, if it is the one that is being written there.
+-- The file that is finished is at the path from now on, if it is the one being written there.
 abbrev pub IsFinished : List ℕ → Option (List ℕ) → Option Nodes → Option Nodes → Type 0
 IsFinished path contents earlier later = IsOpenedAs earlier path contents → PutsFile path contents earlier later
 
@@ -96,7 +96,7 @@ IsFolderNow path earlier later =
 abbrev pub IsFileOrFree : Option Nodes → List ℕ → Type 0
 IsFileOrFree nodes path = IsKindAt nodes path File ⊎ IsFree nodes path
 
--- If the nodes are told, nothing is changed, or a file that is not whole is left at the path.
+-- If the nodes are told, nothing is changed, or an incomplete file is left at the path.
 abbrev pub LeavesOpened : List ℕ → Option Nodes → Option Nodes → Type 0
 LeavesOpened path earlier later = (later ≡ earlier) ⊎ ((n : ℕ) × Sets path (Some (Opened n)) earlier later)
 

@@ -5,16 +5,16 @@ use Rattle.br_fs.specs.Making.{Node, Nodes, Bytes, Opened, Else, kind_of, node_a
 use Rattle.br_fs.specs.declared.mem_maker.Left.{Left}
 use Rattle.br_fs.specs.declared.mem_maker.Left.TheVariants as left
 
--- what it has at each path, and the calls before it fails if it is to fail
+-- what is at each path, and the number of calls before it fails, if it is to fail
 pub record Made : Type 0 where
   pub nodes : Nodes
   pub calls_left : Option ℕ
 
--- the maker, to fail after so many calls
+-- the maker, to fail after this number of calls
 abbrev pub with_calls : ℕ → Made → Made
 with_calls n maker = record { nodes = maker.nodes; calls_left = Some n }
 
--- what a change left at its path
+-- the state that a change left at its path
 abbrev pub node_of : Left → Option Node
 node_of left.Nothing = None
 node_of (left.Else kind) = Some (Else kind)

@@ -11,15 +11,15 @@ use Rattle.br_fs.specs.declared.kind.Found.{Found}
 abbrev pub files_of : {A : Type 0} → List (List ℕ × Vec ℕ A) → List Volume
 files_of {A} kept = map (λ (v : List ℕ × Vec ℕ A). record { name = v.0; bytes = v.1.items }) kept
 
--- its tree, the interrupts to come, the calls before it fails if it is to fail, and the bytes that
--- it still takes if it is to be full
+-- its tree, the number of interrupts to come, the number of calls before it fails if it is to fail,
+-- and the number of bytes that it still takes if it is to be full
 pub record Held : Type 0 where
   pub tree : Tree
   pub interrupts : ℕ
   pub calls_left : Option ℕ
   pub room : Option ℕ
 
--- a disk that is neither to fail nor to be full is interrupted so often
+-- a disk that is neither to fail nor to be full, with this number of interrupts to come
 abbrev pub steady_from : Option ℕ → Option ℕ → ℕ → Option ℕ
 steady_from None None interrupts = Some interrupts
 steady_from None (Some room) interrupts = None
@@ -28,15 +28,15 @@ steady_from (Some n) room interrupts = None
 abbrev pub steady_of : Held → Option ℕ
 steady_of disk = steady_from disk.calls_left disk.room disk.interrupts
 
--- the disk, to be interrupted so often
+-- the disk, with this number of interrupts to come
 abbrev pub with_interrupts : ℕ → Held → Held
 with_interrupts n disk = record { tree = disk.tree; interrupts = n; calls_left = disk.calls_left; room = disk.room }
 
--- the disk, to fail after so many calls
+-- the disk, to fail after this number of calls
 abbrev pub with_calls : ℕ → Held → Held
 with_calls n disk = record { tree = disk.tree; interrupts = disk.interrupts; calls_left = Some n; room = disk.room }
 
--- the disk, to be full after so many bytes
+-- the disk, to be full after this number of bytes
 abbrev pub with_room : ℕ → Held → Held
 with_room n disk = record { tree = disk.tree; interrupts = disk.interrupts; calls_left = disk.calls_left; room = Some n }
 
@@ -49,7 +49,7 @@ abbrev pub with_appended : List ℕ → List ℕ → List Volume → List Volume
 with_appended path bytes [] = record { name = path; bytes = bytes } ∷ []
 with_appended path bytes (v ∷ vs) = if bytes_eq v.name path then longer bytes v ∷ vs else v ∷ with_appended path bytes vs
 
--- something else than a file
+-- something other than a file
 abbrev pub IsNotFile : Kind → Type 0
 IsNotFile File = ⊥
 IsNotFile Folder = ⊤
@@ -63,7 +63,7 @@ IsUnseen Folder = ⊥
 IsUnseen Link = ⊤
 IsUnseen Other = ⊥
 
--- what is found where something of this kind is
+-- what is found at a path where something of this kind is
 abbrev pub IsSeen : Kind → Option Found → Type 0
 IsSeen kind None = IsUnseen kind
 IsSeen kind (Some found) = (found.kind ≡ kind) × IsNotFile found.kind
@@ -73,7 +73,7 @@ abbrev pub IsUnseenAt : Option Kind → Type 0
 IsUnseenAt None = ⊤
 IsUnseenAt (Some kind) = IsUnseen kind
 
--- what else than a file is found at the path
+-- what is found at the path other than a file
 abbrev pub IsOtherIn : List (List ℕ × Kind) → List ℕ → Option Found → Type 0
 IsOtherIn others path None =
     IsUnseenAt (option_map (λ (e : List ℕ × Kind). e.1) (find (λ (e : List ℕ × Kind). bytes_eq e.0 path) others))

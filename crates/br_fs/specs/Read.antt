@@ -1,4 +1,4 @@
--- What is read of a file by several reads.
+-- The result of several reads of a file.
 use Rattle.std.specs.Prelude.{◌≡◌, ℕ, ◌+◌, ◌^◌, ◌<◌, ◌≤◌, ◌⊎◌, List, [], length, take, drop, Option, Some, None, Result, Ok, Err, ⊤}
 use Rattle.br_fs.specs.Tree.{Tree}
 use Rattle.br_fs.specs.Calls.{HasFile}
@@ -19,7 +19,7 @@ FailsOnly steady (Err Memory) = ⊤
 FailsOnly steady (Err Interrupted) = MayFail steady
 FailsOnly steady (Err Failed) = MayFail steady
 
--- nothing is read, or the bytes are the first that the file has from the address on
+-- nothing is read, or the bytes are those of the file from the address on, maybe not all
 abbrev pub IsFront : Option Tree → List ℕ → ℕ → List ℕ → Type 0
 IsFront told path address front =
     (front ≡ []) ⊎ HasFile told path (λ bytes. (front ≡ take (length front) (drop address bytes)) × (length bytes < 2 ^ 63))

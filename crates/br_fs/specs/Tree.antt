@@ -13,12 +13,12 @@ pub record Tree : Type 0 where
 abbrev pub file_bytes : Tree → List ℕ → Option (List ℕ)
 file_bytes tree path = volume_bytes tree.files path
 
--- what is at a path that is no file, if there is something
+-- what is at a path other than a file, if there is something
 abbrev pub other_at : Tree → List ℕ → Option Kind
 other_at tree path = option_map (λ (e : List ℕ × Kind). e.1) (find (λ (e : List ℕ × Kind). bytes_eq e.0 path) tree.others)
 
--- what the path `other` has after bytes are appended to the file at `path`, which is made if it is
--- not there
+-- what is at the path `other` after bytes are appended to the file at `path`, which is made if it
+-- does not exist
 abbrev pub bytes_after : List Volume → List ℕ → List ℕ → List ℕ → Option (List ℕ)
 bytes_after earlier path bytes other =
     if bytes_eq other path then Some (bytes_of_volume earlier path ++ bytes) else volume_bytes earlier other

@@ -5,7 +5,7 @@ ghost use Rattle.br_fs.specs.Calls.{Appends, StaysSteady};
 use crate::disk::Disk;
 use crate::fault::DiskFault;
 
-/// The number of times that a write is tried which signals interrupt.
+/// The number of times that a write is tried if signals interrupt it.
 const TRIES: u32 = 1_000;
 
 /// Writes the first of the bytes. Tries again if the write is interrupted.

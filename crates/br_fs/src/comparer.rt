@@ -13,7 +13,7 @@ use std::alloc::Global;
 use std::os::unix::fs::FileExt;
 use std::rt::Files;
 
-/// A maker of files that compares what is on disk already.
+/// A maker of files that can compare files that are already on disk.
 pub trait Comparer: FileMaker {
     /// Returns whether the file at the path has this number of bytes and this digest.
     ///
@@ -57,7 +57,7 @@ fn are_alike(bytes: &[u8], count: u64, digest: &[u8; 16]) -> bool
 }
 
 impl Comparer for MemMaker {
-    /// A file that is being written is like no other.
+    /// Returns false for a file that is being written.
     #[tactic(auto, using(crate::proofs::AlikeLaws::alike_in, crate::proofs::AlikeLaws::lacks_in, crate::proofs::AlikeLaws::lacks_none))]
     fn is_alike(
         &mut self,

@@ -27,7 +27,7 @@ pub trait Disk {
     ///
     /// # Errors
     ///
-    /// `NotFound` only if nothing is there, or a link that leads to nothing.
+    /// `NotFound` only if nothing is there, or a link whose target does not exist.
     fn find(&mut self, path: &str) -> Result<Found, DiskFault>
         ensures found { IfOk result (λ found. IsFound (told self.new) path.now found.kind found.len) }
         ensures missing { result ≡ Err NotFound → IsNoFile (told self.new) path.now }
@@ -36,7 +36,8 @@ pub trait Disk {
         ensures same { told self.new ≡ told self.old }
         ensures steady { IsSteady (steady self.old) (steady self.new) result };
 
-    /// Opens the file at the path for reading. What is no file, as a pipe, must not be opened.
+    /// Opens the file at the path for reading. What is not a file, such as a pipe, must
+    /// not be opened.
     fn open(&mut self, path: &str) -> Result<Self::File, DiskFault>
         requires file { IsFile (told self.old) path.now }
         ensures opened { IfOk result (λ file. path_of file ≡ path.now) }
@@ -70,7 +71,7 @@ pub trait Disk {
     fn is_at(&self, file: &Self::File, path: &str) -> bool
         ensures { IsTrue result → path_of file.now ≡ path.now };
 
-    /// Reads bytes of the file, from this place on, to the front of the buffer. Returns their
+    /// Reads bytes of the file, from this place on, into the beginning of the buffer. Returns their
     /// number: at least one if both the file and the buffer have room for one, and maybe fewer than
     /// there are.
     fn read_at(&mut self, file: &Self::File, buf: &mut [u8], at: u64) -> Result<usize, DiskFault>

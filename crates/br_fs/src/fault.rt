@@ -4,7 +4,7 @@ ghost use Rattle.br_fs.specs.declared.fault.DiskFault.TheVariants.{Memory};
 use std::alloc::AllocError;
 use thiserror::Error;
 
-/// The reason why a call on a disk did nothing.
+/// The reason why a call on a disk had no effect.
 #[derive(Clone, Copy, Debug, PartialEq, Eq, Error)]
 pub enum DiskFault {
     #[error("there is nothing at this path")]

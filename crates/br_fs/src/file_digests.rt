@@ -1,4 +1,4 @@
-//! What a file on a disk has, read in parts.
+//! The contents of a file on a disk, read in parts.
 ghost use Rattle.std.specs.Prelude.{◌≡◌, ◌^◌, ◌<◌, ℕ, List, length, take, true, false, IfOk, Ok};
 ghost use Rattle.md5.specs.Md5.{Holds, md5};
 ghost use Rattle.br_fs.specs.Calls.{HasFile, IsFile};
@@ -14,7 +14,7 @@ use std::alloc::Global;
 /// The number of bytes that one read asks for.
 const STEP: u64 = 1 << 16;
 
-/// The greatest number of bytes that a file of a system has.
+/// The greatest number of bytes of a file of a system.
 const GREATEST: u64 = 9_223_372_036_854_775_807;
 
 /// Digests the next bytes of the file, `wanted` or all that are left. The buffer has room for them.

@@ -1,4 +1,4 @@
-//! The files of the system. Each method is one call of std: no clause can say what a disk does.
+//! The files of the system. Each method is one call of std: no clause can state its effect on disk.
 ghost use Rattle.std.specs.Prelude.{◌≡◌, true, IfOk};
 ghost use Rattle.std.specs.IoError.{error_kind};
 ghost use Rattle.std.specs.Fs.{asks_append, asks_create_new, asks_write, new_options, with_append, with_read};
@@ -40,7 +40,7 @@ impl<H: Drop> Model for HostFile<H> {
 }
 
 impl<F: Files + Drop> HostDisk<F> {
-    /// Returns the disk over which this handle opens files.
+    /// Returns the disk on which this handle opens files.
     pub fn new(alloc: Global, files: F) -> HostDisk<F> {
         HostDisk { alloc, files }
     }
@@ -68,7 +68,7 @@ pub(crate) fn fault_of(error: io::Error) -> DiskFault
     }
 }
 
-/// Returns how a file is opened to be read, and for nothing else.
+/// Returns the options by which a file is opened for reading only.
 fn to_read() -> OpenOptions
     ensures { result ≡ with_read new_options true }
 {
@@ -77,7 +77,7 @@ fn to_read() -> OpenOptions
     how
 }
 
-/// Returns how a file that exists is opened to append to it.
+/// Returns the options by which an existing file is opened for appending.
 fn to_append() -> OpenOptions
     ensures { result ≡ with_append new_options true }
 {
@@ -86,7 +86,7 @@ fn to_append() -> OpenOptions
     how
 }
 
-/// Returns how a file is made, for its owner alone and only where nothing is.
+/// Returns the options by which a file is made, for its owner only and only if nothing is there.
 fn to_make() -> OpenOptions
     ensures new { asks_create_new result ≡ true }
     ensures write { asks_write result ≡ true }
@@ -98,7 +98,8 @@ fn to_make() -> OpenOptions
     how
 }
 
-/// Returns how a file is made to append to it, for its owner alone and only where nothing is.
+/// Returns the options by which a file is made for appending, for its owner only and only if
+/// nothing is there.
 fn to_make_and_append() -> OpenOptions
     ensures new { asks_create_new result ≡ true }
     ensures append { asks_append result ≡ true }

@@ -1,7 +1,7 @@
-//! Files and folders, by two traits whose clauses say what each call does.
+//! Files and folders, by two traits whose clauses state the effect of each call.
 //!
 //! `Disk` reads files and appends to them. `MemDisk` is a disk over memory, which tells its files,
-//! and `HostDisk` is the system's, as thin as it can be. `read_from` and `append` are generic over
+//! and `HostDisk` is the system's, as thin as possible. `read_from` and `append` are generic over
 //! the trait: the first reads just the bytes that the file has, the second appends all bytes or the
 //! first of them.
 //!
@@ -9,8 +9,8 @@
 //! one over memory, and `HostDisk` that of the system. `enter_folder`, `clear_path` and `put_file`
 //! are generic over it.
 //!
-//! `has_alike` says if a file has given bytes, which are known by their number and their MD5
-//! digest. It reads the file in parts. `Comparer` is a maker of files that compares.
+//! `has_alike` returns whether a file has given bytes, which are known by their number and their
+//! MD5 digest. It reads the file in parts. `Comparer` is a maker of files that compares.
 #![tactic(auto)]
 
 mod appending;

@@ -12,9 +12,9 @@ use std::io::Write;
 /// tells its nodes is changed by nobody else, and no two paths lead to one file.
 ///
 /// A new file belongs to the caller, who writes it by the calls of `Write` and gives it back to
-/// `finish`. So files may be written side by side in threads: a write changes no more than what its
-/// own file tells. To contracts a new file tells its number, and after it its bytes. So whoever is
-/// lent a file to append to it can't give back another.
+/// `finish`. So threads may write files side by side: a write changes only what its own file tells.
+/// To contracts a new file tells its number, and after it its bytes. So whoever is lent a file to
+/// append to it can't give back another.
 pub trait FileMaker {
     /// A new file.
     type New: Write + Drop;
@@ -23,7 +23,7 @@ pub trait FileMaker {
     /// the system does not.
     ghost nodes: { Self → Option Nodes };
 
-    /// The maker does not fail by itself: no call to come is one that is to fail.
+    /// The maker does not fail by itself: no later call is one that is to fail.
     ghost is_steady: { Self → Type 0 };
 
     /// Returns what is at the path. A link is not followed.

@@ -14,7 +14,7 @@ use std::alloc::{AllocError, Global};
 use std::marker::Model;
 
 /// A disk over memory, for tests. Its reads and writes may be short or interrupted, its calls may
-/// fail from one of them on, and it may be full.
+/// fail from a given call on, and it may be full.
 #[derive(Drop)]
 pub struct MemDisk {
     alloc: Global,
@@ -76,7 +76,7 @@ impl MemDisk {
         self.calls_left = Some(calls);
     }
 
-    /// Makes the disk full after this number of bytes more.
+    /// Makes the disk full after this number of further bytes.
     pub fn fill_after(&mut self, room: u64)
         ensures { self.new ≡ with_room room self.old }
     {
@@ -93,7 +93,7 @@ impl MemDisk {
         }
     }
 
-    /// Counts a call. Returns whether it is answered.
+    /// Counts a call. Returns whether it succeeds.
     fn answers(&mut self) -> bool
         ensures tree { self.new.tree ≡ self.old.tree }
         ensures interrupts { self.new.interrupts ≡ self.old.interrupts }
@@ -130,14 +130,14 @@ fn bytes_of<'a>(files: &'a [(FilePath, Vec<u8>)], path: &[u8]) -> Option<&'a Vec
     }
 }
 
-/// Returns what else is at the path.
+/// Returns what is at the path other than a file.
 fn other_of<'a>(others: &'a [(FilePath, Kind)], path: &[u8]) -> Option<&'a (FilePath, Kind)>
     ensures { option_copied result ≡ find (λ v. bytes_eq v.0 path.now) others.now }
 {
     others.iter().find(|v| v.0.bytes() == path)
 }
 
-/// Returns what a call finds that is of this kind. It follows links, which lead to nothing here.
+/// Returns what a call finds at a path of this kind. It follows links, whose targets never exist.
 fn found_of(kind: Kind) -> Option<Found>
     ensures { IsSeen kind result }
 {
@@ -148,7 +148,7 @@ fn found_of(kind: Kind) -> Option<Found>
     }
 }
 
-/// Returns what else than a file is found at the path.
+/// Returns what is found at the path other than a file.
 #[tactic(auto, using(crate::proofs::AbsentLaws::other_seen, crate::proofs::AbsentLaws::none_seen))]
 fn other_in(others: &[(FilePath, Kind)], path: &[u8]) -> Option<Found>
     ensures { IsOtherIn others.now path.now result }
@@ -215,7 +215,7 @@ fn append_to(
     }
 }
 
-/// Copies bytes from a place on to the front of the buffer: no more than `at_most`, but at least one
+/// Copies bytes from a place on to the beginning of the buffer: at most `at_most`, but at least one
 /// if there is one.
 fn copy_part(bytes: &[u8], buf: &mut [u8], at: u64, at_most: usize) -> usize
     ensures fits { result ≤ length buf.new }

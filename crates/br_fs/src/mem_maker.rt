@@ -81,8 +81,8 @@ impl Write for MemNew {
     }
 }
 
-/// A maker over memory, for tests. Its calls may fail from one of them on, and its new files may be
-/// full.
+/// A maker over memory, for tests. Its calls may fail from a given call on, and its new files
+/// may be full.
 #[derive(Drop)]
 pub struct MemMaker {
     alloc: Global,
@@ -209,7 +209,7 @@ impl MemMaker {
         self.room = room;
     }
 
-    /// Puts a link, a folder or something else at a path, as somebody else may.
+    /// Places a link, a folder or something else at a path, as another program may.
     pub fn plant(&mut self, path: &str, kind: Kind) -> Result<(), DiskFault>
         ensures ok { OnOk result (Sets path.now (Some (Else kind)) (Some self.old.nodes) (Some self.new.nodes)) }
         ensures err { OnErr result (self.new.nodes ≡ self.old.nodes) }
@@ -225,7 +225,7 @@ impl MemMaker {
         bytes_at(&self.changes, path.as_bytes())
     }
 
-    /// Counts a call. Returns whether it is answered.
+    /// Counts a call. Returns whether it succeeds.
     fn answers(&mut self) -> bool
         ensures { self.new.nodes ≡ self.old.nodes }
     {
@@ -255,7 +255,7 @@ impl MemMaker {
         }
     }
 
-    /// Leaves this at the path.
+    /// Records that this is at the path.
     fn leave(&mut self, path: &str, left: Left) -> Result<(), DiskFault>
         ensures set { OnOk result (Sets path.now (node_of left) (Some self.old.nodes) (Some self.new.nodes)) }
         ensures refused { OnErr result (self.new.nodes ≡ self.old.nodes) }

@@ -6,7 +6,7 @@ ghost use Rattle.br_fs.specs.declared.fault.DiskFault.TheVariants.{Memory, NotFo
 use crate::disk::Disk;
 use crate::fault::DiskFault;
 
-/// The number of times that a read is tried which signals interrupt.
+/// The number of times that a read is tried if signals interrupt it.
 const TRIES: u32 = 1_000;
 
 /// The number of bytes that one read asks for.
@@ -35,7 +35,7 @@ fn read_some<D: Disk>(
     Err(DiskFault::Failed)
 }
 
-/// Makes the buffer at least `len` bytes long, by zeros at its end.
+/// Makes the buffer at least `len` bytes long by appending zeros.
 fn make_long(buf: &mut Vec<u8>, len: usize) -> Result<(), DiskFault>
     ensures kept { (n : ℕ) → n ≤ vec_len buf.old → take n buf.new.items ≡ take n buf.old.items }
     ensures long { OnOk result (len ≤ vec_len buf.new) }
@@ -48,7 +48,7 @@ fn make_long(buf: &mut Vec<u8>, len: usize) -> Result<(), DiskFault>
 }
 
 /// Reads at most `count` bytes of the file into the buffer, after the first `done` of its bytes.
-/// Returns their number, 0 only at the file's end. After them the buffer may hold anything.
+/// Returns their number, 0 only at the file's end. The rest of the buffer may contain anything.
 fn read_more<D: Disk>(
     disk: &mut D,
     file: &D::File,
@@ -76,12 +76,12 @@ fn read_more<D: Disk>(
     Ok(n)
 }
 
-/// Reads `wanted` bytes of a file from an address on, or all that are left, into the buffer in
-/// place of what it holds. Asks for up to 64 KiB at once, and goes on after a short read.
+/// Reads `wanted` bytes of a file from an address on, or all that are left, into the buffer and
+/// replaces its contents. Asks for up to 64 KiB at once, and goes on after a short read.
 ///
 /// # Errors
 ///
-/// `NotFound` if the file is gone, `Memory`, or `Failed`. After an error the buffer may hold
+/// `NotFound` if the file is gone, `Memory`, or `Failed`. After an error the buffer may contain
 /// anything.
 pub fn read_from<D: Disk>(
     disk: &mut D,
@@ -100,7 +100,7 @@ pub fn read_from<D: Disk>(
     ensures steady { StaysSteady (D.steady disk.old) (D.steady disk.new) }
     ensures failed { FailsOnly (D.steady disk.old) result }
 {
-    // A buffer that is long enough gets no zeros before the bytes.
+    // A buffer that is long enough is not filled with zeros first.
     let mut done = 0;
     while done < wanted {
         let count = (wanted - done).min(STEP);

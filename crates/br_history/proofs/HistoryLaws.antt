@@ -1,4 +1,4 @@
--- A history that grows by a job, and the numbers and sessions that it keeps beside its jobs.
+-- A history that grows by a job, and the numbers and sessions that it keeps with its jobs.
 use Rattle.std.proofs.Common.{◌≡◌, ℕ, Bool, true, false, not, ◌&&◌, ◌||◌, cond, eqb, List, [], ◌∷◌, ◌++◌, Ok, Err, ◌-◌, take, length, length-append, arith, refl, sym, ap, ◌∙◌}
 use Rattle.std.proofs.lemmas.Bool.{and_from, and_parts, or_from, eqb-true}
 use Rattle.std.proofs.lemmas.List.{take-append-le, take_all}
@@ -16,7 +16,7 @@ use Rattle.br_history.proofs.BoolLaws.{or_false, true_or}
 
 -- ---- sets that grow by one
 
--- a number put into a set
+-- a number inserted into a set
 pub adds_id : (old new : BTreeSet ℕ) (id : ℕ) → Updates nat_cmp old new id true → AddsId old id new
 adds_id old new id puts q = puts.0 q ∙ ap (λ b. cond b true (contains nat_cmp old q)) (unsigned_tied id q) ∙ true_or (eqb id q) (contains nat_cmp old q)
 
@@ -24,7 +24,7 @@ taken_away : (b d : Bool) → (b ≡ true → d ≡ false) → cond b false (d |
 taken_away true d lacks = sym (lacks refl)
 taken_away false d lacks = or_false d
 
--- a number that was put into a set without it, and was taken away
+-- a number that was inserted into a set without it, and was removed
 pub id_taken_away : (old middle new : BTreeSet ℕ) (id : ℕ) → contains nat_cmp old id ≡ false → Updates nat_cmp old middle id true → Updates nat_cmp middle new id false → SameIds old new
 id_taken_away old middle new id lacks puts takes q =
     takes.0 q ∙ ap (λ b. cond b false (contains nat_cmp middle q)) (unsigned_tied id q)

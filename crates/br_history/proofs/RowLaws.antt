@@ -1,4 +1,5 @@
--- Rows of a job read one after another: what a set or a map has of those before tells of the next.
+-- Rows of a job read one after another: what a set or a map has of the earlier ones decides
+-- for the next.
 use Rattle.std.proofs.Common.{◌≡◌, ℕ, ◌+◌, ◌<◌, ◌≤◌, Bool, true, false, not, ◌&&◌, ◌||◌, cond, eqb, leb, ltb, ◌^◌, List, Option, Some, None, take, length, get_or, eq-eqb, refl, sym, ap, ◌∙◌, arith}
 use Rattle.std.proofs.lemmas.Bool.{and_parts, and_from, leb-true, eqb-true, ne_eqb}
 use Rattle.std.proofs.lemmas.Bool.Decides.{nat_tests}
@@ -51,7 +52,7 @@ found_by_set seen files i f new are answer = go (eqb f.index 0) refl answer
         (all_any (λ (g : FileRow). same_file g f ≡ false) (λ g. no_index g.index f.index none) (take i files)) ∙ ap not (sym is)
     go false some is = sym (are f.index) ∙ twice (contains nat_cmp seen f.index) ∙ ap not (sym is)
 
--- where a row has the index of one before it, two rows have one index
+-- if a row has the index of one before it, two rows have one index
 pub row_repeated : (seen : BTreeSet ℕ) (files : List FileRow) (i : ℕ) (f : FileRow) (new : Bool) → i < length files → f ≡ get_or files i f → AreSeen seen (take i files)
     → new ≡ not (not (eqb f.index 0) && contains nat_cmp seen f.index) → new ≡ false → no_pair same_file files ≡ false
 row_repeated seen files i f new lt is are answer old = pair_found same_file files i f lt is (found_by_set seen files i f new are answer ∙ ap not old)
@@ -76,7 +77,7 @@ later_end : (o : Option ℕ) (address start end : ℕ) → reaches start o ≡ f
 later_end None address start end ahead le = refl
 later_end (Some before) address start end ahead le = let lt : before < start = grind (arith, nat_tests) in within address end before (omega arith)
 
--- the span behind those before it on its volume is the one that ends there
+-- the span after those before it on its volume is the one that ends there
 pub ends_more : (old new : tree.BTreeMap (Bor (List ℕ)) ℕ) (spans : List Span) (i : ℕ) (s : Span) (on : List ℕ) (end : ℕ) → i < length spans → s ≡ get_or spans i s → AreEnds old (take i spans)
     → reaches s.start (end_on s.volume old) ≡ false → s.start ≤ s.end
     → on ≡ s.volume → end ≡ s.end → tree.UpdatesBy (λ x y. slice_cmp nat_cmp x.now y.now) (λ k. slice_cmp nat_cmp on k.now) old new (Some end) → AreEnds new (take (i + 1) spans)

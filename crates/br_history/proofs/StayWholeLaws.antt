@@ -55,7 +55,7 @@ length_or : (b : Bool) (v : Volume) (l : Option (List ℕ × ℕ)) (o : Option V
 length_or true v l o e = refl
 length_or false v l o e = e
 
--- the length that is told of a volume is its own
+-- the length that is told for a volume is its own
 lengths_are : (volumes : List Volume) (name : List ℕ) → length_of (map (λ (v : Volume). (v.name, length v.bytes)) volumes) name ≡ length (bytes_of_volume volumes name)
 unfolding volume_bytes
 lengths_are [] name = refl

@@ -1,4 +1,4 @@
--- What a session that was written leaves: rows that fit together, and volumes of whole blocks.
+-- The result of writing a session: rows that fit together, and volumes of whole blocks.
 use Rattle.std.specs.Prelude.{◌≡◌, ℕ, ◌^◌, ◌<◌, ◌≤◌, true, List, length, map, None, Ok}
 use Rattle.std.specs.List.{AllByRecursion}
 use Rattle.br_model.specs.Name.{SessionKey}
@@ -21,7 +21,7 @@ WrittenRowsFit =
 abbrev pub AreWhole : List Volume → Type 0
 AreWhole volumes = (name : List ℕ) → (blocks : List LaidBlock) × AreLaid (bytes_of_volume volumes name) None (λ _. true) blocks
 
--- Volumes that consist of whole blocks do so after the blocks of a session are appended.
+-- If volumes consist of whole blocks, they still do after the blocks of a session are appended.
 abbrev pub VolumesStayWhole : Type 0
 VolumesStayWhole =
     (files : List ToSave) (key : SessionKey) (limit : ℕ) (places : List Place) (starts : List (List ℕ × ℕ)) (written : Written)
@@ -29,7 +29,7 @@ VolumesStayWhole =
     → IsWritten files key limit places starts written
     → AreWhole earlier → AreAppended written.blocks earlier later → AreWhole later
 
--- Each volume that consists of whole blocks is ready for a session that is told the lengths of all.
+-- A volume of whole blocks is ready for a session that is given the lengths of all volumes.
 abbrev pub WholeVolumesAreReady : Type 0
 WholeVolumesAreReady =
     (volumes : List Volume) (name : List ℕ) → AreWhole volumes

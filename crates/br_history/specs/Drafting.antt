@@ -1,4 +1,4 @@
--- A job of which some lines were read.
+-- A job of which some lines have been read.
 use Rattle.std.specs.Prelude.{◌≡◌, ℕ, ◌≤◌, ◌||◌, ◌==◌, if◌then◌else◌, Bool, true, false, List, [], ◌∷◌, ◌++◌, bytes_eq, codes, Option, Some, None, Result, Ok, Err, MatchResult}
 use Rattle.std.specs.List.{AllByRecursion}
 use Rattle.br_block.specs.Building.{IsBlockLimit}
@@ -17,8 +17,8 @@ use Rattle.br_history.specs.declared.draft.Taken.{Taken}
 use Rattle.br_history.specs.declared.draft.Taken.TheVariants as taken
 use Rattle.br_history.specs.declared.job_line_fault.JobLineFault.{JobLineFault}
 
--- A job whose lines are read. It is closed once its last place takes all blocks that are left, and
--- given up once one of its lines was refused.
+-- A job whose lines are being read. It is closed once its last place takes all remaining blocks,
+-- and given up once one of its lines is refused.
 pub record Drafting : Type 0 where
   pub row : JobRow
   pub limit : ℕ
@@ -32,28 +32,28 @@ pub record Drafting : Type 0 where
 abbrev pub TakesBlock : Place → Type 0
 TakesBlock p = 1 ≤ p.blocks
 
--- what holds of each draft: the places are in order, and before it is closed each takes a block
+-- an invariant of each draft: the places are in order, and before it is closed each takes a block
 pub record IsDraft (limit : ℕ) (places : List Place) (closed : Bool) : Type 0 where
   pub bounds : IsBlockLimit limit
   pub places_are : ArePlaces places
   pub not_last : closed ≡ false → AllByRecursion TakesBlock places
   pub some_last : closed ≡ true → places ≡ [] → ⊥
 
--- a job of which the first line was read
+-- a job whose first line has been read
 abbrev pub begins : Begun → Drafting
 begins h = record { row = h.row; limit = h.limit; files = []; deleted = []; places = []; closed = false; given_up = false }
 
 abbrev pub with_place : Drafting → Place → Drafting
 with_place d p = record d { places = d.places ++ p ∷ []; closed = p.blocks == 0 }
 
--- the job after what a line asks for; no place comes after one that takes all blocks that are left
+-- the job after what a line asks for; no place follows one that takes all remaining blocks
 abbrev pub drafted : Asked → Drafting → Result Drafting ℕ
 drafted (Save file) d = Ok (record d { files = d.files ++ file ∷ [] })
 drafted (Delete path) d = Ok (record d { deleted = d.deleted ++ path ∷ [] })
 drafted (Give place) d = if d.closed then Err 90 else Ok (with_place d place)
 drafted End d = Ok d
 
--- the job has what is asked for, or it is as before and this is refused
+-- the job has what is asked for, or it is unchanged and this is the refusal
 abbrev pub Drafts : Asked → Drafting → Drafting → Result (Unit {0}) JobLineFault → Type 0
 Drafts asked old new result =
     MatchResult result (λ _. drafted asked old ≡ Ok new) (λ why. (new ≡ old) × IsRefusal (cause why) (drafted asked old))
@@ -62,14 +62,14 @@ Drafts asked old new result =
 abbrev pub drafted_by : List ℕ → Drafting → Result Drafting ℕ
 drafted_by line d = line_said line >>= (λ a. drafted a d)
 
--- what is asked for is the job's end, or a line after which it goes on
+-- whether a line ends the job or the job goes on after it
 abbrev pub taken_of : Asked → Taken
 taken_of End = taken.End
 taken_of (Save _) = taken.Line
 taken_of (Delete _) = taken.Line
 taken_of (Give _) = taken.Line
 
--- what reading a line makes of the job, and what it is to the job
+-- the job after a line was read, and whether the line ends it
 abbrev pub ReadsLine : List ℕ → Drafting → Drafting → Result Taken JobLineFault → Type 0
 ReadsLine line old new (Ok what) = (a : Asked) × (line_said line ≡ Ok a) × (drafted a old ≡ Ok new) × (what ≡ taken_of a)
 ReadsLine line old new (Err why) = (new ≡ old) × IsRefusal (cause why) (drafted_by line old)
@@ -87,19 +87,19 @@ given_up d = record d { given_up = true }
 abbrev pub gives_up : List ℕ → Drafting → Drafting
 gives_up line d = if is_of_job line then given_up d else d
 
--- what a line makes of the job, and what it is to the job
+-- the job after a line, and whether the line ends it
 abbrev pub TakesLine : List ℕ → Drafting → Drafting → Result Taken JobLineFault → Type 0
 TakesLine line old new (Ok what) = (a : Asked) × (line_said line ≡ Ok a) × (drafted a old ≡ Ok new) × (what ≡ taken_of a)
 TakesLine line old new (Err why) = (new ≡ gives_up line old) × IsRefusal (cause why) (drafted_by line old)
 
--- a job with files has a last place that takes all blocks that are left
+-- a job with files has a last place that takes all remaining blocks
 abbrev pub has_places : Drafting → Bool
 has_places d = is_empty d.files || d.closed
 
 abbrev pub to_commit : Drafting → ToCommit
 to_commit d = record { row = d.row; files = d.files; deleted = d.deleted; limit = d.limit; places = d.places }
 
--- the job that is to be committed: none if it is given up, 90 if it has no last place, and else the
+-- the job to be committed: none if it is given up, 90 if it has no last place, else the
 -- refusals of such a job
 unfoldable pub ended : Drafting → Result (Option ToCommit) ℕ
 ended d =

@@ -1,4 +1,4 @@
--- What the fields of a saved file say.
+-- What the fields of a saved file mean.
 use Rattle.std.specs.Prelude.{ℕ, List, Result, Ok}
 use Rattle.br_model.specs.Answer.{◌>>=◌, some_or}
 use Rattle.br_model.specs.Attribute.{Stat, read_stat}
@@ -17,7 +17,7 @@ pub record PutTexts : Type 0 where
   pub link : List ℕ
   pub stat : List ℕ
 
--- four fields and the rest, of which the first is a number
+-- four fields and the rest of the line; the first field is a number
 unfoldable pub texts_said : List ℕ → Result PutTexts ℕ
 texts_said text = do
   kind ← field text
@@ -27,7 +27,7 @@ texts_said text = do
   n ← number_said 4294967295 kind.0
   Ok (record { kind = n; path = path.0; bytes = bytes.0; link = link.0; stat = link.1 })
 
--- an escaped path: 90 if it is not one text escaped, 3 if it is no path
+-- an escaped path: 90 if it is not an escaped text, 3 if it is not a path
 unfoldable pub path_said : List ℕ → Result (List ℕ) ℕ
 path_said text = some_or (unescaped text) 90 >>= checked_path
 
@@ -38,7 +38,7 @@ parts_said t = do
   link ← some_or (bytes_spelled t.link) 90
   Ok (bytes, link)
 
--- a path and the numbers of a file; 3 for the path comes first
+-- a path and the numbers of a file; a bad path, 3, is refused first
 unfoldable pub put_said : List ℕ → List ℕ → Result (List ℕ × Stat) ℕ
 put_said path stat = do
   p ← checked_path path
@@ -46,17 +46,17 @@ put_said path stat = do
   Ok (p, s)
 
 -- the file with this path: 90 for its bytes and its link, 3 for the path, 20 and 21 for the numbers,
--- and then 15 and 17 for all of it
+-- then 15 and 17 for the whole file
 unfoldable pub file_after : PutTexts → List ℕ → Result SavedFile ℕ
 file_after t path = do
   parts ← parts_said t
   p ← put_said path t.stat
   checked_file (record { path = p.0; kind = t.kind; stat = p.1; link = parts.1; bytes = parts.0 })
 
--- the file that the texts say
+-- the file that the texts describe
 unfoldable pub file_said : PutTexts → Result SavedFile ℕ
 file_said t = some_or (unescaped t.path) 90 >>= file_after t
 
--- the file that the fields of a line say
+-- the file that the fields of a line describe
 unfoldable pub saved_said : List ℕ → Result SavedFile ℕ
 saved_said text = texts_said text >>= file_said

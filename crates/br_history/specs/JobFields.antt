@@ -1,4 +1,4 @@
--- What the fields of the lines of a job say. A field that says nothing is refused by 90.
+-- What the fields of the lines of a job mean. A field without meaning is refused by 90.
 use Rattle.std.specs.Prelude.{ℕ, if◌then◌else◌, List, [], ◌∷◌, Option, Some, None, Result, Ok, Err}
 use Rattle.br_model.specs.Answer.{◌>>=◌, some_or, refused_as}
 use Rattle.br_model.specs.Name.{checked_name, checked_volume_name, is_letter}
@@ -24,7 +24,7 @@ last_by (word, Some rest) = Err 90
 unfoldable pub last_field : List ℕ → Result (List ℕ) ℕ
 last_field text = last_by (fields_of text)
 
--- the number that decimal digits spell, if it is not above this one
+-- the number that decimal digits spell, if it is at most this one
 unfoldable pub number_said : ℕ → List ℕ → Result ℕ ℕ
 number_said most text = some_or (number_spelled most text) 90
 

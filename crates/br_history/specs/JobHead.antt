@@ -1,4 +1,4 @@
--- What the line that begins a job says.
+-- The first line of a job.
 use Rattle.std.specs.Prelude.{ℕ, nat_le, ◌&&◌, if◌then◌else◌, List, Result, Ok, Err}
 use Rattle.br_model.specs.Answer.{◌>>=◌}
 use Rattle.br_model.specs.Name.{SessionKey}
@@ -64,7 +64,7 @@ names_said text = do
   f ← name_said fileset
   Ok (c, f)
 
--- the row and the greatest size that these say
+-- the row and the greatest size that these state
 abbrev pub begun : Kinds → Numbers → List ℕ × List ℕ → Begun
 begun k n names = record {
   row = record {

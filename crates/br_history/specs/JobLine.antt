@@ -1,4 +1,4 @@
--- What a line of a job after the first says.
+-- The lines of a job after the first.
 use Rattle.std.specs.Prelude.{ℕ, nat_le, if◌then◌else◌, Bool, true, false, List, bytes_eq, length, codes, Option, Some, None, Result, Ok, Err}
 use Rattle.br_model.specs.Answer.{◌>>=◌}
 use Rattle.br_model.specs.Session.{ToSave, Place}
@@ -15,7 +15,7 @@ pub data Asked : Type 0 where
   Give : Place → Asked
   End : Asked
 
--- what the program holds of a line
+-- a line's request, as the model's value
 abbrev pub asked : JobLine → Asked
 asked (lines.Save file) = Save file
 asked (lines.Delete path) = Delete path
@@ -54,11 +54,11 @@ fields_said word fields =
 abbrev pub word_said : List ℕ → Result Asked ℕ
 word_said word = if bytes_eq word (codes "end") then Ok End else Err 90
 
--- the first word and the fields after it, if there are some
+-- the first word and, if there are some, the fields after it
 abbrev pub said_by : List ℕ × Option (List ℕ) → Result Asked ℕ
 said_by (word, Some fields) = fields_said word fields
 said_by (word, None) = word_said word
 
--- what a line asks for: one of more than 4096 bytes is refused
+-- what a line asks for; a line of more than 4096 bytes is refused
 unfoldable pub line_said : List ℕ → Result Asked ℕ
 line_said text = if nat_le (length text) 4096 then said_by (fields_of text) else Err 90

@@ -24,7 +24,7 @@ fault_number BadPath = 3
 fault_number (Stat fault) = attr.fault_number fault
 fault_number (File fault) = session.fault_number fault
 
--- the refusal that the line decides, none if memory ran out
+-- the refusal that the line decides; none if memory ran out
 abbrev pub cause : JobLineFault → Option ℕ
 cause Memory = None
 cause BadScript = Some 90
@@ -32,17 +32,17 @@ cause BadPath = Some 3
 cause (Stat fault) = attr.cause fault
 cause (File fault) = session.cause fault
 
--- what a refused field is for its line
+-- the refusal of a line for a refused field
 abbrev pub of_line_fault : LineFault → JobLineFault
 of_line_fault lines.Memory = Memory
 of_line_fault lines.BadScript = BadScript
 
--- what a refused escape is for its line
+-- the refusal of a line for a refused escape
 abbrev pub of_escape_fault : EscapeFault → JobLineFault
 of_escape_fault escapes.Memory = Memory
 of_escape_fault escapes.BadEscape = BadScript
 
--- what a refused name or path is for its line
+-- the refusal of a line for a refused name or path
 abbrev pub of_name_fault : NameFault → JobLineFault
 of_name_fault names.Memory = Memory
 of_name_fault names.BadName = BadScript

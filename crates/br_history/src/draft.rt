@@ -1,4 +1,4 @@
-//! A job of which some lines were read.
+//! A job of which some lines have been read.
 ghost use Rattle.std.specs.Prelude.{◌≡◌, ◌==◌, ◌++◌, ◌∷◌, [], true, false, IfOk, OnErr, OnOk};
 ghost use Rattle.std.specs.List.{AllByRecursion};
 ghost use Rattle.br_session.specs.Outcome.{ArePlaces};
@@ -44,7 +44,7 @@ impl EndFault {
     }
 }
 
-/// What a job took.
+/// The effect of a line on its job.
 #[derive(Clone, Copy, PartialEq, Eq)]
 pub enum Taken {
     /// A line after which the job goes on.
@@ -53,7 +53,7 @@ pub enum Taken {
     End,
 }
 
-/// A job of which the lines up to now were read.
+/// A job whose lines so far have been read.
 #[derive(Drop)]
 pub struct Draft {
     row: JobRow,
@@ -61,7 +61,7 @@ pub struct Draft {
     files: Vec<SavedFile>,
     deleted: Vec<Path>,
     places: Vec<Place>,
-    /// Whether the last place takes all blocks that are left.
+    /// Whether the last place takes all remaining blocks.
     is_closed: bool,
     /// Whether one of its lines was refused.
     is_given_up: bool,
@@ -97,7 +97,7 @@ fn is_job_line(line: &[u8]) -> bool
         || word == b"place".as_slice()
 }
 
-/// Returns what a line is to its job.
+/// Returns whether a line ends its job.
 fn taken_of(line: &JobLine) -> Taken
     ensures { result ≡ taken_of (asked line.now) }
 {
@@ -107,8 +107,7 @@ fn taken_of(line: &JobLine) -> Taken
     }
 }
 
-/// Appends a place to places that each take a block. Returns whether it takes all blocks that are
-/// left.
+/// Appends a place to places that each take a block. Returns whether it takes all remaining blocks.
 #[tactic(auto, using(crate::proofs::PlaceLaws::places_push, crate::proofs::PlaceLaws::takes_push, crate::proofs::PlaceLaws::some_push))]
 fn push_place(places: &mut Vec<Place>, place: Place) -> Result<bool, AllocError>
     requires { AllByRecursion TakesBlock places.old.items }
@@ -164,7 +163,7 @@ impl Draft {
         }
     }
 
-    /// Gives the job up: nothing is stored of it.
+    /// Gives the job up: nothing of it is stored.
     pub fn give_up(&mut self)
         ensures { self.new ≡ given_up self.old }
     {

@@ -20,8 +20,8 @@ pub enum HistoryFault {
 }
 
 impl HistoryFault {
-    /// Returns the number of the refusal: 1 out of memory, 40 a job's number that is there, 41 a session that is there, 42 rows
-    /// that conflict.
+    /// Returns the number of the refusal: 1 out of memory, 40 another job's number, 41 another
+    /// job's session, 42 rows that conflict.
     pub fn number(self) -> u32
         ensures { result ≡ fault_number self }
     {
@@ -42,7 +42,7 @@ impl From<AllocError> for HistoryFault {
     }
 }
 
-/// Why a job can't be committed, whatever the history and the volumes are.
+/// Why a job can't be committed, for any history and any volumes.
 #[derive(Clone, Copy, Debug, PartialEq, Eq, Error)]
 pub enum SavedJobFault {
     #[error("the files are out of order: a hard link must name an earlier file of type 2 or 3, and there must be fewer than 2^31 files")]

@@ -15,7 +15,8 @@ use std::alloc::{AllocError, Global};
 use std::collections::BTreeSet;
 use std::marker::Model;
 
-/// Inserts a number that is not there and a session into their sets, which stay as they are if memory runs out.
+/// Inserts a number that is not there and a session into their sets. If memory runs out, both sets
+/// are unchanged.
 fn insert_both(
     ids: &mut BTreeSet<JobId>,
     sessions: &mut BTreeSet<SessionKey>,
@@ -36,7 +37,7 @@ fn insert_both(
     Ok(())
 }
 
-/// The jobs that were committed, in the order of their commits, no two of them with one number or one session.
+/// The committed jobs, in the order of their commits. No two have one number or one session.
 #[derive(Drop)]
 pub struct History {
     jobs: Vec<JobRows>,
@@ -57,7 +58,7 @@ impl Model for History {
 }
 
 impl History {
-    /// Makes a history without jobs. It keeps the allocator, by which it grows.
+    /// Makes a history without jobs, which grows by this allocator.
     pub fn new(alloc: Global) -> History
         ensures { result ≡ [] }
     {
@@ -72,7 +73,7 @@ impl History {
     ///
     /// # Errors
     ///
-    /// `DuplicateJob` if its number is there, `DuplicateSession` if its session is.
+    /// `DuplicateJob` if another job has its number, `DuplicateSession` if another has its session.
     #[tactic(auto, unfolding(crate::specs::Taken::admitted))]
     pub fn check(&self, row: &JobRow) -> Result<(), HistoryFault>
         ensures { AnswersAlways (λ _. self.now) fault_number result (admitted self.now row.now) }
@@ -86,11 +87,11 @@ impl History {
         Ok(())
     }
 
-    /// Appends a job. A refused job changes nothing, nor does one for which memory runs out.
+    /// Appends a job. If it is refused or memory runs out, nothing changes.
     ///
     /// # Errors
     ///
-    /// `DuplicateJob` if its number is there, `DuplicateSession` if its session is.
+    /// `DuplicateJob` if another job has its number, `DuplicateSession` if another has its session.
     #[tactic(auto, unfolding(br_model::specs::Job::pushed))]
     pub fn push(&mut self, rows: JobRows) -> Result<(), HistoryFault>
         ensures answers { Answers (λ _. self.new) cause result (pushed self.old rows) }

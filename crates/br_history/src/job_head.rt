@@ -15,7 +15,7 @@ use std::marker::Model;
 /// The greatest size of a block that is written, in bytes.
 const MAX_LIMIT: u32 = 64_512;
 
-/// The least greatest size of a block.
+/// The least value that the greatest size of a block may have, in bytes.
 const MIN_LIMIT: u32 = 64;
 
 /// The row of a job, and the greatest size of its blocks.
@@ -98,7 +98,7 @@ fn limit_of(text: &[u8]) -> Result<u32, JobLineFault>
     }
 }
 
-/// Reads the fields `ID TYPE LEVEL STATUS`. Returns the text after them beside them.
+/// Reads the fields `ID TYPE LEVEL STATUS`. Returns them and the text after them.
 #[tactic(auto, unfolding(crate::specs::JobHead::kinds_said))]
 fn read_kinds(text: &[u8]) -> Result<(Kinds, &[u8]), JobLineFault>
     ensures { AnswersAlways (λ p. (p.0, p.1.now)) fault_number result (kinds_said text.now) }
@@ -116,7 +116,7 @@ fn read_kinds(text: &[u8]) -> Result<(Kinds, &[u8]), JobLineFault>
     Ok((kinds, rest))
 }
 
-/// Reads the fields `START SID STIME LIMIT`. Returns the text after them beside them.
+/// Reads the fields `START SID STIME LIMIT`. Returns them and the text after them.
 #[tactic(auto, unfolding(crate::specs::JobHead::numbers_said))]
 fn read_numbers(text: &[u8]) -> Result<(Numbers, &[u8]), JobLineFault>
     ensures { AnswersAlways (λ p. (p.0, p.1.now)) fault_number result (numbers_said text.now) }

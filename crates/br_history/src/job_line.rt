@@ -90,8 +90,8 @@ fn read_word(word: &[u8]) -> Result<JobLine, JobLineFault>
 ///
 /// # Errors
 ///
-/// `BadScript` for a line of more than 4,096 bytes, and for one that fits none of these forms. Then for
-/// `put` and `putd` in this order: `BadPath`, `Stat` and `File`; for `del` `BadPath`.
+/// `BadScript` for a line of more than 4,096 bytes, and for one that has none of these forms. Then
+/// for `put` and `putd` in this order: `BadPath`, `Stat` and `File`; for `del` `BadPath`.
 #[tactic(auto, unfolding(crate::specs::JobLine::line_said))]
 pub fn read_job_line(alloc: Global, line: &[u8]) -> Result<JobLine, JobLineFault>
     ensures { Answers asked cause result (line_said line.now) }

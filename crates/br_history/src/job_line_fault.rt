@@ -24,8 +24,8 @@ pub enum JobLineFault {
 }
 
 impl JobLineFault {
-    /// Returns the number of the refusal: 1 out of memory, 90 a line that fits no form, 3 a bad path, 20
-    /// and 21 bad numbers of a file, 15 and 17 a file that can't be saved.
+    /// Returns the number of the refusal: 1 out of memory, 90 a line of no known form, 3 a bad
+    /// path, 20 and 21 bad numbers of a file, 15 and 17 a file that can't be saved.
     pub fn number(self) -> u32
         ensures { result ≡ fault_number self }
     {

@@ -1,4 +1,4 @@
-//! Calls that do nothing and bring a fact to their caller.
+//! Calls that do nothing, and whose clauses are facts that a caller needs.
 ghost use Rattle.br_history.specs.Taken.{PushedIsAdmitted};
 ghost use Rattle.br_history.specs.Committing.{WrittenRowsFit, VolumesStayWhole, WholeVolumesAreReady};
 
@@ -13,12 +13,12 @@ pub fn written_rows_fit()
     ensures { WrittenRowsFit }
 {}
 
-/// States that volumes of whole blocks stay so if the blocks of a session are appended.
+/// States that volumes of whole blocks stay such if the blocks of a session are appended.
 pub fn volumes_stay_whole()
     ensures { VolumesStayWhole }
 {}
 
-/// States that volumes of whole blocks are ready for a session that is told their lengths.
+/// States that volumes of whole blocks are ready for a session that is given their lengths.
 #[tactic(auto, using(crate::proofs::StayWholeLaws::whole_volumes_are_ready_lem))]
 pub fn whole_volumes_are_ready()
     ensures { WholeVolumesAreReady }

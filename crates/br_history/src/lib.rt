@@ -1,9 +1,9 @@
-//! Jobs as the catalogue has them, and histories of jobs: all that a restore knows of the backups
-//! before it.
+//! Jobs as the catalogue holds them, and histories of jobs: all that a restore knows about the
+//! backups before it.
 //!
-//! A `SavedJob` is a job with the files that it saves, before it is committed. A `Draft` is one of
-//! which some lines of a script were read, from `job` to `end`. It knows neither a catalogue nor a
-//! volume.
+//! A `SavedJob` is a job with the files that it saves, before it is committed. A `Draft` is a job
+//! of which some lines of a script, from `job` to `end`, have been read. It needs neither a
+//! catalogue nor a volume.
 //!
 //! Contracts see a job's row, a file's row and a job's rows as the records of the model, and a
 //! `History` as the list of the rows of its jobs. The columns are those of Bacula's Developer's

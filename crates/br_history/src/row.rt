@@ -65,14 +65,14 @@ impl JobRow {
     }
 }
 
-/// A row of File: a path that a job saved, or noted as deleted.
+/// A row of File: a path that a job saved, or whose deletion it noted.
 #[derive(Debug, Drop)]
 pub struct FileRow {
     /// The path.
     pub path: Path,
     /// FileIndex; 0 notes that the path was deleted.
     pub index: u32,
-    /// LStat, the numbers of a saved file as text; of a deletion any text.
+    /// LStat, the numbers of a saved file as text; any text for a deletion.
     pub lstat: String,
     /// MD5, if a digest was saved.
     pub md5: Option<[u8; 16]>,
@@ -88,7 +88,7 @@ impl Model for FileRow {
 }
 
 impl FileRow {
-    /// Returns whether the index is below 2^31 and a saved file has its numbers.
+    /// Returns whether the index is below 2^31 and the numbers of a saved file can be read.
     pub(crate) fn is_valid(&self) -> bool
         ensures { result ≡ is_file_row self.now }
     {

@@ -74,7 +74,7 @@ fn are_numbered(spans: &[Span]) -> bool
     true
 }
 
-/// Returns whether what ends at an address, if anything, reaches another one.
+/// Returns whether an end, if there is one, is at an address or after it.
 fn reaches_to(end: Option<u64>, address: u64) -> bool
     ensures { result ≡ reaches address end }
 {
@@ -149,7 +149,7 @@ pub(crate) fn copied_spans(alloc: Global, spans: &[Span]) -> Result<Vec<Span>, A
     Ok(copy)
 }
 
-/// All that the catalogue has of a job: its own row, the rows of its files, and its spans.
+/// The rows of a job in the catalogue: its own row, the rows of its files, and its spans.
 #[derive(Debug, Drop)]
 pub struct JobRows {
     row: JobRow,

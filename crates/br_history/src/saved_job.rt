@@ -188,7 +188,7 @@ impl SavedJob {
     }
 
     /// Returns the job's rows in the catalogue, if its spans are these: the saved files in order of
-    /// index, and then the deletions in their order. They say of each file what was saved.
+    /// index, and then the deletions in their order. The row of each file agrees with the file.
     ///
     /// # Errors
     ///

@@ -33,7 +33,7 @@ prefix_whole (x ∷ xs) (y ∷ ys) p le =
 pub prefix_length : {A : Type 0} (xs ys : List A) → IsPrefix xs ys → length xs ≤ length ys
 prefix_length xs ys p = omega (arith, sym (ap length p.1) ∙ length-append xs p.0)
 
--- what stands in a beginning stands in the whole, at the same place
+-- what is in a beginning is in the whole, at the same place
 pub prefix_get : {A : Type 0} (xs ys : List A) (k : ℕ) (x : A) → IsPrefix xs ys → slice_get xs k ≡ Some x → slice_get ys k ≡ Some x
 prefix_get [] ys k x p h = absurd cc
 prefix_get (y ∷ xs) [] k x p h = absurd (cc (p.1))

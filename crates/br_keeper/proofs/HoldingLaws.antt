@@ -32,7 +32,7 @@ module _ (f : List ℕ → ℕ) where
   abbrev start_of : Place → List ℕ × ℕ
   start_of p = (p.volume, f p.volume)
 
-  -- the length that is told of a volume of one of the places
+  -- the length that is told for a volume of one of the places
   told : (ps : List Place) (name : List ℕ) → list_any (is_of name) ps ≡ true → length_of (map start_of ps) name ≡ f name
   told [] name among = absurd cc
   told (p ∷ ps) name among =
@@ -42,7 +42,7 @@ module _ (f : List ℕ → ℕ) where
         | false ↦ λ e any. told ps name any
       ] refl among
 
-  -- each place has a whole volume of the length that is told of it
+  -- each place has a whole volume of the length that is told for it
   are_ready : (vouches : List Vouch) (earlier : List Volume) (all ps : List Place)
       → ((name : List ℕ) → list_any (is_of name) ps ≡ true → list_any (is_of name) all ≡ true) → AllByRecursion (IsWholeAt earlier) ps
       → AllByRecursion (IsVouched vouches (Some earlier)) (map start_of ps)

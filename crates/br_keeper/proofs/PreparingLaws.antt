@@ -51,7 +51,7 @@ fit : (c : ToCommit) (starts : List (List ℕ × ℕ)) (written : Written) → I
 fit c starts written is was all =
     written_rows_fit_lem c.row c.files c.deleted c.limit c.places starts written all is.commits.in_order is.commits.early is.id_fits is.time_fits is.commits.bounds.1 was.is_written
 
--- so nothing but want of memory refuses them
+-- so they are refused only if memory runs out
 only_memory : {X : Type 0} (why : HistoryFault) (r : Result X ℕ) (x : X) → r ≡ Ok x → IsRefusal (cause why) r → why ≡ Memory
 only_memory Memory r x ok e = refl
 only_memory DuplicateJob r x ok e = absurd (err_is_not_ok 40 x (sym e ∙ ok))

@@ -95,7 +95,7 @@ index_any [] i d e below = absurd (omega (arith, below))
 index_any (v ∷ vs) zero d e below = refl
 index_any (v ∷ vs) (suc i) d e below = index_any vs i d e (omega (arith, below))
 
--- more bytes are vouched for where the entry is found
+-- more bytes are vouched for if the entry is found
 pub grown_where_found : (by : ℕ) (volume : List ℕ) (vs : List Vouch) (i : ℕ) (x y : Vouch) (n : ℕ) → position (λ (v : Vouch). bytes_eq v.vol volume) vs ≡ Some i
     → x ≡ slice_index_or vs i x → n ≡ min (x.bytes + by) (2 ^ 64 - 1)
     → slice_set vs i (record { vol = (slice_index_or vs i y).vol; bytes = n; is_retired = (slice_index_or vs i y).is_retired }) ≡ changed (longer by) volume vs

@@ -1,4 +1,4 @@
--- What serving leaves, and what a reply says.
+-- The effect of serving, and the contents of a reply.
 use Rattle.std.specs.Prelude.{◌≡◌, ℕ, List, [], ◌∷◌, ◌++◌, Result, Ok, Err, Option, Some}
 use Rattle.logbook.specs.Pages.{Book}
 use Rattle.br_model.specs.Job.{JobRows}

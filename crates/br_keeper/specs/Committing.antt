@@ -1,4 +1,4 @@
--- What becomes of a job that is committed.
+-- The effect of a commit on its job.
 use Rattle.std.specs.Prelude.{◌≡◌, ℕ, ◌<◌, ◌⊎◌, List, [], ◌∷◌, ◌++◌, Result, Ok, Err}
 use Rattle.br_model.specs.Job.{JobRows}
 use Rattle.br_model.specs.Session.{Written}
@@ -15,7 +15,7 @@ use Rattle.br_keeper.specs.Preparing.{AreTooLong, IsSession}
 use Rattle.br_keeper.specs.Writing.{Shelf, IsKept, IsRetired, AreWrittenFrom, IsCutOffFrom}
 use Rattle.br_keeper.specs.Keeping.{Keeping, jobs_of}
 
--- the vouched lengths from which the blocks of a job go on
+-- the vouched lengths at which the blocks of a job begin
 abbrev pub starts_for : List JobRows → ToCommit → Shelf → List (List ℕ × ℕ)
 starts_for history c old = starts_of old.vouches history c.places
 
@@ -50,12 +50,12 @@ pub record MeetsFailure (history : List JobRows) (c : ToCommit) (old new : Shelf
   pub ready : IsReady history c old rows written
   pub cut_off : IsCutOffFrom (starts_for history c old) written.blocks old new
 
--- a span would end too far, though the row can be appended to the history
+-- a span would end too late, though the row can be appended to the history
 abbrev pub IsTooLong : List JobRows → ToCommit → Shelf → Type 0
 IsTooLong history c old = (admitted history c.row ≡ Ok history) × AreTooLong c (starts_for history c old)
 
--- What becomes of a job that is to be stored, among these others. In the order of the refusals: its
--- number is there, or its session; a span would end too far; a volume is retired; the store of
+-- The result for a job that is to be stored after these others. In the order of the refusals: its
+-- number or its session is in use; a span would end too late; a volume is retired; the store of
 -- volumes fails; the catalogue fails. Memory may run out before the first append.
 abbrev pub StoresJob : {C : Type 0} → (JobRows → C → C → Type 0) → (JobRows → C → C → Type 0) → List JobRows → ToCommit → C → C → Shelf → Shelf → Result JobRows KeeperFault → Type 0
 StoresJob inserts refuses history c before after old new (Ok rows) = IsWrittenTo inserts history c before after old new rows
@@ -70,14 +70,14 @@ StoresJob inserts refuses history c before after old new (Err Store) = (rows : J
 StoresJob inserts refuses history c before after old new (Err StoredNotPublished) = ⊥
 StoresJob inserts refuses history c before after old new (Err BadCatalogue) = ⊥
 
--- what becomes of a job that is to be stored among those that a keeper has published
+-- the result for a job that is to be stored after those that a keeper has published
 abbrev pub Stores : {C W : Type 0} → (JobRows → C → C → Type 0) → (JobRows → C → C → Type 0) → (Keeping C W → Shelf) → ToCommit → Keeping C W → Keeping C W → Result JobRows KeeperFault → Type 0
 Stores inserts refuses shelf c old new result =
     StoresJob inserts refuses (old.list.opening ++ old.list.published) c old.catalogue new.catalogue (shelf old) (shelf new) result
 
--- What becomes of a job that is committed. One that waited is published first, unless memory runs
+-- The result for a job that is committed. A job that waits is published first, unless memory runs
 -- out. Then the job is stored, and then published with a receipt; if memory runs out for that, it
--- waits.
+-- waits from then on.
 abbrev pub Commits : {C W : Type 0} → (JobRows → C → C → Type 0) → (JobRows → C → C → Type 0) → (Keeping C W → Shelf) → ToCommit → Keeping C W → Keeping C W → Result Beginning KeeperFault → Type 0
 Commits inserts refuses shelf c old new (Ok receipt) =
     (rows : JobRows) × IsWrittenTo inserts (jobs_of old) c old.catalogue new.catalogue (shelf old) (shelf new) rows

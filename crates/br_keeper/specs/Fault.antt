@@ -19,14 +19,14 @@ fault_number Store = 45
 fault_number StoredNotPublished = 46
 fault_number BadCatalogue = 47
 
--- what a history refuses
+-- the refusal of a history
 abbrev pub of_history_fault : HistoryFault → KeeperFault
 of_history_fault history.Memory = Memory
 of_history_fault history.DuplicateJob = DuplicateJob
 of_history_fault history.DuplicateSession = DuplicateSession
 of_history_fault history.BadRow = BadRow
 
--- what a catalogue refuses
+-- the refusal of a catalogue
 abbrev pub of_store_fault : JobStoreFault → KeeperFault
 of_store_fault catalogue.Memory = Memory
 of_store_fault catalogue.Store = Store

@@ -22,8 +22,8 @@ job_with c rows = record { rows = rows; saved = map (λ (f : ToSave). f.file) c.
 abbrev pub IsWholeAt : List Volume → Place → Type 0
 IsWholeAt volumes p = (blocks : List LaidBlock) × AreLaid (bytes_of_volume volumes p.volume) None (λ _. true) blocks
 
--- The later volumes hold the job, if the earlier ones of its places consist of whole blocks. Nothing
--- is said of a store that does not tell its volumes.
+-- The later volumes hold the job, if the earlier ones of its places consist of whole blocks. This
+-- says nothing about a store that does not tell its volumes.
 abbrev pub HoldsAfter : ToCommit → JobRows → Option (List Volume) → Option (List Volume) → Type 0
 HoldsAfter c rows None later = ⊤
 HoldsAfter c rows (Some earlier) None = ⊤

@@ -1,4 +1,4 @@
--- What callers see of a keeper.
+-- How callers see a keeper.
 use Rattle.std.specs.Prelude.{◌≡◌, ℕ, List, ◌++◌, Option, MatchOption, refl}
 use Rattle.std.specs.Coded.{Coded, code_by, coded×, coded_list}
 use Rattle.br_model.specs.Volume.{Volume}
@@ -17,7 +17,7 @@ pub record Keeping (C W : Type 0) : Type 0 where
   pub vouches : List Vouch
   pub list : Publishing
 
--- how proofs tell such values apart
+-- how proofs distinguish such values
 abbrev pub keeping_code : {C W : Type 0} → Coded C → Coded W → Coded Publishing → Coded (Keeping C W)
 keeping_code {C} {W} catalogue volumes list =
     code_by (C × (W × (List Vouch × Publishing))) (coded× catalogue (coded× volumes (coded× (coded_list vouch.the_row.coded) list)))

@@ -1,4 +1,4 @@
--- The rule of what is published.
+-- The rule for what is published.
 use Rattle.std.specs.Prelude.{ℕ, ◌≡◌, true, false, List, [], ◌++◌}
 use mathlib.Core.Option.{some}
 use lib.ListN.{get_elem?}
@@ -16,12 +16,12 @@ stranger = record { knows = false; number = 0; log_name = 0; cells_name = 0; ope
 abbrev pub book_in : View → Book
 book_in v = record { number = v.number; log_name = v.log_name; cells_name = v.cells_name }
 
--- the jobs are the opening ones and then the list's; who knows them knows these
+-- the jobs are the opening ones and then the list's; a reader who knows those knows these
 pub record Keeps (jobs : List JobRows) (front : Beginning) (views : List View) : Type 0 where
   pub opening : List JobRows
   pub jobs_are : jobs ≡ opening ++ front.log
   pub fits : (j : ℕ) (v : View) → get_elem? views j ≡ some v → v.knows ≡ true → (book_in v ≡ front.book) × (v.opening ≡ opening)
 
--- what a reader is told
+-- what a reader learns
 abbrev pub Saw : View → List JobRows → Beginning → View → Type 0
 Saw v jobs front w = (w ≡ v) × (v.knows ≡ true → (front.book ≡ book_in v) × (jobs ≡ v.opening ++ front.log))

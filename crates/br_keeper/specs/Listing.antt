@@ -16,19 +16,19 @@ and_waiting Taken jobs = jobs
 abbrev pub with_waiting : Publishing → Waiting → Publishing
 with_waiting p waiting = publishing p.book p.opening p.published (and_waiting waiting p.added)
 
--- a job that the publisher has taken waits exactly if not all that it has is published
+-- a job that the publisher has taken waits exactly if not all jobs of the publisher are published
 abbrev pub IsListing : Publishing → Waiting → Type 0
 IsListing p Nothing = p.published ≡ p.added
 IsListing p (Stored rows) = p.published ≡ p.added
 IsListing p Taken = (p.published ≡ p.added → ⊥) × (p.added ≡ [] → ⊥)
 
--- all that the publisher has is published, or nothing is changed
+-- all jobs of the publisher are published, or nothing is changed
 abbrev pub PublishesAdded : Publishing → Publishing → Waiting → Type 0
 PublishesAdded old new Nothing = new ≡ all_published old
 PublishesAdded old new (Stored rows) = ⊥
 PublishesAdded old new Taken = new ≡ old
 
--- all that is stored is published, or the same is stored and published as before
+-- all stored jobs are published, or the same jobs are stored and published as before
 abbrev pub PublishesAll : Publishing → Waiting → Publishing → Waiting → Type 0
 PublishesAll old waiting new Nothing = new ≡ all_published (with_waiting old waiting)
 PublishesAll old waiting new (Stored rows) = (with_waiting new (Stored rows) ≡ with_waiting old waiting) × IsListing new (Stored rows)

@@ -25,11 +25,11 @@ pub record IsJobWritten (c : ToCommit) (starts : List (List ℕ × ℕ)) (writte
   pub is_written : IsWritten c.files c.row.session c.limit c.places starts written
   pub holds : SessionHolds c.files c.row.session c.places starts written
 
--- a span would end too far, or there would be too many of them
+-- a span would end too late, or there would be too many spans
 abbrev pub AreTooLong : ToCommit → List (List ℕ × ℕ) → Type 0
 AreTooLong c starts = AreSpansRefused c.files c.row.session c.limit c.places starts
 
--- it is written, unless a span would end too far, or memory runs out
+-- it is written, unless a span would end too late, or memory runs out
 abbrev pub WritesJob : ToCommit → List (List ℕ × ℕ) → Result Written HistoryFault → Type 0
 WritesJob c starts (Ok written) = IsJobWritten c starts written
 WritesJob c starts (Err why) = (why ≡ Memory) ⊎ ((why ≡ BadRow) × AreTooLong c starts)
@@ -53,11 +53,11 @@ pub record HasSession (c : ToCommit) (starts : List (List ℕ × ℕ)) (rows : J
   pub blocks_are : blocks ≡ written.blocks
   pub is_session : IsSession c starts rows written
 
--- what is seen of blocks
+-- the contents of blocks
 abbrev pub seen : List (List ℕ × Vec ℕ) → List (List ℕ × List ℕ)
 seen blocks = map (λ (b : List ℕ × Vec ℕ). (b.0, b.1.items)) blocks
 
--- the session, unless a span would end too far, or memory runs out
+-- the session, unless a span would end too late, or memory runs out
 abbrev pub MakesSession : ToCommit → List (List ℕ × ℕ) → Result (JobRows × Vec (List ℕ × Vec ℕ)) HistoryFault → Type 0
 MakesSession c starts (Ok p) = HasSession c starts p.0 (seen p.1.items)
 MakesSession c starts (Err why) = (why ≡ Memory) ⊎ ((why ≡ BadRow) × AreTooLong c starts)
@@ -68,8 +68,8 @@ pub record IsPrepared (vouches : List Vouch) (history : List JobRows) (c : ToCom
   pub starts_are : p.starts.items ≡ starts_of vouches history c.places
   pub session : HasSession c (starts_of vouches history c.places) p.rows (seen p.blocks.items)
 
--- The job is prepared; or its number or its session is in the history; or a span would end too far.
--- Nothing is said if memory runs out.
+-- The job is prepared; or its number or its session is in the history; or a span would end too
+-- late. If memory runs out, nothing is claimed.
 abbrev pub Prepares : List Vouch → List JobRows → ToCommit → Result Prepared HistoryFault → Type 0
 Prepares vouches history c (Ok p) = IsPrepared vouches history c p
 Prepares vouches history c (Err Memory) = ⊤

@@ -1,4 +1,4 @@
--- What the fields of a publisher mean.
+-- The fields of a publisher, as callers see them.
 use Rattle.std.specs.Prelude.{◌≡◌, ◌++◌, MatchOption}
 use Rattle.br_keeper.specs.declared.publisher.Publisher.TheInside.{Inside}
 use Rattle.br_keeper.specs.Beginnings.{head_of}

@@ -1,10 +1,10 @@
--- What callers see of a publisher.
+-- How callers see a publisher.
 use Rattle.std.specs.Prelude.{List, [], ◌∷◌, ◌++◌}
 use Rattle.logbook.specs.Pages.{Book}
 use Rattle.br_model.specs.Job.{JobRows}
 
--- which list its jobs are added to, the jobs before that list, what of the list is published, and
--- all of it
+-- the list to which its jobs are added, the jobs before that list, the published beginning of the
+-- list, and the whole list
 pub record Publishing : Type 0 where
   pub book : Book
   pub opening : List JobRows
@@ -19,6 +19,6 @@ publishing book opening published added =
 abbrev pub with_added : Publishing → JobRows → Publishing
 with_added p rows = publishing p.book p.opening p.published (p.added ++ rows ∷ [])
 
--- the publisher after all that was added was published
+-- the publisher after all added jobs were published
 abbrev pub all_published : Publishing → Publishing
 all_published p = publishing p.book p.opening p.added p.added

@@ -1,4 +1,4 @@
--- What the fields of a session and of a snapshot mean.
+-- The fields of a session and of a snapshot, as callers see them.
 use Rattle.std.specs.Prelude.{◌≡◌, ◌++◌}
 use Rattle.left_right.specs.Sides.{view}
 use Rattle.br_keeper.specs.declared.sessions.Session.TheInside.{Inside as SessionInside}

@@ -1,10 +1,11 @@
--- What callers see of a session or a snapshot.
+-- How callers see a session or a snapshot.
 use Rattle.std.specs.Prelude.{◌≡◌, List, All}
 use mathlib.Core.List.{IsPrefix}
 use Rattle.logbook.specs.Pages.{Book}
 use Rattle.br_model.specs.Job.{JobRows}
 
--- which list it reads, the jobs before that list, and the beginning of the list that it knows to be published
+-- the list that it reads, the jobs before that list, and the beginning of the list that it knows to
+-- be published
 pub record Known : Type 0 where
   pub book : Book
   pub opening : List JobRows
@@ -14,7 +15,7 @@ pub record Known : Type 0 where
 abbrev pub IsSame : Known → Known → Type 0
 IsSame a b = (b.book ≡ a.book) × (b.opening ≡ a.opening)
 
--- the second view is of the same list, and goes on from the first
+-- the second view is of the same list, and is as long as the first or longer
 abbrev pub Extends : Known → Known → Type 0
 Extends a b = IsSame a b × IsPrefix a.list b.list
 

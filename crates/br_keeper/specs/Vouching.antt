@@ -13,19 +13,19 @@ entry_of vouches volume = find (λ (v : Vouch). bytes_eq v.vol volume) vouches
 abbrev pub is_retired : List Vouch → List ℕ → Bool
 is_retired vouches volume = option_map_or (λ (v : Vouch). v.is_retired) (entry_of vouches volume) false
 
--- where a span ends, exclusive, if it is of the volume; else 0
+-- the end of a span, exclusive, if it is on the volume; else 0
 abbrev pub end_in : List ℕ → Span → ℕ
 end_in volume s = if bytes_eq s.volume volume then s.end + 1 else 0
 
--- where the spans of a volume end, exclusive; 0 if there is none
+-- the end of a volume's spans, exclusive; 0 if there is none
 abbrev pub end_of_spans : List ℕ → List Span → ℕ
 end_of_spans volume spans = fold (λ end s. max end (end_in volume s)) 0 spans
 
--- where the spans of jobs on a volume end, exclusive; 0 if there is none
+-- the end of the spans of jobs on a volume, exclusive; 0 if there is none
 abbrev pub end_of_jobs : List ℕ → List JobRows → ℕ
 end_of_jobs volume jobs = fold (λ end (j : JobRows). max end (end_of_spans volume j.spans)) 0 jobs
 
--- the vouched length of a volume: what its entry has, or one past the greatest end of its spans in
+-- the vouched length of a volume: that of its entry, or one past the greatest end of its spans in
 -- the catalogue
 abbrev pub vouched : List Vouch → List JobRows → List ℕ → ℕ
 vouched vouches jobs volume = option_map_or (λ (v : Vouch). v.bytes) (entry_of vouches volume) (end_of_jobs volume jobs)
@@ -42,12 +42,12 @@ new_entry start = record { vol = start.0; bytes = start.1; is_retired = false }
 abbrev pub new_entries : List Vouch → List (List ℕ × ℕ) → List Vouch
 new_entries vouches starts = map new_entry (filter (λ (s : List ℕ × ℕ). not (is_some (entry_of vouches s.0))) starts)
 
--- the entries with that of a volume changed
+-- the entries after the entry of a volume was changed
 abbrev pub changed : (Vouch → Vouch) → List ℕ → List Vouch → List Vouch
 changed f volume [] = []
 changed f volume (v ∷ vs) = if bytes_eq v.vol volume then f v ∷ vs else v ∷ changed f volume vs
 
--- more bytes are vouched for; 2 ^ 64 - 1 at most
+-- more bytes are vouched for, at most 2 ^ 64 - 1
 abbrev pub longer : ℕ → Vouch → Vouch
 longer by v = record v { bytes = min (v.bytes + by) (2 ^ 64 - 1) }
 

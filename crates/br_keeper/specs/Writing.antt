@@ -1,4 +1,4 @@
--- Blocks that are appended to volumes of which the lengths are vouched for.
+-- Blocks that are appended to volumes with vouched lengths.
 use Rattle.std.specs.Prelude.{◌≡◌, ℕ, ◌<◌, ◌≤◌, ◌⊎◌, true, false, List, ◌∷◌, ◌++◌, length, fold, Option, Some, None, Result, Ok, Err, ⊤}
 use Rattle.std.specs.List.{AllByRecursion}
 use Rattle.br_model.specs.Volume.{Volume}
@@ -9,8 +9,8 @@ use Rattle.br_keeper.specs.declared.fault.KeeperFault.{KeeperFault}
 use Rattle.br_keeper.specs.declared.fault.KeeperFault.TheVariants.{Memory, DuplicateJob, DuplicateSession, BadRow, RetiredVolume, Volume as VolumeFails, Store, StoredNotPublished, BadCatalogue}
 use Rattle.br_keeper.specs.Vouching.{is_retired, changed, longer, retired, new_entries}
 
--- the volumes, if the store tells them, the number of its failed calls, and the lengths that are
--- vouched for
+-- the volumes, if the store tells them, the number of its failed calls, and the vouched lengths
+-- of the volumes
 pub record Shelf : Type 0 where
   pub volumes : Option (List Volume)
   pub failures : ℕ
@@ -19,7 +19,7 @@ pub record Shelf : Type 0 where
 abbrev pub shelf : Option (List Volume) → ℕ → List Vouch → Shelf
 shelf volumes failures vouches = record { volumes = volumes; failures = failures; vouches = vouches }
 
--- what a store of volumes tells, and the lengths that are vouched for
+-- a store of volumes with the vouched lengths
 abbrev pub shelf_in : {W : Type 0} → (W → Option (List Volume)) → (W → ℕ) → W → List Vouch → Shelf
 shelf_in holds failures volumes vouches = shelf (holds volumes) (failures volumes) vouches
 
@@ -31,7 +31,7 @@ pub record IsKept (old new : Shelf) : Type 0 where
 
 -- ---- before the first append
 
--- the volume is not retired, and has just this length, if it is told
+-- the volume is not retired, and has exactly this length, if it is told
 pub record IsVouched (vouches : List Vouch) (volumes : Option (List Volume)) (start : List ℕ × ℕ) : Type 0 where
   pub serves : is_retired vouches start.0 ≡ false
   pub bytes_are : IsLengthIn volumes start.0 start.1
@@ -41,8 +41,8 @@ abbrev pub HasOtherLength : Option (List Volume) → List ℕ × ℕ → Type 0
 HasOtherLength None start = ⊤
 HasOtherLength (Some volumes) start = length (bytes_of_volume volumes start.0) ≡ start.1 → ⊥
 
--- The volume may be written to. Or it is retired, or has another length; or the store failed to tell
--- its length.
+-- The volume may be written to. Or it is retired, or has another length; or the store failed to
+-- return its length.
 abbrev pub ChecksVolume : List Vouch → Option (List Volume) → ℕ → ℕ → List ℕ × ℕ → Result (Unit {0}) KeeperFault → Type 0
 ChecksVolume vouches volumes before after start (Ok u) = IsVouched vouches volumes start
 ChecksVolume vouches volumes before after start (Err why) =
@@ -57,7 +57,7 @@ pub record IsFirstRefused (vouches : List Vouch) (volumes : Option (List Volume)
   pub serve : AllByRecursion (IsVouched vouches volumes) earlier
   pub refused : P start
 
--- 43: it is retired, or has another length
+-- 43: the volume is retired, or has another length
 abbrev pub IsRetired : List Vouch → Option (List Volume) → List (List ℕ × ℕ) → Type 0
 IsRetired vouches volumes starts =
     IsFirstRefused vouches volumes starts (λ start. (is_retired vouches start.0 ≡ true) ⊎ HasOtherLength volumes start)
@@ -89,7 +89,7 @@ pub record AreWritten (blocks : List (List ℕ × List ℕ)) (old new : Shelf) :
   pub vouches_are : new.vouches ≡ after_blocks blocks old.vouches
   pub counted : old.failures ≤ new.failures
 
--- the append of a block failed: those before it are appended, and of it at most a part; its volume
+-- the append of a block failed: those before it are appended, and at most a part of it; its volume
 -- is retired
 pub record IsCutOff (blocks : List (List ℕ × List ℕ)) (old new : Shelf) : Type 0 where
   pub done : List (List ℕ × List ℕ)
@@ -107,7 +107,7 @@ abbrev pub AppendsAll : List (List ℕ × List ℕ) → Shelf → Shelf → Resu
 AppendsAll blocks old new (Ok u) = AreWritten blocks old new
 AppendsAll blocks old new (Err why) = (why ≡ VolumeFails) × IsCutOff blocks old new
 
--- the same, of a store of volumes before and after
+-- the same, for a store of volumes before and after
 abbrev pub AppendsAllTo : {W : Type 0} → (W → Option (List Volume)) → (W → ℕ) → List (List ℕ × List ℕ) → W → W → List Vouch → List Vouch → Result (Unit {0}) KeeperFault → Type 0
 AppendsAllTo holds failures blocks old new before after result =
     AppendsAll blocks (shelf_in holds failures old before) (shelf_in holds failures new after) result
@@ -118,7 +118,7 @@ AppendsAllTo holds failures blocks old new before after result =
 abbrev pub with_entries : List (List ℕ × ℕ) → Shelf → Shelf
 with_entries starts s = shelf s.volumes s.failures (s.vouches ++ new_entries s.vouches starts)
 
--- the blocks are appended to volumes that have just these lengths
+-- the blocks are appended to volumes that have exactly these lengths
 pub record AreWrittenFrom (starts : List (List ℕ × ℕ)) (blocks : List (List ℕ × List ℕ)) (old new : Shelf) : Type 0 where
   pub serve : AllByRecursion (IsVouched old.vouches old.volumes) starts
   pub written : AreWritten blocks (with_entries starts old) new
@@ -128,7 +128,7 @@ pub record IsCutOffFrom (starts : List (List ℕ × ℕ)) (blocks : List (List �
   pub serve : AllByRecursion (IsVouched old.vouches old.volumes) starts
   pub cut_off : IsCutOff blocks (with_entries starts old) new
 
--- Out of memory and 43 come before the first append; 44 if the store did not tell a length, or an
+-- Out of memory and 43 come before the first append; 44 if the store did not return a length, or an
 -- append failed.
 abbrev pub WritesBlocks : List (List ℕ × ℕ) → List (List ℕ × List ℕ) → Shelf → Shelf → Result (Unit {0}) KeeperFault → Type 0
 WritesBlocks starts blocks old new (Ok u) = AreWrittenFrom starts blocks old new
@@ -142,7 +142,7 @@ WritesBlocks starts blocks old new (Err Store) = ⊥
 WritesBlocks starts blocks old new (Err StoredNotPublished) = ⊥
 WritesBlocks starts blocks old new (Err BadCatalogue) = ⊥
 
--- the same, of a store of volumes before and after
+-- the same, for a store of volumes before and after
 abbrev pub WritesBlocksTo : {W : Type 0} → (W → Option (List Volume)) → (W → ℕ) → List (List ℕ × ℕ) → List (List ℕ × List ℕ) → W → W → List Vouch → List Vouch → Result (Unit {0}) KeeperFault → Type 0
 WritesBlocksTo holds failures starts blocks old new before after result =
     WritesBlocks starts blocks (shelf_in holds failures old before) (shelf_in holds failures new after) result

@@ -1,4 +1,4 @@
-//! The blocks of a session as they are appended to volumes.
+//! Appends the blocks of a session to volumes.
 ghost use Rattle.std.specs.Prelude.{◌≡◌, ◌≤◌};
 ghost use Rattle.br_keeper.specs.Preparing.{seen};
 ghost use Rattle.br_keeper.specs.Writing.{AppendsAllTo, ChecksVolume, ChecksVolumes, WritesBlocksTo};
@@ -9,7 +9,7 @@ use br_types::VolName;
 use br_volume::VolumeStore;
 use std::alloc::Global;
 
-/// Tests whether a volume may be written to from this length on.
+/// Tests whether a volume may be written to at this length.
 fn check_volume<W: VolumeStore>(
     volumes: &mut W,
     vouches: &[Vouch],
@@ -31,7 +31,7 @@ fn check_volume<W: VolumeStore>(
     }
 }
 
-/// Tests whether all volumes may be written to from these lengths on, one after the other.
+/// Tests whether all volumes may be written to at these lengths, one after the other.
 fn check_volumes<W: VolumeStore>(
     volumes: &mut W,
     vouches: &[Vouch],
@@ -69,7 +69,7 @@ fn append_all<W: VolumeStore>(
     Ok(())
 }
 
-/// Appends blocks to volumes that have just these lengths.
+/// Appends blocks to volumes that have exactly these lengths.
 pub(crate) fn write_blocks<W: VolumeStore>(
     alloc: Global,
     volumes: &mut W,

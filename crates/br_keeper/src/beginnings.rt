@@ -1,4 +1,4 @@
-//! Beginnings of the one list of jobs that were added. The list exists in proofs alone.
+//! Beginnings of the one list of added jobs. The list exists in proofs only.
 ghost use Rattle.std.specs.Prelude.{◌≡◌, ◌+◌, ◌==◌, ◌<◌, ◌≤◌, ◌^◌, ◌++◌, ◌∷◌, ◌⊎◌, [], length, MatchBool, IfSome, Some, None};
 ghost use mathlib.Core.List.{IsPrefix};
 ghost use Rattle.br_keeper.specs.Beginnings.{beginning, head_of, last_id};
@@ -58,8 +58,8 @@ impl Plain<JobRows, JobRows, u64> for Add {
 /// The word that is the length of the list.
 pub(crate) type ListLength = Word<JobRows, u64, Law>;
 
-/// A beginning of the list. It can be copied and shared, and takes no memory but its length and the
-/// number of its last job.
+/// A beginning of the list. It can be copied and shared, and uses memory only for its length and
+/// the number of its last job.
 #[derive(Drop)]
 pub(crate) struct Front {
     count: u64,
@@ -128,7 +128,7 @@ impl Front {
     }
 
     /// Adds a job to the list, and returns the list. Returns `None` if the list is longer than this
-    /// beginning. The one who has the head never sees that.
+    /// beginning. The owner of the head never gets `None`.
     pub(crate) fn with(&self, head: &ListLength, rows: &JobRows) -> Option<Front>
         requires book { head.now ≡ head_of self.now.book }
         requires room { length self.now.log < 2 ^ 62 }

@@ -48,25 +48,25 @@ pub trait Catalogue {
     /// What may be opened at a path.
     ghost opens: { Self → List ℕ → Self.Jobs → Type 0 };
 
-    /// What holds once all jobs of an open catalogue are in its file.
+    /// The relation that holds once all jobs of an open catalogue are in its file.
     ghost closes: { Self → Self.Jobs → Type 0 };
 
-    /// The numbers of jobs that a catalogue at a path may have which is migrated.
+    /// The possible numbers of jobs of a catalogue at a path that is migrated.
     ghost migrates: { Self → List ℕ → ℕ → Type 0 };
 
     /// Opens the catalogue at the path, or makes one without jobs if there is none.
     fn open(&self, db: &str) -> Result<Self::Jobs, CatalogueFault>
         ensures opened { IfOk result (opens self.now db.now) };
 
-    /// Ends the use of a catalogue. Afterwards its file alone has all its jobs.
+    /// Ends the use of a catalogue. Afterwards its file contains all its jobs by itself.
     fn close(&self, jobs: Self::Jobs) -> Result<(), CatalogueFault>
         ensures closed { OnOk result (closes self.now jobs) };
 
-    /// Loads all jobs of the catalogue at the path. Makes none if there is none, and changes nothing.
+    /// Loads all jobs of the catalogue at the path. If there is none, makes none; changes nothing.
     fn load(&self, db: &str) -> Result<History, CatalogueFault>
         ensures loaded { IfOk result (λ history. AreJobs (jobs_at self.now db.now) history) };
 
-    /// Makes the catalogue of version 1 at the path one of version 2. Returns the number of its jobs.
+    /// Migrates the catalogue at the path from version 1 to 2. Returns the number of its jobs.
     fn migrate(&self, db: &str) -> Result<u64, CatalogueFault>
         ensures migrated { IfOk result (migrates self.now db.now) };
 }

@@ -1,4 +1,4 @@
-//! A keeper that is asked through a channel.
+//! A keeper that serves requests from a channel.
 ghost use Rattle.std.specs.Prelude.{◌≡◌};
 ghost use Rattle.br_keeper.specs.Keeping.{shelf_of};
 ghost use Rattle.br_keeper.specs.Channel.{HasServed, IsCommit, IsLeftByCommits, IsReply};
@@ -14,7 +14,8 @@ use crossbeam_channel::{Receiver, Sender};
 use std::marker::{Brand, Model, PhantomData};
 use std::sync::Wait;
 
-/// Names the list to which a keeper adds its jobs. Each call that makes a channel to a keeper picks it.
+/// Names the list to which a keeper adds its jobs. Each call that makes a keeper's
+/// channel chooses it.
 pub trait Naming {
     ghost use Rattle.logbook.specs.Pages.{Book};
 
@@ -26,7 +27,7 @@ impl Naming for Brand {
     ghost book = { record { number = 0; log_name = 0; cells_name = 0 } };
 }
 
-/// The reply to a request: the receipt of the job that was asked for, or the refusal.
+/// The reply to a request: the receipt of the requested job, or the refusal.
 #[derive(Drop)]
 pub struct Reply<K: Naming> {
     job: JobId,
@@ -45,7 +46,7 @@ impl<K: Naming> Model for Reply<K> {
 }
 
 impl<K: Naming> Reply<K> {
-    /// Returns the number of the job that was asked for.
+    /// Returns the number of the requested job.
     pub fn job(&self) -> JobId
         ensures { result ≡ self.now.job }
     {
@@ -65,7 +66,7 @@ impl<K: Naming> Reply<K> {
 #[derive(Drop)]
 pub struct Ask<K: Naming> {
     pub job: SavedJob,
-    /// To this sender goes the reply.
+    /// The reply goes to this sender.
     pub reply: Sender<Reply<K>>,
 }
 
@@ -96,11 +97,11 @@ fn answer<K: Naming, C: JobStore, W: VolumeStore, R: Wait>(
     reply_to::<K>(id, receipt)
 }
 
-/// Commits the job of each request and sends the reply, until all senders of requests are gone.
+/// Commits the job of each request and sends the reply, until all senders of requests are dropped.
 /// Returns the keeper.
 ///
-/// A reply whose receiver is gone, or for which there is no memory, is lost. The job stays as the
-/// commit left it.
+/// A reply whose receiver was dropped, or for which there is no memory, is lost. The job stays as
+/// the commit left it.
 pub fn serve<K: Naming, C: JobStore, W: VolumeStore, R: Wait>(
     rt: &R,
     keeper: Keeper<C, W>,

@@ -31,8 +31,8 @@ pub enum KeeperFault {
 }
 
 impl KeeperFault {
-    /// Returns the number of the refusal: 1 out of memory, 40 a job's number that is there, 41 a
-    /// session that is there, 42 a span that ends too far, 43 a retired volume, 44 a store of
+    /// Returns the number of the refusal: 1 out of memory, 40 another job's number, 41 another
+    /// job's session, 42 a span that ends too late, 43 a retired volume, 44 a store of
     /// volumes that failed, 45 a catalogue that failed, 46 a job that is stored and not published,
     /// 47 a catalogue that cannot be read as one.
     pub fn number(self) -> u32

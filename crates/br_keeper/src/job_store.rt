@@ -17,22 +17,22 @@ pub enum JobStoreFault {
 
 /// A catalogue, to which jobs are added one at a time.
 ///
-/// What its calls do is said by relations that each catalogue gives. A keeper calls `load_history`
-/// once, and `insert_job` once in each commit that comes so far. So its contract says that the
-/// catalogue is changed just as these relations say, and not at all by a commit that was refused
-/// before.
+/// Each catalogue defines relations that state the effects of its calls. A keeper calls
+/// `load_history` once, and `insert_job` once in each commit that gets that far. So its contract
+/// says that the catalogue is changed just as these relations say, and not at all by a commit that
+/// was refused before.
 pub trait JobStore {
     ghost use Rattle.std.specs.Prelude.{List, Result};
     ghost use Rattle.br_model.specs.Job.{JobRows};
     ghost use Rattle.br_keeper.specs.declared.job_store.JobStoreFault.{JobStoreFault};
 
-    /// What a job that is inserted makes of the catalogue before and after.
+    /// The relation between a catalogue before and after a job is inserted.
     ghost inserts: { JobRows → Self → Self → Type 0 };
 
-    /// What a job that is not inserted makes of the catalogue before and after.
+    /// The relation between a catalogue before and after a job is not inserted.
     ghost refuses: { JobRows → Self → Self → Type 0 };
 
-    /// What loading gives, and makes of the catalogue before and after.
+    /// The result of loading, and the relation between the catalogue before and after.
     ghost loads: { Self → Self → Result (List JobRows) JobStoreFault → Type 0 };
 
     /// Adds a job with all its rows, or nothing.

@@ -22,8 +22,8 @@ use std::alloc::Global;
 use std::marker::Model;
 use std::sync::Wait;
 
-/// One who commits jobs to a catalogue and to volumes, and publishes them. It cannot be dropped:
-/// `close` ends it and gives both back.
+/// A catalogue and volumes, to which it commits jobs, which it then publishes. It cannot be
+/// dropped: `close` ends it and gives both back.
 pub struct Keeper<C: JobStore, W: VolumeStore> {
     alloc: Global,
     catalogue: C,
@@ -104,7 +104,7 @@ impl<C: JobStore, W: VolumeStore> Keeper<C, W> {
     ///
     /// In this order. Up to `RetiredVolume` nothing is changed, but a job that waited is published.
     ///
-    /// - `DuplicateJob` if the job's number is there, `DuplicateSession` if its session is.
+    /// - `DuplicateJob` if another job has the number, `DuplicateSession` if one has the session.
     /// - `BadRow` if a span would end after the address 2^63 - 2, or there would be 2^32 spans or
     ///   more.
     /// - `RetiredVolume` if an append of this keeper to a volume of the places failed, or the
@@ -157,12 +157,12 @@ impl<C: JobStore, W: VolumeStore> Keeper<C, W> {
         }
     }
 
-    /// Publishes the job that waits to be published, and returns its receipt, or `None` if no job
+    /// Publishes the job that waits to be published, and returns its receipt; `None` if no job
     /// waits.
     ///
     /// # Errors
     ///
-    /// Memory ran out. Then nothing is changed.
+    /// If memory runs out. Then nothing is changed.
     pub fn republish<R: Wait>(&mut self, rt: &R) -> Result<Option<Receipt>, KeeperFault>
         ensures list { MatchResult result (RepublishesKept self.old self.new)
             (λ why. (why ≡ KeeperFault.Memory) × (self.new ≡ self.old)) }
@@ -173,7 +173,7 @@ impl<C: JobStore, W: VolumeStore> Keeper<C, W> {
         }
     }
 
-    /// Appends bytes to a volume, which no job vouches for.
+    /// Appends bytes to a volume, for which no job vouches.
     ///
     /// # Errors
     ///
@@ -188,14 +188,14 @@ impl<C: JobStore, W: VolumeStore> Keeper<C, W> {
         self.volumes.append(vol, bytes)
     }
 
-    /// Returns the volumes, to read.
+    /// Returns the volumes for reading.
     pub fn volumes(&self) -> &W
         ensures { result.now ≡ self.now.volumes }
     {
         &self.volumes
     }
 
-    /// Returns the vouched length of a volume, at which the next commit goes on.
+    /// Returns the vouched length of a volume, at which the next commit begins.
     pub fn vouched(&self, vol: &VolName) -> u64
         ensures { self.now.list.published ≡ self.now.list.added → result ≡ vouched self.now.vouches (jobs_of self.now) vol.now }
     {

@@ -1,25 +1,24 @@
-//! The keeper: the one who commits jobs to a catalogue and to volumes, and publishes them while
-//! others read.
+//! The keeper: it commits jobs to a catalogue and to volumes, and publishes them while others read.
 //!
 //! A commit writes the session of a job to the volumes, inserts its rows into the catalogue, and
 //! then publishes them. Sessions take snapshots of what is published, and wait for nobody.
 //!
-//! The keeper vouches for the length of each volume: one past the end of what the catalogue says of
-//! it, or the end of the last whole append of a commit. If a volume is longer, or an append to it
-//! failed, nothing is written to it any more.
+//! The keeper vouches for the length of each volume: one past the end of its last span in the
+//! catalogue, or the end of a commit's last complete append. If a volume is longer, or an append to
+//! it failed, nothing is written to it any more.
 //!
-//! A `Publisher` has all jobs. It adds a job and publishes it, and hands out a receipt. A session
+//! A `Publisher` has all jobs. It adds and publishes a job, and returns a receipt. A session
 //! learns the receipt: from then on its snapshots have the receipt's job. There are two copies of
 //! the history: readers have one, and each job that is added goes into the other before the two
-//! change places. So the cost of a job depends on its rows, and not on the history.
+//! change places. So the cost of a job depends on its rows, not on the history.
 //!
-//! `serve` is a keeper that is asked through a channel, so that many threads have jobs committed by
-//! one keeper. Each reply has the receipt of the job that was asked for, or the refusal.
+//! `serve` is a keeper that serves requests from a channel, so that many threads can commit jobs
+//! through one keeper. Each reply has the receipt of the requested job, or the refusal.
 //!
 //! Contracts see a keeper as its catalogue, its volumes, the lengths that it vouches for, and the
 //! published list. They name the catalogue by the trait `JobStore`, and the volumes by
 //! `VolumeStore`. A session knows a beginning of the published list, and a snapshot is the jobs
-//! before the list and then a beginning of it. `Catalogue` is what opens a `JobStore` by the path
+//! before the list and then a beginning of it. `Catalogue` opens a `JobStore` by the path
 //! of a file.
 #![tactic(auto)]
 

@@ -9,7 +9,7 @@ use br_types::{SessionKey, VolName};
 use std::alloc::Global;
 
 /// A job that can be committed: its rows, the blocks of its session, and the lengths of the volumes
-/// from which they go on, one for each place.
+/// at which they begin, one for each place.
 #[derive(Drop)]
 pub(crate) struct Prepared {
     pub(crate) rows: JobRows,
@@ -36,7 +36,7 @@ fn written(
     ) {
         Ok(written) => Ok(written),
         Err(SessionFault::BadRow) => Err(HistoryFault::BadRow),
-        // The files are in order, so it is out of memory.
+        // The files are in order, so memory ran out.
         Err(_) => Err(HistoryFault::Memory),
     }
 }

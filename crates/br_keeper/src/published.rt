@@ -1,4 +1,4 @@
-//! What is published, and the rule that ties it to those who read it.
+//! What is published, and the rule that connects it with its readers.
 ghost use Rattle.std.specs.Prelude.{◌≡◌, ◌++◌, [], ◌∷◌, OnOk, OnErr};
 
 use crate::beginnings::Front;
@@ -11,7 +11,7 @@ use left_right::writer::Writer;
 use std::alloc::{AllocError, Global};
 use std::collections::LinkedList;
 
-/// All jobs, and the beginning of the list that the later ones are.
+/// All jobs, with the beginning of the list that the added ones form.
 #[derive(Drop)]
 pub(crate) struct Published {
     pub(crate) alloc: Global,
@@ -19,7 +19,7 @@ pub(crate) struct Published {
     pub(crate) front: Front,
 }
 
-/// A job that is added, and the list with it.
+/// A job that is added, together with the list.
 #[derive(Drop)]
 pub(crate) struct Added {
     pub(crate) rows: JobRows,
@@ -59,7 +59,7 @@ impl Absorb<Added> for Published {
     }
 }
 
-/// Of which list the published one is, and the jobs before it, once that is known. No value of it is
+/// The list of what is published, and the jobs before it, once they are known. No value of it is
 /// made.
 pub(crate) struct View {
     pub(crate) knows: bool,
@@ -108,7 +108,7 @@ impl Outcome<Published, View> for Sees {
     ghost then = { λ v x y w. Saw v x.history x.front w };
 }
 
-/// The publisher tells a session which list it is, and the session learns it.
+/// The publisher shows a session the list, and the session learns it.
 pub(crate) struct Notes;
 
 impl Split<View> for Notes {

@@ -21,7 +21,7 @@ use std::sync::Wait;
 /// The greatest number of jobs that can be added.
 const MOST: u64 = 1 << 32;
 
-/// The one who adds jobs to a history and publishes them. It cannot be dropped: `close` ends it.
+/// A history, to which it adds jobs that it then publishes. It cannot be dropped: `close` ends it.
 pub struct Publisher {
     writer: Option<HistoryWriter>,
     head: ListLength,
@@ -45,7 +45,7 @@ impl Model for Publisher {
     ghost invariant = { IsPublisher };
 }
 
-/// Hands a job that waits to the writer. It comes back if memory runs out.
+/// Gives a waiting job to the writer. It comes back if memory runs out.
 fn send(mut writer: HistoryWriter, unsent: Option<Added>) -> (HistoryWriter, Option<Added>)
     ensures desk { result.0.desk ≡ writer.desk }
     ensures waits { waiting_in result.0 ++ listed result.1 ≡ waiting_in writer ++ listed unsent }
@@ -59,7 +59,7 @@ fn send(mut writer: HistoryWriter, unsent: Option<Added>) -> (HistoryWriter, Opt
     }
 }
 
-/// Publishes all jobs that wait. The last result is whether it did.
+/// Publishes all waiting jobs. The last result is whether it did.
 fn publish_all<R: Wait>(
     rt: &R,
     writer: HistoryWriter,
@@ -206,8 +206,8 @@ impl Publisher {
         }
     }
 
-    /// States that of the jobs which a session knows to be published and those which were added one
-    /// list begins the other.
+    /// States that of two lists, the jobs that a session knows to be published and the added jobs,
+    /// one begins the other.
     pub fn compare(&self, session: &Session)
         requires { session.now.book ≡ self.now.book }
         ensures { IsPrefix session.now.list self.now.added ⊎ IsPrefix self.now.added session.now.list }
@@ -219,7 +219,7 @@ impl Publisher {
     ///
     /// # Errors
     ///
-    /// The job comes back if another one waits that memory ran out for, or if 2^32 jobs were added.
+    /// The job comes back if another one waits because memory ran out, or if 2^32 jobs were added.
     pub fn add(&mut self, rows: JobRows) -> Result<(), JobRows>
         ensures { MatchResult result (λ _. self.new ≡ with_added self.old rows) (λ back. (back ≡ rows) × (self.new ≡ self.old)) }
     {
@@ -241,7 +241,7 @@ impl Publisher {
     ///
     /// # Errors
     ///
-    /// Memory ran out. Then nothing is changed.
+    /// If memory runs out. Then nothing is changed.
     pub fn publish<R: Wait>(&mut self, rt: &R) -> Result<(), AllocError>
         ensures { MatchResult result (λ _. self.new ≡ all_published self.old) (λ _. self.new ≡ self.old) }
     {

@@ -56,7 +56,7 @@ impl Receipt {
     }
 }
 
-/// One who takes snapshots, one at a time.
+/// A reader that takes snapshots, one at a time.
 #[derive(Drop)]
 pub struct Session {
     reader: HistoryReader,
@@ -109,7 +109,7 @@ impl Session {
         })
     }
 
-    /// States that of this beginning of the list and the session's one begins the other.
+    /// States that of this beginning of the list and that of the session, one begins the other.
     pub(crate) fn compare(&self, front: &Front)
         requires { front.now.book ≡ self.now.book }
         ensures { IsPrefix self.now.list front.now.log ⊎ IsPrefix front.now.log self.now.list }
@@ -121,7 +121,7 @@ impl Session {
         }
     }
 
-    /// Learns a receipt: the session's snapshots have the receipt's job from now on.
+    /// Learns a receipt: the session's snapshots contain the receipt's job from now on.
     pub fn learn(self, receipt: &Receipt) -> Session
         requires { receipt.now.book ≡ self.book }
         ensures mine { Extends self result }
@@ -141,11 +141,11 @@ impl Session {
         }
     }
 
-    /// Takes a snapshot of what is published. It waits for nobody.
+    /// Takes a snapshot of what is published. It never waits.
     ///
     /// # Errors
     ///
-    /// The session comes back if no reading is given, as after the publisher has ended.
+    /// The session comes back if no snapshot is available, as after the publisher has ended.
     pub fn snapshot(self) -> Result<Snapshot, Session>
         ensures { MatchResult result (λ s. Extends self s) (λ s. s ≡ self) }
     {

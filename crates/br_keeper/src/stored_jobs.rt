@@ -1,4 +1,4 @@
-//! The jobs that are stored: those that are published, and the one that waits.
+//! The stored jobs: those that are published, and the one that waits.
 ghost use Rattle.std.specs.Prelude.{◌≡◌, ◌<◌, ◌++◌, [], length, IfOk, MatchBool, MatchResult, MatchOption};
 ghost use Rattle.br_keeper.specs.Beginnings.{beginning};
 ghost use Rattle.br_keeper.specs.Publishing.{all_published, publishing, with_added};
@@ -13,7 +13,7 @@ use std::marker::Model;
 use std::mem;
 use std::sync::Wait;
 
-/// What is stored and not published.
+/// A job that is stored and not published.
 #[derive(Drop)]
 pub(crate) enum Waiting {
     Nothing,
@@ -23,7 +23,7 @@ pub(crate) enum Waiting {
     Taken,
 }
 
-/// A list of stored jobs, of which all but the last at most are published. It cannot be dropped:
+/// A list of stored jobs, which are all published, or all but the last. It cannot be dropped:
 /// `close` ends it.
 pub(crate) struct Listing {
     publisher: Publisher,
@@ -41,7 +41,7 @@ impl Model for Listing {
     ghost invariant = { λ l. IsListing l.publisher l.waiting };
 }
 
-/// Publishes a job that the publisher has taken. The result is what waits then.
+/// Publishes a job that the publisher has taken. Returns what waits then.
 fn publish_taken<R: Wait>(rt: &R, publisher: &mut Publisher) -> Waiting
     ensures { PublishesAdded publisher.old publisher.new result }
 {
@@ -51,7 +51,7 @@ fn publish_taken<R: Wait>(rt: &R, publisher: &mut Publisher) -> Waiting
     }
 }
 
-/// Publishes what waits. The result is what waits then.
+/// Publishes what waits. Returns what waits then.
 fn publish_all<R: Wait>(rt: &R, publisher: &mut Publisher, waiting: Waiting) -> Waiting
     requires { IsListing publisher.old waiting }
     ensures { PublishesAll publisher.old waiting publisher.new result }
@@ -109,7 +109,7 @@ impl Listing {
         self.publisher.receipt()
     }
 
-    /// Returns whether all that is stored is published.
+    /// Returns whether all stored jobs are published.
     fn is_published(&self) -> bool
         ensures { MatchBool result (self.now.published ≡ self.now.added) (self.now.added ≡ [] → ⊥) }
     {
@@ -150,7 +150,7 @@ impl Listing {
         }
     }
 
-    /// Publishes the job that waits, and returns its receipt, or `None` if none waits. Nothing is
+    /// Publishes the job that waits, and returns its receipt; `None` if none waits. Nothing is
     /// changed if memory runs out.
     pub(crate) fn republish<R: Wait>(&mut self, rt: &R) -> Result<Option<Receipt>, AllocError>
         ensures { MatchResult result (Republishes self.old self.new) (λ _. self.new ≡ self.old) }

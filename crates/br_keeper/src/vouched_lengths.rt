@@ -15,7 +15,7 @@ use std::alloc::{AllocError, Global};
 #[derive(Drop)]
 pub(crate) struct Vouch {
     pub(crate) vol: VolName,
-    /// The number of bytes that are vouched for.
+    /// The number of vouched bytes.
     pub(crate) bytes: u64,
     /// Whether an append has failed.
     pub(crate) is_retired: bool,
@@ -38,7 +38,7 @@ pub(crate) fn is_retired(vouches: &[Vouch], vol: &VolName) -> bool
     }
 }
 
-/// Returns where a span ends, exclusive, if it is of this volume; else 0.
+/// Returns the end of a span, exclusive, if it is on this volume; else 0.
 fn end_in(vol: &VolName, span: &Span) -> u64
     requires { is_span span.now ≡ true }
     ensures { result ≡ end_in vol.now span.now }
@@ -50,7 +50,7 @@ fn end_in(vol: &VolName, span: &Span) -> u64
     }
 }
 
-/// Returns where the spans of a volume end, exclusive; 0 if there is none.
+/// Returns the end of a volume's spans, exclusive; 0 if there is none.
 #[tactic(auto, using(crate::proofs::VouchLaws::fold_next))]
 fn end_of_spans(vol: &VolName, spans: &[Span]) -> u64
     requires { list_all is_span spans.now ≡ true }
@@ -63,14 +63,14 @@ fn end_of_spans(vol: &VolName, spans: &[Span]) -> u64
     end
 }
 
-/// Returns where the spans of a job on a volume end, exclusive; 0 if there is none.
+/// Returns the end of the spans of a job on a volume, exclusive; 0 if there is none.
 fn end_of_job(vol: &VolName, job: &JobRows) -> u64
     ensures { result ≡ end_of_spans vol.now job.now.spans }
 {
     end_of_spans(vol, job.spans())
 }
 
-/// Returns where the spans of jobs on a volume end, exclusive; 0 if there is none.
+/// Returns the end of the spans of jobs on a volume, exclusive; 0 if there is none.
 #[tactic(auto, using(crate::proofs::VouchLaws::fold_next))]
 fn end_of_jobs(vol: &VolName, jobs: &[JobRows]) -> u64
     ensures { result ≡ end_of_jobs vol.now jobs.now }
@@ -159,7 +159,7 @@ fn place_of(vouches: &[Vouch], vol: &VolName) -> Option<usize>
     vouches.iter().position(|v| v.vol.bytes() == vol.bytes())
 }
 
-/// Adds to the vouched length of a volume. It has an entry, or nothing is changed.
+/// Adds to the vouched length of a volume. If it has no entry, nothing is changed.
 pub(crate) fn grow(vouches: &mut [Vouch], vol: &VolName, by: usize)
     ensures { vouches.new ≡ changed (longer by) vol.now vouches.old }
 {
@@ -169,7 +169,7 @@ pub(crate) fn grow(vouches: &mut [Vouch], vol: &VolName, by: usize)
     }
 }
 
-/// Notes that an append to a volume failed. It has an entry, or nothing is changed.
+/// Notes that an append to a volume failed. If it has no entry, nothing is changed.
 pub(crate) fn retire(vouches: &mut [Vouch], vol: &VolName)
     ensures { vouches.new ≡ changed retired vol.now vouches.old }
 {

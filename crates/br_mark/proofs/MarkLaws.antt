@@ -1,4 +1,4 @@
--- The answers of commands that set marks or take them back.
+-- The answers of commands that set or remove marks.
 use Rattle.std.proofs.Common.{◌≡◌, ℕ, Bool, true, false, cond, List, map, filter, Option, Some, None, Result, Ok, Err, refl, ap, sym, subst, ◌∙◌}
 use Rattle.std.specs.Prelude.{codes, bytes_eq, ◌++◌}
 use Rattle.br_model.specs.Answer.{◌>>=◌, Answers, IsRefusal}
@@ -42,7 +42,7 @@ meant_directories_only paths directory (Some pattern) =
 
 -- ---- the answer
 
--- of what a call answers
+-- of what a call returns
 abbrev pub AnswersAs : model.Console → Result Answer MarkFault → Result (model.Console × model.Answer) ℕ → Type 0
 AnswersAs new result expected = Answers (λ (a : Answer). (new, answer_said a)) cause result expected
 

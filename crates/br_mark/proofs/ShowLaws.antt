@@ -102,7 +102,7 @@ found_empty m pattern found b are e =
 
 -- ---- marked paths
 
--- a path beside its entry
+-- a path with its entry
 abbrev pub Pair : Type 0
 Pair = Bor (List ℕ) × Entry
 

@@ -1,4 +1,4 @@
--- What a command makes of a console: in a directory of a view with these marks.
+-- The effect of a command on a console: in a directory of a view with these marks.
 use Rattle.std.specs.Prelude.{◌≡◌, ℕ, ◌++◌, codes, decimal, filter, flat_map, length, List, Result, Ok}
 use Rattle.std.specs.Borrow.{Bor}
 use Rattle.std.specs.Global.{Vec}
@@ -14,7 +14,8 @@ use Rattle.br_mark.specs.Seen.{Situation, answer_said, signed_line}
 use Rattle.br_mark.specs.declared.answer.Answer.{Answer}
 use Rattle.br_mark.specs.declared.fault.MarkFault.{MarkFault}
 
--- a command that changes marks leads from the first view with its marks to the second one, or is refused as the model says
+-- a command that changes marks leads from the first view with its marks to the second one, or is
+-- refused as in the model
 abbrev pub Applies : List ℕ → Marking → Marking → model.Command → Result Answer MarkFault → Type 0
 Applies directory old new command result = Answers (λ (a : Answer). (console_at directory new, answer_said a)) cause result (model.apply old.view (console_at directory old) command)
 
@@ -22,15 +23,17 @@ Applies directory old new command result = Answers (λ (a : Answer). (console_at
 abbrev pub Says : List ℕ → Marking → model.Command → List ℕ → Type 0
 Says directory m command text = model.apply m.view (console_at directory m) command ≡ Ok (model.says (console_at directory m) text)
 
--- a command that leads from the first directory to the second one shows its text, or is refused as the model says
+-- a command that leads from the first directory to the second one shows its text, or is refused as
+-- in the model
 abbrev pub Goes : List ℕ → List ℕ → Marking → model.Command → Result (Vec ℕ) MarkFault → Type 0
 Goes before after m command result = Answers (λ (t : Vec ℕ). model.says (console_at after m) t.items) cause result (model.apply m.view (console_at before m) command)
 
--- a pattern finds the lines of a text, or is refused as the model says
+-- a pattern finds the lines of a text, or is refused as in the model
 abbrev pub Finds : Situation → List ℕ → Result (Vec ℕ) MarkFault → Type 0
 Finds s pattern result = Answers (λ (t : Vec ℕ). model.says s.state t.items) cause result (model.apply s.view s.state (model.Find pattern))
 
--- a command leads from the first situation to the state of the second one with its answer, or is refused as the model says
+-- a command leads from the first situation to the state of the second one with its answer, or is
+-- refused as in the model
 abbrev pub Runs : Situation → Situation → model.Command → Result Answer MarkFault → Type 0
 Runs old new command result = Answers (λ (a : Answer). (new.state, answer_said a)) cause result (model.apply old.view old.state command)
 

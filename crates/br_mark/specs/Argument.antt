@@ -2,10 +2,10 @@
 use Rattle.std.specs.Prelude.{ℕ, if◌then◌else◌, List, Option, Some, None, Result, Ok, Err}
 use Rattle.br_model.specs.Text.{is_empty}
 
--- one that a command needs, or 55
+-- an argument that a command needs, or 55
 abbrev pub needed_text : List ℕ → Result (List ℕ) ℕ
 needed_text text = if is_empty text then Err 55 else Ok text
 
--- one that may be missing
+-- an argument that may be missing
 abbrev pub wanted_text : List ℕ → Option (List ℕ)
 wanted_text text = if is_empty text then None else Some text

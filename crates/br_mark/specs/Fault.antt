@@ -1,4 +1,4 @@
--- What a refused line or command says.
+-- The numbers of refused lines and commands.
 use Rattle.std.specs.Prelude.{ℕ, Option, Some, None}
 use Rattle.br_mark.specs.declared.fault.MarkFault.{MarkFault}
 use Rattle.br_mark.specs.declared.fault.MarkFault.TheVariants.{Memory, UnknownCommand, NoSuchDirectory, NoMatch}
@@ -10,7 +10,7 @@ fault_number UnknownCommand = 55
 fault_number NoSuchDirectory = 56
 fault_number NoMatch = 57
 
--- the refusal that the model has, nothing for want of memory
+-- the refusal that the model decides; none if memory ran out
 abbrev pub cause : MarkFault → Option ℕ
 cause Memory = None
 cause UnknownCommand = Some 55

@@ -1,4 +1,4 @@
--- What a command asks, in the model's words.
+-- A command of the program as one of the model.
 use Rattle.std.specs.Prelude.{ℕ, List, Option, option_map}
 use Rattle.std.specs.Global.{Vec}
 use Rattle.br_model.specs.Console as model

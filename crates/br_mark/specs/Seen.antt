@@ -1,4 +1,4 @@
--- How a console and its answers are seen.
+-- A console and its answers as those of the model.
 use Rattle.std.specs.Prelude.{ℕ, Bool, if◌then◌else◌, List, ◌∷◌, Option, Some, None, Result, Ok, Err}
 use Rattle.br_model.specs.Text.{line, escaped}
 use Rattle.br_model.specs.View.{Entry}
@@ -6,7 +6,7 @@ use Rattle.br_model.specs.Console as model
 use Rattle.br_mark.specs.declared.answer.Answer.{Answer}
 use Rattle.br_mark.specs.declared.answer.Answer.TheVariants.{Text, Done, Quit}
 
--- a view, and how the console over it stands
+-- a view, and the state of the console over it
 pub record Situation : Type 0 where
   pub view : List Entry
   pub state : model.Console
@@ -17,12 +17,12 @@ answer_said (Text text) = model.Text text.items
 answer_said Done = model.EndsDone
 answer_said Quit = model.EndsQuit
 
--- the answer of how many paths got or lost a mark, or 57 where none was meant
+-- the answer with the number of paths that gained or lost a mark, or 57 if none was meant
 abbrev pub count_answer : List ℕ → Option ℕ → Result model.Answer ℕ
 count_answer word None = Err 57
 count_answer word (Some n) = Ok (model.Text (model.count_line n word))
 
--- a name or a path behind its sign
+-- a name or a path after its sign
 abbrev pub signed_line : List ℕ × ℕ → List ℕ
 signed_line p = line (p.1 ∷ escaped p.0)
 
@@ -30,6 +30,6 @@ signed_line p = line (p.1 ∷ escaped p.0)
 abbrev pub flag_sign : Bool → ℕ
 flag_sign b = if b then 42 else 32
 
--- a path behind the sign of its mark
+-- a path after the sign of its mark
 abbrev pub flagged_line : List ℕ × Bool → List ℕ
 flagged_line p = line (flag_sign p.1 ∷ escaped p.0)

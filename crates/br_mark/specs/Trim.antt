@@ -2,7 +2,7 @@
 use Rattle.std.specs.Prelude.{ℕ, List, reverse}
 use Rattle.br_model.specs.Text.{is_blank, trim_front}
 
--- without those at its front
+-- without those at its beginning
 abbrev pub trimmed_front : List ℕ → List ℕ
 trimmed_front text = trim_front is_blank text
 

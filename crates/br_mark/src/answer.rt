@@ -1,4 +1,4 @@
-/// What a console gives for a command.
+/// The answer of a console to a command.
 #[derive(Drop)]
 pub enum Answer {
     /// Lines to be printed, each with its end.

@@ -13,13 +13,13 @@ use br_types::is_blank_byte;
 use bstr::ByteSlice;
 use std::alloc::{AllocError, Global};
 
-/// The most bytes that a line has.
+/// The greatest number of bytes of a line.
 const MAX_LEN: usize = 4096;
 
 /// The blanks: a space and a tab.
 const BLANKS: &[u8] = b" \t";
 
-/// What may be asked of a console. A pattern is matched with names, a way is a path of directories.
+/// A command of a console. A pattern is matched with names, a way is a path of directories.
 #[derive(Drop)]
 pub enum Command {
     /// Goes to a directory.
@@ -30,11 +30,11 @@ pub enum Command {
     Ls(Option<Vec<u8>>),
     /// Marks the names that match, and all below the directories among them.
     Mark(Vec<u8>),
-    /// Takes such marks back.
+    /// Removes the marks that `Mark` sets.
     Unmark(Vec<u8>),
-    /// Marks the directories that match, or the directory itself, without what is below.
+    /// Marks the directories that match, or the directory itself, without the paths below.
     MarkDir(Option<Vec<u8>>),
-    /// Takes such marks back.
+    /// Removes the marks that `MarkDir` sets.
     UnmarkDir(Option<Vec<u8>>),
     /// Shows the number of paths, and of those that are marked.
     Count,
@@ -50,7 +50,7 @@ pub enum Command {
     Quit,
 }
 
-/// Returns the text without the blanks at its front.
+/// Returns the text without the blanks at its beginning.
 fn without_front(text: &[u8]) -> &[u8]
     ensures { result.now ≡ trimmed_front text.now }
 {
@@ -89,7 +89,7 @@ fn blank_in(text: &[u8]) -> Option<usize>
     text.find_byteset(BLANKS)
 }
 
-/// Returns the text before the first blank, and what comes after it.
+/// Returns the text before the first blank, and the text after it.
 fn first_word(text: &[u8]) -> (&[u8], &[u8])
     ensures word { result.0.now ≡ before_first is_blank text.now }
     ensures rest { result.1.now ≡ after_first is_blank text.now }
@@ -172,8 +172,8 @@ impl Command {
     ///
     /// # Errors
     ///
-    /// `UnknownCommand` if the line has more than 4,096 bytes, the word is none of the commands (small letters alone), or its
-    /// argument is missing or too much.
+    /// `UnknownCommand` if the line has more than 4,096 bytes, the word is not a command in lower
+    /// case, or its argument is missing or not allowed.
     #[tactic(auto, unfolding(br_model::specs::Console::read_command))]
     pub fn read(alloc: Global, line: &[u8]) -> Result<Command, MarkFault>
         ensures { Answers said cause result (model.read_command line.now) }

@@ -36,7 +36,7 @@ fn go(
     Ok(text)
 }
 
-/// A directory of a view, and the marks on its paths: what commands walk through and change.
+/// A directory of a view, and the marks on its paths, which commands walk through and change.
 #[derive(Drop)]
 pub struct Console<'h> {
     tree: Tree<'h>,
@@ -54,7 +54,7 @@ impl<'h> Model for Console<'h> {
 }
 
 impl<'h> Console<'h> {
-    /// Makes a console at `/`, with the marks that the tree has. It keeps the allocator.
+    /// Makes a console at `/`, with the marks of the tree. It keeps the allocator.
     pub fn new(alloc: Global, tree: Tree<'h>) -> Result<Console<'h>, AllocError>
         ensures { IfOk result (λ c. c ≡ record { view = tree.entry.view; state = console_at model.root tree.entry }) }
     {
@@ -78,12 +78,12 @@ impl<'h> Console<'h> {
         Ok(shows::found_lines(self.alloc, &found)?)
     }
 
-    /// Runs a command. A refused command changes nothing, nor does one for which memory runs out.
+    /// Runs a command. If it is refused or memory runs out, nothing changes.
     ///
     /// # Errors
     ///
-    /// `NoSuchDirectory` if `cd` leads to none, `NoMatch` if a pattern matches nothing, or `markdir` or `unmarkdir` has no path to
-    /// mark.
+    /// `NoSuchDirectory` if `cd` leads to no directory, `NoMatch` if a pattern matches nothing, or
+    /// `markdir` or `unmarkdir` has no path to mark.
     #[tactic(auto, unfolding(br_model::specs::Console::apply))]
     pub fn apply(&mut self, command: &Command) -> Result<Answer, MarkFault>
         ensures answers { Runs self.old self.new (said command.now) result }
@@ -114,7 +114,7 @@ impl<'h> Console<'h> {
         }
     }
 
-    /// Lends the view with the marks on its paths.
+    /// Returns the view with the marks on its paths.
     pub fn tree(&self) -> &Tree<'h>
         ensures view { result.now.view ≡ self.now.view }
         ensures marked { result.now.marked ≡ self.now.state.marked }

@@ -6,10 +6,11 @@ use br_types::push_escaped;
 use itoa::Buffer;
 use std::alloc::{AllocError, Global};
 
-/// Room for a number of at most 20 digits, a space, a word of at most eight letters and the end of a line.
+/// The room for a number of at most 20 digits, a space, a word of at most eight letters and the
+/// end of a line.
 pub(crate) const COUNT_LINE_LEN: usize = 64;
 
-/// Writes a path as a line, as it is printed.
+/// Writes a path as a line, escaped.
 pub(crate) fn push_path(text: &mut Vec<u8>, path: &[u8]) -> Result<(), AllocError>
     ensures { OnOk result (text.new.items ≡ text.old.items ++ line (escaped path.now)) }
 {
@@ -34,7 +35,8 @@ pub(crate) fn cwd_line(alloc: Global, directory: &[u8]) -> Result<Vec<u8>, Alloc
     Ok(text)
 }
 
-/// Writes the number of paths that got or lost a mark. It can't fail if there is room for `COUNT_LINE_LEN` bytes.
+/// Writes the number of paths that gained or lost a mark. It can't fail if there is room for
+/// `COUNT_LINE_LEN` bytes.
 pub(crate) fn push_count(text: &mut Vec<u8>, count: u64, word: &[u8]) -> Result<(), AllocError>
     requires { length word.now ≤ 8 }
     ensures written { OnOk result (text.new.items ≡ text.old.items ++ model.count_line count word.now) }

@@ -12,13 +12,14 @@ use crate::fault::MarkFault;
 use br_tree::Tree;
 use std::alloc::Global;
 
-/// What is said of paths that got a mark.
+/// The word for paths that gained a mark.
 const MARKED: &[u8] = b"marked";
 
-/// What is said of paths that lost it.
+/// The word for paths that lost a mark.
 const UNMARKED: &[u8] = b"unmarked";
 
-/// Returns the line for the number of paths that got or lost a mark; `NoMatch` if none was meant. There is room for the line.
+/// Returns the line for the number of paths that gained or lost a mark; `NoMatch` if none was
+/// meant. There is room for the line.
 fn counted(mut text: Vec<u8>, count: Option<u64>, word: &[u8]) -> Result<Answer, MarkFault>
     requires none { text.items ≡ [] }
     requires room { 64 ≤ vec_capacity text }
@@ -52,7 +53,7 @@ pub(crate) fn mark(
     counted(text, count, MARKED)
 }
 
-/// Takes the marks from the names in a directory that match, and from all below the directories among them.
+/// Unmarks the names in a directory that match, and all paths below the directories among them.
 #[tactic(auto, unfolding(br_model::specs::Console::apply))]
 pub(crate) fn unmark(
     alloc: Global,
@@ -79,7 +80,7 @@ fn bytes_of(pattern: &Option<Vec<u8>>) -> Option<&[u8]>
     }
 }
 
-/// Marks the directories that match, without a pattern the directory itself, and nothing below.
+/// Marks the directories that match, or the directory itself without a pattern, and nothing below.
 #[tactic(auto, unfolding(br_model::specs::Console::apply))]
 pub(crate) fn mark_dir(
     alloc: Global,
@@ -96,7 +97,7 @@ pub(crate) fn mark_dir(
     counted(text, count, MARKED)
 }
 
-/// Takes the marks from the directories that match, without a pattern from the directory itself, and from nothing below.
+/// Unmarks the directories that match, or the directory itself without a pattern; nothing below.
 #[tactic(auto, unfolding(br_model::specs::Console::apply))]
 pub(crate) fn unmark_dir(
     alloc: Global,

@@ -130,7 +130,7 @@ pub(crate) fn count(alloc: Global, tree: &Tree<'_>) -> Result<Vec<u8>, AllocErro
     totals_line(alloc, paths, b" paths, ", u128::from(marked), b" marked")
 }
 
-/// Returns a size in bytes, 0 for a negative one.
+/// Returns a size in bytes; 0 if it is negative.
 fn size_of(size: i64) -> u128
     ensures same { result ≡ model.size_of size }
     ensures fits { result < 2 ^ 63 }

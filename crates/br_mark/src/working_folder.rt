@@ -27,7 +27,7 @@ fn last_component_len(path: &[u8]) -> usize
     }
 }
 
-/// Goes to the directory above, which for the root is the root.
+/// Goes to the parent directory; the parent of the root is the root.
 fn go_up(directory: &mut Vec<u8>)
     ensures { directory.new.items ≡ model.parent directory.old.items }
 {
@@ -39,7 +39,7 @@ fn go_up(directory: &mut Vec<u8>)
     }
 }
 
-/// Goes on by one component of a way.
+/// Follows one component of a way.
 fn go_on(directory: &mut Vec<u8>, component: &[u8]) -> Result<(), MarkFault>
     ensures { Answers (λ _. directory.new.items) cause result (model.step directory.old.items component.now) }
 {
@@ -58,7 +58,7 @@ fn go_on(directory: &mut Vec<u8>, component: &[u8]) -> Result<(), MarkFault>
     Ok(())
 }
 
-/// Goes on by all components of a way.
+/// Follows all components of a way.
 fn follow(directory: &mut Vec<u8>, way: &[u8]) -> Result<(), MarkFault>
     ensures { Answers (λ _. directory.new.items) cause result (model.walk directory.old.items (slice_split is_slash way.now)) }
 {
@@ -77,8 +77,8 @@ fn followed(alloc: Global, directory: &[u8], way: &[u8]) -> Result<Vec<u8>, Mark
     Ok(directory)
 }
 
-/// Returns the directory to which a way leads, from the root if it begins with `/`. One `/` at its end is allowed. Whether there
-/// is such a directory is not asked.
+/// Returns the directory to which a way leads, from the root if it begins with `/`. One `/` at its
+/// end is allowed. The directory need not exist.
 ///
 /// # Errors
 ///

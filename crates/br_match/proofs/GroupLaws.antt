@@ -240,7 +240,7 @@ hits_near ms near address session block fs is near_is may =
     (λ f of_session. ap (λ (gs : List (ℕ × Group)). first_for session gs f) near_is ∙ first_near ms address session f of_session) fs may)
     ∙ ap (hits_of_fragments (λ f. first_hitting ms address f) address 0) is
 
--- the fragments of a block may stand in one with the session of its header, or without one
+-- a block with the session of its header, or without one, may contain its fragments
 pub may_stand : (block : List ℕ) (h : Header) (fs : List Fragment) → read_header block ≡ Ok h → AllByRecursion (IsFragmentOf (session_of block)) fs
     → AllByRecursion (λ (f : Fragment). MayHold h.session f.session) fs
 may_stand block h fs e each =

@@ -1,4 +1,4 @@
--- From what a drive answers over the volumes that it shows to what a step answers over all that it
+-- From what a drive returns over the volumes that it shows to what a step returns over all that it
 -- may be taken to show.
 use Rattle.std.proofs.Common.{◌≡◌, ℕ, ◌+◌, true, false, List, ◌++◌, Option, Some, None, Result, Ok, Err, refl, sym, ap, subst, ◌∙◌, ◌⊎◌, inl, inr}
 use Rattle.std.proofs.lemmas.Option.{same_Some}
@@ -103,7 +103,7 @@ over_join (Some a) (Some b) (Some c) piece P Q R p q first second join = λ volu
 
 -- ---- what a call says of the step
 
--- a refusal that may be want of memory in place of the one that is expected
+-- a refusal that may be out of memory instead of the expected one
 pub refused_for : {Y : Type 0} (expected told : Option PieceFault) (x : Result Y PieceFault) → IsRefusedFor expected told → IsRefusal expected x → IsRefusal told x
 refused_for expected None x e is = tt
 refused_for expected (Some r) x e is = subst (λ (o : Option PieceFault). IsRefusal o x) e is

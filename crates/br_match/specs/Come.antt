@@ -1,4 +1,4 @@
--- Hits in blocks to which walks come.
+-- Hits in blocks that walks reach.
 use Rattle.std.specs.Prelude.{◌≡◌, ℕ, List, Some, Ok, Contains}
 use Rattle.std.specs.List.{AllByRecursion}
 use Rattle.br_model.specs.Volume.{Volume}
@@ -10,7 +10,7 @@ use Rattle.br_match.specs.Walk.{step_on, ComesTo}
 abbrev pub AreOfBootstrap : List Piece → Type 0
 AreOfBootstrap pieces = (groups : List Group) × (pieces ≡ pieces_of groups)
 
--- the hit is in a block to which the walk of one of the pieces comes
+-- the hit is in a block that the walk of one of the pieces reaches
 pub record IsCome (volumes : List Volume) (pieces : List Piece) (hit : Hit) : Type 0 where
   pub piece : Piece
   pub address : ℕ
@@ -25,7 +25,7 @@ pub record IsCome (volumes : List Volume) (pieces : List Piece) (hit : Hit) : Ty
 abbrev pub AllComeTo : List Volume → List Piece → List Hit → Type 0
 AllComeTo volumes pieces hits = AllByRecursion (IsCome volumes pieces) hits
 
--- A hit in a block to which a walk comes is one that a walk reaches, whatever follows the block.
+-- A hit in a block that a walk comes to is one that is reached, whatever follows the block.
 abbrev pub ComeIsReached : Type 0
 ComeIsReached = (groups : List Group) (volumes : List Volume) (hit : Hit) → IsCome volumes (pieces_of groups) hit → IsReached groups volumes hit
 

@@ -1,4 +1,4 @@
--- What the refusal of a piece means.
+-- The numbers and causes of the refusals of a piece.
 use Rattle.std.specs.Prelude.{◌≡◌, ℕ, ◌<◌, List, Option, Some, None, Result, IfErr, ⊤}
 use Rattle.br_model.specs.Meaning as model
 use Rattle.br_match.specs.declared.fault.PieceCause.{PieceCause}
@@ -29,7 +29,7 @@ abbrev pub fault_address : PieceFault → Option ℕ
 fault_address Memory = None
 fault_address (Block why vol addr) = Some addr
 
--- the address that is named by a refusal at this one; an unknown volume is refused at address 0
+-- the address in a refusal at this address; an unknown volume is refused at address 0
 abbrev pub named_address : PieceCause → ℕ → ℕ
 named_address BadId addr = addr
 named_address BadBlockSize addr = addr
@@ -59,6 +59,6 @@ abbrev pub cause : PieceFault → Option model.PieceFault
 cause Memory = None
 cause (Block why vol addr) = refusal why vol addr
 
--- A result that is refused with a drive's failure shows that the drive failed meanwhile.
+-- If the result is refused with a drive's failure, the drive failed during the call.
 abbrev pub FailsWithDrive : {D A : Type 0} → (D → ℕ) → D → D → Result A PieceFault → Type 0
 FailsWithDrive failures before after result = IfErr result (λ fault. fault_number fault ≡ 13 → failures before < failures after)

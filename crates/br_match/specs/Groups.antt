@@ -26,12 +26,12 @@ pub record AreAlike (g h : ℕ × Group) : Type 0 where
   pub indexes : (n : ℕ) → admits g.1.indexes n ≡ admits h.1.indexes n
   pub streams : (n : ℕ) → admits g.1.streams n ≡ admits h.1.streams n
 
--- what a group asks of a session, if there is one
+-- the group's condition on a session, if there is one
 abbrev pub admits_session : Group → Option SessionKey → Bool
 admits_session g None = true
 admits_session g (Some key) = admits g.session_ids key.id && admits g.session_times key.time
 
--- what a group asks of a fragment's block, whose header has this session or none
+-- the group's conditions on a fragment's block, whose header has this session or none
 abbrev pub admits_block : Group → ℕ → Option SessionKey → Bool
 admits_block g address session =
     admits_session g session && admits g.files (address / 2 ^ 32) && admits g.blocks (address % 2 ^ 32) && admits g.addresses address
@@ -41,7 +41,7 @@ abbrev pub own_session : Option SessionKey → SessionKey → Option SessionKey
 own_session None key = Some key
 own_session (Some session) key = None
 
--- what a group asks of a fragment's header
+-- the group's conditions on a fragment's header
 abbrev pub admits_record : Group → Option SessionKey → ℤ → ℤ → Bool
 admits_record g own index stream =
     is_positive index && admits_session g own && admits g.indexes (nat_abs index) && admits g.streams (nat_abs stream)
@@ -62,7 +62,7 @@ abbrev pub hits_of_fragments : (Fragment → Option ℕ) → ℕ → ℕ → Lis
 hits_of_fragments first address n fragments =
     filter_map (λ (f : ℕ × Fragment). option_map (hit_at (record { address = address; bytes = [] }) f) (first f.1)) (enumerate_from n fragments)
 
--- the hit that a numbered fragment of the block at an address is, if one of these groups hits it
+-- the hit of a numbered fragment of the block at an address, if one of these groups hits it
 abbrev pub hit_by : Option SessionKey → List (ℕ × Group) → ℕ → ℕ × Fragment → Option Hit
 hit_by session near address f = option_map (hit_at (record { address = address; bytes = [] }) f) (first_for session near f.1)
 
@@ -70,7 +70,7 @@ hit_by session near address f = option_map (hit_at (record { address = address; 
 abbrev pub hits_by : Option SessionKey → List (ℕ × Group) → ℕ → List Fragment → List Hit
 hits_by session near address fragments = hits_of_fragments (first_for session near) address 0 fragments
 
--- two groups are alike in one way at most
+-- two groups are alike in at most one way
 alike_once : (g h : ℕ × Group) → IsProp (AreAlike g h)
 alike_once g h p q = λ t. record {
   number = ℕ_set g.0 h.0 p.number q.number t;
@@ -83,7 +83,7 @@ alike_once g h p q = λ t. record {
   streams = λ n. Bool-set (admits g.1.streams n) (admits h.1.streams n) (p.streams n) (q.streams n) t;
 }
 
--- and so are lists of groups
+-- and so are two lists of groups
 pub all_alike_once : (gs hs : List (ℕ × Group)) → IsProp (AllZip AreAlike gs hs)
 all_alike_once [] [] p q = refl
 all_alike_once [] (h ∷ hs) p q = absurd p

@@ -1,4 +1,4 @@
--- What a drive finds of a piece, whatever its volumes do meanwhile.
+-- The hits that a drive finds for a piece while its volumes may change.
 use Rattle.std.specs.Prelude.{◌≡◌, ℕ, ◌<◌, ◌⊎◌, false, List, length, Option, Some, None, Result, Ok, ⊤}
 use Rattle.std.specs.List.{AllByRecursion}
 use Rattle.br_model.specs.Answer.{Answers}
@@ -26,7 +26,7 @@ pub record IsEnclosed (volumes : List Volume) (piece : Piece) : Type 0 where
 abbrev pub StandsFor : List Volume → List Volume → Piece → List Volume → Type 0
 StandsFor earlier later piece volumes = Extends earlier volumes × (Extends volumes later ⊎ IsEnclosed volumes piece)
 
--- the same of several pieces: the volumes are what it showed throughout, or each of the pieces is
+-- the same for several pieces: the volumes are what it showed throughout, or each of the pieces is
 -- enclosed in them
 abbrev pub StandsForEach : List Volume → List Volume → List Piece → List Volume → Type 0
 StandsForEach earlier later pieces volumes = Extends earlier volumes × (Extends volumes later ⊎ AllByRecursion (IsEnclosed volumes) pieces)

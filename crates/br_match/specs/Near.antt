@@ -1,4 +1,4 @@
--- The groups of a piece between which are all that cover an address.
+-- A part of the groups of a piece that contains all groups that cover an address.
 use Rattle.std.specs.Prelude.{◌≡◌, ℕ, ◌<◌, ◌^◌, ◌++◌, false, List, length}
 use Rattle.std.specs.List.{AllZip, slice_index_or}
 use Rattle.std.specs.List.Sorted.{IsNonDecreasingBy}

@@ -1,4 +1,4 @@
--- What callers see of a walk.
+-- How callers see a walk.
 use Rattle.std.specs.Prelude.{ℕ}
 use Rattle.br_model.specs.Meaning.{Piece}
 use Rattle.br_match.specs.declared.walk.Walk.{Walk}

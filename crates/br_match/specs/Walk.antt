@@ -1,4 +1,4 @@
--- The walk of a piece's volume, block by block, and what holds of it while a drive's volumes grow.
+-- The walk of a piece's volume, block by block, and its properties while a drive's volumes grow.
 use Rattle.std.specs.Prelude.{◌≡◌, ℕ, zero, suc, IfErr, ◌+◌, ◌/◌, ◌^◌, ◌<◌, List, [], ◌++◌, length, drop, flat_map, Option, Some, None, option_map, Result, Ok, Err, ⊤}
 use Rattle.br_model.specs.Answer.{◌>>=◌, some_or, refused_as, IsRefusal, Answers}
 use Rattle.br_model.specs.Block.{Header, read_header}
@@ -58,37 +58,37 @@ abbrev pub and_rest : (ℕ → Result (List Hit) PieceFault) → Option (List Hi
 and_rest rest None = Ok []
 and_rest rest (Some s) = in_front s.0 (rest s.1)
 
--- a walk may have come to the address: a piece that is not refused is not refused from there on,
+-- a walk may have reached the address: a piece that is not refused is not refused from there on,
 -- and only at address 0 is it not known yet that the volume is there
 pub record Follows (volumes : List Volume) (piece : Piece) (address : ℕ) : Type 0 where
   pub rest : (hits : List Hit) → hits_on volumes piece ≡ Ok hits → (rest : List Hit) × (rest_on volumes piece address ≡ Ok rest)
   pub there : volume_bytes volumes piece.volume ≡ None → address ≡ 0
 
--- if a drive tells its volumes, this holds of all volumes that it may be taken to show
+-- if a drive tells its volumes, this holds for all volumes that it may be taken to show
 abbrev pub Over : Option (List Volume) → Option (List Volume) → Piece → (List Volume → Type 0) → Type 0
 Over (Some earlier) (Some later) piece P = (volumes : List Volume) → StandsFor earlier later piece volumes → P volumes
 Over None later piece P = ⊤
 Over (Some earlier) None piece P = ⊤
 
--- the same of those volumes over which a walk may have come to the address
+-- the same for those volumes over which a walk may have reached the address
 abbrev pub AfterWalk : Option (List Volume) → Option (List Volume) → Piece → ℕ → (List Volume → Type 0) → Type 0
 AfterWalk earlier later piece address P = Over earlier later piece (λ volumes. Follows volumes piece address → P volumes)
 
--- the volume is there, and has this header at the address
+-- the volume exists, and has this header at the address
 pub record HasHead (volumes : List Volume) (piece : Piece) (address : ℕ) (head : Header) : Type 0 where
   pub bytes : List ℕ
   pub found : volume_bytes volumes piece.volume ≡ Some bytes
   pub within : address < length bytes
   pub read : read_header (drop address bytes) ≡ Ok head
 
--- the same of those volumes over which a walk may have come to the address and which have this
+-- the same for those volumes over which a walk may have reached the address and which have this
 -- header there
 abbrev pub AfterHead : Option (List Volume) → Option (List Volume) → Piece → ℕ → Header → (List Volume → Type 0) → Type 0
 AfterHead earlier later piece address head P = AfterWalk earlier later piece address (λ volumes. HasHead volumes piece address head → P volumes)
 
--- ---- what the parts of a step answer
+-- ---- the results of the parts of a step
 
--- the refusal is this one, or has no cause that volumes decide
+-- the refusal is this one, or has no cause that the volumes decide
 abbrev pub IsRefusedFor : Option PieceFault → Option PieceFault → Type 0
 IsRefusedFor expected None = ⊤
 IsRefusedFor expected (Some r) = expected ≡ Some r
@@ -98,7 +98,7 @@ abbrev pub ReadsAt : List ℕ → ℕ → ℕ → List ℕ → Result Got code.P
 ReadsAt name address size buffer result volumes =
     Answers (bytes_got buffer) cause result (refused_as (λ _. unknown name) (bytes_shown volumes name address size))
 
--- the same, over the volumes that a drive shows, where it tells them
+-- the same, over the volumes that a drive shows, if it tells them
 abbrev pub ReadsOver : Option (List Volume) → List ℕ → ℕ → ℕ → List ℕ → Result Got code.PieceFault → Type 0
 ReadsOver None name address size buffer result = ⊤
 ReadsOver (Some volumes) name address size buffer result = ReadsAt name address size buffer result volumes
@@ -147,29 +147,29 @@ BlockGiven piece address next (Ok (Some batch)) volumes = step_on volumes piece 
 BlockGiven piece address next (Ok None) volumes = step_on volumes piece address ≡ Ok None
 BlockGiven piece address next (Err e) volumes = IsRefusal (cause e) (step_on volumes piece address)
 
--- over the volumes that a drive may be taken to show: the walk gives the hits of its next block, or
--- is at its end
+-- over the volumes that a drive may be taken to show: the walk returns the hits of its next block,
+-- or is at its end
 abbrev pub GivesBlock : {D : Type 0} → (D → Option (List Volume)) → D → D → Piece → ℕ → ℕ → Result (Option Batch) code.PieceFault → Type 0
 GivesBlock shows earlier later piece address next result =
     AfterWalk (shows earlier) (shows later) piece address (BlockGiven piece address next result)
 
--- a walk comes to the address by this number of steps
+-- a walk reaches the address in this number of steps
 abbrev pub ComesIn : ℕ → List Volume → Piece → ℕ → Type 0
 ComesIn zero volumes piece address = address ≡ 0
 ComesIn (suc n) volumes piece address =
     (before : ℕ) × (hits : List Hit) × ComesIn n volumes piece before × (step_on volumes piece before ≡ Ok (Some (hits, address)))
 
--- a walk comes to the address from the volume's start, step by step
+-- a walk reaches the address from the volume's start, step by step
 abbrev pub ComesTo : List Volume → Piece → ℕ → Type 0
 ComesTo volumes piece address = (n : ℕ) × ComesIn n volumes piece address
 
--- A refusal names the piece's volume and the address to which the walk came; an unknown volume is
--- refused at address 0.
+-- A refusal names the piece's volume and the address that the walk had reached; an unknown volume
+-- is refused at address 0.
 abbrev pub NamesReached : {D A : Type 0} → (D → Option (List Volume)) → D → D → Piece → Result A code.PieceFault → Type 0
 NamesReached shows earlier later piece result =
     IfErr result (λ fault. (address : ℕ) × IsAt piece.volume address fault × Over (shows earlier) (shows later) piece (λ volumes. ComesTo volumes piece address))
 
--- these hits were found of a piece before its walk came to the address
+-- these hits of a piece were found before its walk reached the address
 pub record IsWalked (volumes : List Volume) (piece : Piece) (address : ℕ) (found : List Hit) : Type 0 where
   pub all : hits_on volumes piece ≡ in_front found (rest_on volumes piece address)
   pub there : volume_bytes volumes piece.volume ≡ None → address ≡ 0

@@ -79,7 +79,7 @@ fn admits_number(ranges: &[Range], number: u64) -> bool
     number <= last.high
 }
 
-/// Returns the least end of the ranges, 0 if there are none.
+/// Returns the least end of the ranges; 0 if there are none.
 fn least(ranges: &[Range]) -> u64
     requires { IsRising ranges.now }
     ensures { (n : ℕ) → n < result → admits ranges.now n ≡ false }
@@ -90,7 +90,7 @@ fn least(ranges: &[Range]) -> u64
     }
 }
 
-/// Returns the greatest end of the ranges, the greatest number of all if there are none.
+/// Returns the greatest end of the ranges; the greatest possible number if there are none.
 fn greatest(ranges: &[Range]) -> u64
     requires { IsRising ranges.now }
     ensures { (n : ℕ) → result < n → n < 2 ^ 64 → admits ranges.now n ≡ false }

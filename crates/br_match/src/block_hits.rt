@@ -33,7 +33,7 @@ fn own_session(session: &Option<SessionKey>, key: SessionKey) -> Option<SessionK
     }
 }
 
-/// Returns the hit that a fragment of the block at this address is, if one of the groups hits it. The
+/// Returns the hit of a fragment of the block at this address, if one of the groups hits it. The
 /// header of the block has this session or none.
 fn hit_of(
     alloc: Global,

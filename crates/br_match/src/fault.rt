@@ -38,7 +38,7 @@ impl PieceCause {
         }
     }
 
-    /// Returns the cause that a block's fault is.
+    /// Returns the cause for a block's fault.
     pub(crate) fn of_block(fault: BlockFault) -> PieceCause
         ensures number { cause_number result ≡ block.fault_number fault }
         ensures told { (vol : List ℕ) (addr : ℕ) → refusal result vol addr ≡ refused_with (block.fault_number fault) vol addr }
@@ -52,7 +52,7 @@ impl PieceCause {
     }
 }
 
-/// The reason why the work on a piece was given up.
+/// The reason why the work on a piece stopped.
 #[derive(Debug, Drop, Error)]
 pub enum PieceFault {
     #[error("out of memory")]

@@ -11,10 +11,10 @@ pub struct Hit {
     pub spot: Spot,
     /// The stream of its data; negative if it continues a record of an earlier block.
     pub stream: i32,
-    /// The bytes of data that the record header names.
+    /// The number of bytes of data that the record header gives.
     pub size: u32,
     /// The data in the block: fewer than `size` bytes if the record continues in a later block. A
-    /// file that is made of it shares it, so that no byte is copied.
+    /// file that is made from it shares it, so that no byte is copied.
     pub data: Data,
 }
 
@@ -38,7 +38,7 @@ pub struct Batch {
     pub hits: Vec<Hit>,
 }
 
-/// What was found of a piece.
+/// The hits that were found for a piece.
 #[derive(Drop)]
 pub struct Found {
     /// The number of the piece.

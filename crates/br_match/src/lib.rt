@@ -1,7 +1,7 @@
-//! Matching: the records of one volume that a bootstrap asks for, as a drive finds them.
+//! Matching: the records of one volume that a bootstrap asks for, as read by a drive.
 //!
 //! `match_piece` walks the volume of a piece and returns the hits. `Walk` does the same block by
-//! block: each `Batch` has the hits in one block. The volumes of the drive may grow meanwhile.
+//! block: each `Batch` has the hits in one block. Meanwhile the volumes of the drive may grow.
 #![tactic(auto)]
 
 mod admitted;
@@ -21,7 +21,7 @@ pub use hit::{Batch, Found, Hit};
 pub use matching::match_piece;
 pub use walk::Walk;
 
-/// States that a hit in a block to which a walk of a bootstrap comes is one that the walk reaches,
+/// States that a hit in a block that a walk of a bootstrap comes to is one that the walk reaches,
 /// whatever follows the block.
 pub fn come_hits_are_reached()
     ensures { ComeIsReached }

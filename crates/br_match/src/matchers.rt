@@ -11,7 +11,7 @@ use br_types::SessionKey;
 use std::alloc::{AllocError, Global};
 use std::marker::Model;
 
-/// The groups of a piece, prepared for many look-ups, of which an address leaves only a few.
+/// The groups of a piece, prepared for many look-ups. An address leaves only a few of them.
 #[derive(Drop)]
 pub(crate) struct Matchers {
     /// In their order.

@@ -16,13 +16,13 @@ use std::alloc::Global;
 ///
 /// The volume is walked block by block from address 0 to its end, or to the greatest address if
 /// every group has addresses. A header takes one call of the drive, and a block that a group covers
-/// takes a second one. Only the header must exist of a block that no group covers. (The format is
+/// takes a second one. If no group covers a block, only its header must exist. (The format is
 /// that of Bacula's Developer's Guide, "Storage Media Output Format".)
 ///
 /// # Errors
 ///
 /// `BadId`, `BadBlockSize` or `Truncated` with the address of the block, `DriveFault` with the
-/// address that the walk had come to, `UnknownVolume` with address 0, `Memory` if memory runs out.
+/// address that the walk had reached, `UnknownVolume` with address 0, `Memory` if memory runs out.
 pub fn match_piece<D: Drive>(
     alloc: Global,
     piece: &Piece,

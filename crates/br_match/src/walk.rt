@@ -125,7 +125,7 @@ fn bound_for(groups: &[(u32, Group)]) -> Option<u64>
 enum Step {
     /// The walk passed a block.
     Passed,
-    /// The walk is at its end.
+    /// The walk has reached its end.
     End,
 }
 
@@ -160,7 +160,7 @@ impl<'p> Walk<'p> {
     }
 
     /// Returns a walk before the block at this address, in bytes from the start of the volume. An
-    /// earlier walk of the piece has come there.
+    /// earlier walk of the piece has reached it.
     ///
     /// # Errors
     ///
@@ -186,7 +186,7 @@ impl<'p> Walk<'p> {
         self.addr
     }
 
-    /// Returns whether the walk ends here, whatever the volume has.
+    /// Returns whether the walk ends here, for any contents of the volume.
     fn is_above(&self) -> bool
         ensures { result ≡ is_above (bound_of (just_groups self.now.piece.now.groups)) self.now.addr }
     {
@@ -284,7 +284,7 @@ impl<'p> Walk<'p> {
     /// # Errors
     ///
     /// `BadId`, `BadBlockSize` or `Truncated` with the address of the block, `DriveFault` with the
-    /// address that the walk had come to, `UnknownVolume` with address 0, `Memory` if memory runs
+    /// address that the walk had reached, `UnknownVolume` with address 0, `Memory` if memory runs
     /// out. Then the walk is still before that block.
     pub fn next<D: Drive>(
         &mut self,

@@ -43,7 +43,7 @@ memory_may_run_out = tt
 no_refusal_of_a_value : IsRefusal {Y = ℕ} {R = ℕ} (Some 9) (Ok 4) → ⊥
 no_refusal_of_a_value e = absurd cc
 
--- a call that answers a number, or an error with a number where it is not want of memory
+-- a call that returns a number, or an error with a number unless it is out of memory
 cause : Option ℕ → Option ℕ
 cause e = e
 

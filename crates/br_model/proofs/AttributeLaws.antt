@@ -41,7 +41,7 @@ count_before c (x ∷ xs) rest h =
     let more = count_before c xs rest (and_parts (not (eqb x c)) (list_all (λ b. not (eqb b c)) xs) h).1 in
     rw (first, more) (omega arith)
 
--- a field in front of its end byte
+-- a field before its end byte
 field_is : (c : ℕ) (front rest : List ℕ) → Lacks c front → field c (front ++ c ∷ rest) ≡ Ok (front, rest)
 unfolding field
 field_is c front rest h =

@@ -216,7 +216,7 @@ the_first_fragment_has_what_is_left : first_fragment (Some key) (fragment_bytes 
 unfolding key header part reading
 the_first_fragment_has_what_is_left = refl
 
--- a block with these bytes behind its header
+-- a block with these bytes after its header
 block : List ℕ → List ℕ
 block bytes = header_bytes (header 24) ++ bytes
 
@@ -352,7 +352,7 @@ other = record { id = 6; time = 7 }
 part_of : SessionKey → ℤ → ℤ → ℕ → List ℕ → Fragment
 part_of session index stream size bytes = record { session = session; index = index; stream = stream; size = size; bytes = bytes }
 
--- a block of the older level with these bytes behind its header
+-- a block of the older level with these bytes after its header
 older_block : List ℕ → List ℕ
 older_block bytes = header_bytes (older 16) ++ bytes
 

@@ -47,7 +47,7 @@ split_has_parts (c ∷ cs) = go (eqb c 10) (slice_split (λ b. eqb b 10) cs)
     go false [] = (c ∷ [], [], refl)
     go false (part ∷ parts) = (c ∷ part, parts, refl)
 
--- a plain text with a line's end behind it is the first line
+-- a plain text with a line's end after it is the first line
 first_line : (text rest : List ℕ) → ArePlain text → lines (text ++ 10 ∷ rest) ≡ text ∷ lines rest
 first_line text rest h =
     let cut : slice_split (λ b. eqb b 10) (text ++ 10 ∷ rest) ≡ text ∷ slice_split (λ b. eqb b 10) rest =
@@ -56,7 +56,7 @@ first_line text rest h =
     let kept : eqb (get_or text (length text - 1) 0) 13 ≡ false = no_carriage_return text (length text - 1) h in
     rw (cut, parts.2) (rw kept refl)
 
--- what the lines of the text say, in front of any others
+-- what the lines of the text say, before any others
 record Says (text : List ℕ) (statements : List Statement) : Type 0 where
   before : (rest : List ℕ) (more : List Statement) → AllZip IsLine (lines rest) more → AllZip IsLine (lines (text ++ rest)) (statements ++ more)
 
@@ -73,7 +73,7 @@ says_line text statement plain is = record {
   before = λ rest more others. rw (append_assoc text (10 ∷ []) rest, first_line text rest plain) (is, others);
 }
 
--- with no other lines behind it
+-- with no other lines after it
 says_all : (text : List ℕ) (statements : List Statement) → Says text statements → AllZip IsLine (lines text) statements
 says_all text statements h = rw (append-nil text, append-nil statements) at (h.before [] [] tt)
 
@@ -139,7 +139,7 @@ plain_digit c h = grind (arith, nat_tests)
 decimal_plain : (n : ℕ) → n < 2 ^ 64 → ArePlain (decimal n)
 decimal_plain n lt = all_so is_ascii_digit is_plain plain_digit (decimal n) (decimal_is n lt).all
 
--- no blanks stand round the byte between two texts
+-- no blanks are around the byte between two texts
 without_blanks : (c : ℕ) (xs ys : List ℕ) → xs ++ c ∷ ys ≡ xs ++ [] ++ c ∷ [] ++ ys
 without_blanks c xs ys = sym (append_assoc xs (c ∷ []) ys) ∙ ap (λ front. front ++ c ∷ [] ++ ys) (sym (append-nil xs))
 
@@ -305,7 +305,7 @@ canonical_says (g ∷ gs) h =
 
 -- ---- the groups that the lines state
 
--- the last group is the one behind the others
+-- the last group is the one after the others
 change_last_pushed : (f : Group → Group) (groups : List Group) (g : Group) → change_last f (groups ++ g ∷ []) ≡ groups ++ f g ∷ []
 change_last_pushed f [] g = refl
 change_last_pushed f (h ∷ []) g = refl
@@ -377,6 +377,6 @@ canonical_is_text_lem groups h = record {
   groups_are = sym (fold_groups [] groups);
 }
 
--- where reading is the grammar, the canonical text of groups is read as these groups
+-- if reading is the grammar, the canonical text of groups is read as these groups
 pub canonical_reads_back : ReadingIsTheGrammar → CanonicalReadsBack
 canonical_reads_back grammar groups h = (grammar (canonical groups) groups).1 (canonical_is_text_lem groups h)

@@ -24,7 +24,7 @@ kept_are_in view p =
     all_filter (λ path. is_among (view_paths view) path ≡ true) p (view_paths view)
     (to_each (λ path. is_among (view_paths view) path ≡ true) (view_paths view) (λ path inside. some_passes (bytes_eq path) (view_paths view) path inside ((bytes_eq-Decides path path).1 refl)))
 
--- where some are found, they are in it
+-- if some are found, they are in it
 some_are_in : (view : List Entry) (p : List ℕ → Bool) (paths : List (List ℕ)) → some_of (filter p (view_paths view)) ≡ Ok paths → AreIn view paths
 some_are_in view p paths e = go (is_empty (filter p (view_paths view))) e
   where
@@ -67,7 +67,7 @@ unmarked_stays view c paths is =
       in_view = All-filter kept In c.marked is.in_view;
     }
 
--- a command that answers with the console r leaves the marks so, if they are so in r
+-- a command that leads to the console r keeps the marks in order, if they are in r
 stays_by : (view : List Entry) (s r : Console × Answer) → ◌≡◌ {A = Result (Console × Answer) ℕ} (Ok s) (Ok r) → IsConsole view s.0 → IsConsole view r.0
 stays_by view s r e is = subst (λ (t : Console × Answer). IsConsole view t.0) (ok_is s r e) is
 

@@ -1,4 +1,4 @@
--- Where data records stand, the digest, and the faults in their order, by example.
+-- The places of data records, the digest, and the faults in their order, by example.
 use Rattle.std.proofs.Common.{◌≡◌, ℕ, zero, suc, ◌-◌, ◌^◌, ◌<◌, ◌≤◌, ◌⊎◌, ◌+◌, List, [], ◌∷◌, ◌++◌, replicate, slice_index, slice_index_or, Result, Ok, Err, true, false, refl, sym, subst, inl, inr, arith, lit≤}
 use Rattle.std.specs.Prelude.{codes, pos}
 use Rattle.std.specs.Result.{result_map_both}

@@ -47,7 +47,8 @@ planned_files hits selected =
     restored_as : Planned → Restored
     restored_as p = record { key = p.key; outcome = under_name p.path (outcome_of p.key (fragments_for p.key (entries hits))) }
 
--- where the hits make a copy of each entry, the files of a selection's names are the copies of its entries, in order of key
+-- if the hits make a copy of each entry, the files of a selection's names are the copies of its
+-- entries, in order of key
 pub files_are_copies : (jobs : List Job) (hits : Hits) (selected : List Entry)
     → ((e : Entry) → Contains selected e → IsCopy jobs e (restored_for (entries hits) e))
     → AllZip (IsCopy jobs) (by_key selected) (files hits (Some (plan_names selected)))
@@ -69,7 +70,8 @@ pub record IsEntryOf (jobs : List Job) (e : Entry) : Type 0 where
   pub index_is : e.index ≡ row.index
   pub some : 0 < e.index
 
--- where an entry's job stands on volumes, and the hits have the fragments of its index for its file, they make a copy of it
+-- if volumes hold an entry's job, and the hits have the fragments of its index for its file, they
+-- make a copy of it
 pub entry_is_copied : (volumes : List Volume) (jobs : List Job) (e : Entry) (of : IsEntryOf jobs e) (holds : Holds volumes of.job) (listed : HitList) → IsJob of.job
     → fragments_for (planned_entry e).key listed ≡ filter (has_index e.index) (session_fragments of.job.rows.row.session holds.blocks)
     → IsCopy jobs e (restored_for listed e)
@@ -94,15 +96,16 @@ entry_is_copied volumes jobs e of holds listed is same =
       saved_is = made.3.saved_is;
     }
 
--- what a selected entry has to have, so that hits make a copy of it: its job stands, and for its file the hits have the
--- fragments of its index
+-- what a selected entry needs, so that hits make a copy of it: its job is held, and for its file
+-- the hits have the fragments of its index
 pub record IsHitWhole (volumes : List Volume) (jobs : List Job) (listed : HitList) (e : Entry) : Type 0 where
   pub of : IsEntryOf jobs e
   pub is_job : IsJob of.job
   pub holds : Holds volumes of.job
   pub fragments_are : fragments_for (planned_entry e).key listed ≡ filter (has_index e.index) (session_fragments of.job.rows.row.session holds.blocks)
 
--- where each selected entry is hit whole, the files of the selection's names are the copies of its entries, in order of key
+-- if each selected entry is hit whole, the files of the selection's names are the copies of its
+-- entries, in order of key
 pub files_of_selection : (volumes : List Volume) (jobs : List Job) (hits : Hits) (selected : List Entry)
     → ((e : Entry) → Contains selected e → IsHitWhole volumes jobs (entries hits) e)
     → AllZip (IsCopy jobs) (by_key selected) (files hits (Some (plan_names selected)))
@@ -145,7 +148,8 @@ none_of_index key index s blocks inside outside =
         absurd (both_ways (is_in_range s.first s.last index) outside (ap (is_in_range s.first s.last) (sym (eqb-true (nat_abs f.index) index e)) ∙ said))
     other f said false e = e
 
--- where each span that says an index is kept, the fragments of that index in all spans are those in the kept ones
+-- if each span that says an index is kept, the fragments of that index in all spans are those in
+-- the kept ones
 pub kept_have_all : (key : SessionKey) (index : ℕ) (keeps : Span → Bool) (spans : List Span) (blocks : List (List LaidBlock))
     → ((s : Span) → is_in_range s.first s.last index ≡ true → keeps s ≡ true) → AllZip (AreInSpan key) spans blocks
     → filter (has_index index) (session_fragments key blocks) ≡ filter (has_index index) (session_fragments key (kept_blocks keeps spans blocks))

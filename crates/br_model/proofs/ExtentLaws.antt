@@ -14,7 +14,7 @@ use Rattle.br_model.proofs.AnswerLaws.{bind_ok, ok_is, chosen}
 
 -- ---- the extents of records
 
--- an extent stands behind the earlier ones
+-- an extent follows the earlier ones
 begins_behind : (earlier : List Extent) (r : Record) (e : Extent) → IsExtentOf earlier r e → greatest_end earlier ≤ e.start
 begins_behind earlier r e is =
     elim (cases_Bool (is_stream 2 r)) [
@@ -22,13 +22,13 @@ begins_behind earlier r e is =
       | inr sparse ↦ (is.sparse sparse).2
     ]
 
--- with one more extent, which stands behind the others, the greatest end is its end
+-- with one more extent, which follows the others, the greatest end is its end
 ends_with : (earlier : List Extent) (e : Extent) → greatest_end earlier ≤ e.start → greatest_end (earlier ++ e ∷ []) ≡ extent_end e
 ends_with earlier e le =
     let le_end : greatest_end earlier ≤ extent_end e = omega arith in
     fold-append (λ (n : ℕ) (x : Extent). max n (extent_end x)) 0 earlier (e ∷ []) ∙ max-eq_right le_end
 
--- where a record stands, before the file's length is looked at
+-- the extent of a record, before the file's length is tested
 placed : ℕ → Record → Result Extent ℕ
 placed end r =
     cond (is_stream 2 r) (Ok (record { start = end; bytes = r.bytes }))
@@ -143,12 +143,12 @@ extents_are_exact_lem records extents = (read_extents [] records extents, extent
 
 -- ---- the bytes of extents
 
--- the extents stand one behind the other, from a place on
+-- the extents follow one another, from a place on
 abbrev StandBehind : ℕ → List Extent → Type 0
 StandBehind at [] = Unit {0}
 StandBehind at (e ∷ es) = (at ≤ e.start) × StandBehind (extent_end e) es
 
--- the extents of records stand one behind the other, from the greatest end of the earlier ones on
+-- the extents of records follow one another, from the greatest end of the earlier ones on
 stand_behind : (earlier : List Extent) (records : List Record) (es : List Extent) → AreExtents earlier records es → StandBehind (greatest_end earlier) es
 stand_behind earlier [] [] are = tt
 stand_behind earlier [] (e ∷ es) are = absurd are
@@ -188,7 +188,7 @@ passed_by : (e : Extent) (es : List Extent) (place byte : ℕ) → extent_end e 
 passed_by e es place byte ends (inl has) = inl (any_other (HasByte place byte) e es has)
 passed_by e es place byte ends (inr none) = inr (none.0, All-cons (λ (x : Extent). (place < x.start) ⊎ (extent_end x ≤ place)) e es (inr ends) none.1)
 
--- behind zeros stand an extent's own bytes, and then others: a place is one of these
+-- after zeros come an extent's own bytes, and then others: a place is one of these
 zero_at : (n i : ℕ) (xs ys : List ℕ) → i < n → get_or (replicate n 0 ++ xs ++ ys) i 0 ≡ 0
 zero_at n i xs ys lt =
     let long = length-replicate {A = ℕ} n 0 in
@@ -229,7 +229,7 @@ byte_at at (e ∷ es) place behind from before =
     long : at + length (replicate (e.start - at) 0 ++ e.bytes ++ rest) ≡ extent_end e + length rest
     long = simp (length-append, length-replicate) (omega arith)
 
--- a place that an extent covers is behind the place where the extents begin
+-- a place that an extent covers is after the place where the extents begin
 covered_is_behind : (at place byte : ℕ) (es : List Extent) → StandBehind at es → Any (HasByte place byte) es → at ≤ place
 covered_is_behind at place byte [] behind (k, e, lt, is, has) = absurd (omega arith)
 covered_is_behind at place byte (e ∷ es) behind has =
@@ -238,7 +238,7 @@ covered_is_behind at place byte (e ∷ es) behind has =
       | inr other ↦ let le = covered_is_behind (extent_end e) place byte es behind.1 other in omega arith
     ]
 
--- extents that stand one behind the other have one byte at a place at most
+-- extents that follow one another have at most one byte at a place
 one_byte : (at place x y : ℕ) (es : List Extent) → StandBehind at es → Any (HasByte place x) es → Any (HasByte place y) es → x ≡ y
 one_byte at place x y [] behind (k, e, lt, is, has) other = absurd (omega arith)
 one_byte at place x y (e ∷ es) behind has_x has_y = go (one_byte (extent_end e) place x y es behind.1) (first_or_other (HasByte place x) e es has_x) (first_or_other (HasByte place y) e es has_y)

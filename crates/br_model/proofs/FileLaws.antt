@@ -1,4 +1,4 @@
--- The files of a job that stands on volumes, and the files of hits that are its fragments.
+-- The files of a job that volumes hold, and the files of hits that are its fragments.
 use Rattle.std.proofs.Common.{◌≡◌, ℕ, suc, ◌+◌, ◌-◌, ◌<◌, Bool, true, false, not, eqb, List, [], ◌∷◌, map, filter, ltb, Some, Result, Ok, refl, sym, ap, subst, ◌∙◌, inl, inr, arith}
 use Rattle.std.proofs.lemmas.Bool.{eqb-true, eq-eqb, lt-ltb}
 use Rattle.std.proofs.lemmas.Slice.Eq.{bytes_eq-Decides}
@@ -46,7 +46,7 @@ made_outcome key records fs file cut makes = record {
   saved_is = sym makes.2;
 }
 
--- where a job stands on volumes, the fragments of a saved file's index have that file as their outcome
+-- if volumes hold a job, the fragments of a saved file's index have that file as their outcome
 pub saved_outcome : (volumes : List Volume) (j : Job) (holds : Holds volumes j) (index : ℕ) (file : SavedFile) → 0 < index → slice_get j.saved (index - 1) ≡ Some file
     → IsSavedAs (outcome_of (file_key j index) (filter (has_index index) (session_fragments j.rows.row.session holds.blocks))) file
 saved_outcome volumes j holds index file some at =
@@ -68,7 +68,7 @@ same_index f g some e =
     not_equal true is = absurd (omega (arith, eqb-true f.index 0 is, some))
     not_equal false is = is
 
--- of rows that can stand together one alone has an index above 0
+-- of consistent rows only one has an index above 0
 pub row_is_alone : (rows : List FileRow) (r : FileRow) → no_pair same_file rows ≡ true → 0 < r.index → Contains rows r → AllByRecursion (λ (f : FileRow). r.index ≡ f.index → f ≡ r) rows
 row_is_alone rows r apart some among =
     to_each (λ (f : FileRow). r.index ≡ f.index → f ≡ r) rows (λ f inside same.
@@ -92,11 +92,11 @@ said_file n (x ∷ xs) (f ∷ fs) r say among =
           (suc more.0, more.1, more.2, more.3 ∙ ap (λ (m : ℕ). save_says (m, more.1)) number)
     ]
 
--- of rows that can stand together no two are of one file
+-- of consistent rows no two are of one file
 pub rows_apart : (j : Job) → IsJob j → no_pair same_file j.rows.files ≡ true
 rows_apart j is = (rows_say j.rows is.fit).files_apart
 
--- the saved file that a row with an index above 0 is of: it stands at the index, and has the row's path
+-- the saved file of a row with an index above 0: it is at the index, and has the row's path
 pub row_is_saved : (j : Job) (r : FileRow) → IsJob j → Contains j.rows.files r → 0 < r.index
     → (file : SavedFile) × (slice_get j.saved (r.index - 1) ≡ Some file) × (file.path ≡ r.path)
 row_is_saved j r is among some =
@@ -123,7 +123,8 @@ named_outcome path item outcome is same =
     given : Bool → Outcome
     given b = refuse_if (not b) (fault 69) >>= λ _. Ok item
 
--- where a job stands on volumes, the fragments of a row's index have the row's saved file as their outcome under the row's path
+-- if volumes hold a job, the fragments of a row's index have the row's saved file as their outcome
+-- under the row's path
 pub row_outcome : (volumes : List Volume) (j : Job) (holds : Holds volumes j) (r : FileRow) → IsJob j → Contains j.rows.files r → 0 < r.index
     → (file : SavedFile) × (slice_get j.saved (r.index - 1) ≡ Some file) × (file.path ≡ r.path)
     × IsSavedAs (under_name r.path (outcome_of (file_key j r.index) (filter (has_index r.index) (session_fragments j.rows.row.session holds.blocks)))) file

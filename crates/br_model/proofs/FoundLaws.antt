@@ -108,7 +108,8 @@ volume_is_named selected jobs s among =
     in_without_repeats (map (λ (g : Group). g.volume) (plan_groups selected jobs)) s.volume
     (volume_of_group (plan_groups selected jobs) (plan_spans selected jobs) s (plan_groups_are selected jobs) among)
 
--- a hit in a block of a span of a plan is among what is found over all volumes that extend those on which its jobs stand
+-- a hit in a block of a span of a plan is among what is found over all volumes that extend those
+-- that hold its jobs
 pub span_hit_is_found : (volumes later : List Volume) (selected : List Entry) (jobs : List JobRows) (s : Span) (blocks : List LaidBlock) (b : LaidBlock) (h : Hit) → Extends later volumes
     → AllByRecursion (IsJobLaid volumes) jobs → Contains (plan_spans selected jobs) s → IsSpanLaid volumes s blocks → Contains blocks b
     → IsHitIn (groups_on (plan_groups selected jobs) s.volume) b h

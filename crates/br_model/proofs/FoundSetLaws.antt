@@ -113,7 +113,8 @@ plan_has_set volumes later selected jobs extends laid =
           );
     }
 
--- where the chosen among some jobs stand on volumes, their plan has such a set over all volumes that extend these
+-- if volumes hold the chosen ones of some jobs, their plan has such a set over all volumes that
+-- extend these
 pub chosen_have_set : (volumes later : List Volume) (jobs : List Job) (chosen : List JobRows) (selected : List Entry)
     → ((r : JobRows) → Contains chosen r → Contains (rows_of_jobs jobs) r)
     → ((j : Job) → Contains jobs j → Contains chosen j.rows → Holds volumes j) → Extends later volumes

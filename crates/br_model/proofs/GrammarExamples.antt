@@ -127,7 +127,7 @@ no_ranges_of_a_volume none = none
 
 -- ---- lines
 
--- blanks may stand round the equals sign
+-- blanks may be around the equals sign
 an_assignment : IsAssignment (codes "stream =\t1") (Admits Stream (between 1 1 ∷ []))
 unfolding between reading_text
 an_assignment = record {

@@ -43,7 +43,7 @@ digits_of (c ∷ cs) n e =
 number_solid : (n : ℕ) (text : List ℕ) → IsNumber text n → IsSolid text
 number_solid n text h = let d = digits_of text n h.1 in solid_of is_ascii_digit plain_digit text d.0 d.1
 
--- digits are read where they are a number between blanks
+-- digits are read if they are a number between blanks
 pub digits_read : (text : List ℕ) (n : ℕ) → (read_digits (trimmed text) ≡ Ok n) ↔ Framed (λ m. IsNumber m n) text
 unfolding read_digits
 digits_read text n = (λ e. framed_trimmed (λ m. IsNumber m n) text (there (trimmed text) e), λ f. back (trimmed text) (trimmed_framed (λ m. IsNumber m n) (number_solid n) text f))
@@ -139,7 +139,7 @@ two_steps false (Ok l) high r h = let e : range l l ≡ r = ok_is (range l l) r 
 steps_give : (b : Bool) (low high : Result ℕ ℕ) (r : Range) → low ≡ Ok r.low → cond b high (Ok r.low) ≡ Ok r.high → (low >>= (λ l. cond b high (Ok l) >>= (λ h. Ok (range l h)))) ≡ Ok r
 steps_give b low high r p q = rw (p, q) refl
 
--- the ends are read where they stand between blanks
+-- the ends are read if they are between blanks
 pub ends_read : (text : List ℕ) (r : Range) → (read_ends text ≡ Ok r) ↔ Framed (AreEnds r) text
 unfolding read_ends
 ends_read text r = (λ e. there (none_or_cut 45 text) (two_steps (list_any is_dash text) (read_digits (trimmed (before_first is_dash text))) (read_digits (trimmed (after_first is_dash text))) r e), λ f. back f f.inside)
@@ -195,7 +195,7 @@ range_test : (c : Criterion) (r : Range) → least c ≤ r.low → r.low ≤ r.h
 range_test c r from order to =
     and_from (leb (least c) r.low && leb r.low r.high) (leb r.high (greatest c)) (and_from (leb (least c) r.low) (leb r.low r.high) (le-leb (least c) r.low from) (le-leb r.low r.high order)) (le-leb r.high (greatest c) to)
 
--- an item is read where it stands between blanks
+-- an item is read if it is between blanks
 pub item_read : (c : Criterion) (text : List ℕ) (r : Range) → (read_item c text ≡ Ok r) ↔ Framed (IsItemOf c r) text
 unfolding read_item
 item_read c text r = (λ e. there e, λ f. back f)
@@ -270,7 +270,7 @@ items_solid c (r ∷ s ∷ more) text h =
 item_lacks_comma : (c : Criterion) (r : Range) (text : List ℕ) → Framed (IsItemOf c r) text → Lacks 44 text
 item_lacks_comma c r text f = lacks_of is_item_byte 44 refl text (framed_all is_item_byte blank_is_item (IsItemOf c r) (item_bytes c r) text f)
 
--- the first item, and those behind it
+-- the first item, and those after it
 record FirstRead (c : Criterion) (part : List ℕ) (parts : List (List ℕ)) (rs : List Range) : Type 0 where
   r : Range
   others : List Range
@@ -300,7 +300,7 @@ read_none : (c : Criterion) → read_items c [] ≡ Ok []
 unfolding read_items
 read_none c = refl
 
--- an item in front of items
+-- an item before items
 items_joined : (c : Criterion) (r : Range) (rs : List Range) (text : List ℕ) (k : CutAt 44 text) → Framed (IsItemOf c r) k.front → Framed (AreItemsOf c rs) k.rest
     → Framed (AreItemsOf c (r ∷ rs)) text
 items_joined c r [] text k f g = absurd g.inside
@@ -311,7 +311,7 @@ items_joined c r (s ∷ more) text k f g =
 split_at : (text : List ℕ) (k : CutAt 44 text) → slice_split is_comma text ≡ k.front ∷ slice_split is_comma k.rest
 split_at text k = ap (slice_split is_comma) k.joined ∙ split_first 44 k.front k.rest k.lacks
 
--- items that are read stand between blanks
+-- items that are read are between blanks
 items_between : (c : Criterion) (rs : List Range) (text : List ℕ) → read_items c (slice_split is_comma text) ≡ Ok rs → Framed (AreItemsOf c rs) text
 items_between c [] text e = absurd (go (none_or_cut 44 text))
   where
@@ -336,7 +336,7 @@ items_between c (r ∷ rs) text e = go (none_or_cut 44 text) (λ rest h. items_b
         let item = subst (λ (s : Range). Framed (IsItemOf c s) k.front) head ((item_read c k.front q.r).0 q.first) in
         items_joined c r rs text k item (again k.rest (q.behind ∙ ap (λ (all : List Range). Ok all) tail))
 
--- items that stand between blanks are read
+-- items that are between blanks are read
 between_items : (c : Criterion) (rs : List Range) (text : List ℕ) → Framed (AreItemsOf c rs) text → read_items c (slice_split is_comma text) ≡ Ok rs
 between_items c [] text f = absurd f.inside
 between_items c (r ∷ []) text f =
@@ -347,6 +347,6 @@ between_items c (r ∷ s ∷ more) text f =
     let split : slice_split is_comma text ≡ k.front ∷ slice_split is_comma k.rest = ap (slice_split is_comma) k.joined ∙ split_first 44 k.front k.rest (item_lacks_comma c r k.front k.front_is) in
     rw split (items_onto c k.front (slice_split is_comma k.rest) r (s ∷ more) ((item_read c k.front r).1 k.front_is) (between_items c (s ∷ more) k.rest k.rest_is))
 
--- items are read where they stand between blanks
+-- items are read if they are between blanks
 pub items_read : (c : Criterion) (text : List ℕ) (rs : List Range) → (read_items c (slice_split is_comma text) ≡ Ok rs) ↔ Framed (AreItemsOf c rs) text
 items_read c text rs = (items_between c rs text, between_items c rs text)

@@ -1,4 +1,4 @@
--- A bootstrap's text states groups exactly where reading gives them.
+-- A bootstrap's text states groups exactly if reading gives them.
 use Rattle.std.proofs.Common.{◌≡◌, ℕ, ◌+◌, Bool, true, false, not, eqb, List, [], ◌∷◌, ◌++◌, length, fold, Result, Ok, refl, sym, ap, subst, ◌∙◌, arith, length-append}
 use Rattle.std.proofs.lemmas.Bool.{ne_eqb}
 use Rattle.std.specs.List.{AllZip}
@@ -10,12 +10,12 @@ use Rattle.br_model.specs.Text.{is_empty}
 use Rattle.br_model.proofs.AnswerLaws.{bind_ok, refused_as_ok, ok_is}
 use Rattle.br_model.proofs.GrammarLineLaws.{MayStand, line_read}
 
--- no criterion stands before the first volume, unless one came before
+-- no criterion comes before the first volume, unless one came before
 abbrev IsVolumeBefore : Bool → List Statement → Type 0
 IsVolumeBefore true statements = Unit {0}
 IsVolumeBefore false statements = IsVolumeFirst statements
 
--- whether a volume stands before what comes behind the statement
+-- whether a volume comes before what follows the statement
 abbrev volume_behind : Bool → Statement → Bool
 volume_behind has_volume Nothing = has_volume
 volume_behind has_volume (OnVolume name) = true
@@ -54,7 +54,7 @@ volume_is groups Nothing = refl
 volume_is groups (OnVolume name) = ap not (ne_eqb (length (groups ++ group_on name ∷ [])) 0 (λ e. omega (arith, e, length-append groups (group_on name ∷ []))))
 volume_is groups (Admits c rs) = ap (λ n. not (eqb n 0)) (change_keeps (with_ranges c rs) groups)
 
--- lines that state groups behind those so far
+-- lines that state groups after those so far
 record StateGroups (groups : List Group) (texts : List (List ℕ)) (final : List Group) : Type 0 where
   statements : List Statement
   each : AllZip IsLine texts statements

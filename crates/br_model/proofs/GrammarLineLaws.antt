@@ -17,7 +17,7 @@ use Rattle.br_model.proofs.GrammarValueLaws.{word_letters, name_bytes, IsValueOf
 
 -- ---- assignments
 
--- ranges stand behind a volume
+-- ranges follow a volume
 abbrev pub MayStand : Bool → Statement → Type 0
 MayStand has_volume Nothing = Unit {0}
 MayStand has_volume (OnVolume name) = Unit {0}
@@ -49,7 +49,7 @@ letters_plain c h = neither (eqb c 32) (eqb c 9) (unlike is_letter 32 refl c h) 
 keyword_solid : (keyword : Keyword) (word : List ℕ) → IsKeyword keyword word → IsSolid word
 keyword_solid keyword word e = let w = word_letters word keyword e in solid_of is_letter letters_plain word w.0 w.1
 
--- the statement of a keyword that needs a volume has to stand behind one
+-- the statement of a keyword that needs a volume must come after a volume
 stands : (has_volume : Bool) (keyword : Keyword) (statement : Statement) (value : List ℕ) → (needs_volume keyword && not has_volume) ≡ false → IsValue keyword value statement → MayStand has_volume statement
 stands has_volume keyword Nothing value e h = tt
 stands has_volume keyword (OnVolume name) value e h = tt
@@ -58,7 +58,7 @@ stands has_volume NamesVolume (Admits d rs) value e h = absurd h
 stands has_volume PassedOver (Admits d rs) value e h = absurd h
 stands has_volume Unsupported (Admits d rs) value e h = absurd h
 
--- a statement that may stand is not refused for want of a volume
+-- a statement that is allowed is not refused for lack of a volume
 not_needed : (has_volume : Bool) (keyword : Keyword) (statement : Statement) (value : List ℕ) → MayStand has_volume statement → IsValue keyword value statement → (needs_volume keyword && not has_volume) ≡ false
 not_needed has_volume NamesVolume statement value m h = refl
 not_needed has_volume PassedOver statement value m h = refl
@@ -156,7 +156,7 @@ reads_assignment has_volume text statement f m =
     } in
     ap (read_assignment has_volume) stated ∙ steps_read has_volume (head ++ 61 ∷ t.kept) statement steps (supported a.keyword statement a.value a.value_is)
 
--- an assignment is read where it stands between blanks
+-- an assignment is read if it is between blanks
 pub assignment_read : (has_volume : Bool) (text : List ℕ) (statement : Statement)
     → (read_assignment has_volume (trimmed text) ≡ Ok statement) ↔ (Framed (IsAssignmentOf statement) text × MayStand has_volume statement)
 assignment_read has_volume text statement = (
@@ -169,12 +169,12 @@ assignment_read has_volume text statement = (
 abbrev pub IsLineOf : Statement → List ℕ → Type 0
 IsLineOf statement text = IsLine text statement
 
--- a value without quotes in front of blanks and a comment
+-- a value without quotes before blanks and a comment
 quiet_kept : (value back comment : List ℕ) → list_all is_quiet value ≡ true → AreBlanks back → IsComment comment → before_comment false (value ++ back ++ comment) ≡ value ++ back
 quiet_kept value back comment q b h =
     ap (before_comment false) (append_assoc value back comment) ∙ before_quiet false value (back ++ comment) q ∙ ap (λ t. value ++ t) (blanks_before back comment b h)
 
--- a name in quotes in front of blanks and a comment
+-- a name in quotes before blanks and a comment
 quoted_kept : (name back comment : List ℕ) → list_all is_quiet name ≡ true → AreBlanks back → IsComment comment
     → before_comment false (34 ∷ name ++ 34 ∷ [] ++ back ++ comment) ≡ 34 ∷ name ++ 34 ∷ [] ++ back
 unfolding before_comment
@@ -183,7 +183,7 @@ quoted_kept name back comment q b h =
     ap (λ t. 34 ∷ t)
     (ap (before_comment true) e ∙ before_quiet true name (34 ∷ (back ++ comment)) q ∙ ap (λ t. name ++ 34 ∷ t) (blanks_before back comment b h) ∙ sym (append_assoc name (34 ∷ []) back))
 
--- the value of a line in front of its comment
+-- the value of a line before its comment
 value_kept : (keyword : Keyword) (statement : Statement) (value back comment : List ℕ) → IsValue keyword value statement → AreBlanks back → IsComment comment
     → Framed (IsValueOf keyword statement) (before_comment false (value ++ back ++ comment))
 value_kept keyword statement value back comment v b h = go keyword statement v
@@ -222,7 +222,7 @@ regroup_head : (front word before after value back comment : List ℕ)
     → front ++ (word ++ before ++ 61 ∷ after ++ value) ++ back ++ comment ≡ front ++ word ++ before ++ 61 ∷ after ++ (value ++ back ++ comment)
 regroup_head front word before after value back comment = simp append_assoc
 
--- the assignment of a line in front of its comment
+-- the assignment of a line before its comment
 line_kept : (text : List ℕ) (statement : Statement) (l : IsLine text statement) → IsAssignment l.middle statement → Framed (IsAssignmentOf statement) (before_comment false text)
 line_kept text statement l a =
     let head = l.front ++ a.word ++ a.before in
@@ -290,7 +290,7 @@ reads_line has_volume text statement l m =
         let read = (assignment_read has_volume (before_comment false text) statement).1 (line_kept text statement l a, m) in
         rw (some_assigned has_volume (trimmed (before_comment false text)) statement read) read
 
--- what stands in front of a comment makes a line with it
+-- what comes before a comment makes a line with it
 line_from : (text comment : List ℕ) (statement : Statement) → text ≡ before_comment false text ++ comment → IsComment comment → length text ≤ 4096
     → Framed (MaySay statement) (before_comment false text) → IsLine text statement
 line_from text comment statement e h short f = record {
@@ -326,6 +326,6 @@ line_of has_volume text statement e =
           (line_from text c.0 statement c.1 c.2 short (framed_so (IsAssignmentOf statement) (MaySay statement) (λ m h. inr h) kept a.0), a.1)
     ]
 
--- a line is read where it is in the grammar, and ranges stand behind a volume
+-- a line is read if it is in the grammar, and ranges follow a volume
 pub line_read : (has_volume : Bool) (text : List ℕ) (statement : Statement) → (read_line has_volume text ≡ Ok statement) ↔ (IsLine text statement × MayStand has_volume statement)
 line_read has_volume text statement = (line_of has_volume text statement, λ h. reads_line has_volume text statement h.0 h.1)

@@ -13,7 +13,7 @@ use Rattle.br_model.proofs.GrammarTextLaws.{first_of_all, rest_of_all, lacks_of}
 abbrev toggled : Bool → ℕ → Bool
 toggled quoted c = cond (eqb c 34) (not quoted) quoted
 
--- whether a quote is open behind the text
+-- whether a quote is open after the text
 abbrev pub quoted_after : Bool → List ℕ → Bool
 quoted_after quoted [] = quoted
 quoted_after quoted (c ∷ cs) = quoted_after (toggled quoted c) cs
@@ -91,7 +91,7 @@ none_before (c ∷ cs) h = let e : eqb c 35 ≡ true = eq-eqb c 35 h in rw e ref
 pub blanks_before : (back comment : List ℕ) → AreBlanks back → IsComment comment → before_comment false (back ++ comment) ≡ back
 blanks_before back comment b h = before_quiet false back comment (blanks_quiet back b) ∙ ap (λ t. back ++ t) (none_before comment h) ∙ append-nil back
 
--- where the quotes of a text are closed, they are so before a comment
+-- if the quotes of a text are closed, they are so before a comment
 pub closed_before : (quoted : Bool) (text back comment : List ℕ) → quoted_after quoted text ≡ false → AreBlanks back → IsComment comment
     → quoted_after quoted (before_comment quoted (text ++ back ++ comment)) ≡ false
 unfolding before_comment
@@ -104,7 +104,7 @@ closed_before quoted (x ∷ xs) back comment e b h = go (eqb x 35 && not quoted)
     go true p rest = not-true quoted (and_parts (eqb x 35) (not quoted) p).1
     go false p rest = rest
 
--- a text is what stands before its comment, and the comment
+-- a text is what comes before its comment, and the comment
 pub comment_off : (quoted : Bool) (text : List ℕ) → (comment : List ℕ) × (text ≡ before_comment quoted text ++ comment) × IsComment comment
 unfolding before_comment
 comment_off quoted [] = ([], refl, tt)

@@ -212,7 +212,7 @@ solid_of p plain text some all = record {
     starts [] lt h = absurd (omega arith)
     starts (x ∷ xs) lt h = plain x (first_of_all p x xs h)
 
--- behind a byte that is no blank only the end is trimmed
+-- after a byte that is no blank only the end is trimmed
 pub record TrimmedBehind (front : List ℕ) (c : ℕ) (rest : List ℕ) : Type 0 where
   pub kept : List ℕ
   pub back : List ℕ
@@ -264,7 +264,7 @@ none_or_cut c (x ∷ xs) = go (eqb x c) refl (none_or_cut c xs)
       lacks = and_from (not (eqb x c)) (list_all (λ b. not (eqb b c)) h.front) (ap not e) h.lacks;
     })
 
--- what stands behind the first byte of a kind
+-- what follows the first byte of a kind
 pub after_is : (c : ℕ) (front rest : List ℕ) → Lacks c front → after_first (λ b. eqb b c) (front ++ c ∷ rest) ≡ rest
 after_is c front rest h =
     rw (count_before c front rest h) (ap (drop (length front + 1)) (sym (append_assoc front (c ∷ []) rest)) ∙ drop_at (front ++ c ∷ []) rest (length front + 1) (length-append front (c ∷ [])))

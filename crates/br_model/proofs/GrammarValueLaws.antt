@@ -108,7 +108,7 @@ inside_is name =
     let n : length (34 ∷ name ++ 34 ∷ []) - 1 ≡ length (34 ∷ name) = omega (arith, length-append name (34 ∷ [])) in
     ap (drop 1) (ap (λ k. take k (34 ∷ name ++ 34 ∷ [])) n ∙ take_at (34 ∷ name) (34 ∷ []) (length (34 ∷ name)) refl)
 
--- a volume's name is read where it stands between blanks
+-- a volume's name is read if it is between blanks
 pub volume_read : (text name : List ℕ) → (read_volume (trimmed text) ≡ Ok name) ↔ Framed (IsVolumeValueOf name) text
 unfolding read_volume
 volume_read text name =
@@ -200,7 +200,7 @@ value_between (Asks c) statement text f = items_value c statement text f
 value_between PassedOver statement text f = passed_over statement text f
 value_between Unsupported statement text f = absurd f.inside
 
--- a value that is read stands between blanks
+-- a value that is read is between blanks
 between_value : (keyword : Keyword) (statement : Statement) (text : List ℕ) → read_value keyword (trimmed text) ≡ Ok statement → Framed (IsValueOf keyword statement) text
 unfolding read_value
 between_value NamesVolume statement text e =
@@ -217,6 +217,6 @@ between_value PassedOver statement text e =
     ]
 between_value Unsupported statement text e = absurd (err_is_not_ok 32 statement e)
 
--- a value is read where it stands between blanks
+-- a value is read if it is between blanks
 pub value_read : (keyword : Keyword) (text : List ℕ) (statement : Statement) → (read_value keyword (trimmed text) ≡ Ok statement) ↔ Framed (IsValueOf keyword statement) text
 value_read keyword text statement = (between_value keyword statement text, value_between keyword statement text)

@@ -167,7 +167,7 @@ part_has_number selected jobs j s c d e =
     let found = place_of (asked selected jobs) (asked_at (k.0, j) s) (contains_flat_map (asked_of_job selected) (enumerate_from 0 jobs) (k.0, j) (asked_at (k.0, j) s) k.1 made) in
     (found.0, asked_at (k.0, j) s, found.1, refl, refl)
 
--- ---- rows that can stand together
+-- ---- consistent rows
 
 -- what the rows of a job say
 pub record AreRows (j : JobRows) : Type 0 where
@@ -177,7 +177,7 @@ pub record AreRows (j : JobRows) : Type 0 where
   pub numbered : is_numbered j.spans ≡ true
   pub spans_apart : no_pair overlaps j.spans ≡ true
 
--- rows that can stand together say so part by part
+-- consistent rows are so part by part
 pub rows_say : (j : JobRows) → are_rows j ≡ true → AreRows j
 unfolding are_rows
 rows_say j e =
@@ -188,7 +188,7 @@ rows_say j e =
     let h1 = and_parts _ _ h2.0 in
     record { files_fit = h1.1; files_apart = h2.1; spans_fit = h3.1; numbered = h4.1; spans_apart = h5.1 }
 
--- each job of a history has rows that can stand together
+-- each job of a history has consistent rows
 pub history_rows : (jobs : List JobRows) (j : JobRows) → is_history jobs ≡ true → Contains jobs j → AreRows j
 history_rows jobs j e c = rows_say j (of_each (λ k. are_rows k ≡ true) jobs j (all_pass are_rows jobs (and_parts (list_all are_rows jobs) (no_pair clash jobs) e).0) c)
 
@@ -337,7 +337,7 @@ pub record IsAskedAt (selected : List Entry) (jobs : List JobRows) (volume : Lis
   pub volume_is : of.span.volume ≡ volume
   pub asks_it : IsAsked of.job.row.session of.span (indexes_in selected of.job of.span) address f
 
--- where a group hits a fragment first, the span with the group's number asks for it
+-- if a group hits a fragment first, the span with the group's number asks for it
 pub first_hitting_says : (selected : List Entry) (jobs : List JobRows) (volume : List ℕ) (address : ℕ) (f : Fragment) (n : ℕ)
     → first_hitting (groups_on (plan_groups selected jobs) volume) address f ≡ Some n → IsAskedAt selected jobs volume address f n
 first_hitting_says selected jobs volume address f n e =

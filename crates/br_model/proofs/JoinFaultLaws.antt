@@ -28,7 +28,7 @@ abbrev CanClose : Option Begun → Type 0
 CanClose None = Unit {0}
 CanClose (Some b) = (0 < b.left) × (b.stream ≡ 0 → ⊥)
 
--- the walk went over the front, gave these records, and stands with this one open
+-- the walk went over the front, gave these records, and this one is open
 record HasWalked (index : ℕ) (front : List Fragment) (o : Option Begun) (given : List Record) : Type 0 where
   walked : (rest : List Fragment) → join_from None (front ++ rest) ≡ (join_from o rest >>= λ records. Ok (given ++ records))
   each : AllByRecursion (IsFragmentFor index) front
@@ -57,7 +57,7 @@ ends_whole index front given w =
     let joined : join_from None front ≡ Ok given = ap (λ (fs : List Fragment). join_from None fs) (sym (append-nil front)) ∙ w.walked [] ∙ ap (λ (rs : List Record). Ok rs) (append-nil given) in
     joined_is_cut index None front given w.each tt joined
 
--- behind an open record, one fragment that closes it makes a cut
+-- after an open record, one fragment that closes it makes a cut
 closed_is_cut : (index : ℕ) (front : List Fragment) (b : Begun) (given : List Record) (c : Fragment) → HasWalked index front (Some b) given → IsFragmentFor index c
     → with_fragment (Some b) c ≡ Ok (continued_by b c) → c.size - length c.bytes ≡ 0 → IsCut (given ++ record_of (continued_by b c) ∷ []) (front ++ c ∷ [])
 closed_is_cut index front b given c w ok e none =
@@ -79,7 +79,7 @@ not_whole index front b given w cut =
     let joined : join_from None (front ++ []) ≡ Ok cut.0 = ap (λ (fs : List Fragment). join_from None fs) (append-nil front) ∙ cut_is_joined cut.0 front cut.1 in
     not_both (join_from None (front ++ [])) cut.0 61 joined (w.walked [])
 
--- where every walk behind a fragment is refused, no cut begins with it
+-- if every walk after a fragment is refused, no cut begins with it
 no_cut : (index : ℕ) (front : List Fragment) (o : Option Begun) (given : List Record) (f : Fragment) → HasWalked index front o given
     → ((more : List Fragment) → (n : ℕ) × (join_from o (f ∷ more) ≡ Err n)) → BeginsCut index (front ++ f ∷ []) → ⊥
 no_cut index front o given f w refused begins_cut =
@@ -175,7 +175,7 @@ opens_stream_0 (Some b) f d closes e zero_stream =
     let made = continues b f d e in
     absurd (closes.1 (ap (λ (x : Begun). x.stream) made.3 ∙ zero_stream))
 
--- the walk goes on behind one more fragment
+-- the walk goes on after one more fragment
 abbrev StepsOn : ℕ → List Fragment → List Record → Fragment → Begun → Type 0
 StepsOn index front given f d = (p : Option Begun) × (still_open d ≡ p) × HasWalked index (front ++ f ∷ []) p (given ++ given_out d)
 
@@ -204,7 +204,7 @@ steps_or_stays_open index front o given f d w ok is =
               ∙ ap (λ r. r >>= λ records. Ok (given_out d ++ records)) (never_closes d stream_0 more),
         )
 
--- behind a walk, the number that joining is refused with is that of a first fault
+-- after a walk, the number that joining is refused with is that of a first fault
 first_fault : (index : ℕ) (front : List Fragment) (o : Option Begun) (given : List Record) (fs : List Fragment) (n : ℕ) → HasWalked index front o given
     → AllByRecursion (IsFragmentFor index) fs → join_from o fs ≡ Err n → IsFirstFault index (front ++ fs) n
 unfolding join_from
@@ -302,7 +302,7 @@ one_fault_number index front f m n (inr (inr a)) (inl b) = absurd (a.2 b.2)
 one_fault_number index front f m n (inr (inr a)) (inr (inl b)) = absurd (not_61 index front f a.1 (inr a.3) b.1)
 one_fault_number index front f m n (inr (inr a)) (inr (inr b)) = a.0 ∙ sym b.0
 
--- behind a walk, the fault is what joining is refused with
+-- after a walk, the fault is what joining is refused with
 fault_is_refused : (index : ℕ) (front : List Fragment) (o : Option Begun) (given : List Record) (back : List Fragment) (n : ℕ) → HasWalked index front o given
     → AllByRecursion (IsFragmentFor index) back → IsFaultBehind index front back n → join_from o back ≡ Err n
 unfolding join_from

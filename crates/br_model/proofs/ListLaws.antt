@@ -1,4 +1,4 @@
--- Elements of lists: which lists have them, what holds of each of them, and where they stand.
+-- Elements of lists: which lists have them, what holds of each of them, and where they are.
 use Rattle.std.proofs.Common.{◌≡◌, ℕ, zero, suc, ◌+◌, ◌≤◌, Bool, true, false, not, ◌&&◌, cond, List, [], length, ◌<◌, ◌∷◌, ◌++◌, map, filter, Option, Some, None, refl, sym, ap, subst, ◌∙◌, inl, inr, ◌⊎◌, arith}
 use Rattle.std.proofs.Math.Nat.{zero-add}
 use Rattle.std.proofs.lemmas.Bool.{eqb-true, ne_eqb, and_parts, and_from, or_parts, or_from, or_left, or_right, or_cases, both_ways}
@@ -118,7 +118,7 @@ pub of_option : {X : Type 0} (P : X → Type 0) (o : Option X) → ((x : X) → 
 of_option P None h = tt
 of_option P (Some x) h = (h x refl, tt)
 
--- each element of a list stands in a relation to its image
+-- each element of a list is related to its image
 pub zip_images : {X Y : Type 0} (R : X → Y → Type 0) (f : X → Y) (xs : List X) → AllByRecursion (λ (x : X). R x (f x)) xs → AllZip R xs (map f xs)
 zip_images R f [] h = tt
 zip_images R f (x ∷ xs) h = (h.0, zip_images R f xs h.1)
@@ -279,7 +279,7 @@ pub holds_of_none : {X : Type 0} (p : X → Bool) (xs : List X) → AllByRecursi
 holds_of_none p [] h = refl
 holds_of_none p (x ∷ xs) h = or_from (p x) (list_any p xs) h.0 (holds_of_none p xs h.1)
 
--- where an element passes a test, some does
+-- if an element passes a test, some does
 pub some_passes : {X : Type 0} (p : X → Bool) (xs : List X) (x : X) → Contains xs x → p x ≡ true → list_any p xs ≡ true
 some_passes p [] x inside e = absurd (none_in x inside)
 some_passes p (y ∷ ys) x inside e =
@@ -288,7 +288,7 @@ some_passes p (y ∷ ys) x inside e =
       | inr later ↦ or_right (p y) (list_any p ys) (some_passes p ys x later e)
     ]
 
--- where some element passes a test, the list has an element that passes it
+-- if some element passes a test, the list has an element that passes it
 pub from_some : {X : Type 0} (p : X → Bool) (xs : List X) → list_any p xs ≡ true → (x : X) × Contains xs x × (p x ≡ true)
 from_some p [] e = absurd cc
 from_some p (x ∷ xs) e =
@@ -317,7 +317,7 @@ filter_twice {X} p q (x ∷ xs) = go (p x) (q x) (filter_twice p q xs)
     go true c rest = ap (λ ys. cond (q x) (x ∷ ys) ys) rest
     go false c rest = rest
 
--- what one test keeps stays where another keeps it too
+-- what one test keeps stays if another keeps it, too
 pub filter_within : {X : Type 0} (p q : X → Bool) → ((x : X) → p x ≡ true → q x ≡ true) → (xs : List X) → filter p (filter q xs) ≡ filter p xs
 filter_within p q f [] = refl
 filter_within {X} p q f (x ∷ xs) = go (p x) (q x) refl refl (filter_within p q f xs)
@@ -330,7 +330,7 @@ filter_within {X} p q f (x ∷ xs) = go (p x) (q x) refl refl (filter_within p q
 
 -- ---- places and numbers
 
--- an element that a list has stands at a place
+-- an element of a list is at a place
 pub place_of : {X : Type 0} (xs : List X) (x : X) → Contains xs x → (n : ℕ) × (slice_get xs n ≡ Some x)
 place_of [] x h = absurd (none_in x h)
 place_of (y ∷ ys) x (zero, lt, e) = (0, ap Some e)
@@ -346,7 +346,7 @@ has_at (y ∷ ys) (suc n) x e = later_in y ys x (has_at ys n x e)
 pub all_at : {X : Type 0} (P : X → Type 0) (xs : List X) (n : ℕ) (x : X) → AllByRecursion P xs → slice_get xs n ≡ Some x → P x
 all_at P xs n x h e = of_each P xs x h (has_at xs n x e)
 
--- what is at a place stands beside its number
+-- what is at a place comes with its number
 pub place_numbered : {X : Type 0} (n : ℕ) (xs : List X) (i : ℕ) (x : X) → slice_get xs i ≡ Some x → Contains (enumerate_from n xs) (n + i, x)
 place_numbered n [] i x e = absurd cc
 place_numbered {X} n (y ∷ ys) zero x e =
@@ -358,7 +358,7 @@ place_numbered {X} n (y ∷ ys) (suc i) x e =
     later_in (n, y) (enumerate_from (n + 1) ys) (n + suc i, x)
     (subst (λ (k : ℕ). Contains (enumerate_from (n + 1) ys) (k, x)) number (place_numbered (n + 1) ys i x e))
 
--- what stands beside a number is at the number's place
+-- what comes with a number is at the number's place
 pub numbered_place : {X : Type 0} (n : ℕ) (xs : List X) (p : ℕ × X) → Contains (enumerate_from n xs) p → (i : ℕ) × (p.0 ≡ n + i) × (slice_get xs i ≡ Some p.1)
 numbered_place n [] p among = absurd (none_in p among)
 numbered_place {X} n (x ∷ xs) p among =
@@ -371,22 +371,22 @@ numbered_place {X} n (x ∷ xs) p among =
 pub numbers_are_places : {X : Type 0} (n : ℕ) (xs : List X) → AllByRecursion (λ (x : ℕ × X). (i : ℕ) × (x.0 ≡ n + i) × (slice_get xs i ≡ Some x.1)) (enumerate_from n xs)
 numbers_are_places {X} n xs = to_each (λ (x : ℕ × X). (i : ℕ) × (x.0 ≡ n + i) × (slice_get xs i ≡ Some x.1)) (enumerate_from n xs) (numbered_place n xs)
 
--- what stands beside a number counted from 0 is at this place
+-- what comes with a number counted from 0 is at this place
 pub at_number : {X : Type 0} (xs : List X) (i : ℕ) (x : X) → Contains (enumerate_from 0 xs) (i, x) → slice_get xs i ≡ Some x
 at_number xs i x h =
     let p = numbered_place 0 xs (i, x) h in
     let same : p.0 ≡ i = omega (arith, p.1) in
     ap (slice_get xs) (sym same) ∙ p.2
 
--- what is at a place stands beside its number, counted from 0
+-- what is at a place comes with its number, counted from 0
 pub number_at : {X : Type 0} (xs : List X) (i : ℕ) (x : X) → slice_get xs i ≡ Some x → Contains (enumerate_from 0 xs) (i, x)
 number_at {X} xs i x e = subst (λ (k : ℕ). Contains (enumerate_from 0 xs) (k, x)) (zero-add i) (place_numbered 0 xs i x e)
 
--- what stands beside a number is in the list
+-- what comes with a number is in the list
 pub numbered_in : {X : Type 0} (n : ℕ) (xs : List X) (m : ℕ) (x : X) → Contains (enumerate_from n xs) (m, x) → Contains xs x
 numbered_in n xs m x inside = let p = numbered_place n xs (m, x) inside in has_at xs p.0 x p.2
 
--- an element stands beside some number
+-- an element comes with some number
 pub contains_numbered : {X : Type 0} (n : ℕ) (xs : List X) (x : X) → Contains xs x → (k : ℕ) × Contains (enumerate_from n xs) (k, x)
 contains_numbered n xs x h = let p = place_of xs x h in (n + p.0, place_numbered n xs p.0 x p.1)
 
@@ -394,7 +394,7 @@ contains_numbered n xs x h = let p = place_of xs x h in (n + p.0, place_numbered
 pub at_place : {X : Type 0} (P : ℕ × X → Type 0) (n : ℕ) (xs : List X) (k : ℕ) (x : X) → AllByRecursion P (enumerate_from n xs) → slice_get xs k ≡ Some x → P (n + k, x)
 at_place P n xs k x h e = of_each P (enumerate_from n xs) (n + k, x) h (place_numbered n xs k x e)
 
--- what holds of all holds of them beside their numbers
+-- what holds of all holds of them with their numbers
 pub all_numbered : {X : Type 0} (P : X → Type 0) (n : ℕ) (xs : List X) → AllByRecursion P xs → AllByRecursion (λ (x : ℕ × X). P x.1) (enumerate_from n xs)
 all_numbered P n [] h = tt
 all_numbered P n (x ∷ xs) h = (h.0, all_numbered P (n + 1) xs h.1)

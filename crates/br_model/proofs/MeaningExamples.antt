@@ -265,7 +265,7 @@ no_hit_of_another_file : IsHit (of_index (codes "A") 2 ∷ []) (volume (codes "A
 unfolding the_hit meant
 no_hit_of_another_file h = let e : ◌≡◌ {A = ℕ} 3 2 = ap (λ (k : FileKey). k.index) h.key in absurd cc
 
--- what stands behind the block does not matter
+-- what follows the block does not matter
 is_reached : IsReached (of_index (codes "A") 2 ∷ []) (volume (codes "A") (block ++ codes "spoilt") ∷ []) the_hit
 unfolding the_hit meant
 is_reached = record {

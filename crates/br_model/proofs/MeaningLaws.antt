@@ -1,4 +1,5 @@
--- A bootstrap has a meaning exactly where its volumes are laid out as it asks, and its meaning is the set of its hits.
+-- A bootstrap has a meaning exactly if its volumes are laid out as it asks, and its meaning is the
+-- set of its hits.
 use Rattle.std.proofs.Common.{◌≡◌, ℕ, List, map, Ok, sym, subst, ◌∙◌}
 use Rattle.std.specs.Prelude.{Contains, flat_map}
 use Rattle.std.specs.List.{AllByRecursion}
@@ -37,7 +38,8 @@ named_are_laid : (groups : List Group) (volumes : List Volume) (set : Hits) → 
 named_are_laid groups volumes set e =
     all_weaker (IsWalked groups volumes) (IsLaidFor groups volumes) (walked_is_laid groups volumes) (volumes_of groups) (volumes_are_searched groups volumes set e)
 
--- where each volume that the groups name is laid out as they ask, the meaning is the set of what is found
+-- if each volume that the groups name is laid out as they ask, the meaning is the set of
+-- what is found
 laid_meaning : (groups : List Group) (volumes : List Volume) → AllByRecursion (IsLaidFor groups volumes) (volumes_of groups)
     → meaning groups volumes ≡ Ok (hits_of (flat_map (hits_found groups volumes) (volumes_of groups)))
 laid_meaning groups volumes laid =

@@ -17,7 +17,7 @@ ranks_stand_beside : ranked (λ n. n ∷ []) (3 ∷ 1 ∷ []) ≡ (1 ∷ [], 1) 
 unfolding reading
 ranks_stand_beside = refl
 
--- a name stands behind its fronts
+-- a name comes after its fronts
 orders_by_bytes : in_order (λ name. name) (codes "b" ∷ codes "ab" ∷ [] ∷ codes "a" ∷ codes "B" ∷ []) ≡ [] ∷ codes "B" ∷ codes "a" ∷ codes "ab" ∷ codes "b" ∷ []
 unfolding reading
 orders_by_bytes = refl

@@ -32,7 +32,7 @@ not_below_itself k e = let tie : rank_cmp k k ≡ Equal = tied_itself nat_list_c
 
 -- ---- entries of maps
 
--- entries put in one by one are those of the map that is made of them
+-- entries inserted one by one are those of the map that is made from them
 pub put_all-entries : {K X : Type 0} {R : K → K → Ordering} → IsTotalOrder R → (es : List (K × X)) → put_all R es ≡ entries (from_entries {X = X} {R = R} es)
 unfolding put_all
 put_all-entries {X = X} {R = R} o [] =
@@ -57,7 +57,7 @@ same_order {X} rank xs ys h =
 
 -- ---- finding an entry
 
--- an entry that is found is in the list, where only equal keys tie
+-- an entry that is found is in the list, if only equal keys tie
 pub found_is_in : {K X : Type 0} (R : K → K → Ordering) → IsAntisymmetric R → (q : K) (x : X) (es : List (K × X)) → find R q es ≡ Some x → Contains es (q, x)
 found_is_in R same q x [] e = absurd cc
 found_is_in {K} {X} R same q x (f ∷ fs) e = go (R q f.0) refl e (found_is_in R same q x fs)
@@ -70,7 +70,7 @@ found_is_in {K} {X} R same q x (f ∷ fs) e = go (R q f.0) refl e (found_is_in R
         let value : f.1 ≡ x = cc in
         first_in f fs (q, x) (λ i. (key i, value i))
 
--- an entry is found where each entry that ties with it has its value
+-- an entry is found if each entry that ties with it has its value
 pub is_found_if_alone : {K X : Type 0} (R : K → K → Ordering) → IsTotalOrder R → (q : K) (x : X) (es : List (K × X))
     → AllByRecursion (λ (f : K × X). R q f.0 ≡ Equal → f.1 ≡ x) es → Contains es (q, x) → find R q es ≡ Some x
 is_found_if_alone R total q x [] alone among = absurd (none_in (q, x) among)
@@ -96,7 +96,7 @@ is_found_if_alone {K} {X} R total q x (f ∷ fs) alone among =
 
 -- ---- what the lists have
 
--- what holds of a new entry and of the others holds of all once it is put in its place
+-- what holds of a new entry and of the others holds of all once it is inserted at its place
 put_holds : {X : Type 0} (P : List ℕ × X → Type 0) (k : List ℕ) (v : X) (es : List (List ℕ × X)) → P (k, v) → AllByRecursion P es → AllByRecursion P (put rank_cmp k v es)
 put_holds P k v [] h all = (h, tt)
 put_holds {X} P k v (e ∷ es) h all = go (rank_cmp k e.0) refl (put_holds P k v es h all.1)
@@ -184,7 +184,7 @@ in_order_has {X} rank xs x alone among =
     let same : h.0 ≡ x = of_each (λ (y : X). rank x ≡ rank y → y ≡ x) xs h.0 alone (in_order_from rank xs h.0 h.1) (sym h.2) in
     subst (Contains (in_order rank xs)) same h.1
 
--- where elements of one rank are one, the ordered list has each element
+-- if elements of one rank are one, the ordered list has each element
 pub in_order_has_each : {X : Type 0} (rank : X → List ℕ) (xs : List X) → ((x y : X) → Contains xs x → Contains xs y → rank x ≡ rank y → x ≡ y)
     → (x : X) → Contains xs x → Contains (in_order rank xs) x
 in_order_has_each {X} rank xs one x c =
@@ -236,7 +236,7 @@ in_order_rises {X} rank xs =
 
 -- ---- a list whose ranks rise
 
--- elements whose ranks rise, put in under their ranks, are these
+-- elements whose ranks rise, inserted under their ranks, are these
 ranked_rising : {X : Type 0} (rank : X → List ℕ) (xs : List X) → EachPair (λ (x y : X). rank_cmp (rank x) (rank y) ≡ Less) xs → ranked rank xs ≡ map (λ (x : X). (rank x, x)) xs
 unfolding ranked put_all
 ranked_rising rank [] h = refl
@@ -268,7 +268,7 @@ kept_stays {X} rank p xs e =
 
 -- ---- elements whose ranks differ
 
--- a new entry whose rank no other has stands among the others, and all of these stay
+-- a new entry whose rank no other has is among the others, and all of these stay
 put_permutes : {X : Type 0} (k : List ℕ) (v : X) (es : List (List ℕ × X)) → AllByRecursion (λ (e : List ℕ × X). k ≡ e.0 → ⊥) es
     → IsPermutation (v ∷ map (λ (e : List ℕ × X). e.1) es) (map (λ (e : List ℕ × X). e.1) (put rank_cmp k v es))
 put_permutes k v [] apart = IsPermutation-refl (v ∷ [])

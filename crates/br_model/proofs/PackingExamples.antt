@@ -149,7 +149,7 @@ no_other_type_needs_one : links_back ((1, to_save 3 (codes "/a")) ∷ (2, to_sav
 unfolding naming packing
 no_other_type_needs_one = refl
 
--- how many files are accepted, or the refusal
+-- the number of files that are accepted, or the refusal
 ordered : List ToSave → Result ℕ ℕ
 ordered files = result_map_both (λ (fs : List ToSave). length fs) (λ n. n) (checked_order files)
 

@@ -85,7 +85,7 @@ no_pair_clashes clash (x ∷ xs) e =
     let h = and_parts (not (list_any (clash x) xs)) (no_pair clash xs) e in
     (none_pass (clash x) xs (not-true _ h.0), no_pair_clashes clash xs h.1)
 
--- where no element clashes with a later one, no pair does
+-- if no element clashes with a later one, no pair does
 pub no_pair_from : {X : Type 0} (clash : X → X → Bool) (xs : List X) → EachPair (λ x y. clash x y ≡ false) xs → no_pair clash xs ≡ true
 unfolding no_pair
 no_pair_from clash [] h = refl
@@ -111,7 +111,7 @@ one_of_two clash xs x y e c d t u =
 
 -- ---- numbered elements
 
--- what holds of pairs holds of them beside their numbers
+-- what holds of pairs holds of them with their numbers
 pub pairs_numbered : {X : Type 0} (R : X → X → Type 0) (n : ℕ) (xs : List X) → EachPair R xs → EachPair (λ (x y : ℕ × X). R x.1 y.1) (enumerate_from n xs)
 pairs_numbered R n [] h = tt
 pairs_numbered R n (x ∷ xs) h = (all_numbered (R x) (n + 1) xs h.0, pairs_numbered R (n + 1) xs h.1)
@@ -154,7 +154,7 @@ first_number_passes {X} p n (x ∷ xs) m e = go (p x) refl (first_number_passes 
 abbrev pub Apart : {X : Type 0} → (X → Bool) → X → X → Type 0
 Apart p x y = p x ≡ true → p y ≡ true → ⊥
 
--- where one alone passes the test, its number is found
+-- if one alone passes the test, its number is found
 pub first_number_is : {X : Type 0} (p : X → Bool) (n : ℕ) (xs : List X) (i : ℕ) (x : X) → EachPair (Apart p) xs → slice_get xs i ≡ Some x → p x ≡ true → first_number p n xs ≡ Some (n + i)
 first_number_is p n [] i x h e t = absurd cc
 first_number_is {X} p n (y ∷ ys) zero x h e t =

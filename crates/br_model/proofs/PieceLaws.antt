@@ -18,7 +18,7 @@ is_on volume g = bytes_eq g.1.volume volume
 abbrev pub on_from : ℕ → List Group → List ℕ → List (ℕ × Group)
 on_from n groups volume = filter (is_on volume) (enumerate_from n groups)
 
--- a number in front of rising ones that it is below
+-- a number before rising ones that it is below
 rises : (n : ℕ) (ns : List ℕ) → IsStrictlyIncreasing ns → (0 < length ns → n < slice_index ns 0) → IsStrictlyIncreasing (n ∷ ns)
 rises n ns rise below zero lt = below (omega arith)
 rises n ns rise below (suc k) lt =

@@ -22,8 +22,8 @@ use Rattle.br_model.proofs.GroupLaws.{has_part}
 abbrev pub entry_hits : (volumes : List Volume) (j : Job) → Holds volumes j → List Entry → ℕ → Entry → List Hit
 entry_hits volumes j holds selected group e = spans_hits (planned_entry e).key group (kept_blocks (has_part selected j.rows) j.rows.spans holds.blocks)
 
--- what a selected entry has to have: its job stands on volumes, and a set has, as the hits of its file, exactly those in the
--- spans that the plan has groups for
+-- what a selected entry needs: volumes hold its job, and a set has, as the hits of its file,
+-- exactly those in the spans that the plan has groups for
 pub record IsPlannedWhole (volumes : List Volume) (jobs : List Job) (set : Hits) (selected : List Entry) (e : Entry) : Type 0 where
   pub of : IsEntryOf jobs e
   pub is_job : IsJob of.job
@@ -50,8 +50,8 @@ planned_is_whole volumes jobs set selected e among w =
           ∙ sym (planned_have_all volumes j w.holds selected e among (sym w.of.job_is));
     }
 
--- where a set has the hits of the plan for each selected entry, the files of the plan's names are the copies of the selected
--- entries, in order of key
+-- if a set has the hits of the plan for each selected entry, the files of the plan's names are the
+-- copies of the selected entries, in order of key
 pub plan_files : (volumes : List Volume) (jobs : List Job) (set : Hits) (selected : List Entry)
     → ((e : Entry) → Contains selected e → IsPlannedWhole volumes jobs set selected e)
     → AllZip (IsCopy jobs) (by_key selected) (files set (Some (plan_names selected)))

@@ -41,7 +41,7 @@ at_front [] ys i x e = absurd cc
 at_front (z ∷ zs) ys zero x e = e
 at_front (z ∷ zs) ys (suc i) x e = at_front zs ys i x e
 
--- places behind the first list are those of the second
+-- places after the first list are those of the second
 pub at_back : {X : Type 0} (xs ys : List X) (i : ℕ) → slice_get (xs ++ ys) (length xs + i) ≡ slice_get ys i
 at_back [] ys i = ap (slice_get ys) (zero-add i)
 at_back (x ∷ xs) ys i = ap (slice_get (x ∷ xs ++ ys)) (next (length xs) i) ∙ at_back xs ys i
@@ -56,7 +56,7 @@ zip_both R S [] (y ∷ ys) p q = absurd p
 zip_both R S (x ∷ xs) [] p q = absurd p
 zip_both R S (x ∷ xs) (y ∷ ys) p q = ((p.0, q.0), zip_both R S xs ys p.1 q.1)
 
--- what stands in a relation to the element at a place, from either side
+-- what is related to the element at a place, from either side
 pub zip_right : {X Y : Type 0} (R : X → Y → Type 0) (xs : List X) (ys : List Y) (i : ℕ) (x : X) → AllZip R xs ys → slice_get xs i ≡ Some x → (y : Y) × (slice_get ys i ≡ Some y) × R x y
 zip_right R [] ys i x h e = absurd cc
 zip_right R (w ∷ ws) [] i x h e = absurd h

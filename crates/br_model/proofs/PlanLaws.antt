@@ -50,8 +50,9 @@ selected_by_key jobs marks history =
     in_order_permutes (λ (e : Entry). key_rank (planned_entry e).key) (filter (λ (e : Entry). is_among (wanted (view_of jobs) marks) e.path) (view_of jobs))
     (pairs_filter KeysDiffer (λ (e : Entry). is_among (wanted (view_of jobs) marks) e.path) (view_of jobs) (view_has_keys jobs history))
 
--- Where the chosen jobs of a history stand on volumes, and are a history themselves, the plan has a meaning over all volumes
--- that extend these, and its files are, in order of key, the selected entries' copies: of each entry one.
+-- If volumes hold the chosen jobs of a history, which are a history themselves, the plan has a
+-- meaning over all volumes that extend these, and its files are, in order of key, the selected
+-- entries' copies: of each entry one.
 pub plan_means_selection_of : (jobs : List Job) (q : Request) (marks : List (List ℕ)) (chosen : List JobRows) (plan : Plan) (volumes later : List Volume)
     → is_history chosen ≡ true → AllByRecursion IsJob jobs
     → choose (rows_of_jobs jobs) q ≡ Ok chosen → plan_of (rows_of_jobs jobs) q marks ≡ Ok plan

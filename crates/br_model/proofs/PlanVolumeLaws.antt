@@ -1,5 +1,5 @@
--- The groups of a plan on one volume: over all volumes that extend those on which its jobs stand, the walk finds the blocks
--- of each of their spans.
+-- The groups of a plan on one volume: over all volumes that extend those that hold its jobs, the
+-- walk finds the blocks of each of their spans.
 use Rattle.std.proofs.Common.{◌≡◌, ℕ, suc, ◌+◌, ◌<◌, Bool, true, false, not, ◌&&◌, ◌||◌, cond, List, [], ◌∷◌, length, ◌++◌, map, filter, Option, Some, None, Result, Ok, Err, refl, sym, ap, subst, ◌∙◌, inl, inr, arith}
 use Rattle.std.proofs.Math.Bool.{or-false}
 use Rattle.std.proofs.lemmas.Bool.{cases_lt, le-leb, and_parts, not-true, or_parts}
@@ -132,7 +132,7 @@ pub groups_on_are : (gs : List Group) (ss : List Span) (volume : List ℕ) → A
 unfolding groups_on
 groups_on_are gs ss volume are = groups_are_on 0 gs ss volume are
 
--- where the spans of some groups are laid together, the walk for the groups finds the blocks
+-- if the spans of some groups are laid together, the walk for the groups finds the blocks
 pub blocks_for_spans : (volumes : List Volume) (bytes : List ℕ) (numbered : List (ℕ × Group)) (spans : List Span) → AllZip IsGroupOf (just_groups numbered) spans
     → (are : AreSpansLaid volumes bytes spans) → blocks_for numbered bytes ≡ Ok are.all
 blocks_for_spans volumes bytes numbered spans groups_are are =
@@ -142,7 +142,7 @@ blocks_for_spans volumes bytes numbered spans groups_are are =
     (subst (λ (bound : Option ℕ). AreLaid bytes bound everywhere are.all) (sym (bound_of_spans gs spans groups_are)) are.whole.laid) in
     (walk_is_exact_lem bytes (bound_of gs) (is_covered gs) are.all).1 laid
 
--- ---- the spans of jobs that stand on volumes
+-- ---- the spans of jobs that volumes hold
 
 -- each span of the job is laid
 abbrev pub IsJobLaid : List Volume → JobRows → Type 0
@@ -154,11 +154,11 @@ zip_laid volumes [] (bs ∷ bss) laid = absurd laid
 zip_laid volumes (s ∷ ss) [] laid = absurd laid
 zip_laid volumes (s ∷ ss) (bs ∷ bss) laid = ((bs, laid.0), zip_laid volumes ss bss laid.1)
 
--- the spans of a job that stands on volumes are laid there
+-- the spans of a job that volumes hold are laid there
 pub job_is_laid : (volumes : List Volume) (j : Job) → Holds volumes j → IsJobLaid volumes j.rows
 job_is_laid volumes j holds = zip_laid volumes j.rows.spans holds.blocks holds.laid
 
--- where the chosen among some jobs stand on volumes, the spans of these are laid there
+-- if volumes hold the chosen ones of some jobs, the spans of these are laid there
 pub chosen_are_laid : (volumes : List Volume) (jobs : List Job) (chosen : List JobRows) → ((r : JobRows) → Contains chosen r → Contains (rows_of_jobs jobs) r)
     → ((j : Job) → Contains jobs j → Contains chosen j.rows → Holds volumes j) → AllByRecursion (IsJobLaid volumes) chosen
 chosen_are_laid volumes jobs chosen among holds = to_each (IsJobLaid volumes) chosen laid
@@ -213,7 +213,8 @@ pub record IsPlanWalked (volumes later : List Volume) (selected : List Entry) (j
   pub whole : IsWholeTo bytes (last_end (spans_on (plan_spans selected jobs) volume)) all
   pub each : (s : Span) (blocks : List LaidBlock) → Contains (plan_spans selected jobs) s → s.volume ≡ volume → IsSpanLaid volumes s blocks → blocks ≡ blocks_in s all
 
--- over all volumes that extend those on which its jobs stand, a plan is walked on each volume that it has groups on
+-- over all volumes that extend those that hold its jobs, a plan is walked on each volume that it
+-- has groups on
 pub plan_is_walked : (volumes later : List Volume) (selected : List Entry) (jobs : List JobRows) (volume : List ℕ) → Extends later volumes
     → AllByRecursion (IsJobLaid volumes) jobs → 0 < length (groups_on (plan_groups selected jobs) volume) → IsPlanWalked volumes later selected jobs volume
 plan_is_walked volumes later selected jobs volume extends laid some =
@@ -244,7 +245,7 @@ abbrev pub found_or_none : Result (List LaidBlock) BlockFault → List LaidBlock
 found_or_none (Ok blocks) = blocks
 found_or_none (Err e) = []
 
--- the blocks that the groups on a volume ask for, none where the walk is refused
+-- the blocks that the groups on a volume ask for, none if the walk is refused
 abbrev pub blocks_found : List Group → List Volume → List ℕ → List LaidBlock
 blocks_found groups volumes volume = found_or_none (blocks_for (groups_on groups volume) (unwrap_or (volume_bytes volumes volume) []))
 
@@ -284,7 +285,8 @@ hits_of_each groups volumes n [] w = refl
 hits_of_each groups volumes n (name ∷ names) w =
     rw (hits_of_walked groups volumes n name w.0, hits_of_each groups volumes (n + 1) names w.1) refl
 
--- where the walk of each volume that a bootstrap names is not refused, its meaning is the set of what is found
+-- if the walk of each volume that a bootstrap names is not refused, its meaning is the set of
+-- what is found
 pub walked_meaning : (groups : List Group) (volumes : List Volume) → AllByRecursion (IsWalked groups volumes) (volumes_of groups)
     → meaning groups volumes ≡ Ok (hits_of (flat_map (hits_found groups volumes) (volumes_of groups)))
 unfolding meaning pieces_of
@@ -306,7 +308,8 @@ abbrev walked_of_plan : (volumes later : List Volume) (selected : List Entry) (j
     → IsWalked (plan_groups selected jobs) later volume
 walked_of_plan volumes later selected jobs volume w = record { bytes = w.bytes; all = w.all; found = w.found; walked = w.walked }
 
--- over all volumes that extend those on which its jobs stand, a plan has a meaning: the set of what is found on each volume
+-- over all volumes that extend those that hold its jobs, a plan has a meaning: the set of what is
+-- found on each volume
 pub plan_has_meaning : (volumes later : List Volume) (selected : List Entry) (jobs : List JobRows) → Extends later volumes → AllByRecursion (IsJobLaid volumes) jobs
     → meaning (plan_groups selected jobs) later ≡ Ok (hits_of (flat_map (hits_found (plan_groups selected jobs) later) (volumes_of (plan_groups selected jobs))))
 plan_has_meaning volumes later selected jobs extends laid =
@@ -374,7 +377,7 @@ hits_in_covered numbered (b ∷ bs) = go (is_covered (just_groups numbered) b.ad
 
 -- ---- the spans of one job are apart
 
--- no pair of some elements clashes where none of all does
+-- no pair of some elements clashes if none of all does
 pub no_pair_kept : {X : Type 0} (clash : X → X → Bool) (p : X → Bool) (xs : List X) → no_pair clash xs ≡ true → no_pair clash (filter p xs) ≡ true
 no_pair_kept clash p xs e = no_pair_from clash (filter p xs) (pairs_filter (λ x y. clash x y ≡ false) p xs (no_pair_clashes clash xs e))
 

@@ -44,7 +44,7 @@ one_alone i n = grind (arith, nat_tests)
 one_more : (i high n : ℕ) → i ≤ high → is_in_range i high n ≡ (eqb i n || is_in_range (i + 1) high n)
 one_more i high n le = grind (arith, nat_tests)
 
--- a number in front of ranges is one more number that they have
+-- a number before ranges is one more number that they have
 onto_ranges_has : (i : ℕ) (rs : List Range) (n : ℕ) → AllByRecursion IsRange rs → in_ranges (onto_ranges i rs) n ≡ (eqb i n || in_ranges rs n)
 onto_ranges_has i [] n h = ap (λ b. b || false) (one_alone i n)
 onto_ranges_has i (r ∷ rs) n h = go (eqb r.low (i + 1)) refl
@@ -57,7 +57,7 @@ onto_ranges_has i (r ∷ rs) n h = go (eqb r.low (i + 1)) refl
         ∙ or_assoc (eqb i n) (is_in_range r.low r.high n) (in_ranges rs n)
     go false e = ap (λ b. b || in_ranges (r ∷ rs) n) (one_alone i n)
 
--- a number is in one of the ranges of some numbers where it is one of these
+-- a number is in one of the ranges of some numbers if it is one of these
 pub in_ranges_of : (xs : List ℕ) (n : ℕ) → in_ranges (ranges_of xs) n ≡ is_one_of xs n
 unfolding ranges_of
 in_ranges_of [] n = refl
@@ -77,7 +77,7 @@ unfolding ranges_of
 ranges_not_empty [] e = e
 ranges_not_empty (x ∷ xs) e = onto_some x (ranges_of xs)
 
--- the ranges of some numbers admit a number where it is one of these
+-- the ranges of some numbers admit a number if it is one of these
 pub admits_ranges_of : (xs : List ℕ) (n : ℕ) → is_empty xs ≡ false → admits (ranges_of xs) n ≡ is_one_of xs n
 admits_ranges_of xs n e = ap (λ b. b || in_ranges (ranges_of xs) n) (ranges_not_empty xs e) ∙ in_ranges_of xs n
 

@@ -93,7 +93,7 @@ abbrev IsOpenAt : ℕ → Option Begun → Type 0
 IsOpenAt index None = Unit {0}
 IsOpenAt index (Some b) = (b.index ≡ index) × (0 < b.left)
 
--- one fragment in front of a cut
+-- one fragment before a cut
 first_step : (index : ℕ) (f : Fragment) (fs : List Fragment) (records : List Record) → IsFragmentFor index f → is_negative f.stream ≡ false
     → IsCutBehind (still_open (begun_by f)) records fs → IsCut (given_out (begun_by f) ++ records) (f ∷ fs)
 unfolding IsWhole StaysOpen
@@ -224,7 +224,7 @@ begins_as f s stream_is =
     not_below : (n : ℕ) → is_negative (pos n) ≡ false
     not_below n = le-ltb n 0 (omega arith)
 
--- an open record, the parts that go on with it, and records behind it
+-- an open record, the parts that go on with it, and records after it
 open_is_joined : (b : Begun) (left : List ℕ) (parts others : List Fragment) (more : List Record) → GoOn b.index b.stream left parts → length left ≡ b.left → 0 < b.left
     → (b.stream ≡ 0 → ⊥) → join_from None others ≡ Ok more
     → join_from (Some b) (parts ++ others) ≡ Ok (record { index = b.index; stream = b.stream; bytes = b.bytes ++ left } ∷ more)
@@ -249,7 +249,7 @@ open_is_joined b left (f ∷ fs) others more g left_is some nonzero rest =
           rw (taken, d.1, joined, d.2) (ap (λ (x : List ℕ). Ok (whole x)) bytes_are)
     ]
 
--- the parts of a record, and records behind it
+-- the parts of a record, and records after it
 parts_are_joined : (r : Record) (parts others : List Fragment) (more : List Record) → AreParts r parts → join_from None others ≡ Ok more
     → join_from None (parts ++ others) ≡ Ok (r ∷ more)
 unfolding join_from IsWhole StaysOpen

@@ -28,7 +28,7 @@ IsBefore s t = slice_cmp nat_cmp (spot_rank s) (spot_rank t) ≡ Less
 abbrev pub IsHitBefore : Hit → Hit → Type 0
 IsHitBefore g h = IsBefore g.spot h.spot
 
--- each hit is before those behind it
+-- each hit is before those after it
 abbrev pub Rise : List Hit → Type 0
 Rise hs = EachPair IsHitBefore hs
 
@@ -46,7 +46,7 @@ same_key_is a b e =
 pub same_key_self : (a : FileKey) → same_key a a ≡ true
 same_key_self a = rw (eq-eqb a.session.id a.session.id refl, eq-eqb a.session.time a.session.time refl, eq-eqb a.index a.index refl) refl
 
--- lists with one front are compared by what stands behind it
+-- lists with one front are compared by what follows it
 after_front : (xs ys zs : List ℕ) → slice_cmp nat_cmp (xs ++ ys) (xs ++ zs) ≡ slice_cmp nat_cmp ys zs
 after_front [] ys zs = refl
 after_front (x ∷ xs) ys zs = ap (λ o. ordering_then o (slice_cmp nat_cmp (xs ++ ys) (xs ++ zs))) (tied_itself nat_cmp_total x) ∙ after_front xs ys zs
@@ -65,7 +65,8 @@ entries_are_sorted key hs keys rise = subst T (sym (rising_is_sorted hit_cmp (ma
         pairs_with (λ (h : Hit). h.key ≡ key) IsHitBefore (λ (g h : Hit). hit_cmp (g.key, g.spot) (h.key, h.spot) ≡ Less)
         (λ g h p q before. before_as_spots (g.key, g.spot) (h.key, h.spot) (p ∙ sym q) before) hs keys rise
 
--- Where a set has exactly these hits of a file, and their places rise, the file's fragments are theirs, in this order.
+-- If a set has exactly these hits of a file, and their places rise, the file's fragments are
+-- theirs, in this order.
 pub fragments_of_rising : (key : FileKey) (set : Hits) (hs : List Hit) → AllByRecursion (λ (h : Hit). h.key ≡ key) hs → Rise hs → AllByRecursion (HasHit set) hs
     → ((h : Hit) → h.key ≡ key → HasHit set h → Contains hs h)
     → fragments_for key (entries set) ≡ map (λ (h : Hit). h.fragment) hs
@@ -150,8 +151,8 @@ alone_at_place hs g h rise g_in h_in same = one_if_unrelated IsHitBefore hs g h 
     not_before : (x y : Hit) → x.spot ≡ y.spot → IsHitBefore x y → ⊥
     not_before x y at before = not_below_itself (spot_rank x.spot) (ap (λ (s : Spot). rank_cmp (spot_rank x.spot) (spot_rank s)) at ∙ before)
 
--- Where the found hits of a file are these, and their places rise, the set of the found hits lists the file's fragments in
--- this order.
+-- If the found hits of a file are these, and their places rise, the set of the found hits lists the
+-- file's fragments in this order.
 pub fragments_of_found : (key : FileKey) (found hs : List Hit) → AllByRecursion (λ (h : Hit). h.key ≡ key) hs → Rise hs → AllByRecursion (λ (h : Hit). Contains found h) hs
     → ((h : Hit) → h.key ≡ key → Contains found h → Contains hs h)
     → fragments_for key (entries (hits_of found)) ≡ map (λ (h : Hit). h.fragment) hs

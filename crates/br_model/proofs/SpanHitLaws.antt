@@ -212,7 +212,7 @@ spans_hits_rise key n (b ∷ bs) up =
     (λ c inside m f. each_in_spans (λ (h : Hit). IsBefore (hit_there key n c.address (m, f)).spot h.spot) key (n + 1) bs
     (λ group address k g le. before_by_group (hit_there key n c.address (m, f)).spot (hit_there key group address (k, g)).spot (omega arith)))))
 
--- blocks that are laid from an address on stand at it or behind it, and their addresses rise
+-- blocks that are laid from an address on are at it or after it, and their addresses rise
 pub laid_rise : (address : ℕ) (left : List ℕ) (bound : Option ℕ) (covered : ℕ → Bool) (bs : List LaidBlock) → AreLaidFrom address left bound covered bs
     → AllByRecursion (λ (b : LaidBlock). address ≤ b.address) bs × AddressesRise bs
 laid_rise address left bound covered bs laid = (
@@ -232,8 +232,8 @@ of_zip R P f [] (y ∷ ys) h = absurd h
 of_zip R P f (x ∷ xs) [] h = absurd h
 of_zip R P f (x ∷ xs) (y ∷ ys) h = (f x y h.0, of_zip R P f xs ys h.1)
 
--- Where a set has exactly the hits of a file in some laid spans, each under the group of its number, the file's fragments are
--- those of its index in the spans.
+-- If a set has exactly the hits of a file in some laid spans, each under the group of its number,
+-- the file's fragments are those of its index in the spans.
 pub fragments_of_spans : (volumes : List Volume) (key : FileKey) (n : ℕ) (spans : List Span) (blocks : List (List LaidBlock)) (set : Hits) → AllZip (IsSpanLaid volumes) spans blocks
     → AllByRecursion (HasHit set) (spans_hits key n blocks) → ((h : Hit) → h.key ≡ key → HasHit set h → Contains (spans_hits key n blocks) h)
     → fragments_for key (entries set) ≡ filter (has_index key.index) (session_fragments key.session blocks)

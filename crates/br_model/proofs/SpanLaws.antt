@@ -21,11 +21,11 @@ use Rattle.br_model.proofs.PairLaws.{EachPair}
 front_at : (p m : List ℕ) (i : ℕ) → i + 4 ≤ length p → take 4 (drop i (p ++ m)) ≡ take 4 (drop i p)
 front_at p m i fits = ap (take 4) (drop-append-le i p m (omega arith)) ∙ take-append-le 4 (drop i p) m (omega (arith, length-drop i p))
 
--- the key behind the letters
+-- the key after the letters
 abbrev key_in : List ℕ → SessionKey
 key_in bytes = record { id = u32_at 16 bytes; time = u32_at 20 bytes }
 
--- the letters stand in the first 16 bytes, and say how long the header is
+-- the letters are in the first 16 bytes, and give the length of the header
 length_front : (p m : List ℕ) → 16 ≤ length p → header_length (session_of (p ++ m)) ≡ header_length (session_of p)
 length_front p m long = rw (front_at p m 12 (omega arith)) (same (has_letters older_letters p))
   where
@@ -33,7 +33,7 @@ length_front p m long = rw (front_at p m 12 (omega arith)) (same (has_letters ol
     same true = refl
     same false = refl
 
--- the session stands in the header
+-- the session is in the header
 session_front : (p m : List ℕ) → 16 ≤ length p → header_length (session_of p) ≤ length p → session_of (p ++ m) ≡ session_of p
 session_front p m long whole = rw (front_at p m 12 (omega arith)) (same (has_letters older_letters p) whole)
   where
@@ -51,7 +51,7 @@ read_header_front p m long whole =
     le-ltb (length (p ++ m)) (header_length (session_of p)) (omega (arith, longer, whole)) ∙ sym (le-ltb (length p) (header_length (session_of p)) whole) in
     rw (short, session_front p m long whole, held, front_at p m 12 (omega arith), front_at p m 0 (omega arith), front_at p m 4 (omega arith), front_at p m 8 (omega arith)) refl
 
--- a header is read whatever comes behind it
+-- a header is read whatever follows it
 pub read_header_more : (p m : List ℕ) (h : Header) → read_header p ≡ Ok h → read_header (p ++ m) ≡ Ok h
 read_header_more p m h e = let r = header_reads p h e in read_header_front p m r.lettered r.long ∙ e
 
@@ -80,7 +80,7 @@ read_header_alone left =
           sym (read_header_front (take 24 left) (drop 24 left) (omega (arith, size)) (omega (arith, size, at_most_24 (session_of (take 24 left))))) ∙ ap read_header (take-append-drop 24 left)
     ]
 
--- a whole block at the front is read whatever comes behind it
+-- a whole block at the front is read whatever follows it
 pub read_block_front : (p m block : List ℕ) → read_block p ≡ Ok block → read_block (p ++ m) ≡ Ok block
 unfolding read_block
 read_block_front p m block e =
@@ -102,7 +102,7 @@ read_block_front p m block e =
 abbrev pub everywhere : ℕ → Bool
 everywhere address = true
 
--- what is laid is laid where fewer addresses are covered
+-- what is laid is laid if fewer addresses are covered
 pub less_covered : (address : ℕ) (left : List ℕ) (bound : Option ℕ) (covered fewer : ℕ → Bool) (bs : List LaidBlock)
     → ((a : ℕ) → fewer a ≡ true → covered a ≡ true) → AreLaidFrom address left bound covered bs → AreLaidFrom address left bound fewer bs
 less_covered address left bound covered fewer [] f laid = laid
@@ -120,7 +120,7 @@ laid_once address left bound covered other bs cs p q =
     ok_is bs cs (sym (laid_is_found n address left bound nowhere bs (omega arith) (less_covered address left bound covered nowhere bs (none covered) p))
     ∙ laid_is_found n address left bound nowhere cs (omega arith) (less_covered address left bound other nowhere cs (none other) q))
 
--- behind the bound nothing is laid
+-- after the bound nothing is laid
 nothing_above : (address : ℕ) (left : List ℕ) (bound : Option ℕ) (covered other : ℕ → Bool) (bs : List LaidBlock)
     → is_above bound address ≡ true → AreLaidFrom address left bound covered bs → AreLaidFrom address left bound other bs
 nothing_above address left bound covered other [] e laid = laid
@@ -133,7 +133,7 @@ pub record IsWholeTo (bytes : List ℕ) (end : ℕ) (all : List LaidBlock) : Typ
   pub laid : AreLaid bytes (Some end) everywhere all
   pub within : end < length bytes
 
--- whole blocks up to an address that has a byte stay while bytes come behind them
+-- whole blocks up to an address that has a byte stay while bytes come after them
 pub whole_stays : (address : ℕ) (left more : List ℕ) (end : ℕ) (bs : List LaidBlock)
     → AreLaidFrom address left (Some end) everywhere bs → end < address + length left → AreLaidFrom address (left ++ more) (Some end) everywhere bs
 whole_stays address left more end [] laid within =
@@ -164,7 +164,7 @@ pub some_left : (address : ℕ) (left : List ℕ) (bound : Option ℕ) (covered 
 some_left address left bound covered [] b laid among = absurd (omega (arith, among.1))
 some_left address left bound covered (x ∷ xs) b laid among = laid.0
 
--- where a covered block ends at the bound, each block is whole and the bound has a byte
+-- if a covered block ends at the bound, each block is whole and the bound has a byte
 pub ends_whole : (address : ℕ) (left : List ℕ) (end : ℕ) (covered : ℕ → Bool) (bs : List LaidBlock) (last : LaidBlock)
     → AreLaidFrom address left (Some end) covered bs → Contains bs last → covered last.address ≡ true → last.address + length last.bytes ≡ end + 1
     → AreLaidFrom address left (Some end) everywhere bs × (end < address + length left)
@@ -276,7 +276,7 @@ spans_stay volumes later [] (bs ∷ bss) extends laid = absurd laid
 spans_stay volumes later (s ∷ ss) [] extends laid = absurd laid
 spans_stay volumes later (s ∷ ss) (bs ∷ bss) extends laid = (span_stays volumes later s bs extends laid.0, spans_stay volumes later ss bss extends laid.1)
 
--- a job stands on all volumes that extend those on which it stands, with the same blocks and records
+-- all volumes that extend those that hold a job hold it, too, with the same blocks and records
 pub job_stays : (volumes later : List Volume) (j : Job) → Extends later volumes → Holds volumes j → Holds later j
 job_stays volumes later j extends holds = record {
   blocks = holds.blocks;
@@ -394,7 +394,7 @@ IsBehind address b = address ≤ b.address
 abbrev pub AreAscending : List LaidBlock → Type 0
 AreAscending bs = EachPair (λ (b : LaidBlock). IsBehind (b.address + 16)) bs
 
--- blocks that are laid stand at the address where the bytes begin, or behind it
+-- blocks that are laid are at the address where the bytes begin, or after it
 pub laid_behind : (address : ℕ) (left : List ℕ) (bound : Option ℕ) (covered : ℕ → Bool) (bs : List LaidBlock) → AreLaidFrom address left bound covered bs → AllByRecursion (IsBehind address) bs
 laid_behind address left bound covered [] laid = tt
 laid_behind address left bound covered (b ∷ bs) laid =
@@ -421,7 +421,7 @@ AreApart spans = EachPair (λ (s t : Span). s.end < t.start) spans
 in_span : (s : Span) (address : ℕ) → is_in_span s address ≡ true → (s.start ≤ address) × (address ≤ s.end)
 in_span s address e = (leb-true s.start address (and_parts (nat_le s.start address) (nat_le address s.end) e).0, leb-true address s.end (and_parts (nat_le s.start address) (nat_le address s.end) e).1)
 
--- what is in a later span is behind the span's end
+-- what is in a later span is after the span's end
 any_behind : (end : ℕ) (spans : List Span) (address : ℕ) → AllByRecursion (λ (t : Span). end < t.start) spans → is_in_any spans address ≡ true → end < address
 any_behind end [] address apart e = absurd cc
 any_behind end (t ∷ ts) address apart e =
@@ -445,7 +445,8 @@ none_passes test end from bs below lt behind = keeps_none (λ (b : LaidBlock). t
     fails : (b : LaidBlock) → IsBehind from b → test b.address ≡ false
     fails b le = false_from_ne_true (test b.address) (λ e. let h = below b.address e in omega (arith, h, lt, le))
 
--- blocks in order that pass a test up to an address, or another behind it, are those of the one and then those of the other
+-- blocks in order that pass a test up to an address, or another after it, are those of the one and
+-- then those of the other
 pub filter_in_turn : (first second : ℕ → Bool) (end : ℕ) → ((a : ℕ) → first a ≡ true → a ≤ end) → ((a : ℕ) → second a ≡ true → end < a)
     → (bs : List LaidBlock) → AreAscending bs
     → filter (λ (b : LaidBlock). first b.address || second b.address) bs ≡ filter (λ (b : LaidBlock). first b.address) bs ++ filter (λ (b : LaidBlock). second b.address) bs

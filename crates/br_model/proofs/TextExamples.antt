@@ -81,7 +81,7 @@ no_decimal_with_a_sign : decimal_value (codes "-1") ≡ None
 unfolding reading
 no_decimal_with_a_sign = refl
 
--- the bytes before 0 and behind 9
+-- the bytes before 0 and after 9
 no_decimal_with_a_slash : decimal_value (codes "/") ≡ None
 unfolding reading
 no_decimal_with_a_slash = refl

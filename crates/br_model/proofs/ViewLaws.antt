@@ -56,8 +56,8 @@ view_has_keys jobs history =
     (λ d e p q less same. not_below_itself d.path (ap (λ (g : Entry). rank_cmp d.path g.path) (one_entry_of_key jobs d e history p q same) ∙ less))
     (view_of jobs) (to_each (IsRowIn jobs) (view_of jobs) (λ e inside. view_is_of_rows jobs e inside)) (view_rises jobs)
 
--- Where whatever a path gives has this path, the first thing with a path among what some paths give is what this path gives,
--- if it is one of them or gives nothing.
+-- If whatever a path gives has this path, the first thing with a path among what some paths give is
+-- what this path gives, if it is one of them or gives nothing.
 found_at : (h : List ℕ → Option Entry) → ((p : List ℕ) (e : Entry) → h p ≡ Some e → e.path ≡ p) → (ps : List (List ℕ)) (path : List ℕ) → ((e : Entry) → h path ≡ Some e → Contains ps path)
     → find (λ (e : Entry). bytes_eq e.path path) (filter_map h ps) ≡ h path
 found_at h named [] path listed = sym (gives (h path) refl)

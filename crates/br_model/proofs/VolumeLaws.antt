@@ -1,4 +1,4 @@
--- The walk of a volume finds its blocks exactly where it is laid out in them.
+-- The walk of a volume finds its blocks exactly if it is laid out in them.
 use Rattle.std.proofs.Common.{◌≡◌, ℕ, zero, suc, ◌+◌, ◌*◌, ◌/◌, ◌<◌, ◌≤◌, Bool, true, false, ◌&&◌, ◌||◌, ltb, List, [], ◌∷◌, length, take, drop, Option, Some, None, Result, Ok, Err, cond, ap, sym, ◌∙◌, refl, subst, inl, inr, arith}
 use Rattle.std.proofs.lemmas.Bool.{ltb-false, le-ltb, or_cases, or_from, or_parts, or_right}
 use Rattle.std.proofs.lemmas.List.{length-drop, drop-drop}
@@ -21,7 +21,7 @@ pub at_most_24 : (session : Option SessionKey) → header_length session ≤ 24
 at_most_24 None = omega arith
 at_most_24 (Some key) = omega arith
 
--- a header that is read stands in as many bytes as one with its letters has, and says as many at least
+-- a header that is read has as many bytes as one with its letters, and gives at least this size
 pub record ReadsHeader (bytes : List ℕ) (h : Header) : Type 0 where
   pub lettered : 16 ≤ length bytes
   pub long : header_length (session_of bytes) ≤ length bytes
@@ -54,7 +54,7 @@ header_reads bytes h e =
       session_is = ap (λ (g : Header). g.session) same;
     }
 
--- a header that is read stands in 16 bytes at least, and says as many
+-- a header that is read has at least 16 bytes, and gives at least this size
 pub header_has_16 : (bytes : List ℕ) (h : Header) → read_header bytes ≡ Ok h → (16 ≤ length bytes) × (16 ≤ h.size)
 header_has_16 bytes h e =
     let r = header_reads bytes h e in
@@ -68,7 +68,7 @@ unless : (a b : Bool) → (a ≡ true → b ≡ false) → (a && b) ≡ false
 unless true b h = h refl
 unless false b h = refl
 
--- the steps of the walk behind the test for its end
+-- the steps of the walk after the test for its end
 at_address : ℕ → ℕ → BlockFault
 at_address address number = record { number = number; address = address }
 

@@ -106,7 +106,7 @@ key_is key other p q = rw (← p, ← q) refl
 abbrev header_under : Header → Option SessionKey → Header
 header_under h session = record { checksum = h.checksum; size = h.size; number = h.number; session = session }
 
--- the session is read from a header's bytes, whatever stands behind them
+-- the session is read from a header's bytes, whatever follows them
 session_under : (h : Header) (session : Option SessionKey) (more : List ℕ) → ((key : SessionKey) → session ≡ Some key → IsKey key) → session_of (header_bytes (header_under h session) ++ more) ≡ session
 unfolding header_bytes
 session_under h None more is = refl
@@ -142,7 +142,7 @@ letters_under h (Some key) more = refl
 letters_are_there : (h : Header) (more : List ℕ) → (has_letters older_letters (header_bytes h ++ more) || has_letters letters (header_bytes h ++ more)) ≡ true
 letters_are_there h more = letters_under h h.session more
 
--- a header that is valid is read, whatever stands behind it
+-- a header that is valid is read, whatever follows it
 pub header_is_read : (h : Header) (more : List ℕ) → IsHeader h → read_header (header_bytes h ++ more) ≡ Ok h
 unfolding read_header
 header_is_read h more is =
@@ -189,7 +189,7 @@ length-written_block key block =
 
 -- ---- the fragments
 
--- what is behind the header of a block
+-- what is after the header of a block
 behind_under : (h : Header) (session : Option SessionKey) (more : List ℕ) → drop (header_length session) (header_bytes (header_under h session) ++ more) ≡ more
 unfolding header_bytes
 behind_under h None more = refl
@@ -198,7 +198,7 @@ behind_under h (Some key) more = refl
 pub behind_header : (h : Header) (more : List ℕ) → drop (header_length h.session) (header_bytes h ++ more) ≡ more
 behind_header h more = behind_under h h.session more
 
--- each fragment but the last has all its data, and nothing stands behind the last
+-- each fragment but the last has all its data, and nothing follows the last
 written_are_filled : (fs : List Fragment) → AreWritten fs → AreFilled fs []
 written_are_filled [] written = tt
 written_are_filled (f ∷ []) written =
@@ -208,7 +208,7 @@ written_are_filled (f ∷ []) written =
     ]
 written_are_filled (f ∷ g ∷ more) written = (written.0, written_are_filled (g ∷ more) written.1)
 
--- sound fragments of a session may stand in its blocks
+-- blocks of a session may contain its sound fragments
 each_of_session : (key : SessionKey) (fs : List Fragment) → AllByRecursion (λ (f : Fragment). f.session ≡ key) fs → AllByRecursion IsSound fs → AllByRecursion (IsFragmentOf (Some key)) fs
 each_of_session key [] of_session sound = tt
 each_of_session key (f ∷ fs) of_session sound = (

@@ -119,7 +119,7 @@ directory = to_save 5 (codes "/d/")
 its_attributes : Fragment
 its_attributes = record { session = key; index = pos 1; stream = pos 1; size = 37; bytes = codes "1 5 /d/" ++ 0 ∷ codes "A A A A A A A A A A A A A A" ++ 0 ∷ 0 ∷ [] }
 
--- one block of 73 bytes, behind 10 bytes of the volume
+-- one block of 73 bytes, after 10 bytes of the volume
 is_written : IsWritten (directory ∷ []) key 73 (place (codes "A") 0 ∷ []) ((codes "A", 10) ∷ [])
     (record { blocks = (codes "A", written_block key (0, its_attributes ∷ [])) ∷ []; spans = span (codes "A") 1 1 10 82 1 ∷ [] })
 unfolding directory its_attributes placing

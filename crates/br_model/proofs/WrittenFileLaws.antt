@@ -178,7 +178,7 @@ data_part_all : (P : Record → Type 0) (index : ℕ) (f : ToSave) → ((bytes :
     → AllByRecursion P (data_part index f)
 data_part_all P index f of_data = data_all P index of_data (length f.file.bytes / 65536 + 1) f.file.bytes
 
--- what holds of the digest record holds of it where there is one
+-- what holds of the digest record holds of it if there is one
 digest_part_all : (P : Record → Type 0) (index : ℕ) (f : ToSave) → P (record { index = index; stream = 3; bytes = md5 f.file.bytes }) → AllByRecursion P (digest_part index f)
 digest_part_all P index f of_digest = go (has_digest f)
   where
@@ -214,7 +214,7 @@ plain_extent end r plain to =
     let fits : ltb (2 ^ 30) (end + length r.bytes) ≡ false = le-ltb (2 ^ 30) (end + length r.bytes) to in
     rw (plain, fits) refl
 
--- an extent at the end so far, and what comes behind it
+-- an extent at the end so far, and what comes after it
 behind_extent : (end : ℕ) (chunk rest bytes : List ℕ) (es : List Extent) → bytes_from (end + length chunk) es ≡ rest → chunk ++ rest ≡ bytes
     → bytes_from end (record { start = end; bytes = chunk } ∷ es) ≡ bytes
 unfolding bytes_from

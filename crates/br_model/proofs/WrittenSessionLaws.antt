@@ -1,4 +1,4 @@
--- What was written of a session stands on the volumes that it was written to.
+-- The volumes to which a session was written hold it.
 use Rattle.std.proofs.Common.{◌≡◌, ℕ, ◌+◌, ◌-◌, ◌^◌, ◌<◌, ◌≤◌, Bool, true, false, ◌&&◌, ◌||◌, cond, ltb, List, [], ◌∷◌, ◌++◌, length, map, filter, take, drop, Result, Ok, Err, refl, sym, ap, subst, ◌∙◌, inl, inr, arith}
 use Rattle.std.proofs.lemmas.Bool.{ltb-true, eqb-true, eqb-false, eq-eqb, and_parts}
 use Rattle.std.proofs.lemmas.List.{append-nil, take-append-drop, nil_from_length}
@@ -70,7 +70,7 @@ visit_or_none P v more none some = go (is_empty v.blocks) refl
     go true e = none (nil_from_length v.blocks (eqb-true (length v.blocks) 0 e))
     go false e = let ne = eqb-false (length v.blocks) 0 e in some (omega (arith, ne))
 
--- visits have whole blocks where all blocks are whole
+-- visits have whole blocks if all blocks are whole
 visits_are_whole : (places : List Place) (blocks : List (List ℕ)) → AllByRecursion IsWholeBlock blocks → AllByRecursion IsWholeVisit (visits places blocks)
 unfolding visits
 visits_are_whole [] blocks whole = tt

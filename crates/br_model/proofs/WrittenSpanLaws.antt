@@ -32,7 +32,7 @@ brought name v = cond (bytes_eq v.volume name) (joined v.blocks) []
 abbrev pub all_brought : List Visit → List ℕ → List ℕ
 all_brought vs name = flat_map (brought name) vs
 
--- the lengths of volumes behind a visit
+-- the lengths of volumes after a visit
 abbrev pub with_visit : Visit → List (List ℕ × ℕ) → List (List ℕ × ℕ)
 with_visit v lengths = (v.volume, length_of lengths v.volume + visit_length v) ∷ lengths
 
@@ -77,7 +77,7 @@ some_of : (o : Option (List ℕ)) (xs : List ℕ) → unwrap_or o [] ≡ xs → 
 some_of None xs e lt = absurd (omega (arith, lt, ap length e))
 some_of (Some ys) xs e lt = ap (λ (zs : List ℕ). Some zs) e
 
--- a visit's blocks are laid in its span, behind the volume's earlier bytes
+-- a visit's blocks are laid in its span, after the volume's earlier bytes
 visit_is_laid : (volumes : List Volume) (s : Span) (old more : List ℕ) (before : List LaidBlock) (blocks : List (List ℕ)) → 0 < length blocks → AllByRecursion IsWholeBlock blocks
     → AreLaid old None everywhere before → bytes_of_volume volumes s.volume ≡ (old ++ joined blocks) ++ more → s.start ≡ length old → s.end ≡ s.start + length (joined blocks) - 1
     → IsSpanLaid volumes s (laid_at s.start blocks)
@@ -176,7 +176,7 @@ all_parted P (x ∷ xs) ys h = let r = all_parted P xs ys h.1 in ((h.0, r.0), r.
 abbrev pub fragments_of_visit : Visit → List Fragment
 fragments_of_visit v = flat_map fragments_of v.blocks
 
--- where all fragments of visits are of files of a session, these are its fragments in the spans
+-- if all fragments of visits are of files of a session, these are its fragments in the spans
 pub fragments_in_visits : (key : SessionKey) (lengths : List (List ℕ × ℕ)) (vs : List Visit)
     → AllByRecursion (λ (f : Fragment). is_of_files key f ≡ true) (flat_map fragments_of_visit vs)
     → flat_map (file_fragments key) (visits_at lengths vs) ≡ flat_map fragments_of_visit vs

@@ -1,4 +1,5 @@
--- Whole blocks that are appended to a volume of whole blocks lie in it behind these, and make a span.
+-- Whole blocks that are appended to a volume of whole blocks lie in it after these, and
+-- make a span.
 use Rattle.std.proofs.Common.{◌≡◌, ℕ, suc, ◌+◌, ◌<◌, ◌≤◌, true, false, List, [], ◌∷◌, ◌++◌, length, take, drop, filter, Option, Some, None, Ok, refl, sym, ap, subst, ◌∙◌, inl, inr, arith}
 use Rattle.std.proofs.lemmas.Bool.{le-leb, lt-leb, lt-ltb, le-ltb}
 use Rattle.std.proofs.lemmas.List.{append-nil, length-append, length-drop, take_at, drop_at, take-append-le, drop-append-le}
@@ -24,7 +25,7 @@ pub record IsWholeBlock (block : List ℕ) : Type 0 where
 abbrev pub joined : List (List ℕ) → List ℕ
 joined blocks = flat_map (λ (b : List ℕ). b) blocks
 
--- some blocks one behind the other, from an address on
+-- some blocks, one after the other, from an address on
 abbrev pub laid_at : ℕ → List (List ℕ) → List LaidBlock
 laid_at address [] = []
 laid_at address (b ∷ bs) = record { address = address; bytes = b } ∷ laid_at (address + length b) bs
@@ -34,7 +35,7 @@ pub laid_same : (a b : ℕ) (xs ys : List ℕ) (bound : Option ℕ) (bs : List L
 laid_same a b xs ys bound bs p q laid =
     subst (λ (zs : List ℕ). AreLaidFrom b zs bound everywhere bs) q (subst (λ (n : ℕ). AreLaidFrom n xs bound everywhere bs) p laid)
 
--- whole blocks that are joined are laid one behind the other
+-- whole blocks that are joined are laid one after the other
 pub blocks_are_laid : (address : ℕ) (blocks : List (List ℕ)) → AllByRecursion IsWholeBlock blocks → AreLaidFrom address (joined blocks) None everywhere (laid_at address blocks)
 blocks_are_laid address [] whole = inl refl
 blocks_are_laid address (b ∷ bs) whole =
@@ -54,7 +55,7 @@ blocks_are_laid address (b ∷ bs) whole =
       laid_same (address + length b) (address + h.size) behind (drop h.size (b ++ behind)) None (laid_at (address + length b) bs) (omega (arith, w.size_is)) (sym dropped) rest,
     )
 
--- what is laid behind whole blocks is laid with them, where these are not above the bound
+-- what is laid after whole blocks is laid with them, if these are not above the bound
 pub laid_behind : (address : ℕ) (left more : List ℕ) (bound : Option ℕ) (bs cs : List LaidBlock)
     → ((a : ℕ) → a < address + length left → is_above bound a ≡ false)
     → AreLaidFrom address left None everywhere bs → AreLaidFrom (address + length left) more bound everywhere cs
@@ -96,7 +97,7 @@ addresses_within address left (b ∷ bs) laid =
           (λ c is. (omega (arith, is.0), omega (arith, is.1, length-drop h.size left, whole))) bs (addresses_within (address + h.size) (drop h.size left) bs laid.6),
     )
 
--- a volume of whole blocks with whole blocks behind them is one
+-- a volume of whole blocks with whole blocks after them is one
 pub whole_appended : (old : List ℕ) (before : List LaidBlock) (blocks : List (List ℕ)) → AllByRecursion IsWholeBlock blocks → AreLaid old None everywhere before
     → AreLaid (old ++ joined blocks) None everywhere (before ++ laid_at (length old) blocks)
 whole_appended old before blocks whole laid =
@@ -119,7 +120,7 @@ in_range low high n from to = let a = le-leb low n from in let b = le-leb n high
 before_span : (s : Span) (a : ℕ) → a < s.start → is_in_span s a ≡ false
 before_span s a lt = rw (lt-leb s.start a lt) refl
 
--- the appended blocks are laid in their span, whatever comes behind it
+-- the appended blocks are laid in their span, whatever follows it
 pub appended_are_laid : (volumes : List Volume) (s : Span) (old more : List ℕ) (before : List LaidBlock) (block : List ℕ) (blocks : List (List ℕ))
     → AllByRecursion IsWholeBlock (block ∷ blocks) → AreLaid old None everywhere before
     → volume_bytes volumes s.volume ≡ Some ((old ++ joined (block ∷ blocks)) ++ more)

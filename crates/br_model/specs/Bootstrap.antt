@@ -6,12 +6,12 @@ use Rattle.br_model.specs.Text.{is_empty, line}
 use Rattle.br_model.specs.Name.{SessionKey}
 use Rattle.br_model.specs.Block.{Fragment}
 
--- the numbers from low to high, both among them
+-- the numbers from low to high, both included
 pub record Range : Type 0 where
   pub low : ℕ
   pub high : ℕ
 
--- what a group may ask of a fragment
+-- what a group may select fragments by
 pub data Criterion : Type 0 where
   SessionId : Criterion
   SessionTime : Criterion
@@ -32,7 +32,7 @@ pub record Group : Type 0 where
   pub indexes : List Range
   pub streams : List Range
 
--- the group on a volume that asks for nothing else
+-- the group on a volume without criteria
 abbrev pub group_on : List ℕ → Group
 group_on volume = record {
   volume = volume;
@@ -45,7 +45,7 @@ group_on volume = record {
   streams = [];
 }
 
--- the group with more ranges of a criterion behind those that it has
+-- the group with more ranges appended to those of a criterion
 abbrev pub with_ranges : Criterion → List Range → Group → Group
 with_ranges SessionId rs g = record g { session_ids = g.session_ids ++ rs }
 with_ranges SessionTime rs g = record g { session_times = g.session_times ++ rs }
@@ -61,8 +61,8 @@ with_ranges Stream rs g = record g { streams = g.streams ++ rs }
 abbrev pub admits : List Range → ℕ → Bool
 admits rs n = is_empty rs || list_any (λ (r : Range). is_in_range r.low r.high n) rs
 
--- the group's part of a hit, of a record header in a block of the session at this address: the index is above 0, and each
--- criterion admits its number
+-- the group hits a record with this session, index and stream in the block at this address: the
+-- index is above 0, and each criterion admits its number
 abbrev pub hits_by : Group → ℕ → SessionKey → ℤ → ℤ → Bool
 hits_by g address session index stream =
     is_positive index && admits g.session_ids session.id && admits g.session_times session.time
@@ -75,7 +75,7 @@ hits g address f = hits_by g address f.session f.index f.stream
 
 -- ---- canonical text
 
--- one number, or two with a dash
+-- one number, or two with a dash between them
 abbrev pub range_text : Range → List ℕ
 range_text r = if r.low == r.high then decimal r.low else decimal r.low ++ 45 ∷ decimal r.high
 
@@ -83,7 +83,7 @@ range_text r = if r.low == r.high then decimal r.low else decimal r.low ++ 45 �
 abbrev pub range_lines : List ℕ → List Range → List ℕ
 range_lines keyword rs = flat_map (λ r. line (keyword ++ 61 ∷ range_text r)) rs
 
--- the volume's line, and behind it the lines of each criterion, in this order of the criteria
+-- the volume's line, then the lines of each criterion, with the criteria in this order
 abbrev pub group_text : Group → List ℕ
 group_text g =
     line (codes "Volume=\"" ++ g.volume ++ codes "\"") ++ range_lines (codes "VolSessionId") g.session_ids
@@ -91,6 +91,6 @@ group_text g =
     ++ range_lines (codes "VolBlock") g.blocks ++ range_lines (codes "VolAddr") g.addresses
     ++ range_lines (codes "FileIndex") g.indexes ++ range_lines (codes "Stream") g.streams
 
--- the one text that is written for a bootstrap
+-- the text that is written for a bootstrap
 unfoldable pub canonical : List Group → List ℕ
 canonical groups = flat_map group_text groups

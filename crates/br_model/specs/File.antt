@@ -1,4 +1,4 @@
--- What the records of one file make: the file, or the first fault.
+-- The outcome of the records of one file: the file, or the first fault.
 use Rattle.std.specs.Prelude.{◌≡◌, ℕ, ◌+◌, ◌-◌, ◌^◌, ◌<◌, ◌≤◌, ◌⊎◌, ◌↔◌, ⊤, Bool, true, false, not, ◌&&◌, ◌||◌, nat_lt, ◌==◌, if◌then◌else◌, List, [], ◌∷◌, ◌++◌, length, take, drop, replicate, filter, fold, max, count_by, slice_index, bytes_eq, Result, Ok, Err, All, Any}
 use Rattle.std.specs.List.{list_any}
 use Rattle.std.specs.Int.{w64, from_be_bytes, is_in_range}
@@ -7,7 +7,7 @@ use Rattle.br_model.specs.Answer.{◌>>=◌, refuse_if, refused_as}
 use Rattle.br_model.specs.Attribute.{Stat, Attributes, read_attributes}
 use Rattle.br_model.specs.Record.{Record}
 
--- a restored file, and how many of its records were skipped
+-- a restored file, and the number of its records that were skipped
 pub record Item : Type 0 where
   pub path : List ℕ
   pub kind : ℕ
@@ -16,12 +16,12 @@ pub record Item : Type 0 where
   pub bytes : List ℕ
   pub skipped : ℕ
 
--- why there is no file: the number of the outcome, and for 65 the stream, else 0
+-- why there is no file: the number of the fault, and for 65 the stream, else 0
 pub record Fault : Type 0 where
   pub number : ℕ
   pub stream : ℕ
 
--- what a restore gives for one file
+-- the result of a restore for one file
 abbrev pub Outcome : Type 0
 Outcome = Result Item Fault
 
@@ -49,7 +49,7 @@ is_supported r = is_stream 1 r || is_data r || is_stream 3 r || is_passed_over r
 abbrev pub has_bytes : ℕ → Bool
 has_bytes kind = kind == 2 || kind == 3
 
--- the one attribute record: 63 where there is none, 64 where there are two or it cannot be read
+-- the one attribute record: 63 if there is none, 64 if there are two or it cannot be read
 unfoldable pub attributes_of : ℕ → List Record → Result Attributes ℕ
 attributes_of index [] = Err 63
 attributes_of index (r ∷ []) = refused_as (λ _. 64) (read_attributes r.bytes index)
@@ -62,17 +62,18 @@ unsupported (r ∷ rs) = if is_supported r then unsupported rs else Err (record 
 
 -- ---- data
 
--- a run of bytes of a file, from its start on
+-- a run of bytes of a file, and the address of the first
 pub record Extent : Type 0 where
   pub start : ℕ
   pub bytes : List ℕ
 
--- the address behind the last byte of an extent
+-- the address after the last byte of an extent
 abbrev pub extent_end : Extent → ℕ
 extent_end e = e.start + length e.bytes
 
--- Where a data record stands: plain data at the end so far, sparse data at the address in its first 8 bytes. 67 where
--- these are missing or the address is before the end so far, 68 where the file would pass 2 ^ 30 bytes.
+-- The extent of a data record: plain data at the end so far, sparse data at the address in its
+-- first 8 bytes. 67 if these are missing or the address is before that end, 68 if the file would
+-- have more than 2 ^ 30 bytes.
 unfoldable pub extent_of : ℕ → Record → Result Extent ℕ
 extent_of end r = do
   e ← (if is_stream 2 r then Ok (record { start = end; bytes = r.bytes })
@@ -83,7 +84,7 @@ extent_of end r = do
     address : ℕ
     address = from_be_bytes w64 (take 8 r.bytes)
 
--- the extents of data records, each behind the one before, or the first fault
+-- the extents of data records, each after the one before, or the first fault
 unfoldable pub extents_from : ℕ → List Record → Result (List Extent) ℕ
 extents_from end [] = Ok []
 extents_from end (r ∷ rs) = do
@@ -91,7 +92,7 @@ extents_from end (r ∷ rs) = do
   more ← extents_from (extent_end e) rs
   Ok (e ∷ more)
 
--- the bytes from an address on, zeros between the extents
+-- the bytes from an address on, with zeros between the extents
 unfoldable pub bytes_from : ℕ → List Extent → List ℕ
 bytes_from at [] = []
 bytes_from at (e ∷ es) = replicate (e.start - at) 0 ++ e.bytes ++ bytes_from (extent_end e) es
@@ -100,21 +101,22 @@ bytes_from at (e ∷ es) = replicate (e.start - at) 0 ++ e.bytes ++ bytes_from (
 abbrev pub greatest_end : List Extent → ℕ
 greatest_end es = fold (λ n (e : Extent). max n (extent_end e)) 0 es
 
--- The extent of a data record behind those of the earlier ones: plain data begins at the greatest end so far, sparse data
--- at the address in its first 8 bytes, which is no less. The file ends at 2 ^ 30 at the latest.
+-- The extent of a data record after the earlier ones: plain data begins at the greatest end so far,
+-- sparse data at the address in its first 8 bytes, which is no less. The file has at most 2 ^ 30
+-- bytes.
 pub record IsExtentOf (earlier : List Extent) (r : Record) (e : Extent) : Type 0 where
   pub plain : is_stream 2 r ≡ true → (e.start ≡ greatest_end earlier) × (e.bytes ≡ r.bytes)
   pub sparse : is_stream 2 r ≡ false → (8 ≤ length r.bytes) × (e.start ≡ from_be_bytes w64 (take 8 r.bytes)) × (greatest_end earlier ≤ e.start) × (e.bytes ≡ drop 8 r.bytes)
   pub fits : extent_end e ≤ 2 ^ 30
 
--- one extent for each data record, behind those of the earlier ones
+-- one extent for each data record, after those of the earlier ones
 abbrev pub AreExtents : List Extent → List Record → List Extent → Type 0
 AreExtents earlier [] [] = ⊤
 AreExtents earlier [] (e ∷ es) = ⊥
 AreExtents earlier (r ∷ rs) [] = ⊥
 AreExtents earlier (r ∷ rs) (e ∷ es) = IsExtentOf earlier r e × AreExtents (earlier ++ e ∷ []) rs es
 
--- the extents that data records are read as are theirs, and there are no others
+-- data records have exactly one list of extents, the one that reading returns
 abbrev pub ExtentsAreExact : Type 0
 ExtentsAreExact =
     (records : List Record) (extents : List Extent) → (extents_from 0 records ≡ Ok extents) ↔ AreExtents [] records extents
@@ -123,17 +125,17 @@ ExtentsAreExact =
 abbrev pub HasByte : ℕ → ℕ → Extent → Type 0
 HasByte place byte e = (e.start ≤ place) × (place < extent_end e) × (slice_index e.bytes (place - e.start) ≡ byte)
 
--- the byte at each place is that of an extent which covers it, or 0 where none does
+-- the byte at each place is that of an extent that covers it, or 0 if none does
 abbrev pub IsByteOf : List Extent → ℕ → ℕ → Type 0
 IsByteOf es place byte =
     Any (HasByte place byte) es ⊎ ((byte ≡ 0) × All (λ e. (place < e.start) ⊎ (extent_end e ≤ place)) es)
 
--- the bytes of a file: as many as the greatest end of its extents, and at each place the byte of that place
+-- the bytes of a file: they end at the greatest end of the extents, and each is that of its place
 pub record AreBytesOf (es : List Extent) (bytes : List ℕ) : Type 0 where
   pub length_is : length bytes ≡ greatest_end es
   pub each : (place : ℕ) → place < length bytes → IsByteOf es place (slice_index bytes place)
 
--- the extents of data records have exactly one list of bytes, which reading gives
+-- the extents of data records have exactly one list of bytes, the one that reading returns
 abbrev pub BytesAreExact : Type 0
 BytesAreExact =
     (records : List Record) (extents : List Extent) (bytes : List ℕ) → extents_from 0 records ≡ Ok extents
@@ -141,7 +143,7 @@ BytesAreExact =
 
 -- ---- the whole file
 
--- plain data alone is held against its digest
+-- a digest is compared only for a file with bytes and without sparse data
 abbrev pub checks_digest : ℕ → List Record → Bool
 checks_digest kind records = has_bytes kind && not (list_any (is_stream 6) records)
 
@@ -151,7 +153,7 @@ digest_fits [] bytes = true
 digest_fits (r ∷ []) bytes = bytes_eq r.bytes (md5 bytes)
 digest_fits (r ∷ s ∷ more) bytes = false
 
--- data of a file without bytes, and a digest that is not held against anything, are skipped
+-- records passed over, data of a file without bytes, and a digest that is not compared are skipped
 abbrev pub is_skipped : ℕ → Bool → Record → Bool
 is_skipped kind checked r = is_passed_over r || (is_data r && not (has_bytes kind)) || (is_stream 3 r && not checked)
 
@@ -161,8 +163,8 @@ file_bytes kind records = if not (has_bytes kind) then Ok [] else do
   extents ← extents_from 0 (filter is_data records)
   Ok (bytes_from 0 extents)
 
--- What the records of the file with this index make. Faults come in this order: attributes (63, 64), a stream (65), data
--- (67, 68), the digest (66).
+-- The outcome of the records of the file with this index. Faults come in this order: attributes
+-- (63, 64), a stream (65), data (67, 68), the digest (66).
 unfoldable pub content : ℕ → List Record → Outcome
 content index records = do
   a ← refused_as fault (attributes_of index (filter (is_stream 1) records))

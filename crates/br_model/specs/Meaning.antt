@@ -16,7 +16,7 @@ use Rattle.br_model.specs.Block.{Fragment, fragments_of}
 use Rattle.br_model.specs.Volume.{Volume, volume_bytes, Extends, LaidBlock, BlockFault, AreLaid, blocks_of}
 use Rattle.br_model.specs.Bootstrap.{Range, Group, hits}
 
--- where a fragment was found: the least group that hits it, its block's address, and its place in the block
+-- where a fragment was found: the first group that hits it, its block's address, its place there
 pub record Spot : Type 0 where
   pub group : ℕ
   pub address : ℕ
@@ -46,7 +46,7 @@ hit_rank k = key_rank k.0 ++ spot_rank k.1
 abbrev pub hit_cmp : FileKey × Spot → FileKey × Spot → Ordering
 hit_cmp j k = slice_cmp nat_cmp (hit_rank j) (hit_rank k)
 
--- a set of hits: at each place of each file one fragment at most
+-- a set of hits: at most one fragment at each place of each file
 abbrev pub Hits : Type 0
 Hits = FinMap hit_cmp Fragment
 
@@ -54,11 +54,11 @@ Hits = FinMap hit_cmp Fragment
 abbrev pub hit_entry : Hit → (FileKey × Spot) × Fragment
 hit_entry h = ((h.key, h.spot), h.fragment)
 
--- the set of some hits; of two at one place of one file the first
+-- the set of some hits; of two at one place of one file, the first is taken
 abbrev pub hits_of : List Hit → Hits
 hits_of found = from_entries (map hit_entry found)
 
--- the set with more hits; one whose file and place are there is not added
+-- the set with more hits; one whose file and place it has already is not added
 abbrev pub with_hits : Hits → List Hit → Hits
 with_hits held found = from_entries (entries held ++ map hit_entry found)
 
@@ -66,7 +66,7 @@ with_hits held found = from_entries (entries held ++ map hit_entry found)
 abbrev pub HasHit : Hits → Hit → Type 0
 HasHit held h = get held (h.key, h.spot) ≡ Some h.fragment
 
--- sets with the same look-ups are one set
+-- sets with equal look-ups are equal
 abbrev pub HitsAreLookups : Type 0
 HitsAreLookups = (some other : Hits) → ((k : FileKey × Spot) → get some k ≡ get other k) → some ≡ other
 
@@ -74,9 +74,9 @@ HitsAreLookups = (some other : Hits) → ((k : FileKey × Spot) → get some k �
 abbrev pub AreAmong : Hits → Hits → Type 0
 AreAmong some all = (h : Hit) → HasHit some h → HasHit all h
 
--- ---- what is read of a volume
+-- ---- what is read from a volume
 
--- a group without VolAddr covers every block, any other those whose address is in a range of it
+-- a group without VolAddr covers every block; any other, the blocks at the addresses in its ranges
 abbrev pub covers : Group → ℕ → Bool
 covers g address = is_empty g.addresses || list_any (λ (r : Range). is_in_range r.low r.high address) g.addresses
 
@@ -84,7 +84,7 @@ covers g address = is_empty g.addresses || list_any (λ (r : Range). is_in_range
 abbrev pub last_address : Group → ℕ
 last_address g = fold (λ n (r : Range). max n r.high) 0 g.addresses
 
--- where the walk of a volume ends, if every group has VolAddr: behind the greatest of all their ends
+-- the bound of the walk of a volume, if every group has VolAddr: the greatest of all their ends
 unfoldable pub bound_of : List Group → Option ℕ
 bound_of groups =
     if list_any (λ (g : Group). is_empty g.addresses) groups then None
@@ -133,7 +133,8 @@ PiecesAreWhole = (groups : List Group) → AllByRecursion IsPiece (pieces_of gro
 unfoldable pub first_hitting : List (ℕ × Group) → ℕ → Fragment → Option ℕ
 first_hitting numbered address f = option_map (λ (g : ℕ × Group). g.0) (find (λ (g : ℕ × Group). hits g.1 address f) numbered)
 
--- the hit is a fragment of a block of a volume, at its place there, with the number of the first group that hits it
+-- the hit is a fragment at its place in a volume's block, with the number of the first group that
+-- hits the fragment
 pub record IsHit (groups : List Group) (volumes : List Volume) (hit : Hit) : Type 0 where
   pub volume : List ℕ
   pub bytes : List ℕ
@@ -147,8 +148,8 @@ pub record IsHit (groups : List Group) (volumes : List Volume) (hit : Hit) : Typ
   pub group : first_hitting (groups_on groups volume) block.address hit.fragment ≡ Some hit.spot.group
   pub key : hit.key ≡ key_of hit.fragment
 
--- The hit stands in a block that the walk reaches, whatever comes behind it: each header up to the block is valid, and the
--- block itself is whole.
+-- The hit is in a block that the walk reaches, whatever follows it: each header up to the block is
+-- valid, and the block itself is whole.
 pub record IsReached (groups : List Group) (volumes : List Volume) (hit : Hit) : Type 0 where
   pub volume : List ℕ
   pub bytes : List ℕ
@@ -187,7 +188,7 @@ hits_among numbered bytes = do
   blocks ← blocks_for numbered bytes
   Ok (flat_map (hits_in numbered) blocks)
 
--- why a volume could not be searched: 14 it is not there, 10 to 12 a block of it is not valid
+-- why a volume could not be searched: 14 if it does not exist, 10 to 12 if a block is not valid
 pub record PieceFault : Type 0 where
   pub number : ℕ
   pub volume : List ℕ
@@ -215,29 +216,29 @@ meaning groups volumes = do
 
 -- ---- laws
 
--- what is held stays, and of two found hits at one place of one file the first is taken
+-- hits in the set stay, and of two found hits at one place of one file the first is taken
 abbrev pub TakingKeepsWhatIsHeld : Type 0
 TakingKeepsWhatIsHeld = (held : Hits) (found : List Hit) (k : FileKey × Spot) → get (with_hits held found) k ≡ option_or (get held k) (get (hits_of found) k)
 
--- a hit that is reached stays so while volumes grow
+-- a hit that is reached is still reached after volumes have grown
 abbrev pub ReachedStays : Type 0
 ReachedStays =
     (groups : List Group) (volumes later : List Volume) (hit : Hit) → Extends later volumes → IsReached groups volumes hit → IsReached groups later hit
 
--- in a meaning the hits that are reached are the hits
+-- if there is a meaning, the hits that are reached are all the hits
 abbrev pub ReachedAreHits : Type 0
 ReachedAreHits =
     (groups : List Group) (volumes : List Volume) (set : Hits) (hit : Hit) → meaning groups volumes ≡ Ok set
     → IsReached groups volumes hit ↔ IsHit groups volumes hit
 
--- the volume is there, and laid out in blocks as the groups on it ask
+-- the volume exists, and is laid out in blocks as the groups on it ask
 pub record IsLaidFor (groups : List Group) (volumes : List Volume) (volume : List ℕ) : Type 0 where
   pub bytes : List ℕ
   pub blocks : List LaidBlock
   pub found : volume_bytes volumes volume ≡ Some bytes
   pub laid : AreLaid bytes (bound_of (just_groups (groups_on groups volume))) (is_covered (just_groups (groups_on groups volume))) blocks
 
--- a bootstrap has a meaning exactly where each volume that it names is there and laid out as it asks
+-- a bootstrap has a meaning exactly if each volume that it names exists and is laid out as it asks
 abbrev pub MeaningIsOfLaid : Type 0
 MeaningIsOfLaid =
     (groups : List Group) (volumes : List Volume)

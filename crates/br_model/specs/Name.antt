@@ -6,12 +6,12 @@ use Rattle.std.specs.Ordering.{nat_cmp, ordering_then}
 use Rattle.std.specs.declared.cmp.Ordering.{Ordering}
 use Rattle.br_model.specs.Text.{is_empty}
 
--- which run of a backup wrote a record
+-- the run of a backup that wrote a record
 pub record SessionKey : Type 0 where
   pub id : ℕ
   pub time : ℕ
 
--- which file of which session; its rank orders the outcomes of a restore
+-- a file of a session; its rank orders the outcomes of a restore
 pub record FileKey : Type 0 where
   pub session : SessionKey
   pub index : ℕ
@@ -64,11 +64,11 @@ is_volume_name bytes = is_name bytes && not (bytes_eq bytes dot) && not (bytes_e
 abbrev pub is_slash : ℕ → Bool
 is_slash c = c == 47
 
--- a component of a path is not empty, nor . nor ..
+-- a component of a path is not empty, and is neither . nor ..
 abbrev pub is_component : List ℕ → Bool
 is_component c = not (is_empty c) && not (bytes_eq c dot) && not (bytes_eq c dot_dot)
 
--- components, of which the last may be empty: then the path is a directory
+-- the components of a path; if the last is empty, the path is that of a directory
 unfoldable pub are_components : List (List ℕ) → Bool
 are_components [] = false
 are_components (c ∷ []) = is_empty c || is_component c
@@ -80,7 +80,7 @@ is_path bytes =
     slice_index bytes 0 == 47 && nat_le (length bytes) 4096 && list_all (λ c. not (c == 0)) bytes
     && are_components (slice_split is_slash (drop 1 bytes))
 
--- the name that is asked for, or 2, and for a path 3
+-- the name if the bytes are one, else 2; for a path, else 3
 unfoldable pub checked_name : List ℕ → Result (List ℕ) ℕ
 checked_name bytes = if is_name bytes then Ok bytes else Err 2
 

@@ -11,16 +11,16 @@ pub record Record : Type 0 where
   pub stream : ℕ
   pub bytes : List ℕ
 
--- The fragments go on with a record of which this data is still to come. Each has the negated stream, says how many bytes
--- are still to come, and that is at least one.
+-- The fragments continue a record of which this data is still to come. Each has the negated stream
+-- and gives the number of bytes still to come, which is at least one.
 abbrev pub GoOn : ℕ → ℕ → List ℕ → List Fragment → Type 0
 GoOn index stream left [] = left ≡ []
 GoOn index stream left (f ∷ fs) =
     (f.index ≡ pos index) × (f.stream ≡ neg_ℤ (pos stream)) × (f.size ≡ length left) × (0 < length left)
     × (after : List ℕ) × (left ≡ f.bytes ++ after) × GoOn index stream after fs
 
--- The fragments are the parts of a record: the first says its whole length, the others go on with it. A record of stream 0
--- has one part, since its stream has no negation.
+-- The fragments are the parts of a record: the first gives its whole length, the others continue
+-- it. A record of stream 0 has one part, since its stream has no negation.
 abbrev pub AreParts : Record → List Fragment → Type 0
 AreParts r [] = ⊥
 AreParts r (f ∷ fs) =
@@ -35,15 +35,15 @@ IsCut (r ∷ rs) fragments =
 
 -- ---- joining, with the first fault
 
--- a record of which some bytes came, and how many are still to come
+-- a record of which some bytes were read, and the number of bytes still to come
 pub record Begun : Type 0 where
   pub index : ℕ
   pub stream : ℕ
   pub bytes : List ℕ
   pub left : ℕ
 
--- The record after one more fragment. 60: it continues a record where none is open. 61: it does not continue the open
--- one. 62: it says another number of bytes than are still to come.
+-- The record after one more fragment. 60: it continues a record, but none is open. 61: it does not
+-- continue the open one. 62: it gives another number of bytes than are still to come.
 unfoldable pub with_fragment : Option Begun → Fragment → Result Begun ℕ
 with_fragment None f =
     if is_negative f.stream then Err 60
@@ -57,11 +57,11 @@ with_fragment (Some b) f =
 abbrev pub still_open : Begun → Option Begun
 still_open b = if b.left == 0 then None else Some b
 
--- the record where all its bytes have come, else none
+-- the record if all its bytes were read, else none
 abbrev pub given_out : Begun → List Record
 given_out b = if b.left == 0 then record { index = b.index; stream = b.stream; bytes = b.bytes } ∷ [] else []
 
--- the records of one file's fragments, behind a record that may be open; 61 where one stays open
+-- the records of one file's fragments, after a record that may be open; 61 if one stays open
 unfoldable pub join_from : Option Begun → List Fragment → Result (List Record) ℕ
 join_from None [] = Ok []
 join_from (Some b) [] = Err 61
@@ -76,12 +76,12 @@ join fragments = join_from None fragments
 
 -- ---- joining undoes cutting
 
--- a fragment of the file with this index, with no more bytes than it says
+-- a fragment of the file with this index, with at most as many bytes as its size
 pub record IsFragmentFor (index : ℕ) (f : Fragment) : Type 0 where
   pub index_is : f.index ≡ pos index
   pub within : length f.bytes ≤ f.size
 
--- the fragments of a file are joined to the records of which they are a cut, and are refused where there are none
+-- fragments of a file are joined to records exactly if they are a cut of these records
 abbrev pub JoinIsExact : Type 0
 JoinIsExact =
     (index : ℕ) (fragments : List Fragment) (records : List Record) → AllByRecursion (IsFragmentFor index) fragments
@@ -94,29 +94,30 @@ abbrev pub BeginsCut : ℕ → List Fragment → Type 0
 BeginsCut index fragments =
     (more : List Fragment) × (records : List Record) × AllByRecursion (IsFragmentFor index) more × IsCut records (fragments ++ more)
 
--- no record is open behind the fragments
+-- no record is open after the fragments
 abbrev pub IsWholeCut : List Fragment → Type 0
 IsWholeCut fragments = (records : List Record) × IsCut records fragments
 
--- a fragment of this one's stream, but of some other size, goes on with the record that is open
+-- a fragment with this one's stream, but perhaps another size, continues the open record
 abbrev pub HasOpenStream : ℕ → List Fragment → Fragment → Type 0
 HasOpenStream index front f = (size : ℕ) × (bytes : List ℕ) × BeginsCut index (front ++ record f { size = size; bytes = bytes } ∷ [])
 
--- why a fragment does not go on with the ones before it: 60 it continues a record where none is open; 61 it begins a record
--- where one is open, or one of stream 0 that is not whole, or it continues another stream than the open one's; 62 it says
--- another number of bytes than are still to come
+-- why a fragment does not follow the ones before it. 60: it continues a record, but none is open.
+-- 61: it begins a record while one is open, or one of stream 0 that is not whole, or continues
+-- another stream than the open one's. 62: it gives another number of bytes than are still to come.
 abbrev pub IsFaultNumber : ℕ → List Fragment → Fragment → ℕ → Type 0
 IsFaultNumber index front f number =
     ((number ≡ 60) × (is_negative f.stream ≡ true) × IsWholeCut front)
     ⊎ ((number ≡ 61) × ((is_negative f.stream ≡ false) ⊎ ((¬ IsWholeCut front) × (¬ HasOpenStream index front f))))
     ⊎ ((number ≡ 62) × (is_negative f.stream ≡ true) × (¬ IsWholeCut front) × HasOpenStream index front f)
 
--- the fault behind a front: 61 where nothing comes and a record stays open, else why the next fragment does not go on
+-- the fault after a front: 61 if nothing follows and a record is open, else the next fragment's
 abbrev pub IsFaultBehind : ℕ → List Fragment → List Fragment → ℕ → Type 0
 IsFaultBehind index front [] number = (number ≡ 61) × (¬ IsWholeCut front)
 IsFaultBehind index front (f ∷ fs) number = (¬ BeginsCut index (front ++ f ∷ [])) × IsFaultNumber index front f number
 
--- The longest front that begins a cut: where it is all, a record stays open, which is 61, else the next fragment is the fault.
+-- The longest front that begins a cut. If it is all, a record stays open, which is 61; else the
+-- next fragment is the fault.
 pub record IsFirstFault (index : ℕ) (fragments : List Fragment) (number : ℕ) : Type 0 where
   pub front : List Fragment
   pub back : List Fragment
@@ -124,7 +125,7 @@ pub record IsFirstFault (index : ℕ) (fragments : List Fragment) (number : ℕ)
   pub begins : BeginsCut index front
   pub fault : IsFaultBehind index front back number
 
--- the refusals of joining are the numbers of first faults, so the fragments of a file have one such number at most
+-- joining is refused exactly by the number of a first fault, so there is at most one such number
 abbrev pub JoinFaultsAreFirst : Type 0
 JoinFaultsAreFirst =
     (index : ℕ) (fragments : List Fragment) (number : ℕ) → AllByRecursion (IsFragmentFor index) fragments

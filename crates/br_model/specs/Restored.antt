@@ -1,4 +1,4 @@
--- The files that a set of hits makes, in order of their keys.
+-- The files that are restored from a set of hits, in order of their keys.
 use Rattle.std.specs.Prelude.{ℕ, not, List, map, filter, bytes_eq, Option, Some, None, Ok}
 use Rattle.std.specs.FinMap.{FinMap, entries}
 use Rattle.br_model.specs.Answer.{◌>>=◌, refused_as, refuse_if}
@@ -27,7 +27,7 @@ pub record Restored : Type 0 where
   pub key : FileKey
   pub outcome : Outcome
 
--- hits in order of file and place, as the set of them lists them
+-- the hits of a set, in order of file and place
 abbrev pub HitList : Type 0
 HitList = List ((FileKey × Spot) × Fragment)
 
@@ -36,13 +36,13 @@ unfoldable pub fragments_for : FileKey → HitList → List Fragment
 fragments_for key listed =
     map (λ (e : (FileKey × Spot) × Fragment). e.1) (filter (λ (e : (FileKey × Spot) × Fragment). same_key e.0.0 key) listed)
 
--- the fragments joined to records (60, 61, 62), and what these make
+-- the outcome of the fragments, joined to records (60, 61, 62)
 unfoldable pub outcome_of : FileKey → List Fragment → Outcome
 outcome_of key fragments = do
   records ← refused_as fault (join fragments)
   content key.index records
 
--- 69 where the file has another path than the planned one
+-- 69 if the file has another path than the planned one
 unfoldable pub under_name : List ℕ → Outcome → Outcome
 under_name path outcome = do
   item ← outcome
@@ -61,7 +61,7 @@ files_planned listed names =
     map (λ (p : Planned). record { key = p.key; outcome = under_name p.path (outcome_of p.key (fragments_for p.key listed)) })
     (in_order (λ (p : Planned). key_rank p.key) names)
 
--- the files of the hits, the planned ones where there is a plan, else those that were found
+-- the planned files if there is a plan, else the files of the hits
 unfoldable pub files_listed : HitList → Option (List Planned) → List Restored
 files_listed listed None = files_found listed
 files_listed listed (Some names) = files_planned listed names

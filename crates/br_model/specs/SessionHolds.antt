@@ -1,4 +1,4 @@
--- What was written of a session stands on the volumes that it was written to.
+-- The volumes to which a session was written hold it.
 use Rattle.std.specs.Prelude.{◌≡◌, ℕ, ◌^◌, ◌<◌, ◌≤◌, true, List, [], ◌++◌, length, map, filter, flat_map, bytes_eq, unwrap_or, None, Ok}
 use Rattle.std.specs.List.{AllByRecursion}
 use Rattle.br_model.specs.Number.{is_64_bits}
@@ -9,7 +9,7 @@ use Rattle.br_model.specs.Job.{JobRow}
 use Rattle.br_model.specs.Stored.{Holds}
 use Rattle.br_model.specs.Session.{checked_file, ToSave, checked_order, Place, length_of, Written, IsWritten, rows_of}
 
--- the bytes of a volume, none where it is not there
+-- the bytes of a volume; none if it does not exist
 abbrev pub bytes_of_volume : List Volume → List ℕ → List ℕ
 bytes_of_volume volumes name = unwrap_or (volume_bytes volumes name) []
 
@@ -21,7 +21,7 @@ bytes_for blocks name = flat_map (λ (b : List ℕ × List ℕ). b.1) (filter (�
 abbrev pub AreAppended : List (List ℕ × List ℕ) → List Volume → List Volume → Type 0
 AreAppended blocks earlier later = (name : List ℕ) → bytes_of_volume later name ≡ bytes_of_volume earlier name ++ bytes_for blocks name
 
--- the volume consists of whole blocks, and is as long as is said
+-- the volume consists of whole blocks, and has the stated length
 pub record IsReady (volumes : List Volume) (starts : List (List ℕ × ℕ)) (name : List ℕ) : Type 0 where
   pub blocks : List LaidBlock
   pub laid : AreLaid (bytes_of_volume volumes name) None (λ _. true) blocks
@@ -33,8 +33,9 @@ pub record IsToSave (f : ToSave) : Type 0 where
   pub path_is : is_path f.file.path ≡ true
   pub numbers : AllByRecursion (λ z. is_64_bits z ≡ true) (stat_numbers f.file.stat)
 
--- Once the blocks of a session, written under one place at least where it has files, are appended to volumes that consist of
--- whole blocks and are as long as was said, the job stands on them, and on all volumes that extend them.
+-- If the blocks of a session are appended to volumes that consist of whole blocks and have the
+-- stated lengths, the volumes hold the job, and so do all that extend them. A session with files
+-- has at least one place.
 abbrev pub WrittenSessionsHold : Type 0
 WrittenSessionsHold =
     (files : List ToSave) (row : JobRow) (limit : ℕ) (places : List Place) (starts : List (List ℕ × ℕ)) (written : Written) (deleted : List (List ℕ)) (earlier later after : List Volume)

@@ -44,11 +44,11 @@ entry_from j f = record {
   link_index = (row_stat f).link_index;
 }
 
--- no entry where the newest row notes a deletion
+-- no entry if the newest row notes a deletion
 abbrev pub unless_deleted : JobRows → FileRow → Option Entry
 unless_deleted j f = if f.index == 0 then None else Some (entry_from j f)
 
--- the newest copy of a path, if there is one: the last job with a row for it says
+-- the newest copy of a path, if there is one: that of the last job with a row for it
 unfoldable pub entry_of : List JobRows → List ℕ → Option Entry
 entry_of jobs path = option_and_then (λ j. option_and_then (unless_deleted j) (newest_row j path)) (newest_job jobs path)
 
@@ -72,10 +72,10 @@ view_paths view = map (λ (e : Entry). e.path) view
 abbrev pub IsView : List Entry → Type 0
 IsView view = in_order (λ (e : Entry). e.path) view ≡ view
 
--- the view of jobs is one
+-- the view of jobs is in byte order of its paths, each path once
 abbrev pub ViewIsInOrder : Type 0
 ViewIsInOrder = (jobs : List JobRows) → IsView (view_of jobs)
 
--- the view has at each path the newest copy
+-- the view has the newest copy at each path
 abbrev pub ViewIsLookups : Type 0
 ViewIsLookups = (jobs : List JobRows) (path : List ℕ) → entry_at (view_of jobs) path ≡ entry_of jobs path

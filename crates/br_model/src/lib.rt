@@ -64,7 +64,7 @@ pub fn reached_are_hits()
     ensures { ReachedAreHits }
 {}
 
-/// States that a walk reaches a hit still after volumes have grown.
+/// States that a walk still reaches a hit after volumes have grown.
 pub fn reached_stays()
     ensures { ReachedStays }
 {}

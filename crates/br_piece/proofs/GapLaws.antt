@@ -41,7 +41,7 @@ abbrev pub BeginAbove : ℕ → List Range → Type 0
 BeginAbove n [] = Unit {0}
 BeginAbove n (r ∷ rs) = n < r.low
 
--- a row in front of numbers that begin above the next one is a range of its own
+-- a row before numbers that begin above the next one is a range of its own
 row_alone : (a n : ℕ) (rest : List ℕ) → BeginAbove (a + n + 1) (ranges_of rest) → ranges_of (range_with_len a (suc n) ++ rest) ≡ record { low = a; high = a + n } ∷ ranges_of rest
 unfolding ranges_of
 row_alone a zero rest above =

@@ -1,4 +1,4 @@
--- How many files a group of a bootstrap gets.
+-- The number of files that a group gets.
 use Rattle.std.specs.Prelude.{ℕ, ◌+◌, max, Bool, ◌&&◌, List, [], ◌∷◌, count_by}
 use Rattle.std.specs.List.{list_any}
 use Rattle.std.specs.Int.{is_in_range}
@@ -7,7 +7,7 @@ use Rattle.br_model.specs.Bootstrap.{Range, Group, admits}
 use Rattle.br_piece.specs.Missing.{admits_session}
 use Rattle.br_piece.specs.NearRanges.{is_asked}
 
--- the group asks for the file: it admits the session, and the index, of which it admits each if it has no ranges
+-- the group asks for the file: it admits the session, and the index is in its ranges, if it has any
 abbrev pub is_got : Group → FileKey → Bool
 is_got g k = admits_session g k.session && admits g.indexes k.index
 
@@ -15,7 +15,7 @@ is_got g k = admits_session g k.session && admits g.indexes k.index
 unfoldable pub got : Group → List FileKey → ℕ
 got g keys = count_by (is_got g) keys
 
--- ---- the same by one range after another
+-- ---- the same, one range after another
 
 -- the part of a range from a number on; it may have no numbers
 abbrev pub rest_from : ℕ → Range → Range

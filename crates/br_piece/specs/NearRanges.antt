@@ -1,4 +1,4 @@
--- The files among which those of a range are.
+-- A part of some files that contains those of a range.
 use Rattle.std.specs.Prelude.{◌≡◌, ℕ, ◌<◌, ◌≤◌, ◌⊎◌, ⊤, Bool, ◌&&◌, ◌||◌, nat_lt, nat_le, ◌==◌, List, [], ◌∷◌, map, filter, Option, Some, None, if◌then◌else◌}
 use Rattle.std.specs.Int.{is_in_range}
 use Rattle.std.specs.List.{AllByRecursion}
@@ -25,7 +25,7 @@ abbrev pub AreSorted : List FileKey → Type 0
 AreSorted [] = ⊤
 AreSorted (k ∷ ks) = AllByRecursion (IsUpTo k) ks × AreSorted ks
 
--- the session has a lesser number, or this number and a lesser time
+-- the session has a smaller number, or this number and a smaller time
 abbrev pub is_session_before : SessionKey → ℕ → ℕ → Bool
 is_session_before s id time = nat_lt s.id id || s.id == id && nat_lt s.time time
 
@@ -41,16 +41,16 @@ is_before id time low k = is_session_before k.session id time || is_session k.se
 abbrev pub is_up_to : ℕ → ℕ → ℕ → FileKey → Bool
 is_up_to id time high k = is_session_before k.session id time || is_session k.session id time && nat_le k.index high
 
--- the number that ranges name, if they are one range of one number
+-- the number in the ranges, if they are one range of one number
 abbrev pub one_of : List Range → Option ℕ
 one_of [] = None
 one_of (r ∷ []) = if r.low == r.high then Some r.low else None
 one_of (r ∷ s ∷ more) = None
 
--- the group names one session: this one
+-- the group names exactly this session
 abbrev pub NamesSession : Group → ℕ → ℕ → Type 0
 NamesSession g id time = (one_of g.session_ids ≡ Some id) × (one_of g.session_times ≡ Some time)
 
--- the part of the files has all that a group which names the session asks for by the range
+-- the part of the files has all files that a group which names the session asks for by the range
 abbrev pub HasAllOf : List FileKey → List FileKey → ℕ → ℕ → Range → Type 0
 HasAllOf part keys id time r = (g : Group) → NamesSession g id time → filter (is_asked g r) part ≡ filter (is_asked g r) keys

@@ -36,6 +36,6 @@ put_at (Some k) pieces g = with_more_at k pieces g
 abbrev pub place_in : BTreeMap (Vec ℕ Global) ℕ → List ℕ → Option ℕ
 place_in places name = get_by (λ (k : Vec ℕ Global). slice_cmp nat_cmp name k.items) places
 
--- the place of a name after a place of a volume is noted, which counts only if there was none
+-- the place of a name after a place of a volume was noted, which counts only if it had none
 abbrev pub noted_place : List ℕ → ℕ → List ℕ → Option ℕ → Option ℕ
 noted_place volume next name before = option_or before (if bytes_eq volume name then Some next else None)

@@ -1,4 +1,4 @@
-//! How many files a group gets.
+//! Counts the files that a group gets.
 ghost use Rattle.std.specs.Prelude.{◌≡◌, ◌+◌, IfOk, IsPermutation, count_by};
 ghost use Rattle.std.specs.List.Sorted.{IsNonDecreasingBy};
 ghost use Rattle.br_piece.specs.FileCounts.{got, got_in, is_got_by};
@@ -28,7 +28,7 @@ fn count_all(keys: &[FileKey], group: &Group) -> usize
         .count()
 }
 
-/// Returns the number of these files that the group asks for by the range.
+/// Returns the number of these files for which the group asks by the range.
 fn count_asked(keys: &[FileKey], group: &Group, range: Range) -> usize
     ensures { result ≡ count_by (is_asked group.now range) keys.now }
 {
@@ -73,7 +73,7 @@ fn by_low(alloc: Global, ranges: &[Range]) -> Result<Vec<Range>, AllocError>
     Ok(sorted)
 }
 
-/// Returns the number after a number.
+/// Returns the successor of a number.
 fn after(number: u64) -> u128
     ensures { result ≡ number + 1 }
 {

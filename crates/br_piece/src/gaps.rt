@@ -4,7 +4,7 @@ ghost use Rattle.br_piece.specs.Gaps.{gaps, to_end, up_to};
 use br_bsr::Range;
 use std::alloc::{AllocError, Global};
 
-/// Appends the range from one number up to another, without it.
+/// Appends the range from one number to another, the second number excluded.
 fn push_up_to(runs: &mut Vec<Range>, low: u64, end: u64) -> Result<(), AllocError>
     ensures { OnOk result (runs.new.items ≡ runs.old.items ++ up_to low end) }
 {
@@ -14,7 +14,7 @@ fn push_up_to(runs: &mut Vec<Range>, low: u64, end: u64) -> Result<(), AllocErro
     Ok(())
 }
 
-/// Appends the range from one number to another, with it.
+/// Appends the range from one number to another, the second number included.
 fn push_to_end(runs: &mut Vec<Range>, low: u64, high: u64) -> Result<(), AllocError>
     ensures { OnOk result (runs.new.items ≡ runs.old.items ++ to_end low high) }
 {

@@ -11,10 +11,10 @@ use br_bsr::{Group, Range};
 use br_types::FileKey;
 use std::alloc::{AllocError, Global};
 
-/// A run of indexes that a group of a bootstrap asks for, and of which there is no file.
+/// A run of indexes that a group of a bootstrap asks for and that no file has.
 #[derive(Clone, Copy, Debug, PartialEq, Eq)]
 pub struct Gap {
-    /// The place of the group in its bootstrap, from 0 on.
+    /// The place of the group in its bootstrap, counted from 0.
     pub group: usize,
     pub indexes: Range,
 }
@@ -25,7 +25,7 @@ fn contains_any(ranges: &[Range], number: u64) -> bool
     ranges.iter().any(|range| range.contains(number))
 }
 
-/// Returns if the ranges admit the number: one of them contains it, or there is none.
+/// Returns if the ranges admit the number: one of them contains it, or there are none.
 pub(crate) fn admits(ranges: &[Range], number: u64) -> bool
     ensures { result ≡ admits_number ranges.now number }
 {
@@ -56,7 +56,7 @@ fn asked_in(
         .collect(alloc)
 }
 
-/// Returns the runs of the range's indexes of which there is no file.
+/// Returns the runs of the range's indexes that no file has.
 fn missing_in(
     alloc: Global,
     keys: &[FileKey],
@@ -119,8 +119,8 @@ pub(crate) fn missing_of(
     Ok(found)
 }
 
-/// Returns the indexes that the groups of a bootstrap ask for by their ranges of FileIndex, and of which
-/// none of these files is, of a session that the group admits. They are runs that are as long as can be,
+/// Returns the indexes that the groups of a bootstrap ask for by their ranges of FileIndex, and
+/// that no file has, of a session that the group admits. They are runs, each as long as possible,
 /// one group and one of its ranges after the other. A group without FileIndex asks for none.
 ///
 /// The files may come in any order.

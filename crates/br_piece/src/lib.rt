@@ -1,10 +1,10 @@
-//! A bootstrap taken apart, and what the volumes lack of it.
+//! A bootstrap split into pieces, and the files that are missing for it.
 //!
 //! `split` makes pieces of it, one for each volume that it names. A piece has the groups on its
 //! volume with their numbers in the bootstrap, so that each volume can be read alone.
 //!
 //! `missing` finds the files that a bootstrap asks for by their indexes and that are not there,
-//! `got_of` how many of those that it counts are there, and `report` writes both as lines.
+//! `got_of` the number of files that each group gets, and `report` writes both as lines.
 #![tactic(auto)]
 
 mod file_counts;

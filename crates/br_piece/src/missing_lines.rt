@@ -1,4 +1,4 @@
-//! The lines that report what is missing.
+//! The lines that report missing files.
 ghost use Rattle.std.specs.Prelude.{◌≡◌, ◌++◌, flat_map, IfOk, OnOk};
 ghost use Rattle.br_model.specs.Bootstrap.{range_text};
 ghost use Rattle.br_piece.specs.MissingLines as model;
@@ -38,7 +38,7 @@ fn push_next(text: &mut Vec<u8>, ranges: &[Range]) -> Result<(), AllocError>
     Ok(())
 }
 
-/// Appends ranges with commas between them, or `*` if there is none.
+/// Appends ranges with commas between them, or `*` if there are none.
 fn push_ranges(text: &mut Vec<u8>, ranges: &[Range]) -> Result<(), AllocError>
     ensures { OnOk result (text.new.items ≡ text.old.items ++ ranges_text ranges.now) }
 {
@@ -195,8 +195,8 @@ fn push_counts(
 /// Several ranges have commas between them, and `*` means that the group does not say.
 ///
 /// A run up to the greatest index, 2,147,483,647, has no line: a range that ends there asks for all files
-/// from its first on, however many there are. The files that a group gets are those of sessions that it admits,
-/// and of indexes in its ranges of FileIndex, if it has any.
+/// from its first on, whatever their number. The files that a group gets are those of sessions that
+/// it admits, and of indexes in its ranges of FileIndex, if it has any.
 ///
 /// The counts are those of the groups, in the same order. The files may come in any order.
 #[tactic(auto, unfolding(crate::specs::MissingLines::report))]

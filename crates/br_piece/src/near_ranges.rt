@@ -5,7 +5,7 @@ ghost use Rattle.br_piece.specs.NearRanges.{HasAllOf, is_up_to, one_of};
 use br_bsr::{Group, Range};
 use br_types::{FileKey, SessionKey};
 
-/// Returns the number that the ranges name, if they are one range of one number.
+/// Returns the number in the ranges, if they are one range of one number.
 fn one_number(ranges: &[Range]) -> Option<u64>
     ensures { result ≡ one_of ranges.now }
 {
@@ -21,7 +21,7 @@ fn one_number(ranges: &[Range]) -> Option<u64>
     }
 }
 
-/// Returns if the session has a lesser number, or this number and a lesser time.
+/// Returns if the session has a smaller number, or this number and a smaller time.
 fn is_earlier(session: SessionKey, id: u64, time: u64) -> bool
     ensures { result ≡ is_session_before session id time }
 {

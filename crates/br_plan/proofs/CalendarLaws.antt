@@ -196,7 +196,7 @@ seconds_given m dt z (year, month, day, hour, minute, second) e given is bound =
     let small : unsigned_abs z < 2 ^ 63 = omega (arith, signed_arith) in
     (back_small w64 z small ∙ same, omega (arith, ap unsigned_abs same, small))
 
--- a test that would be false where it is true is false
+-- a test is false if its truth makes it false
 pub lacks : (b : Bool) → (b ≡ true → false ≡ true) → b ≡ false
 lacks true h = sym (h refl)
 lacks false h = refl

@@ -42,7 +42,7 @@ four (a ∷ b ∷ c ∷ d ∷ f ∷ more) long e = absurd (omega (arith, long))
 two_in : (start : ℕ) (text : List ℕ) → digits_in start 2 text ≡ true → number_in start 2 text ≤ 99
 two_in start text e = two (part_at start 2 text) (omega (arith, length-take 2 (drop start text))) e
 
--- the numbers in a text of the form are of as many digits as stand there
+-- the numbers in a text of the form are of as many digits as there are places
 pub text_written : (text : List ℕ) → is_moment_text text ≡ true → IsWritten (moment_in text)
 unfolding is_moment_text
 text_written text e =

@@ -21,7 +21,7 @@ use mathlib.Core.List.{map-map}
 abbrev pub planned_of : FileKey × List ℕ → Planned
 planned_of e = record { key = e.0; path = e.1 }
 
--- a name as a planned file beside its rank
+-- a name as a planned file with its rank
 abbrev pub ranked_name : FileKey × List ℕ → List ℕ × Planned
 ranked_name e = (key_rank e.0, planned_of e)
 

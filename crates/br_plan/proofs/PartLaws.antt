@@ -1,4 +1,4 @@
--- Parts of files that stand in order.
+-- Parts of files that are in order.
 use Rattle.std.proofs.Common.{◌≡◌, ℕ, zero, suc, ◌<◌, ◌≤◌, Bool, true, false, not, ◌&&◌, ◌||◌, eqb, ltb, leb, List, [], ◌∷◌, length, get_or, take, drop, filter, refl, ap, ◌∙◌, ◌⊎◌, inl, inr, arith}
 use Rattle.std.proofs.lemmas.Bool.{eqb-true, eqb-false, ltb-true, ltb-false}
 use Rattle.std.proofs.lemmas.Bool.Decides.{nat_tests}
@@ -52,7 +52,7 @@ parted p down (f ∷ fs) rise zero (suc j) d le lt e =
 parted p down (f ∷ fs) rise (suc i) zero d le lt e = absurd (omega (arith, le))
 parted p down (f ∷ fs) rise (suc i) (suc j) d le lt e = parted p down fs rise.1 i j d (omega (arith, le)) (omega (arith, lt)) e
 
--- what stands before and behind the place where a test changes
+-- what comes before and after the place where a test changes
 pub parts_at : {X : Type 0} (p : X → Bool) (xs : List X) (i : ℕ) → ((k : ℕ) (d : X) → k < i → p (get_or xs k d) ≡ true)
     → ((k : ℕ) (d : X) → i ≤ k → k < length xs → p (get_or xs k d) ≡ false) → i ≤ length xs
     → (take i xs ≡ filter p xs) × (drop i xs ≡ filter (λ x. not (p x)) xs)
@@ -87,7 +87,7 @@ up_to_down job last a b less e = up_to_numbers a.0 a.1 b.0 b.1 job last (file_le
 within_numbers : (f0 f1 job first last : ℕ) → (not (ltb f0 job || eqb f0 job && ltb f1 first) && (ltb f0 job || eqb f0 job && leb f1 last)) ≡ (eqb f0 job && (leb first f1 && leb f1 last))
 within_numbers f0 f1 job first last = grind (arith, nat_tests)
 
--- what is not before the first file of a span and not behind its last one is within it
+-- what is not before the first file of a span and not after its last one is within it
 pub within_is : (job : ℕ) (s : Span) (files : List FileOf) → filter (is_up_to job s.last) (filter (λ f. not (is_before job s.first f)) files) ≡ filter (is_within job s) files
 within_is job s files =
     filter_twice (λ f. not (is_before job s.first f)) (is_up_to job s.last) files

@@ -15,7 +15,7 @@ eqb_turned a b = go (eqb a b) refl
     go true e = e ∙ sym (eq-eqb b a (sym (eqb-true a b e)))
     go false e = e ∙ sym (false_from_ne_true (eqb b a) (λ f. both_ways (eqb a b) e (eq-eqb a b (sym (eqb-true b a f)))))
 
--- a number goes to the front of ranges whatever comes behind them
+-- a number goes to the front of ranges whatever follows them
 front_and_back : (i x : ℕ) (rs : List Range) → onto_ranges i (with_number rs x) ≡ with_number (onto_ranges i rs) x
 front_and_back i x [] = ap (λ b. cond b (record { low = i; high = x } ∷ []) (record { low = i; high = i } ∷ record { low = x; high = x } ∷ [])) (eqb_turned x (i + 1))
 front_and_back i x (r ∷ []) = go (eqb r.low (i + 1)) (eqb (r.high + 1) x) refl refl
@@ -34,13 +34,13 @@ front_and_back i x (r ∷ s ∷ rs) = go (eqb r.low (i + 1))
     go true = refl
     go false = refl
 
--- the ranges of numbers with one more behind them
+-- the ranges of numbers with one more after them
 pub ranges_more : (xs : List ℕ) (x : ℕ) → ranges_of (xs ++ x ∷ []) ≡ with_number (ranges_of xs) x
 unfolding ranges_of
 ranges_more [] x = refl
 ranges_more (i ∷ is) x = ap (onto_ranges i) (ranges_more is x) ∙ front_and_back i x (ranges_of is)
 
--- a number behind ranges of which the last is known
+-- a number after ranges of which the last is known
 pub with_number_last : (rs : List Range) (r : Range) (k i : ℕ) → length rs ≡ k + 1 → r ≡ get_or rs k r
     → with_number rs i ≡ cond (eqb (r.high + 1) i) (set rs k (record { low = r.low; high = i })) (rs ++ record { low = i; high = i } ∷ [])
 with_number_last [] r k i long is = absurd (omega (arith, long))
@@ -71,7 +71,7 @@ apart_from_last rs r n i long some is apart =
     ap (λ (qs : List Range). qs ++ record { low = i; high = i } ∷ []) (ap (set rs (n - 1)) is ∙ set-get_or rs (n - 1) r)
     ∙ sym (with_number_last rs r (n - 1) i whole is ∙ ap (λ b. cond b (set rs (n - 1) (record { low = r.low; high = i })) (rs ++ record { low = i; high = i } ∷ [])) (ne_eqb (r.high + 1) i apart))
 
--- one behind no ranges
+-- one after no ranges
 pub behind_none : (rs : List Range) (i : ℕ) → length rs ≤ 0 → rs ++ record { low = i; high = i } ∷ [] ≡ with_number rs i
 behind_none [] i none = refl
 behind_none (r ∷ rs) i none = absurd (omega (arith, none))

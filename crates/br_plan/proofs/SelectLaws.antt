@@ -46,7 +46,7 @@ found_passes {X} p (y ∷ ys) x e = go (p y) refl e (found_passes p ys x)
     go true is h rest = let same : y ≡ x = cc in (first_in y ys x same, ap p (sym same) ∙ is)
     go false is h rest = let r = rest h in (later_in y ys x r.0, r.1)
 
--- where an element passes a test, one is found
+-- if an element passes a test, one is found
 pub finds_one : {X : Type 0} (p : X → Bool) (xs : List X) (x : X) → Contains xs x → p x ≡ true → (y : X) × (find p xs ≡ Some y)
 finds_one p [] x inside e = absurd (none_in x inside)
 finds_one {X} p (y ∷ ys) x inside e = go (p y) refl (λ later. finds_one p ys x later e)
@@ -105,7 +105,7 @@ kept_more linked items new rest left p more flag wanted others total h is_rest i
 
 -- ---- flags of marks
 
--- a flagged entry is a hard link to the file where a marked one is
+-- a flagged entry is a hard link to the file if a marked one is
 linked_by_marks : (marks : List (List ℕ)) (pairs : List Pair) (q : FileOf)
     → is_linked_by pairs (flags_in marks (map shown_pair pairs)) q ≡ list_any (λ (d : Entry). is_among marks d.path && links_to q d) (map shown_pair pairs)
 linked_by_marks marks [] q = refl

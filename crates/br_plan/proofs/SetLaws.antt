@@ -88,7 +88,7 @@ by_cases t false true false e = rw e refl
 by_cases t false false true e = rw e refl
 by_cases t false false false e = rw e refl
 
--- a link above 0 that was put into a set of files
+-- a link above 0 that was inserted into a set of files
 pub link_put : (old new : BTreeSet FileOf) (job : ℕ) (link : ℤ) (n : ℕ) → int_lt (pos 0) link ≡ true → n ≡ nat_abs link
     → ((q : FileOf) → has_file new q ≡ cond (is_eq (file_cmp (job, n) q)) true (has_file old q)) → AddsLink old job link new
 link_put old new job (pos m) n some is puts q =

@@ -17,7 +17,7 @@ one_index i low high = grind (arith, nat_tests)
 wider : (low high i : ℕ) → (leb 1 low && leb low high && leb high (2 ^ 31 - 1)) ≡ true → high + 1 ≡ i → i < 2 ^ 31 → (leb 1 low && leb low i && leb i (2 ^ 31 - 1)) ≡ true
 wider low high i e next small = grind (arith, nat_tests)
 
--- ranges that an index may be given, with an index behind them
+-- ranges that an index may be given, with an index after them
 pub with_number_valid : (rs : List Range) (i : ℕ) → 1 ≤ i → i < 2 ^ 31 → list_all (is_range FileIndex) rs ≡ true → list_all (is_range FileIndex) (with_number rs i) ≡ true
 with_number_valid [] i low high e = and_from (is_range FileIndex (record { low = i; high = i })) true (one_index i low high) refl
 with_number_valid (r ∷ []) i low high e = go (eqb (r.high + 1) i) refl
@@ -44,7 +44,7 @@ pub group_valid : (empty : Group) (name : List ℕ) (ids times addresses indexes
 unfolding is_group
 group_valid empty name ids times addresses indexes on valid are_ids are_times are_addresses are_indexes = rw (on, valid, are_ids, are_times, are_addresses, are_indexes) refl
 
--- a span of a job that can stand has its ends in order
+-- a span of a job with consistent rows has its ends in order
 pub span_of_job : (j : JobRows) (spans : List Span) (i : ℕ) (s : Span) → spans ≡ j.spans → are_rows j ≡ true → i < length spans → s ≡ get_or spans i s → is_span s ≡ true
 span_of_job j spans i s same valid lt is =
     of_each (λ (t : Span). is_span t ≡ true) spans s (all_pass is_span spans (ap (list_all is_span) same ∙ (rows_say j valid).spans_fit)) (i, lt, sym is)

@@ -23,17 +23,17 @@ plan_with selected jobs = record { groups = plan_groups selected jobs; names = p
 abbrev pub plan_unless_empty : List Entry → List JobRows → Result Plan ℕ
 plan_unless_empty selected jobs = if is_empty selected then Err 51 else Ok (plan_with selected jobs)
 
--- the plan of what flags select of entries of the view of jobs
+-- the plan of the entries, of the view of jobs, that flags select
 abbrev pub plan_by : List Pair → List Bool → List JobRows → Result Plan ℕ
 plan_by pairs flags jobs = plan_unless_empty (map shown_pair (selected_by pairs flags)) jobs
 
--- where the request chooses jobs of the history, the entries are their view
+-- if the request chooses jobs of the history, the entries are their view
 abbrev pub IsViewOfChosen : List JobRows → Request → List Entry → Type 0
 IsViewOfChosen history q view = (jobs : List JobRows) → choose history q ≡ Ok jobs → view ≡ view_of jobs
 
--- Of all jobs with what they saved whose rows are this history's: where those that are chosen stand on volumes, the plan has a
--- meaning over all volumes that extend these, and its files are, in order of key, the selected entries' copies: one for each
--- entry, and no others.
+-- For all jobs with what they saved whose rows are this history's: if volumes hold the chosen ones,
+-- the plan has a meaning over all volumes that extend these. Its files are, in order of key, the
+-- copies of the selected entries: one for each entry, and no others.
 abbrev pub MeansSelection : List JobRows → Request → List (List ℕ) → Plan → Type 0
 MeansSelection history q marks plan =
     (jobs : List Job) (chosen : List JobRows) (volumes later : List Volume)

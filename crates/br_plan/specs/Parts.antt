@@ -1,4 +1,4 @@
--- The groups of jobs from the files of the selected entries, which stand in order.
+-- The groups of jobs from the files of the selected entries, which are in order.
 use Rattle.std.specs.Prelude.{ℕ, ◌+◌, Bool, ◌&&◌, ◌||◌, ◌==◌, nat_lt, nat_le, if◌then◌else◌, List, [], ◌∷◌, map, filter, flat_map, Contains}
 use Rattle.std.specs.Int.{is_in_range}
 use Rattle.std.specs.List.Sorted.{IsStrictlySortedBy}
@@ -9,7 +9,7 @@ use Rattle.br_model.specs.Plan.{span_group}
 use Rattle.br_model.specs.View.{Entry}
 use Rattle.br_plan.specs.Selected.{FileOf, file_cmp, file_of}
 
--- each file is before those behind it
+-- each file is before those after it
 abbrev pub Rise : List FileOf → Type 0
 Rise files = IsStrictlySortedBy file_cmp files
 
@@ -23,7 +23,7 @@ pub record AreFiles (entries : List Entry) (files : List FileOf) : Type 0 where
 abbrev pub is_before : ℕ → ℕ → FileOf → Bool
 is_before job first file = nat_lt file.0 job || file.0 == job && nat_lt file.1 first
 
--- whether the file is not behind the job's file with this index
+-- whether the file is not after the job's file with this index
 abbrev pub is_up_to : ℕ → ℕ → FileOf → Bool
 is_up_to job last file = nat_lt file.0 job || file.0 == job && nat_le file.1 last
 
@@ -43,15 +43,15 @@ part_of files j s = indexes_of (filter (is_within j.row.id s) files)
 abbrev pub groups_of_span : List FileOf → JobRows → Span → List Group
 groups_of_span files j s = if is_empty (part_of files j s) then [] else span_group j.row.session s (part_of files j s) ∷ []
 
--- and of a job
+-- a group for each span of a job with a part of a file
 abbrev pub groups_of_job : List FileOf → JobRows → List Group
 groups_of_job files j = flat_map (groups_of_span files j) j.spans
 
--- and of jobs
+-- the groups of jobs
 abbrev pub groups_of_jobs : List FileOf → List JobRows → List Group
 groups_of_jobs files jobs = flat_map (groups_of_job files) jobs
 
--- ranges with a number behind them, as a part of the last where it is next to it
+-- ranges with a number added at the end, to the last range if it is adjacent
 abbrev pub with_number : List Range → ℕ → List Range
 with_number [] i = record { low = i; high = i } ∷ []
 with_number (r ∷ []) i = if r.high + 1 == i then record { low = r.low; high = i } ∷ [] else r ∷ record { low = i; high = i } ∷ []

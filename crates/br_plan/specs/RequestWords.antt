@@ -1,4 +1,4 @@
--- The request that three texts ask for.
+-- The request that three texts state.
 use Rattle.std.specs.Prelude.{ℕ, List, Option, Some, None, Result, Ok, Err}
 use Rattle.br_model.specs.Answer.{◌>>=◌}
 use Rattle.br_model.specs.Choice.{Request}
@@ -13,13 +13,13 @@ fault_number Memory = 1
 fault_number BadName = 2
 fault_number BadMoment = 52
 
--- the refusal that the model has, none if memory ran out
+-- the refusal that the model decides; none if memory ran out
 abbrev pub cause : RequestFault → Option ℕ
 cause Memory = None
 cause BadName = Some 2
 cause BadMoment = Some 52
 
--- the request for a client's file set before a moment: the first of the three that is refused is the refusal
+-- the request for a client's file set before a moment, or the first refusal of the three texts
 unfoldable pub checked_request : List ℕ → List ℕ → List ℕ → Result Request ℕ
 checked_request client fileset before =
     checked_name client

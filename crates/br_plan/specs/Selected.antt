@@ -1,4 +1,4 @@
--- Entries that are selected, by one test of each, and the keys of their files in the jobs.
+-- Selected entries, by one test of each, and the keys of their files in the jobs.
 use Rattle.std.specs.Prelude.{◌≡◌, ℕ, Bool, false, ◌&&◌, ◌||◌, ◌==◌, nat_lt, if◌then◌else◌, List, [], ◌∷◌, ◌++◌, map, filter, ℤ, pos, negsuc}
 use Rattle.std.specs.Borrow.{Bor}
 use Rattle.std.specs.List.{list_any}
@@ -20,7 +20,7 @@ has_path set path = contains_by (λ k. slice_cmp nat_cmp path k.now) set
 abbrev pub ArePaths : BTreeSet (Bor (List ℕ)) → List (List ℕ) → Type 0
 ArePaths set paths = (q : List ℕ) → has_path set q ≡ is_among paths q
 
--- which file of which job, by their numbers
+-- a file of a job, by the numbers of both
 abbrev pub FileOf : Type 0
 FileOf = ℕ × ℕ
 
@@ -45,7 +45,7 @@ links_to file e = links_by e.job e.link_index file
 abbrev pub has_file : BTreeSet FileOf → FileOf → Bool
 has_file set file = contains file_cmp set file
 
--- the second set has a file more, if this is the index of a link
+-- the second set has one more file, if this is the index of a link
 abbrev pub AddsLink : BTreeSet FileOf → ℕ → ℤ → BTreeSet FileOf → Type 0
 AddsLink old job link new = (q : FileOf) → has_file new q ≡ (has_file old q || links_by job link q)
 
@@ -53,13 +53,13 @@ AddsLink old job link new = (q : FileOf) → has_file new q ≡ (has_file old q 
 abbrev pub AddsIf : BTreeSet FileOf → Bool → shown.Entry → BTreeSet FileOf → Type 0
 AddsIf old flag e new = (q : FileOf) → has_file new q ≡ (has_file old q || flag && links_by e.job e.link_index q)
 
--- ---- flags beside entries
+-- ---- flags of entries
 
--- a path beside its entry
+-- a path with its entry
 abbrev pub Pair : Type 0
 Pair = Bor (List ℕ) × shown.Entry
 
--- for each entry whether its path is marked
+-- whether the path of each entry is marked
 abbrev pub flags_in : List (List ℕ) → List Entry → List Bool
 flags_in marks entries = map (λ (e : Entry). is_among marks e.path) entries
 
@@ -89,7 +89,7 @@ selected_by pairs flags = kept_of (is_linked_by pairs flags) pairs flags
 abbrev pub is_selected : List (List ℕ) → List Entry → Entry → Bool
 is_selected marks entries e = is_among marks e.path || list_any (λ (d : Entry). is_among marks d.path && links_to (file_of e) d) entries
 
--- the entries that are selected
+-- the selected entries
 abbrev pub selected_of : List (List ℕ) → List Entry → List Entry
 selected_of marks entries = filter (is_selected marks entries) entries
 
@@ -97,6 +97,6 @@ selected_of marks entries = filter (is_selected marks entries) entries
 abbrev pub key_of : shown.Entry → FileKey
 key_of e = record { session = e.session; index = e.index }
 
--- key and path of the file of an entry, which is beside its path
+-- key and path of the file of an entry that comes with its path
 abbrev pub named_pair : Pair → FileKey × List ℕ
 named_pair p = (key_of p.1, p.0.now)

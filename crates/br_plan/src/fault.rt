@@ -23,8 +23,8 @@ pub enum PlanFault {
 }
 
 impl PlanFault {
-    /// Returns the number of the refusal: 1 out of memory, 50 no Full, 51 nothing marked, 53 an unknown client, 54 an unknown file
-    /// set of the client.
+    /// Returns the number of the refusal: 1 out of memory, 50 no Full, 51 nothing marked, 53 an
+    /// unknown client, 54 an unknown file set of the client.
     pub fn number(self) -> u32
         ensures { result ≡ fault_number self }
     {

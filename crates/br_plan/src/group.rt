@@ -46,7 +46,7 @@ fn group_of(alloc: Global, job: &JobRows, span: &Span, part: &[FileOf]) -> Resul
     ensures same { IfOk result (λ group. group ≡ model.span_group job.now.row.session span.now (indexes_of part.now)) }
     ensures valid { IfOk result (λ group. is_group group ≡ true) }
 {
-    // The name is valid by its type.
+    // The name is valid because of its type.
     let _ = span.vol.bytes();
     let session = job.row().session;
     let mut group = Group::on(alloc, span.vol.copy(alloc)?);

@@ -1,5 +1,5 @@
-//! From marked paths to a bootstrap: which records of which volumes give the files that were
-//! marked, and under which names.
+//! From marked paths to a bootstrap: the records, of which volumes, that restore the marked files,
+//! and the names of these files.
 //!
 //! A `Request` names a client, a file set and a moment. `read_request` reads it from the words of
 //! the command line. Contracts see a `Request` and a `Plan` as the records of the model.

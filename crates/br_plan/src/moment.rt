@@ -9,7 +9,7 @@ use jiff::civil::DateTime;
 use std::marker::Model;
 use thiserror::Error;
 
-/// A text that is no moment.
+/// A text that is not a moment.
 #[derive(Clone, Copy, Debug, PartialEq, Eq, Error)]
 #[error("not a moment from 1970 on of the form YYYY-MM-DD HH:MM:SS")]
 pub struct BadMoment;
@@ -102,7 +102,8 @@ fn numbers_in(text: &[u8]) -> Moment
     }
 }
 
-/// Returns the seconds from the beginning of 1970 to a moment, if it is in the calendar from then on.
+/// Returns the seconds from the beginning of 1970 to a moment, if it is in the calendar and not
+/// before 1970.
 #[tactic(auto, unfolding(br_model::specs::Moment::is_moment))]
 fn seconds_of(moment: &Moment) -> Option<u64>
     requires { IsWritten moment.now }
@@ -126,7 +127,8 @@ fn seconds_of(moment: &Moment) -> Option<u64>
     }
 }
 
-/// Reads a moment in UTC as `YYYY-MM-DD HH:MM:SS`, with digits in the places of the letters, as seconds since 1970.
+/// Reads a moment in UTC as `YYYY-MM-DD HH:MM:SS`, with digits in the places of the letters, as
+/// seconds since 1970.
 ///
 /// # Errors
 ///

@@ -11,7 +11,7 @@ use std::alloc::{AllocError, Global};
 /// A file of a job.
 pub(crate) type FileOf = (JobId, FileIndex);
 
-/// Returns the files of the entries in the order of these.
+/// Returns the files of the entries, in the order of the entries.
 fn each_file(alloc: Global, entries: &[Shown<'_>]) -> Result<Vec<FileOf>, AllocError>
     ensures { IfOk result (λ files. files.items ≡ map (λ p. file_of (shown_pair p)) entries.now) }
 {

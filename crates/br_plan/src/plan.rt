@@ -22,11 +22,11 @@ use br_view::View;
 use std::alloc::{AllocError, Global};
 use std::marker::Model;
 
-/// The most groups of a bootstrap: 2^32 - 1.
+/// The greatest number of groups of a bootstrap: 2^32 - 1.
 const MAX_GROUPS: usize = 4_294_967_295;
 
-/// How selected files are restored: what of which volumes is read, and under which path each file is expected. It owns all that
-/// it names.
+/// How selected files are restored: the parts of volumes that are read, and the path under which
+/// each file is expected. It owns all that it names.
 #[derive(Drop)]
 pub struct Plan {
     bootstrap: Bootstrap,
@@ -58,8 +58,8 @@ fn plan_for(alloc: Global, entries: &[Shown<'_>], jobs: &[&JobRows]) -> Result<P
     })
 }
 
-/// Makes the plan for the flagged entries of the view of some jobs, and for the entries of the files to which these are hard
-/// links.
+/// Makes the plan for the flagged entries of the view of some jobs, and for the entries of the
+/// files to which these are hard links.
 fn plan_from(
     alloc: Global,
     entries: &[Shown<'_>],
@@ -77,11 +77,13 @@ fn plan_from(
 }
 
 impl Plan {
-    /// Makes the plan for the marked paths. It builds the view of the chosen jobs; `for_marked` takes a view that is there.
+    /// Makes the plan for the marked paths. It builds the view of the chosen jobs; `for_marked`
+    /// takes an existing view.
     ///
     /// # Errors
     ///
-    /// `UnknownClient`, `UnknownFileSet` or `NoFull` as `choose` has them, then `NothingMarked` if no marked path is in the view.
+    /// `UnknownClient`, `UnknownFileSet` or `NoFull` as for `choose`, then `NothingMarked` if no
+    /// marked path is in the view.
     pub fn make(
         alloc: Global,
         history: &History,
@@ -92,7 +94,7 @@ impl Plan {
         ensures means { IfOk result (MeansSelection history.now request.now marks.now) }
     {
         plan_means_selection();
-        // The jobs are a history by their type.
+        // The jobs are a history because of their type.
         let _ = history.jobs();
         let jobs = choose(
             alloc,
@@ -106,12 +108,12 @@ impl Plan {
         plan_from(alloc, view.entries(), &flags, &jobs)
     }
 
-    /// Makes the plan for the marked paths of a tree, as `make` does for its marks, and builds no view: the tree shows that of the
-    /// jobs which the request chooses.
+    /// Makes the plan for the marked paths of a tree, as `make` does for its marks, without
+    /// building a view: the tree shows that of the jobs that the request chooses.
     ///
     /// # Errors
     ///
-    /// As those of `make`.
+    /// Those of `make`.
     pub fn for_marked(
         alloc: Global,
         history: &History,
@@ -123,7 +125,7 @@ impl Plan {
         ensures means { IfOk result (MeansSelection history.now request.now tree.now.marked) }
     {
         plan_means_selection();
-        // The jobs are a history by their type.
+        // The jobs are a history because of their type.
         let _ = history.jobs();
         let jobs = choose(
             alloc,
@@ -135,21 +137,21 @@ impl Plan {
         plan_from(alloc, tree.entries(), tree.flags(), &jobs)
     }
 
-    /// Returns what of which volumes is read.
+    /// Returns the bootstrap: the parts of volumes that are read.
     pub fn bootstrap(&self) -> &Bootstrap
         ensures { result.now ≡ self.now.groups }
     {
         &self.bootstrap
     }
 
-    /// Returns under which path each file is expected.
+    /// Returns the path under which each file is expected.
     pub fn names(&self) -> &Names
         ensures { planned_in result.now ≡ self.now.names }
     {
         &self.names
     }
 
-    /// Returns what of which volumes is read, and under which path each file is expected.
+    /// Returns the parts of volumes that are read, and the path under which each file is expected.
     pub fn into_parts(self) -> (Bootstrap, Names)
         ensures bootstrap { result.0 ≡ self.groups }
         ensures names { planned_in result.1 ≡ self.names }

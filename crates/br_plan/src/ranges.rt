@@ -9,7 +9,7 @@ use crate::part::FileOf;
 use br_bsr::Range;
 use std::alloc::{AllocError, Global};
 
-/// Appends a number to ranges, as a part of the last one if it is next to it.
+/// Appends a number to ranges, to the last one if it is adjacent.
 fn push_number(ranges: &mut Vec<Range>, number: u64) -> Result<(), AllocError>
     ensures { OnOk result (ranges.new.items ≡ with_number ranges.old.items number) }
 {
@@ -26,7 +26,7 @@ fn push_number(ranges: &mut Vec<Range>, number: u64) -> Result<(), AllocError>
     Ok(())
 }
 
-/// Returns the indexes of files that are in order, as ranges that are as long as can be.
+/// Returns the indexes of files that are in order, as ranges, each as long as possible.
 pub(crate) fn ranges_of(alloc: Global, files: &[FileOf]) -> Result<Vec<Range>, AllocError>
     ensures same { IfOk result (λ ranges. ranges.items ≡ model.ranges_of (indexes_of files.now)) }
     ensures valid { IfOk result (λ ranges. list_all (is_range by_index) ranges.items ≡ true) }

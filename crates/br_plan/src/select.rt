@@ -30,7 +30,7 @@ fn is_marked(paths: &BTreeSet<&[u8]>, path: &Path) -> bool
     paths.contains(path.bytes())
 }
 
-/// Returns for each entry whether the set has its path.
+/// Returns whether the set has the path of each entry, in order.
 fn flags_by(
     alloc: Global,
     entries: &[Shown<'_>],
@@ -44,7 +44,7 @@ fn flags_by(
         .collect(alloc)
 }
 
-/// Returns for each entry whether its path is marked.
+/// Returns whether the path of each entry is marked, in order.
 pub(crate) fn flags_of(
     alloc: Global,
     entries: &[Shown<'_>],

@@ -105,7 +105,7 @@ tied_is_at q h =
 tied_are_at : (q : FileKey × Spot) (hs : List Hit) → filter (ties is_before (asked q)) hs ≡ filter (at q) hs
 tied_are_at q hs = ap (λ (p : Hit → Bool). filter p hs) (λ i h. tied_is_at q h i)
 
--- hits that a stable sort put in order have the look-ups that they had
+-- hits that a stable sort ordered have the look-ups that they had
 sorted_look_ups : (xs ys : List Hit) → IsStableByKey place place_cmp xs ys → (q : FileKey × Spot) → find hit_cmp q (listed ys) ≡ find hit_cmp q (listed xs)
 sorted_look_ups xs ys stable q =
     find_is_first q ys ∙ ap first_of (sym (tied_are_at q ys) ∙ stable (asked q) ∙ tied_are_at q xs) ∙ sym (find_is_first q xs)
@@ -117,7 +117,7 @@ both_equal Less b = refl
 both_equal Equal b = refl
 both_equal Greater b = refl
 
--- the test of keys holds where their order does not tell them apart
+-- the test of keys holds if their order does not distinguish them
 pub same_key_is_tie : (a b : FileKey) → same_key a b ≡ is_eq (key_cmp a b)
 same_key_is_tie a b =
     let id = nat_cmp a.session.id b.session.id in
@@ -136,7 +136,7 @@ same_spot s t = s.group == t.group && (s.address == t.address && s.ordinal == t.
 abbrev pub repeats : Hit → Hit → Bool
 repeats g h = same_key g.key h.key && same_spot g.spot h.spot
 
--- they are where their order does not tell them apart
+-- they are if their order does not distinguish them
 repeats_is : (g h : Hit) → repeats g h ≡ eq_by_cmp hit_order g h
 repeats_is g h =
     let key = key_cmp g.key h.key in

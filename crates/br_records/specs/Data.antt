@@ -13,7 +13,7 @@ shown_extent bytes e = record { start = e.start; bytes = drop e.skip bytes }
 abbrev pub fitting : ℕ → List ℕ → Result model.Extent model.Fault
 fitting start bytes = if nat_lt (2 ^ 30) (start + length bytes) then Err (model.fault 68) else Ok (record { start = start; bytes = bytes })
 
--- bytes with the data of one more record, and zeros between them
+-- bytes followed by the data of one more record, with zeros between them
 abbrev pub laid : List ℕ → Record → Result (List ℕ) ℕ
 laid bytes r = do
   e ← model.extent_of (length bytes) r

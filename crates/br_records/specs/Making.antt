@@ -1,4 +1,4 @@
--- The reason why no file was made, as the model states it.
+-- The reason why no file was made, as in the model.
 use Rattle.std.specs.Prelude.{ℕ, List, Option, Some, None, Result}
 use Rattle.br_model.specs.Answer.{refused_as}
 use Rattle.br_model.specs.Attribute.{Attributes, read_attributes}
@@ -36,6 +36,6 @@ making_fault attr.MissingField = File BadAttributes
 making_fault attr.BadName = File BadAttributes
 making_fault attr.IndexDiffers = File BadAttributes
 
--- the attributes in some bytes, 64 if they cannot be read
+-- the attributes in some bytes; 64 if they cannot be read
 abbrev pub read_or_64 : List ℕ → ℕ → Result Attributes model.Fault
 read_or_64 bytes index = refused_as (λ _. model.fault 64) (read_attributes bytes index)

@@ -10,7 +10,7 @@ use Rattle.br_records.specs.Records.{bytes_in, fragments, prefixed}
 use Rattle.br_records.specs.declared.making_fault.FileFault.{FileFault}
 use Rattle.br_records.specs.declared.records.Open.{Open}
 
--- with the index of its file, and the bytes that came
+-- the open record, with the index of its file and the bytes so far
 abbrev pub begun : ℕ → List ℕ → Open → Begun
 begun index bytes open_one = record { index = index; stream = open_one.stream; bytes = bytes; left = open_one.left }
 
@@ -19,8 +19,8 @@ abbrev pub begun_from : ℕ → List ℕ → Option Open → Option Begun
 begun_from index bytes None = None
 begun_from index bytes (Some open_one) = Some (begun index bytes open_one)
 
--- the result is the record that is open after one more hit, or the fault, as the model says of any
--- bytes that came before
+-- the result is the record that is open after one more hit, or the fault, as in the model for any
+-- earlier bytes
 abbrev pub IsOpenAfter : Option Open → Hit → Result Open FileFault → Type 0
 IsOpenAfter opened hit result =
     (bytes : List ℕ) → IfNone opened (bytes ≡ [])

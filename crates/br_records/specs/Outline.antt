@@ -1,4 +1,4 @@
--- The outline of a file: what it is without its bytes, as its record headers and its attributes say.
+-- The outline of a file: all but its bytes, from its record headers and its attributes.
 use Rattle.std.specs.Prelude.{◌≡◌, ℕ, not, List, [], ◌∷◌, length, map, filter, Result, Ok, Err, if◌then◌else◌}
 use Rattle.br_model.specs.Answer.{◌>>=◌, refused_as}
 use Rattle.br_model.specs.Block.{Fragment}
@@ -19,7 +19,7 @@ pub record Outline : Type 0 where
 abbrev pub Foreseen : Type 0
 Foreseen = Result Outline Fault
 
--- the end of a file with one record more, 67 or 68 if its data do not fit
+-- the end of a file with one more record; 67 or 68 if its data do not fit
 unfoldable pub end_after : ℕ → Record → Result ℕ ℕ
 end_after end r = if not (is_data r) then Ok end else do
   e ← extent_of end r
@@ -36,8 +36,9 @@ end_from end (r ∷ rs) = do
 unfoldable pub size_of : ℕ → List Record → Result ℕ ℕ
 size_of kind records = if not (has_bytes kind) then Ok 0 else end_from 0 records
 
--- What the records of the file with this index make, without its bytes. Faults come in the order in which they come for the file: attributes
--- (63, 64), a stream (65), data (67, 68). The digest is not compared.
+-- The outcome of the records of the file with this index, without its bytes. Faults come in the
+-- same order as for the file: attributes (63, 64), a stream (65), data (67, 68). The digest is
+-- not compared.
 unfoldable pub outline : ℕ → List Record → Foreseen
 outline index records = do
   a ← refused_as fault (attributes_of index (filter (is_stream 1) records))
@@ -45,7 +46,7 @@ outline index records = do
   size ← refused_as fault (size_of a.kind records)
   Ok (record { path = a.path; kind = a.kind; size = size })
 
--- the same of fragments, which are joined to records (60, 61, 62)
+-- the same for fragments, which are joined to records (60, 61, 62)
 unfoldable pub outline_of : FileKey → List Fragment → Foreseen
 outline_of key fragments = do
   records ← refused_as fault (join fragments)
@@ -62,19 +63,20 @@ outlines_found listed =
     map (λ key. record { key = key; outline = outline_of key (fragments_for key listed) })
     (in_order key_rank (map (λ (e : (FileKey × Spot) × Fragment). e.0.0) listed))
 
--- ---- what an outline says of its file
+-- ---- how an outline and its file agree
 
 -- the outline is that of the file
 abbrev pub IsOutlineOf : Item → Outline → Type 0
 IsOutlineOf item o = (o.path ≡ item.path) × (o.kind ≡ item.kind) × (o.size ≡ length item.bytes)
 
--- A file has its outline. Where there is no file there is the same fault and no outline, but for a digest that differs (66).
+-- A file has its outline. If there is no file, there is the same fault instead of an outline,
+-- unless the digest differs (66).
 abbrev pub Foresees : Foreseen → Outcome → Type 0
 Foresees (Ok o) (Ok item) = IsOutlineOf item o
 Foresees (Ok o) (Err f) = f ≡ fault 66
 Foresees (Err e) (Ok item) = ⊥
 Foresees (Err e) (Err f) = f ≡ e
 
--- what records make is what their outline says
+-- records and their outline agree
 abbrev pub OutlinesForesee : Type 0
 OutlinesForesee = (index : ℕ) (records : List Record) → Foresees (outline index records) (content index records)

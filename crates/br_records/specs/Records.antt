@@ -1,9 +1,9 @@
--- Hits of one file, as the fragments and the bytes that they are.
+-- Hits of one file as fragments and as bytes.
 use Rattle.std.specs.Prelude.{ℕ, List, ◌++◌, map, flat_map, Result, Ok, Err}
 use Rattle.br_model.specs.Block.{Fragment}
 use Rattle.br_model.specs.Meaning.{Hit}
 
--- the fragments that were hit
+-- the fragments of the hits
 abbrev pub fragments : List Hit → List Fragment
 fragments hits = map (λ (h : Hit). h.fragment) hits
 
@@ -11,7 +11,7 @@ fragments hits = map (λ (h : Hit). h.fragment) hits
 abbrev pub bytes_in : List Hit → List ℕ
 bytes_in hits = flat_map (λ (h : Hit). h.fragment.bytes) hits
 
--- a list that was read, after what was read before it
+-- a list that was read, appended to what was read before it
 abbrev pub prefixed : {A E : Type 0} → List A → Result (List A) E → Result (List A) E
 prefixed front (Ok more) = Ok (front ++ more)
 prefixed front (Err e) = Err e

@@ -1,4 +1,4 @@
--- Hits in the order in which the set of them lists them.
+-- Hits in the order in which a set lists them.
 use Rattle.std.specs.Prelude.{List, map}
 use Rattle.std.specs.List.Sorted.{IsStrictlySortedBy}
 use Rattle.std.specs.declared.cmp.Ordering.{Ordering}
@@ -13,6 +13,6 @@ listed hits = map hit_entry hits
 abbrev pub hit_order : Hit → Hit → Ordering
 hit_order g h = hit_cmp (g.key, g.spot) (h.key, h.spot)
 
--- the hits rise by file and place, so that no two are at one place of one file
+-- the hits ascend by file and place, so that no two are at one place of one file
 abbrev pub AreListed : List Hit → Type 0
 AreListed hits = IsStrictlySortedBy hit_order hits

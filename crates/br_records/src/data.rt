@@ -29,8 +29,8 @@ struct Extent {
 }
 
 impl FileRecord<'_> {
-    /// Returns the address before sparse data, of eight bytes, the highest first, or `AllocError`
-    /// if it is not in memory.
+    /// Returns the address before sparse data, eight bytes with the most significant first;
+    /// `AllocError` if it is not in memory.
     fn address(&self) -> Result<u64, AllocError>
         ensures { IfOk result (λ address. address ≡ from_be_bytes w64 (take 8 self.now.bytes)) }
     {
@@ -46,7 +46,8 @@ impl FileRecord<'_> {
         ]))
     }
 
-    /// Returns the extent of the bytes without the first `skip`, from an address on, or `TooLarge`.
+    /// Returns the extent of the bytes without the first `skip`, from an address on; `TooLarge` if
+    /// it ends too late.
     fn extent_at(&self, start: u64, skip: usize) -> Result<Extent, MakingFault>
         requires { skip ≤ 8 }
         ensures same { Answers (shown_extent self.now.bytes) cause result (fitting start (drop skip self.now.bytes)) }
@@ -95,7 +96,7 @@ impl FileRecord<'_> {
     ///
     /// # Errors
     ///
-    /// As `extent_after`.
+    /// Those of `extent_after`.
     pub fn push_data(&self, file: &mut Vec<Part>, end: usize) -> Result<usize, MakingFault>
         requires { end ≡ length (joined file.old.items) }
         ensures same { Answers (λ _. joined file.new.items) cause result (refused_as model.fault (laid (joined file.old.items) self.now)) }
@@ -107,11 +108,12 @@ impl FileRecord<'_> {
         Ok(extent.end)
     }
 
-    /// Returns the end of a file of length `end` with the record. A record that is no data changes nothing.
+    /// Returns the end of a file of length `end` with the record. A record that is not data
+    /// changes nothing.
     ///
     /// # Errors
     ///
-    /// As `extent_after`.
+    /// Those of `extent_after`.
     #[tactic(auto, unfolding(crate::specs::Outline::end_after))]
     fn end_after(&self, end: usize) -> Result<usize, MakingFault>
         ensures { Answers (λ e. e) cause result (refused_as model.fault (outline.end_after end self.now)) }
@@ -124,8 +126,8 @@ impl FileRecord<'_> {
     }
 }
 
-/// Returns the number of bytes in some records, or `SparseBack` or `TooLarge` at the first that does not
-/// fit.
+/// Returns the number of bytes in some records; `SparseBack` or `TooLarge` at the first that
+/// does not fit.
 fn end_of(records: &[FileRecord<'_>]) -> Result<usize, MakingFault>
     ensures { Answers (λ e. e) cause result (refused_as model.fault (outline.end_from 0 records.now)) }
 {

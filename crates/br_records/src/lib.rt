@@ -1,11 +1,11 @@
-//! Makes records of fragments, and the outline of a file: what it is without its bytes.
+//! Makes records from fragments, and the outline of a file: all but its bytes.
 //!
 //! `settle` puts fragments in order, and `around` finds those of one file. `records_of` joins them
 //! to records. A file has the attributes that `attributes_of` returns, and the bytes that
 //! `push_data` appends record by record; it copies none.
 //!
 //! `sketches_of` needs the headers of records and the attributes alone. It finds each fault that a
-//! restore finds, but for a digest that differs.
+//! restore finds, except a digest that differs.
 #![tactic(auto)]
 
 mod attributes;
@@ -30,8 +30,8 @@ pub use streams::{
     refuse_unsupported, skipped_in,
 };
 
-/// States that a file has its outline, and that there is none, for the same reason, where there is no file;
-/// but a file whose digest differs has an outline.
+/// States that a file has its outline. If there is no file, there is no outline for the same
+/// reason; only a file whose digest differs has an outline, too.
 #[tactic(auto, using(crate::proofs::OutlineLaws::outlines_foresee_lem))]
 pub fn outlines_foresee()
     ensures { OutlinesForesee }

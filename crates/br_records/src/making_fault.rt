@@ -62,7 +62,7 @@ impl FileFault {
 /// The reason why no file was made.
 #[derive(Clone, Copy)]
 pub enum MakingFault {
-    /// Memory ran out, or data that are needed were let go.
+    /// Memory ran out, or data that are needed are no longer in memory.
     Memory,
     /// The fragments make no file.
     File(FileFault),

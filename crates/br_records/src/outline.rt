@@ -37,7 +37,7 @@ impl Model for Outline {
     ghost view = { λ o. record { path = o.path; kind = o.kind; size = o.size } };
 }
 
-/// What is known of a file without its bytes: its outline, or why there is no file.
+/// The outline of a file, or why there is no file.
 #[derive(Drop)]
 pub enum Sketch {
     File(Outline),
@@ -108,12 +108,12 @@ fn push_sketch(
     Ok(())
 }
 
-/// Returns a sketch of each file of sorted hits, in order of key. Of the data only attributes, and what
-/// sparse data begin with, are asked for; others may have been let go.
+/// Returns a sketch of each file of sorted hits, in order of key. Needs only the data of attributes
+/// and the beginning of sparse data; other data need not be in memory.
 ///
 /// # Errors
 ///
-/// `AllocError` if memory runs out, or if data that are asked for were let go.
+/// `AllocError` if memory runs out, or if data that are needed are not in memory.
 pub fn sketches_of(alloc: Global, hits: &[Hit]) -> Result<Vec<(FileKey, Sketch)>, AllocError>
     requires { AreListed hits.now }
     ensures { IfOk result (λ sketches. map outlined sketches.items ≡ model.outlines_found (listed hits.now)) }

@@ -38,7 +38,7 @@ pub(crate) fn length_of(parts: &[Hit]) -> u64
     len
 }
 
-/// Returns the byte at a place of the parts together, 0 past the last.
+/// Returns the byte at a place of the parts together; 0 past the last byte.
 ///
 /// # Errors
 ///

@@ -17,7 +17,7 @@ use br_types::FileIndex;
 use std::alloc::{AllocError, Global};
 use std::marker::Model;
 
-/// A record of a file, as the fragments that make it.
+/// A record of a file, as the fragments that form it.
 #[derive(Drop)]
 pub struct FileRecord<'h> {
     index: FileIndex,
@@ -56,14 +56,14 @@ impl<'h> FileRecord<'h> {
         length_of(self.parts)
     }
 
-    /// Returns the byte at a place, 0 past the last, or `AllocError` if it is not in memory.
+    /// Returns the byte at a place; 0 past the last byte; `AllocError` if it is not in memory.
     pub(crate) fn byte(&self, place: usize) -> Result<u8, AllocError>
         ensures { IfOk result (λ byte. byte ≡ slice_index self.now.bytes place) }
     {
         byte_at(self.parts, place)
     }
 
-    /// Returns whether the record has these bytes, or `AllocError` if its bytes are not in memory.
+    /// Returns whether the record has these bytes; `AllocError` if its bytes are not in memory.
     pub fn has_bytes(&self, bytes: &[u8]) -> Result<bool, AllocError>
         ensures { IfOk result (λ same. same ≡ bytes_eq self.now.bytes bytes.now) }
     {
@@ -106,8 +106,8 @@ struct Open {
 ///
 /// # Errors
 ///
-/// `Orphan` if it continues a record and none is open, `Torn` if it does not continue the open one,
-/// `SizeDiffers` if it states another number of bytes than are still to come.
+/// `Orphan` if it continues a record but none is open, `Torn` if it does not continue the open one,
+/// `SizeDiffers` if it gives another number of bytes than are still to come.
 #[tactic(auto, unfolding(br_model::specs::Record::with_fragment))]
 fn with_hit(opened: Option<Open>, hit: &Hit) -> Result<Open, FileFault>
     ensures { IsOpenAfter opened hit.now result }

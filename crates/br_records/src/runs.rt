@@ -9,7 +9,7 @@ use br_match::Hit;
 use br_types::FileKey;
 use std::alloc::AllocError;
 
-/// Sorts hits by file and place. Of those at one place of one file the first stays.
+/// Sorts hits by file and place. Of several at one place of one file, the first stays.
 pub fn settle(hits: &mut Vec<Hit>) -> Result<(), AllocError>
     ensures listed { OnOk result (AreListed hits.new.items) }
     ensures same { model.hits_of hits.new.items ≡ model.hits_of hits.old.items }

@@ -17,11 +17,11 @@ pub(crate) const DATA: u32 = 2;
 /// The stream of the data's MD5 digest.
 pub const DIGEST: u32 = 3;
 
-/// The stream of sparse data: an address of eight bytes, the highest first, and the bytes from
-/// there on.
+/// The stream of sparse data: an address of eight bytes, the most significant first, and the bytes
+/// at this address.
 pub(crate) const SPARSE_DATA: u32 = 6;
 
-/// The stream of a program's name, which is passed over.
+/// The stream of a program's name, which is ignored.
 const PROGRAM_NAME: u32 = 10;
 
 /// Returns whether a file of this type has bytes: types 2 and 3 do.

@@ -48,18 +48,18 @@ pub record Packs (p : Packer) (records : List Record) : Type 0 where
   pub has_put : HasPut p fragments
   pub cut : IsCut records fragments
 
--- the fragment of a record with as much of the data left as is taken
+-- the fragment of a record with as much of the data left as was added
 abbrev pub first_part : SessionKey → ℕ → ℤ → List ℕ → ℕ → Fragment
 first_part session index stream left taken =
     record { session = session; index = pos index; stream = stream; size = length left; bytes = take taken left }
 
--- the packer after it has added such a fragment has put it after those before
+-- the packer after such a fragment was appended to its fragments
 abbrev pub HasPutPart : Packer → Packer → ℕ → ℤ → List ℕ → ℕ → Type 0
 HasPutPart before after index stream left taken =
     (fragments : List Fragment) → HasPut before fragments
     → HasPut after (fragments ++ first_part before.session index stream left taken ∷ [])
 
--- the packer has packed these records after those before
+-- the packer has packed these records after the earlier ones
 abbrev pub PacksMore : Packer → Packer → List Record → Type 0
 PacksMore before after more = (records : List Record) → Packs before records → Packs after (records ++ more)
 

@@ -41,7 +41,7 @@ with_index (Some range) n = Some (min range.0 n, max range.1 n)
 
 -- ---- places
 
--- the number of the blocks left that a place takes, if these places follow it
+-- the number of remaining blocks that a place takes, if these places follow it
 abbrev pub share : Place → List Place → ℕ → ℕ
 share p [] left = left
 share p (q ∷ more) left = min left p.blocks

@@ -8,7 +8,7 @@ use br_types::VolName;
 use std::alloc::{AllocError, Global};
 use std::vec::IntoIter;
 
-/// Returns the number of the blocks left that a place takes: its own number, or all for the last
+/// Returns the number of remaining blocks that a place takes: its own number, or all for the last
 /// place.
 pub(crate) fn share(place: &Place, more: &[Place], left: usize) -> usize
     ensures same { result ≡ spans.share place.now more.now left }

@@ -1,4 +1,4 @@
--- The tables are found by their names where the schema has them.
+-- The tables are found by their names if the schema has them.
 use Rattle.std.proofs.Common.{◌≡◌, ℕ, ◌+◌, ◌-◌, List, [], ◌∷◌, Bool, true, false, cond, codes, bytes_eq, filter, find, unwrap_or, Option, Some, None, refl, sym, ap, ap₂, subst, ◌∙◌, arith}
 use Rattle.std.specs.List.{AllZip}
 use Rattle.sqlite.specs.Order.{Row, column}

@@ -25,7 +25,7 @@ take_all (suc n) (x ∷ xs) below = ap (λ ys. x ∷ ys) (take_all n xs (omega (
 all_read : (bytes old : List ℕ) → IsFront bytes old → length bytes ≤ length old → old ≡ bytes
 all_read bytes old front whole = front ∙ take_all (length old) bytes whole
 
--- the same of a scene that may be told
+-- the same for a scene that may be told
 pub at_start : (told : Option Scene) (front : List ℕ) → front ≡ [] → IfSome told (λ scene. IsFront scene.bytes front)
 at_start None front none = tt
 at_start (Some scene) front none = subst (λ xs. IsFront scene.bytes xs) (sym none) refl

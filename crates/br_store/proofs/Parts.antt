@@ -118,7 +118,7 @@ pub inner_on_is : (cx : Context) (bs : List Bound) (done : Joined) (name table :
 unfolding join shared inner_join tests
 inner_on_is cx bs done name table at slot t on test s s' got is = rw (got, out_joined table on, is) refl
 
--- a name of a row's number, where no column has it
+-- a name of a row's number, if no column has it
 found_rowid : (schema : Schema) (bs : List Bound) (before : List Output) (m a : Bool) (name : Name) (slot at : ℕ)
     → only schema None name false bs ≡ Ok None → is_rowid name ≡ true → only schema None name true bs ≡ Ok (Some (Rowid slot at))
     → find (over schema bs before m a) None name ≡ Ok (Rowid slot at)

@@ -1,4 +1,4 @@
--- What the contracts of calls say of a database, before a call and after it.
+-- What the contracts of calls state about a database, before and after a call.
 use Rattle.std.specs.Prelude.{◌≡◌, false, IsTrue}
 use Rattle.std.specs.Borrow.{MutBor}
 use Rattle.std.specs.List.{AllByRecursion}
@@ -27,7 +27,7 @@ abbrev pub AreRising : Database → Type 0
 AreRising db = AllByRecursion (λ (t : Table). IsShaped Shaped (db.trees t.tree)) db.schema.tables
 
 -- The connection was just opened. No transaction is open and, if the disk has returned what was
--- written to it, the database is open, all that is seen is committed, and the rows of each table
+-- written to it, the database is open, all visible data is committed, and the rows of each table
 -- ascend.
 pub record IsJustOpened {S : Type 0} (g : Ghosts S) (h : Held S) : Type 0 where
   pub idle : h.in_transaction ≡ false
@@ -76,27 +76,27 @@ MayCommit g old new job = Survives (state g old) (state g new) (λ trees. Adds j
 abbrev pub IsReadable : {S : Type 0} → Ghosts S → Held S → Type 0
 IsReadable g held = WhileClean g held (λ database. HasTables database.now)
 
--- a call outside a transaction ends outside a transaction
+-- a call that begins outside a transaction ends outside a transaction
 abbrev pub StaysIdle : {S : Type 0} → Held S → Held S → Type 0
 StaysIdle old new = old.in_transaction ≡ false → new.in_transaction ≡ false
 
--- the database that is seen and what is committed are as before
+-- the visible and the committed database are unchanged
 abbrev pub IsSame : State → State → Type 0
 IsSame old new = (new.now ≡ old.now) × (new.committed ≡ old.committed)
 
--- if the database is open it was open before, and what is seen and what is committed are as before
+-- if the database is open it was open before, and its visible and committed data are unchanged
 abbrev pub Stays : State → State → Type 0
 Stays old new = IsTrue new.is_open → IsTrue old.is_open × (new.now ≡ old.now) × (new.committed ≡ old.committed)
 
--- while the database is open, all that is seen is committed
+-- while the database is open, all visible data is committed
 abbrev pub IsSettled : State → Type 0
 IsSettled s = IsTrue s.is_open → s.now ≡ s.committed
 
--- the database is open, and all that is seen is committed
+-- the database is open, and all visible data is committed
 abbrev pub IsCommitted : State → Type 0
 IsCommitted s = IsTrue s.is_open × (s.now ≡ s.committed)
 
--- a crash now leaves the catalogue's rows that are seen
+-- a crash now leaves the visible rows of the catalogue
 abbrev pub IsDurable : State → Type 0
 IsDurable s = (trees : Trees) → s.may_leave trees → rows_in trees ≡ rows_in s.now.trees
 

@@ -1,4 +1,4 @@
--- What a crash leaves of the database after a commit.
+-- The database that a crash leaves after a commit.
 use Rattle.std.specs.Prelude.{◌≡◌, Result, Ok, Err}
 use Rattle.sqlite.specs.Held.{Held}
 use Rattle.sqlite_trees.specs.declared.store.Store.{Ghosts}
@@ -13,7 +13,7 @@ use Rattle.br_keeper.specs.declared.fault.KeeperFault.{KeeperFault}
 use Rattle.br_keeper.specs.declared.fault.KeeperFault.TheVariants.{Store, StoredNotPublished}
 use Rattle.br_store.specs.Kept.{Inserts, Refuses}
 
--- A job that is stored outlives a crash, also if it is not published. One that the database refused
+-- A job that is stored survives a crash, also if it is not published. One that the database refused
 -- may have been written. Any other refusal leaves the database as it was.
 abbrev pub Outlives : {S W : Type 0} → Ghosts S → Keeping (Held S) W → Keeping (Held S) W → Result Beginning KeeperFault → Type 0
 Outlives g old new (Ok receipt) =
@@ -23,7 +23,7 @@ Outlives g old new (Err StoredNotPublished) =
 Outlives g old new (Err Store) = (rows : JobRows) × Refuses g rows old.catalogue new.catalogue
 Outlives g old new (Err why) = new.catalogue ≡ old.catalogue
 
--- what a crash leaves of the database after any commit to it and to volumes
+-- the database that a crash leaves after any commit to it and to volumes
 abbrev pub CommitsOutlive : {S W : Type 0} → Ghosts S → (Keeping (Held S) W → Shelf) → Type 0
 CommitsOutlive {S} {W} g shelf =
     (job : ToCommit) (old new : Keeping (Held S) W) (result : Result Beginning KeeperFault)

@@ -1,4 +1,4 @@
--- The rows that a database holds, with names in place of numbers, and what a call adds to them.
+-- The rows in a database, with names in place of numbers, and the rows that a call adds.
 use Rattle.std.specs.Prelude.{◌≡◌, ℕ, ◌-◌, pos, List, [], ◌∷◌, Bool, true, map, filter, find, unwrap_or, codes, bytes_eq, IsTrue, false, Option, Result, IfSome, OnOk}
 use Rattle.std.specs.List.{AllByRecursion}
 use Rattle.sqlite.specs.declared.types.Value.TheVariants.{Int, Text, Blob}
@@ -127,14 +127,14 @@ pub record Added (s : Schema) (l : Layout) (tree : ℕ) (row : Row) (old new : D
   pub others : AllByRecursion (λ (t : Table). (t.tree ≡ tree → ⊥) → new.trees t.tree ≡ old.trees t.tree) (tables_at l)
 
 -- A sound database with the catalogue's tables, each with its rows in ascending order. Its tables may
--- have columns of somebody's own, and it may have more tables, indexes and views.
+-- have additional columns, and it may have more tables, indexes and views.
 pub record HasTables (db : Database) : Type 0 where
   pub own : Owns
   pub schema : HasAll db.schema (layout_in db.trees) own
   pub sound : IsDatabase db
   pub shaped : AllByRecursion (λ (t : Table). IsShaped Shaped (db.trees t.tree)) (tables_at (layout_in db.trees))
 
--- what a store keeps true of its connection: no transaction is open, and while the connection is
+-- the invariant of a store's connection: no transaction is open, and while the connection is
 -- open the database has the tables
 pub record IsCatalogue {S : Type 0} (g : Ghosts S) (h : Held S) : Type 0 where
   pub idle : h.in_transaction ≡ false
@@ -187,11 +187,11 @@ pub record Wrote (rows : Rows) (old new : State) : Type 0 where
 abbrev pub Writes : (Rows → Rows) → State → State → Type 0
 Writes more old new = Wrote (more (rows_in old.now.trees)) old new
 
--- the transaction goes on with the rows as before
+-- the transaction goes on with unchanged rows
 abbrev pub WritesNoRow : State → State → Type 0
 WritesNoRow old new = Wrote (rows_in old.now.trees) old new
 
--- no row of the catalogue's is written, and it gives this number to the name
+-- no row of the catalogue is written, and the catalogue gives the name this number
 abbrev pub NamesBy : State → State → Dictionary → List ℕ → ℕ → Type 0
 NamesBy old new dictionary name id = WritesNoRow old new × IsName new.now.trees dictionary name id
 
@@ -211,8 +211,8 @@ abbrev pub WritesSpanOf : {A E : Type 0} → ℕ → Span → ℕ → State → 
 WritesSpanOf job span media old new result =
     IsName old.now.trees Media span.volume media → OnOk result (Writes (with_spans job (span ∷ [])) old new)
 
--- the row of a file is written if the call does not fail, with the front of which the parts have the
--- number
+-- the row of a file is written if the call does not fail, and this is the number of the
+-- front of its path
 abbrev pub WritesFileOf : {A E : Type 0} → ℕ → ℕ → Parts → List ℕ → List ℕ → State → State → Result A E → Type 0
 WritesFileOf job index parts lstat digest old new result =
     (front : List ℕ) → IsName old.now.trees Path front parts.path

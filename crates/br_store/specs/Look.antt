@@ -1,4 +1,4 @@
--- What is shown of a catalogue's file.
+-- The database that is shown for a catalogue's file.
 use Rattle.std.specs.Prelude.{◌≡◌, List, ℕ, [], Option, IfSome}
 use Rattle.sqlite_wal.specs.Recovery.{Image}
 use Rattle.sqlite.specs.State.{State}
@@ -16,7 +16,7 @@ alone bytes = record { log = []; db = bytes }
 abbrev pub IsSettled : Option Scene → Type 0
 IsSettled told = IfSome told (λ scene. scene.beside ≡ Nothing)
 
--- if the scene is told, what is shown is the database that the file holds by itself
+-- if the scene is told, the database that is shown is the one that the file holds by itself
 abbrev pub ShowsFile : Option Scene → State → Type 0
 ShowsFile told state = IfSome told (λ scene. FindsIn (alone scene.bytes) state)
 

@@ -1,4 +1,4 @@
--- A catalogue that is being made.
+-- A catalogue under construction.
 use Rattle.std.specs.Prelude.{◌≡◌, ◌⊎◌, List, [], ◌∷◌, Bool, false, IsTrue}
 use Rattle.std.specs.List.{AllByRecursion}
 use Rattle.sqlite.specs.Table.{Table}
@@ -48,7 +48,7 @@ is_first _ = false
 abbrev pub IsOpenFault : StoreFault → Type 0
 IsOpenFault fault = IsStoreFault fault ⊎ (fault ≡ OldCatalogue)
 
--- an open keeps the database that it finds, or makes a catalogue with no job in a database with no
+-- opening keeps the database that it finds, or makes a catalogue with no job in a database with no
 -- table
 abbrev pub Finds : Database → Database → Type 0
 Finds before after = (after.trees ≡ before.trees) ⊎ (IsDatabase (record before { schema = no_schema }) × IsMade after)

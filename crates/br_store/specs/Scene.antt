@@ -1,4 +1,4 @@
--- What a sight tells of a catalogue's file.
+-- What a sight tells about a catalogue's file.
 use Rattle.std.specs.Prelude.{◌≡◌, ℕ, List, length, take}
 use Rattle.br_store.specs.declared.look_beside.Beside.{Beside}
 

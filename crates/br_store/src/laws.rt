@@ -1,4 +1,4 @@
-//! Facts about connections. The calls do nothing: a caller makes one to have its clauses.
+//! Facts about connections. The calls do nothing: a caller makes one for its clauses.
 
 ghost use Rattle.std.specs.Prelude.{◌≡◌, false};
 ghost use Rattle.sqlite.specs.Held.{state};
@@ -6,7 +6,7 @@ ghost use Rattle.br_store.specs.Calls.{IsSettled};
 
 use sqlite::{Alter, Connection};
 
-/// Shows that outside a transaction a database shows what was last committed.
+/// States that outside a transaction a database shows what was last committed.
 pub(crate) fn idle_is_settled<S: Alter>(conn: &Connection<S>)
     ensures { conn.now.in_transaction ≡ false → IsSettled (state S.Store conn.now) }
 {

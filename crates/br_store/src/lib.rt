@@ -2,17 +2,17 @@
 //! written in one transaction, and all jobs are loaded as a `History`.
 //!
 //! Contracts see a `Store` as its connection; `state` is the database of a connection. What they
-//! say of rows holds if the disk returns what was written to it, or the store is in memory
+//! state about rows holds if the disk returns what was written to it, or the store is in memory
 //! (`HasCleanDisk`).
 //!
-//! `StoredJobs` is a `Store` that a keeper owns. It gives the relations that the contracts of a
-//! keeper name a meaning: what an insertion makes of the database, and what a crash may leave of
-//! it.
+//! `StoredJobs` is a `Store` that a keeper owns. It defines the relations that the contracts
+//! of a keeper name: the effect of an insertion on the database, and the databases that a
+//! crash may leave.
 //!
 //! `look` copies the file of a catalogue into memory and opens the copy as a database, so that
-//! nothing is written or made. `Sight` is what it needs of the system: `HostSight` is that of the
-//! system, as thin as it can be, and `MemSight` one over memory, for tests. `fold` ends the use of
-//! a catalogue that was written to: its file alone has what was committed.
+//! nothing is written or made. `Sight` is the trait for what it needs of the system: `HostSight` is
+//! the system's, as thin as possible, and `MemSight` one over memory, for tests. `fold` ends the
+//! use of a catalogue that was written to: its file alone has what was committed.
 #![tactic(auto)]
 
 mod crash_laws;

@@ -1,7 +1,7 @@
-/// What lies beside the file of a database, of what was not put into it.
+/// What lies beside the file of a database and may contain changes that are not in the file.
 #[derive(Clone, Copy, PartialEq, Eq)]
 pub enum Beside {
-    /// No file with a journal's or a log's name, or one that has nothing to put into the file.
+    /// No file with the name of a journal or a log, or one without changes for the file.
     Nothing,
     /// A log with commits, or something else under its name.
     Log,

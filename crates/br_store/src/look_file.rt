@@ -21,10 +21,10 @@ const TRIES: u32 = 50;
 /// The number of bytes that one read asks for.
 const STEP: usize = 1 << 16;
 
-/// The first bytes of each database that is not empty.
+/// The first bytes of every database that is not empty.
 const MAGIC: &[u8] = b"SQLite format 3\0";
 
-/// Refuses a file if something lies beside it that was not put into it.
+/// Refuses a file if something beside it may contain changes that are not in the file.
 fn check_beside<O: Sight>(sight: &mut O, file: &O::File) -> Result<(), LookFault>
     ensures settled { OnOk result (IsSettled (O.told sight.old)) }
     ensures same { O.told sight.new ≡ O.told sight.old }
@@ -57,13 +57,14 @@ fn read_more<O: Sight>(
     Ok(())
 }
 
-/// Returns whether a file that begins so may be a database. An empty file is one without tables, and one of
-/// one byte is taken for the beginning of such a file.
+/// Returns whether a file that begins like this may be a database. An empty file is one without
+/// tables, and a file of one byte counts as the beginning of a database.
 fn may_be_database(bytes: &[u8]) -> bool {
     bytes.len() < 2 || bytes.starts_with(MAGIC)
 }
 
-/// Reads the whole file, which has this length. Stops after the first part of a file that is no database.
+/// Reads the whole file, which has this length. Stops after the first part of a file that is
+/// not a database.
 fn read_all<O: Sight>(
     alloc: Global,
     sight: &mut O,
@@ -108,7 +109,7 @@ fn read_once<O: Sight>(alloc: Global, sight: &mut O) -> Result<Vec<u8>, LookFaul
     check_beside(sight, &file)?;
     let stamp = sight.stamp(&file)?;
     let bytes = read_all(alloc, sight, &file, stamp.len)?;
-    // Another program may have written to it meanwhile.
+    // Another program may have written to it in the meantime.
     check_beside(sight, &file)?;
     if sight.stamp(&file)? == stamp {
         Ok(bytes)
@@ -149,12 +150,13 @@ fn open_copy(alloc: Global, bytes: &[u8]) -> Result<Connection<FileStore<Memory>
     }
 }
 
-/// Shows the database that a catalogue's file holds. Nothing is written to the file, and none is made.
+/// Shows the database in a catalogue's file. Nothing is written to the file, and none is made.
 ///
 /// # Errors
 ///
-/// `InUse` if another program still writes to the file after 50 moments, or a log or a journal lies beside
-/// it; `Unreadable` if the file is not there or can't be read; `Database` if it is no sound database.
+/// `InUse` if another program still writes to the file after 50 moments, or a log or a journal lies
+/// beside it; `Unreadable` if the file does not exist or can't be read; `Database` if it is not a
+/// sound database.
 pub fn look<O: Sight>(
     alloc: Global,
     sight: &mut O,

@@ -1,4 +1,4 @@
-//! The end of a catalogue's use.
+//! Ends the use of a catalogue.
 ghost use Rattle.std.specs.Prelude.{◌≡◌, [], IfOk, IsTrue};
 ghost use Rattle.sqlite_wal.specs.Reads.{AreClean};
 ghost use Rattle.br_store.specs.LookFolded.{IsFolded};
@@ -7,10 +7,10 @@ use crate::look_fault::LookFault;
 use sqlite::{Connection, FileStore, Files};
 use sqlite_disk::Disk;
 
-/// Puts all that was committed into the database file, and empties the log. Returns both files: while they
-/// are there, no other program opens them.
+/// Copies all that was committed into the database file, and empties the log. Returns both files:
+/// while they are held, no other program opens them.
 ///
-/// A crash between the two leaves the log with a new header, which makes nothing of what comes after it.
+/// A crash between the two leaves the log with a new header, which makes what follows it invalid.
 ///
 /// # Errors
 ///

@@ -1,4 +1,5 @@
-//! The files of the system. Each method is a few calls of std: no clause can say what a file holds.
+//! The files of the system. Each method is a few calls of std: no clause can state the
+//! contents of a file.
 ghost use Rattle.std.specs.Prelude.{◌≡◌, ◌≤◌, length, IfOk};
 
 use crate::look_beside::Beside;
@@ -70,7 +71,7 @@ fn has_journal(rt: &HostRuntime, path: &str) -> io::Result<bool> {
     }
 }
 
-/// Returns whether this is a regular file with one name. Beside another name there may be another log.
+/// Returns whether this is a regular file with one name. Another name may have its own log.
 fn is_plain(found: &Metadata) -> bool {
     found.is_file() && found.nlink() == 1
 }
@@ -98,7 +99,7 @@ impl Sight for HostSight<'_> {
 
     fn open(&mut self) -> Result<HostFile, LookFault> {
         let path = self.path.as_str();
-        // A pipe is not opened: that would wait for its writer.
+        // A pipe is not opened, because that would wait for its writer.
         let named = fs::symlink_metadata(self.rt, path)?;
         if !is_plain(&named) {
             return Err(LookFault::Unreadable);

@@ -4,7 +4,7 @@ use crate::look_beside::Beside;
 use crate::look_fault::LookFault;
 use crate::look_sight::{Sight, Stamp};
 
-/// A file in memory to be looked at, for tests. Another program may be at work on it for some moments.
+/// A file in memory to be looked at, for tests. Another program may write to it for some moments.
 #[derive(Drop)]
 pub struct MemSight {
     bytes: Vec<u8>,
@@ -33,7 +33,7 @@ impl MemSight {
         }
     }
 
-    /// Has another program write to the file for this number of moments.
+    /// Makes another program write to the file for this number of moments.
     pub fn busy_for(mut self, moments: u32) -> MemSight
         ensures { result ≡ record self { busy = moments } }
     {
@@ -41,7 +41,7 @@ impl MemSight {
         self
     }
 
-    /// Makes each read give at most this number of bytes.
+    /// Makes each read return at most this number of bytes.
     pub fn reading_at_most(mut self, bytes: usize) -> MemSight
         ensures { result ≡ record self { at_most = bytes } }
     {
@@ -57,7 +57,8 @@ impl MemSight {
     }
 }
 
-/// Copies bytes from a place on to the front of the buffer, no more than `at_most`. Returns their number.
+/// Copies bytes from a place on into the beginning of the buffer, at most `at_most`. Returns
+/// their number.
 fn copy_part(bytes: &[u8], buf: &mut [u8], at: usize, at_most: usize) -> usize
     ensures fits { result ≤ length buf.new }
     ensures part { take result buf.new ≡ take result (drop at bytes.now) }

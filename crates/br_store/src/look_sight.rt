@@ -4,7 +4,7 @@ ghost use Rattle.br_store.specs.Scene.{Scene};
 use crate::look_beside::Beside;
 use crate::look_fault::LookFault;
 
-/// The length of a file, and by which it is known whether it was changed.
+/// The length of a file, and the values that show whether it was changed.
 #[derive(Clone, Copy, PartialEq, Eq)]
 pub struct Stamp {
     pub len: u64,
@@ -43,13 +43,13 @@ pub trait Sight {
         ensures beside { IfOk result (λ beside. IfSome (told self.old) (λ scene. scene.beside ≡ beside)) }
         ensures same { told self.new ≡ told self.old };
 
-    /// Returns the length of the file, and by which it is known.
+    /// Returns the length of the file, and the values that show whether it was changed.
     fn stamp(&mut self, file: &Self::File) -> Result<Stamp, LookFault>
         ensures len { IfOk result (λ stamp. IfSome (told self.old) (λ scene. stamp.len ≡ length scene.bytes)) }
         ensures same { told self.new ≡ told self.old };
 
-    /// Reads bytes of the file, from this place on, to the front of the buffer. Returns their number,
-    /// maybe fewer than there are.
+    /// Reads bytes of the file, from this place on, into the beginning of the buffer. Returns their
+    /// number, maybe fewer than there are.
     fn read_at(&mut self, file: &Self::File, buf: &mut [u8], at: usize) -> Result<usize, LookFault>
         ensures fits { IfOk result (λ n. n ≤ length buf.new) }
         ensures read { IfOk result (λ n. IfSome (told self.old) (λ scene. take n buf.new ≡ take n (drop at scene.bytes))) }

@@ -34,7 +34,7 @@ pub fn create<S: Alter>(conn: &mut Connection<S>) -> Result<(), Error>
     tx.commit()
 }
 
-/// Opens the store of this connection again: the same database, just opened, as `Store::open` needs
+/// Reopens the store of this connection: the same database, just opened, as `Store::open` needs
 /// it. The rows are tested again.
 pub fn reopened<S: Alter + Drop>(
     alloc: Global,

@@ -42,9 +42,9 @@ impl<S: Alter> Model for Store<S> {
 }
 
 impl<S: Alter + Drop> Store<S> {
-    /// Opens the catalogue in a database: what was committed there. In a database with no table it
-    /// makes a catalogue with no job, in one transaction (`create`). A crash afterwards leaves just
-    /// that.
+    /// Opens the catalogue in a database, as it was last committed. In a database with no table it
+    /// makes a catalogue with no job, in one transaction (`create`). A crash afterwards leaves
+    /// exactly that.
     ///
     /// # Errors
     ///
@@ -67,7 +67,7 @@ impl<S: Alter + Drop> Store<S> {
 }
 
 impl<S: Alter> Store<S> {
-    /// Adds a job with all its rows, in one transaction. A crash meanwhile leaves the rows as
+    /// Adds a job with all its rows, in one transaction. A crash during the call leaves the rows as
     /// before, or with the job; a crash after `Ok` leaves them with the job.
     ///
     /// # Errors
@@ -113,7 +113,7 @@ impl<S: Alter> Store<S> {
     }
 }
 
-/// Adds a job with all its rows to a catalogue that is open, or nothing.
+/// Adds a job with all its rows to a catalogue that is open, or adds nothing.
 fn insert_all<S: Alter>(conn: &mut Connection<S>, job: &JobRows) -> Result<(), Error>
     requires idle { conn.old.in_transaction ≡ false }
     requires tables { IsReadable S.Store conn.old }
@@ -131,7 +131,7 @@ fn insert_all<S: Alter>(conn: &mut Connection<S>, job: &JobRows) -> Result<(), E
     tx.commit()
 }
 
-/// Adds a job with all its rows, or nothing.
+/// Adds a job with all its rows, or adds nothing.
 fn insert<S: Alter>(conn: &mut Connection<S>, job: &JobRows) -> Result<(), Error>
     requires { IsCatalogue S.Store conn.old }
     ensures catalogue { IsCatalogue S.Store conn.new }

@@ -9,7 +9,7 @@ use br_keeper::{JobStore, JobStoreFault};
 use sqlite::Alter;
 use std::marker::Model;
 
-/// Returns why a store refused, as a keeper sees it.
+/// Returns a store's refusal as the keeper's.
 fn kept_fault(fault: StoreFault) -> JobStoreFault
     ensures { result ≡ of_fault fault }
 {

@@ -25,13 +25,13 @@ use Rattle.br_tree.proofs.MeantLaws.{child_in, child_from}
 use Rattle.br_tree.proofs.StepLaws.{less_not_own, none_from_any}
 use Rattle.br_tree.proofs.PickLaws.{child_below, not_below, with_child}
 
--- ---- the children of a run and of what is behind it
+-- ---- the children of a run and of what is after it
 
 pub children_rise_too : (ps : List (List ℕ)) (d : List ℕ) → Rises (children ps d)
 unfolding children
 children_rise_too ps d = in_order_rises (λ name. name) _
 
--- neither before nor the same: behind
+-- neither before nor the same: after
 above : (name z : List ℕ) → is_lt (rank_cmp z name) ≡ false → bytes_eq z name ≡ false → Below name z
 above name z from other = go (rank_cmp name z) refl
   where
@@ -52,7 +52,7 @@ module _ (d name : List ℕ) (ps : List (List ℕ)) (n : ℕ) (p : List ℕ) (be
         | inr there ↦ there
       ]
 
-  -- a child that has a name is the first, and the others come behind it
+  -- a child that has a name is the first, and the others come after it
   pub named_child : (name ≡ [] → ⊥) → children ps d ≡ name ∷ children (drop n ps) d
   named_child some =
       same_rising Below below_one_way (children ps d) (name ∷ children (drop n ps) d) (children_rise_too ps d) (
@@ -98,7 +98,7 @@ front_any_flag test (suc r) (p ∷ ps) [] within after bound long = absurd (omeg
 front_any_flag test (suc r) (p ∷ ps) (true ∷ fs) within after bound long = ap (λ b. b || list_any test (flagged ps fs)) within.0
 front_any_flag test (suc r) (p ∷ ps) (false ∷ fs) within after bound long = front_any_flag test r ps fs within.1 after (omega (arith, bound)) (omega (arith, long))
 
--- whether a path that passes is marked, where those that pass stand in a run
+-- whether a path that passes is marked, if those that pass are in a run
 pub any_flag : (test : List ℕ → Bool) (a r : ℕ) (ps : List (List ℕ)) (fs : List Bool) → NonePassing test (take a ps) → AllPassing test (take r (drop a ps)) → NonePassing test (drop r (drop a ps))
     → r ≤ length (drop a ps) → length fs ≡ length ps → list_any test (flagged ps fs) ≡ list_any (λ f. f) (take r (drop a fs))
 any_flag test zero r ps fs before within after bound long = front_any_flag test r ps fs within after bound long
@@ -123,7 +123,7 @@ run_flag test a b ps fs run long =
     (subst (NonePassing test) (sym (drop-drop (b - a) a ps ∙ (let e : a + (b - a) ≡ b = omega (arith, run.ordered) in ap (λ k. drop k ps) e))) run.after)
     (omega (arith, length-drop a ps, run.bound, run.ordered)) long
 
--- where a path is none of them, those below it are those that begin with it
+-- if a path is none of them, those below it are those that begin with it
 below_begins : (d : List ℕ) (zs : List (List ℕ)) → NonePassing (bytes_eq d) zs → list_any (is_below d) zs ≡ list_any (λ z. begins_with z d) zs
 below_begins d [] none = refl
 below_begins d (z ∷ zs) none =
@@ -181,7 +181,7 @@ no_names d = go (children [] d) refl
     go [] is = is
     go (z ∷ zs) is = let q = child_from [] d z (subst (λ l. Contains l z) (sym is) (first_in z zs z refl)) in absurd (none_in q.0 q.1)
 
--- the first child of a list, and those behind its paths
+-- the first child of a list, and those after its paths
 pub first_names : (d : List ℕ) (ps : List (List ℕ)) (p : List ℕ) (qs : List (List ℕ)) (path name : List ℕ) (n : ℕ) → ps ≡ p ∷ qs → path ≡ p → name ≡ child_of d path → AllPassing (λ q. begins_with q d) ps
     → NonePassing (λ q. is_lt (rank_cmp (child_of d q) name)) ps → n ≤ length ps → AllPassing (λ q. bytes_eq (child_of d q) name) (take n ps) → NonePassing (λ q. bytes_eq (child_of d q) name) (drop n ps)
     → IsFirstChild d ps path n

@@ -17,7 +17,7 @@ use Rattle.br_tree.specs.Seen.{flagged}
 abbrev pub Below : List ℕ → List ℕ → Type 0
 Below p q = rank_cmp p q ≡ Less
 
--- each path is below all behind it
+-- each path is below all after it
 abbrev pub Rises : List (List ℕ) → Type 0
 Rises paths = EachPair Below paths
 

@@ -58,7 +58,7 @@ kept_entries q (x ∷ xs) (f ∷ fs) long h = go f h.0 (kept_entries q xs fs (om
     go true is rest = ap (λ es. shown_pair x ∷ es) rest ∙ sym (ap (λ b. cond b (shown_pair x ∷ filter (λ (e : Entry). q e.path) (map shown_pair xs)) (filter (λ (e : Entry). q e.path) (map shown_pair xs))) is)
     go false is rest = rest ∙ sym (ap (λ b. cond b (shown_pair x ∷ filter (λ (e : Entry). q e.path) (map shown_pair xs)) (filter (λ (e : Entry). q e.path) (map shown_pair xs))) is)
 
--- what is found, beside what a test says that agrees with the flags
+-- what is found, with what a test says that agrees with the flags
 pub found_are : (pattern : List ℕ) (q : List ℕ → Bool) (xs : List Pair) (fs : List Bool) → length fs ≡ length xs → Agrees q (seen_paths xs) fs
     → found_in pattern xs fs ≡ map (λ path. (path, q path)) (filter (λ path. matches pattern (last_component path)) (seen_paths xs))
 found_are pattern q [] fs long h = refl
@@ -73,7 +73,7 @@ found_are pattern q (x ∷ xs) (f ∷ fs) long h = go (matches pattern (last_com
     go true e = ap (λ zs. (x.0.now, f) ∷ zs) e ∙ ap (λ b. (x.0.now, b) ∷ map (λ path. (path, q path)) (filter (λ path. matches pattern (last_component path)) (seen_paths xs))) (sym h.0)
     go false e = e
 
--- ---- behind the last slash
+-- ---- after the last slash
 
 -- a text up to its first slash, without it
 abbrev pub plain : List ℕ → List ℕ
@@ -119,7 +119,7 @@ cut_at text n e = from text n (position-Some is_slash text n 0 e).0 (position-So
 last_is : (text : List ℕ) → last_part text ≡ reverse (plain (reverse text))
 last_is text = ap reverse (plain_is (reverse text))
 
--- behind a slash it is the same
+-- after a slash it is the same
 pub last_more : (text : List ℕ) (n : ℕ) → position is_slash text ≡ Some n → last_part (drop (n + 1) text) ≡ last_part text
 last_more text n e =
     let cut = cut_at text n e in
@@ -151,7 +151,7 @@ last_whole text e =
     each_turned [] h = tt
     each_turned (x ∷ xs) h = subst (AllByRecursion (λ c. is_slash c ≡ false)) (sym (reverse-append (x ∷ []) xs)) (all_append (λ c. is_slash c ≡ false) (reverse xs) (x ∷ []) (each_turned xs h.1) (h.0, tt))
 
--- what a value meets, where there is one
+-- what a value meets, if there is one
 pub ok_to : {X E : Type 0} (P Q : X → Type 0) (r : Result X E) → ((x : X) → P x → Q x) → IfOk r P → IfOk r Q
 ok_to P Q (Ok x) f h = f x h
 ok_to P Q (Err e) f h = h

@@ -31,7 +31,7 @@ either_way false false f g = refl
 
 -- ---- ends of a name
 
--- some end of a name is the name, or one of what stands behind its first byte
+-- some end of a name is the name, or one of what follows its first byte
 pub ends_of : (p : List ℕ → Bool) (c : ℕ) (cs : List ℕ) → list_any p (tails (c ∷ cs)) ≡ (p (c ∷ cs) || list_any p (tails cs))
 unfolding tails
 ends_of p c cs = refl
@@ -47,7 +47,7 @@ own_end p (c ∷ cs) e = ends_of p c cs ∙ or_left (p (c ∷ cs)) (list_any p (
 
 -- ---- a star
 
--- a star matches a name where the pattern behind it matches some end
+-- a star matches a name if the pattern after it matches some end
 pub star_is : (ps n : List ℕ) → matches (42 ∷ ps) n ≡ list_any (matches ps) (tails n)
 unfolding matches
 star_is ps [] = sym (ends_of_none (matches ps))
@@ -79,7 +79,7 @@ pub byte_of_none : (p : ℕ) (ps : List ℕ) → eqb p 42 ≡ false → matches 
 unfolding matches
 byte_of_none p ps no_star = ap (λ b. b && matches ps []) no_star
 
--- where it matches some end, the rest matches some end behind the first byte
+-- if it matches some end, the rest matches some end after the first byte
 pub byte_later : (p : ℕ) (ps : List ℕ) (c : ℕ) (cs : List ℕ) → eqb p 42 ≡ false → list_any (matches (p ∷ ps)) (tails (c ∷ cs)) ≡ true → list_any (matches ps) (tails cs) ≡ true
 byte_later p ps c cs no_star e =
     or_cases (matches (p ∷ ps) (c ∷ cs)) (list_any (matches (p ∷ ps)) (tails cs)) (sym (ends_of (matches (p ∷ ps)) c cs) ∙ e)
@@ -139,7 +139,7 @@ at_end pattern name left behind b before none is = (both pattern name left behin
 
 -- ---- some end of a name
 
--- a pattern that does not match the name goes on behind the first byte
+-- a pattern that does not match the name goes on after the first byte
 pub goes_on : (p n : List ℕ) (c : ℕ) (cs : List ℕ) → n ≡ c ∷ cs → matches p n ≡ false → list_any (matches p) (tails n) ≡ list_any (matches p) (tails cs)
 goes_on p n c cs is none =
     ap (λ m. list_any (matches p) (tails m)) is ∙ ends_of (matches p) c cs ∙ ap (λ b. b || list_any (matches p) (tails cs)) (ap (matches p) (sym is) ∙ none)
@@ -150,11 +150,11 @@ goes_nowhere p n is none =
     let empty = nil_from_length n is in
     ap (λ m. list_any (matches p) (tails m)) empty ∙ ends_of_none (matches p) ∙ ap (matches p) (sym empty) ∙ none
 
--- where it matches the name, it matches an end of it
+-- if it matches the name, it matches an end of it
 pub matches_at_once : (p n : List ℕ) → matches p n ≡ true → list_any (matches p) (tails n) ≡ true
 matches_at_once p n e = own_end (matches p) n e
 
--- behind a star the earliest place will do
+-- after a star the earliest place will do
 pub star_goes_on : (p n left behind : List ℕ) → LeadsTo p n (42 ∷ left) behind → list_any (matches p) (tails n) ≡ list_any (matches left) (tails behind)
 star_goes_on p n left behind to =
     either_way (list_any (matches p) (tails n)) (list_any (matches left) (tails behind))

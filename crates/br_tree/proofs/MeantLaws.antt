@@ -123,7 +123,7 @@ so_named d q z name below is e =
 
 -- ---- what is meant
 
--- a path is meant where its child matches
+-- a path is meant if its child matches
 pub meant_if_picked : (paths : List (List ℕ)) (d pattern z : List ℕ) → Contains paths z → is_meant d (matching paths d pattern) z ≡ is_picked true d pattern z
 unfolding matching
 meant_if_picked paths d pattern z inside =
@@ -144,7 +144,7 @@ pub same_filter : (p q : List ℕ → Bool) (xs : List (List ℕ)) → AllByRecu
 same_filter p q [] h = refl
 same_filter p q (x ∷ xs) h = ap (λ b. cond b (x ∷ filter p xs) (filter p xs)) h.0 ∙ ap (λ ys. cond (q x) (x ∷ ys) ys) (same_filter p q xs h.1)
 
--- a child matches where some path is meant
+-- a child matches if some path is meant
 same_emptiness : (paths : List (List ℕ)) (d pattern : List ℕ) → is_empty (matching paths d pattern) ≡ is_empty (filter (is_picked true d pattern) paths)
 unfolding matching
 same_emptiness paths d pattern = go (matching paths d pattern) refl (filter (is_picked true d pattern) paths) refl
@@ -181,7 +181,7 @@ meant_is paths d pattern = go (is_empty (matching paths d pattern)) refl
 
 -- ---- directories that are meant
 
--- a directory's own path is meant where its name matches
+-- a directory's own path is meant if its name matches
 own_if_picked : (paths : List (List ℕ)) (d pattern z : List ℕ) → Contains paths z
     → is_among (map (λ name. d ++ name) (filter is_directory (matching paths d pattern))) z ≡ is_picked false d pattern z
 unfolding matching

@@ -1,4 +1,4 @@
--- Texts up to their first slash, and how texts with a common front stand to each other.
+-- Texts up to their first slash, and how texts with a common front are ordered.
 use Rattle.std.proofs.Common.{◌≡◌, ℕ, suc, ◌+◌, ◌-◌, ◌<◌, Bool, true, false, not, ◌||◌, cond, eqb, List, [], ◌∷◌, ◌++◌, length, take, refl, sym, ap, ◌∙◌, inl, inr, arith, add-one}
 use Rattle.std.proofs.lemmas.List.{take_all}
 use Rattle.std.proofs.lemmas.Bool.{ltb-false, cases_order, lt-ltb, le-ltb, ne_eqb}
@@ -18,7 +18,7 @@ abbrev pub part : List ℕ → List ℕ
 part [] = []
 part (c ∷ cs) = c ∷ cond (is_slash c) [] (part cs)
 
--- what stands behind it
+-- what follows it
 abbrev pub behind : List ℕ → List ℕ
 behind [] = []
 behind (c ∷ cs) = cond (is_slash c) cs (behind cs)
@@ -31,7 +31,7 @@ part_is (c ∷ cs) = go (is_slash c) refl (part_is cs)
     go true e rest = rw e refl
     go false e rest = rw e (ap (λ n. take n (c ∷ cs)) (add-one (1 + prefix_len (λ d. not (is_slash d)) cs)) ∙ ap (λ n. c ∷ take n cs) (omega arith) ∙ ap (λ ds. c ∷ ds) rest)
 
--- a text is its part and what stands behind
+-- a text is its part and what follows
 pub part_splits : (text : List ℕ) → text ≡ part text ++ behind text
 part_splits [] = refl
 part_splits (c ∷ cs) = ap (λ ds. c ∷ ds) (go (is_slash c) (part_splits cs))
@@ -74,7 +74,7 @@ last_later c d ds = ap (λ n. eqb (slice_index (c ∷ d ∷ ds) n) 47) n_is
     n_is : length (c ∷ d ∷ ds) - 1 ≡ suc (length (d ∷ ds) - 1)
     n_is = omega arith
 
--- a part ends in a slash where the text has one
+-- a part ends in a slash if the text has one
 pub part_directory : (text : List ℕ) → is_directory (part text) ≡ list_any is_slash text
 part_directory [] = refl
 part_directory (c ∷ []) = go (is_slash c) refl
@@ -116,7 +116,7 @@ pub front_first : (f r : List ℕ) → rank_cmp (f ++ r) f ≡ Less → ⊥
 front_first [] r e = none_below_empty r e
 front_first (c ∷ f) r e = front_first f r (sym (head_same c (f ++ r) f) ∙ e)
 
--- what stands between a front and something that begins with it begins with it
+-- what is between a front and a text that begins with it begins with it
 pub between : (f b r : List ℕ) → (rank_cmp b f ≡ Less → ⊥) → (rank_cmp (f ++ r) b ≡ Less → ⊥) → (more : List ℕ) × (b ≡ f ++ more)
 between [] b r low high = (b, refl)
 between (x ∷ f) [] r low high = absurd (low refl)
@@ -170,7 +170,7 @@ part_at text n e = go (nat_lt (prefix_len (λ c. not (is_slash c)) text) (length
     go true h = let same : prefix_len (λ c. not (is_slash c)) text ≡ n = cc in ap (λ m. take (m + 1) text) (sym same)
     go false h = absurd cc
 
--- the whole text where there is none
+-- the whole text if there is none
 pub part_without : (text : List ℕ) → position is_slash text ≡ None → text ≡ first_part text
 part_without text e = go (nat_lt (prefix_len (λ c. not (is_slash c)) text) (length text)) refl e
   where

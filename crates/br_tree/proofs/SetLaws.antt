@@ -1,4 +1,5 @@
--- Flags that are set where paths pass a test: the marks that come of it, and how many changed.
+-- Flags that are set where paths pass a test: the marks that come of it, and the number of
+-- changed flags.
 use Rattle.std.proofs.Common.{◌≡◌, ℕ, zero, suc, replicate, ◌+◌, Bool, true, false, not, ◌&&◌, ◌||◌, cond, List, [], ◌∷◌, ◌++◌, length, filter, refl, sym, ap, subst, ◌∙◌, inl, inr, ◌⊎◌, arith}
 use Rattle.std.proofs.lemmas.Bool.{both_ways, false_from_ne_true}
 use Rattle.std.proofs.lemmas.List.Elements.{Contains-append_left, Contains-append_right}
@@ -74,7 +75,7 @@ set_marks test ps fs rises long =
     (elim (set_within test ps fs z c) [ inl a ↦ Contains-append_left (filter test ps) (flagged ps fs) z a | inr b ↦ Contains-append_right (filter test ps) (flagged ps fs) z b ]))
     (λ z c. set_has test ps fs z long (in_either (filter test ps) (flagged ps fs) z (in_order_from (λ p. p) (filter test ps ++ flagged ps fs) z c)))
 
--- ---- where flags are taken away
+-- ---- where flags are cleared
 
 -- of paths, those that pass are among those that pass
 pub among_passing : (test : List ℕ → Bool) (ps : List (List ℕ)) (z : List ℕ) → Contains ps z → is_among (filter test ps) z ≡ test z
@@ -130,7 +131,7 @@ none_equal : (p : List ℕ) (zs : List (List ℕ)) → AllByRecursion (Below p) 
 none_equal p [] all = refl
 none_equal p (z ∷ zs) all = ap (λ b. b || is_among zs p) (not_equal_back p z all.0) ∙ none_equal p zs all.1
 
--- a path is among the flagged ones where its flag is set
+-- a path is among the flagged ones if its flag is set
 pub flags_agree : (ps : List (List ℕ)) (fs : List Bool) → Rises ps → Agrees (is_among (flagged ps fs)) ps fs
 flags_agree [] fs rises = tt
 flags_agree (p ∷ ps) [] rises = tt
@@ -173,12 +174,12 @@ count_taken test q (p ∷ ps) (f ∷ fs) long h = go _ _ (test p) (q p) f refl h
     go F n true false false is e rest = omega (arith, rest) ∙ sym (ap (λ b. length (cond b (p ∷ filter q F) (filter q F))) is)
     go F n false b f is e rest = omega (arith, rest)
 
--- how many of what passes were not marked
+-- the number of passing paths that were not marked
 pub set_counts : (test : List ℕ → Bool) (ps : List (List ℕ)) (fs : List Bool) → Rises ps → length fs ≡ length ps
     → changed test true ps fs ≡ length (filter (λ p. not (is_among (flagged ps fs) p)) (filter test ps))
 set_counts test ps fs rises long = count_set test (is_among (flagged ps fs)) ps fs long (flags_agree ps fs rises)
 
--- how many of it were
+-- the number of passing paths that were marked
 pub taken_counts : (test : List ℕ → Bool) (ps : List (List ℕ)) (fs : List Bool) → Rises ps → length fs ≡ length ps
     → changed test false ps fs ≡ length (filter (λ p. is_among (flagged ps fs) p) (filter test ps))
 taken_counts test ps fs rises long = count_taken test (is_among (flagged ps fs)) ps fs long (flags_agree ps fs rises)

@@ -62,7 +62,7 @@ step_finds test (suc r) (suc l) (p ∷ ps) within after le bound = ap (λ b. b |
 
 -- ---- a loop over runs
 
--- the flags are set up to a place, and so many changed
+-- the flags are set up to a place, and this number of flags changed
 pub record Stands (test : List ℕ → Bool) (v : Bool) (paths : List (List ℕ)) (old : List Bool) (place : ℕ) (flags : List Bool) (count : ℕ) (found : Bool) : Type 0 where
   pub sets : take place flags ++ set_where test v (drop place paths) (drop place flags) ≡ set_where test v paths old
   pub counts : count + changed test v (drop place paths) (drop place flags) ≡ changed test v paths old
@@ -263,7 +263,7 @@ none_later d p [] all from = tt
 none_later d p (q ∷ qs) all from =
     (false_from_ne_true (bytes_eq d q) (λ e. from (subst (Below p) (sym ((bytes_eq-Decides d q).0 e)) all.0)), none_later d p qs all.1 from)
 
--- behind the first path none is the directory's own
+-- after the first path none is the directory's own
 pub behind_own : (d : List ℕ) (ps : List (List ℕ)) (p : List ℕ) (qs : List (List ℕ)) → ps ≡ p ∷ qs → IsRising ps → NonePassing (λ q. is_lt (rank_cmp q d)) ps → NonePassing (bytes_eq d) (drop 1 ps)
 behind_own d ps p qs shape rises from =
     subst (λ zs. NonePassing (bytes_eq d) (drop 1 zs)) (sym shape) (none_later d p qs (subst IsRising shape rises).0 (not_less p d (subst (NonePassing (λ q. is_lt (rank_cmp q d))) shape from).0))

@@ -1,4 +1,4 @@
--- Sums that are kept beside flags.
+-- Sums that are kept for flags.
 use Rattle.std.proofs.Common.{◌≡◌, ◌≤◌, ◌<◌, ◌+◌, ◌-◌, ◌*◌, ℕ, zero, suc, Bool, true, false, cond, List, [], ◌∷◌, ◌++◌, length, get_or, take, drop, replicate, set, zero-add, refl, sym, ap, subst, ◌∙◌, append_assoc, append-nil, length-append, length-drop, arith}
 use Rattle.std.proofs.lemmas.List.{get_or_at, take_at, drop_at, set_at, drop_more, drop_all, length_push, length-take-le, length-replicate, take_rest}
 use Rattle.std.proofs.lemmas.List.Sums.{sum_by-cons}

@@ -20,7 +20,7 @@ is_chosen (Names pattern) directory = is_picked true directory pattern.now
 is_chosen (Directories (Some pattern)) directory = is_picked false directory pattern.now
 is_chosen (Directories None) directory = bytes_eq directory
 
--- the paths that are meant in a directory, as the model says
+-- the paths that are meant in a directory, as in the model
 abbrev pub chosen : List (List ℕ) → List ℕ → Meant → Result (List (List ℕ)) ℕ
 chosen paths directory (Names pattern) = model.meant paths directory pattern.now
 chosen paths directory (Directories pattern) = model.meant_directories paths directory (option_map (λ (p : Bor (List ℕ)). p.now) pattern)
@@ -30,7 +30,7 @@ abbrev pub after_change : Change → Marking → Result (List (List ℕ)) ℕ �
 after_change Mark m paths = after_mark m paths
 after_change Unmark m paths = after_unmark m paths
 
--- the number of paths whose mark the change sets or takes away
+-- the number of paths whose mark the change sets or removes
 abbrev pub newly_changed : Change → Marking → Result (List (List ℕ)) ℕ → Option ℕ
 newly_changed Mark m paths = newly_marked m paths
 newly_changed Unmark m paths = newly_unmarked m paths

@@ -1,4 +1,4 @@
--- Tests that the first ones of some paths pass, and no later one.
+-- Tests that the first paths of a list pass, and no later one.
 use Rattle.std.specs.Prelude.{◌≡◌, ℕ, ◌≤◌, Bool, true, List, [], ◌∷◌, length, take, drop, bytes_eq}
 use Rattle.std.specs.List.{AllByRecursion}
 use Rattle.std.specs.Cmp.Lexicographic.{slice_cmp}

@@ -13,21 +13,22 @@ kept [] flags = []
 kept (pair ∷ pairs) [] = []
 kept (pair ∷ pairs) (flag ∷ flags) = (if flag then pair ∷ [] else []) ++ kept pairs flags
 
--- the paths whose last component matches, each beside its flag
+-- the paths whose last component matches, each with its flag
 abbrev pub found_in : List ℕ → List Pair → List Bool → List (List ℕ × Bool)
 found_in pattern [] flags = []
 found_in pattern (pair ∷ pairs) [] = []
 found_in pattern (pair ∷ pairs) (flag ∷ flags) = (if matches pattern (last_component pair.0.now) then (pair.0.now, flag) ∷ [] else []) ++ found_in pattern pairs flags
 
--- the path beside its flag, if its last component matches
+-- the path with its flag, if its last component matches
 abbrev pub found_if : List ℕ → List ℕ → Bool → List (List ℕ × Bool)
 found_if pattern path flag = if matches pattern (last_component path) then (path, flag) ∷ [] else []
 
--- a text after its last slash
+-- the part of a text after its last slash
 abbrev pub last_part : List ℕ → List ℕ
 last_part text = reverse (take (prefix_len (λ c. not (is_slash c)) (reverse text)) (reverse text))
 
--- the second list has, after the children of the first, the child that a path in the directory is of or below, with its sign
+-- the second list has, after the children of the first, the child of a path in the directory: the
+-- path is the child or below it; with the child comes its sign
 abbrev pub NotesChild : List (List ℕ) → List ℕ → List ℕ → List Child → List Child → Type 0
 NotesChild marked directory path old new = map seen_child new ≡ map seen_child old ++ map (signed marked directory) (some_name (child_of directory path))
 

@@ -1,4 +1,4 @@
--- How the values of the program are seen.
+-- The program's values as those of the model.
 use Rattle.std.specs.Prelude.{ℕ, Bool, if◌then◌else◌, List, [], ◌∷◌, ◌++◌}
 use Rattle.std.specs.Borrow.{Bor}
 use Rattle.br_model.specs.Console.{sign}

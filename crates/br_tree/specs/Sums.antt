@@ -1,4 +1,4 @@
--- Sums that are kept beside flags, and flags that are set from a place to another.
+-- Sums that are kept for flags, and flags that are set from one place to another.
 use Rattle.std.specs.Prelude.{◌≡◌, ℕ, zero, suc, ◌+◌, ◌-◌, ◌*◌, ◌/◌, ◌<◌, ◌≤◌, Bool, true, false, if◌then◌else◌, List, [], ◌∷◌, length, take, drop, get_or, count_by}
 use Rattle.br_tree.specs.Walk.{differs}
 
@@ -14,8 +14,8 @@ middle sums = length sums / 2
 abbrev pub cut : List ℕ → ℕ
 cut sums = 16 * (length sums / 2 + 1)
 
--- the middle one of some sums is the number of set flags before the cut; so on with the sums and the flags before it, and with
--- those after it, down to a depth
+-- the middle one of some sums is the number of set flags before the cut; the same holds for the
+-- sums and the flags before it, and for those after it, down to a depth
 abbrev pub AreSumsTo : ℕ → List ℕ → List Bool → Type 0
 AreSumsTo zero sums flags = Unit {0}
 AreSumsTo (suc depth) sums flags =
@@ -28,21 +28,21 @@ pub record AreSums (sums : List ℕ) (flags : List Bool) : Type 0 where
   pub counted : (depth : ℕ) → AreSumsTo depth sums flags
   pub room : 16 * length sums ≤ length flags
 
--- the flags with those from a place to another set to a value
+-- the flags after those from one place to another were set to a value
 abbrev pub painted : ℕ → ℕ → Bool → List Bool → List Bool
 painted from to value [] = []
 painted from zero value (flag ∷ flags) = flag ∷ flags
 painted zero (suc to) value (flag ∷ flags) = value ∷ painted zero to value flags
 painted (suc from) (suc to) value (flag ∷ flags) = flag ∷ painted from to value flags
 
--- how many flags that changes
+-- the number of flags that this changes
 abbrev pub repainted : ℕ → ℕ → Bool → List Bool → ℕ
 repainted from to value [] = 0
 repainted from zero value (flag ∷ flags) = 0
 repainted zero (suc to) value (flag ∷ flags) = (if differs value flag then 1 else 0) + repainted zero to value flags
 repainted (suc from) (suc to) value (flag ∷ flags) = repainted from to value flags
 
--- a number of set flags, after so many were set or taken
+-- the number of set flags after k flags were set or cleared
 abbrev pub moved : Bool → ℕ → ℕ → ℕ
 moved true n k = n + k
 moved false n k = n - k

@@ -1,4 +1,4 @@
--- Runs of paths that begin alike, and flags beside paths.
+-- Runs of paths with a common beginning, and flags of paths.
 use Rattle.std.specs.Prelude.{◌≡◌, ℕ, ◌+◌, ◌-◌, ◌≤◌, ◌<◌, Bool, true, false, not, ◌&&◌, ◌||◌, if◌then◌else◌, List, [], ◌∷◌, ◌++◌, length, map, take, drop, bytes_eq, Option, Some, None}
 use Rattle.std.specs.Borrow.{Bor}
 use Rattle.std.specs.List.{AllByRecursion, list_any, prefix_len}
@@ -11,7 +11,7 @@ use Rattle.br_model.specs.Text.{is_empty}
 use Rattle.br_view.specs.declared.entry.Entry.{Entry}
 use Rattle.br_tree.specs.Seen.{flagged}
 
--- a path beside its entry
+-- a path with its entry
 abbrev pub Pair : Type 0
 Pair = Bor (List ℕ) × Entry
 
@@ -19,7 +19,7 @@ Pair = Bor (List ℕ) × Entry
 abbrev pub seen_paths : List Pair → List (List ℕ)
 seen_paths pairs = map (λ (p : Pair). p.0.now) pairs
 
--- a text up to its first slash
+-- a text up to and including its first slash
 abbrev pub first_part : List ℕ → List ℕ
 first_part text = take (prefix_len (λ c. not (is_slash c)) text + 1) text
 
@@ -30,12 +30,12 @@ AllPassing test paths = AllByRecursion (λ path. test path ≡ true) paths
 abbrev pub NonePassing : (List ℕ → Bool) → List (List ℕ) → Type 0
 NonePassing test paths = AllByRecursion (λ path. test path ≡ false) paths
 
--- each path is below all behind it
+-- each path is less than all paths after it
 abbrev pub IsRising : List (List ℕ) → Type 0
 IsRising [] = Unit {0}
 IsRising (path ∷ paths) = AllByRecursion (λ later. slice_cmp nat_cmp path later ≡ Less) paths × IsRising paths
 
--- the paths of pairs rise
+-- the paths of pairs ascend
 abbrev pub AreSorted : List Pair → Type 0
 AreSorted pairs = IsRising (seen_paths pairs)
 
@@ -47,7 +47,7 @@ marked_in pairs flags = flagged (seen_paths pairs) flags
 abbrev pub NoneBegins : List (List ℕ) → List ℕ → Type 0
 NoneBegins marked text = list_any (λ path. begins_with path text) marked ≡ false
 
--- from a first place to a last one the paths pass a test, and no other does
+-- the paths from a first place to a last one pass a test, and no other does
 pub record IsRun (test : List ℕ → Bool) (paths : List (List ℕ)) (first last : ℕ) : Type 0 where
   pub ordered : first ≤ last
   pub bound : last ≤ length paths
@@ -55,7 +55,7 @@ pub record IsRun (test : List ℕ → Bool) (paths : List (List ℕ)) (first las
   pub within : AllPassing test (take (last - first) (drop first paths))
   pub after : NonePassing test (drop last paths)
 
--- the first paths pass a test, and then up to a place none does
+-- the first paths pass a test, and the others up to a place do not
 pub record IsStep (test : List ℕ → Bool) (paths : List (List ℕ)) (reach len : ℕ) : Type 0 where
   pub some : 0 < len
   pub ordered : reach ≤ len
@@ -63,35 +63,37 @@ pub record IsStep (test : List ℕ → Bool) (paths : List (List ℕ)) (reach le
   pub within : AllPassing test (take reach paths)
   pub after : NonePassing test (drop reach (take len paths))
 
--- a name, where it is not empty
+-- a name, if it is not empty
 abbrev pub some_name : List ℕ → List (List ℕ)
 some_name name = if is_empty name then [] else name ∷ []
 
--- the first paths are of one child, which is no child of those behind them
+-- the first paths belong to one child, to which no later path belongs
 pub record IsFirstChild (directory : List ℕ) (paths : List (List ℕ)) (path : List ℕ) (len : ℕ) : Type 0 where
   pub some : 0 < len
   pub bound : len ≤ length paths
   pub begins : begins_with path directory ≡ true
   pub names : children paths directory ≡ some_name (child_of directory path) ++ children (drop len paths) directory
 
--- whether the path is that of the directory in the directory
+-- whether the path is that of a directory that is in the directory
 abbrev pub is_own : List ℕ → List ℕ → Bool
 is_own directory path = is_directory path && bytes_eq path (directory ++ child_of directory path)
 
--- whether the path of a child that matches, or of something below it, is meant; without what is below only a directory's own
+-- whether a path is meant, if it is that of a child or below one: the child matches, and if `deep`
+-- is false, the path is a directory's own
 abbrev pub picks : Bool → List ℕ → List ℕ → List ℕ → Bool
 picks deep directory pattern path = (deep || is_own directory path) && matches pattern (bare (child_of directory path))
 
--- the same of any path
+-- the same for any path
 abbrev pub is_picked : Bool → List ℕ → List ℕ → List ℕ → Bool
 is_picked deep directory pattern path = is_below directory path && picks deep directory pattern path
 
--- of the paths of a child from its first one on, the number of those that are meant: all, or its own path if that is the first
+-- the number of meant paths of a child, from its first path on: all, or only its own path if that
+-- is the first
 abbrev pub reach : Bool → List ℕ → List ℕ → List ℕ → List ℕ → ℕ → ℕ
 reach deep directory pattern name path len =
     if not (is_empty name) && matches pattern (bare name) then (if deep then len else (if is_own directory path then 1 else 0)) else 0
 
--- the flags with those of the paths that pass set to a value
+-- the flags after those of the paths that pass were set to a value
 abbrev pub set_where : (List ℕ → Bool) → Bool → List (List ℕ) → List Bool → List Bool
 set_where test value [] flags = flags
 set_where test value (path ∷ paths) [] = []
@@ -102,12 +104,12 @@ abbrev pub differs : Bool → Bool → Bool
 differs true flag = not flag
 differs false flag = flag
 
--- how many flags that changes
+-- the number of flags that this changes
 abbrev pub changed : (List ℕ → Bool) → Bool → List (List ℕ) → List Bool → ℕ
 changed test value [] flags = 0
 changed test value (path ∷ paths) [] = 0
 changed test value (path ∷ paths) (flag ∷ flags) = (if test path && differs value flag then 1 else 0) + changed test value paths flags
 
--- how many flags change, where a path passes
+-- the number of flags that change, if a path passes
 abbrev pub changes : (List ℕ → Bool) → Bool → List (List ℕ) → List Bool → Option ℕ
 changes test value paths flags = if list_any test paths then Some (changed test value paths flags) else None

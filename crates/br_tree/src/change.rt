@@ -1,12 +1,12 @@
 ghost use Rattle.std.specs.Prelude.{◌≡◌};
 ghost use Rattle.br_tree.specs.Change.{flag_of};
 
-/// What a change does to the marks of the paths that are meant.
+/// The effect of a change on the marks of the paths that are meant.
 #[derive(Clone, Copy, PartialEq, Eq)]
 pub(crate) enum Change {
     /// It sets them.
     Mark,
-    /// It takes them away.
+    /// It removes them.
     Unmark,
 }
 

@@ -1,7 +1,7 @@
 ghost use Rattle.std.specs.Prelude.{◌≡◌};
 ghost use Rattle.br_tree.specs.Seen.{sign_byte};
 
-/// Says whether a name of a directory is marked, or something below it.
+/// Whether a name of a directory is marked, or something below it.
 #[derive(Clone, Copy, PartialEq, Eq)]
 pub enum Sign {
     /// Its own path is marked.
@@ -13,7 +13,7 @@ pub enum Sign {
 }
 
 impl Sign {
-    /// Returns the byte that is shown for it: `*`, `+` or a space.
+    /// Returns the byte that shows it: `*`, `+` or a space.
     pub fn byte(self) -> u8
         ensures { result ≡ sign_byte self }
     {

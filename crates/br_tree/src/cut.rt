@@ -5,7 +5,7 @@ ghost use Rattle.br_tree.specs.Walk.{seen_paths, AllPassing, NonePassing};
 use crate::run::{Shown, child_name};
 use br_types::Path;
 
-/// A test that the first ones of some paths pass, and no later one.
+/// A test that the first paths of a list pass, and no later one.
 #[derive(Clone, Copy)]
 pub(crate) enum Test<'t> {
     /// The path comes before a text in byte order.
@@ -61,7 +61,7 @@ fn is_cut(entries: &[Shown<'_>], test: Test<'_>, place: usize) -> bool
     last_passes(front, test) && first_fails(back, test)
 }
 
-/// Returns the number of first paths that pass. It is found without a search if it is what was guessed.
+/// Returns the number of first paths that pass. There is no search if the guess is right.
 pub(crate) fn cut(entries: &[Shown<'_>], test: Test<'_>, guess: usize) -> usize
     requires { IsFalling (passes test) (seen_paths entries.now) }
     ensures { IsCut (passes test.entry) (seen_paths entries.now) result }

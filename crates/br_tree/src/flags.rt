@@ -20,7 +20,7 @@ fn sums_for(alloc: Global, count: usize) -> Result<Vec<usize>, AllocError>
     vec![in alloc; 0; count / BLOCK]
 }
 
-/// Returns the number of flags that are set from a place to another.
+/// Returns the number of flags that are set from one place to another.
 fn count_between(flags: &[bool], sums: &[usize], from: usize, to: usize) -> usize
     requires sums { AreSums sums.now flags.now }
     requires ordered { from ≤ to }
@@ -30,7 +30,7 @@ fn count_between(flags: &[bool], sums: &[usize], from: usize, to: usize) -> usiz
     count_before(flags, sums, to).saturating_sub(count_before(flags, sums, from))
 }
 
-/// A flag for each path, and sums by which those that are set are counted.
+/// A flag for each path, and sums by which the set flags are counted.
 #[derive(Drop)]
 pub(crate) struct Flags {
     flags: Vec<bool>,
@@ -65,7 +65,7 @@ impl Flags {
         self.flags.as_slice()
     }
 
-    /// Returns the number of flags that are set from a place to another.
+    /// Returns the number of flags that are set from one place to another.
     pub(crate) fn count(&self, from: usize, to: usize) -> usize
         requires ordered { from ≤ to }
         requires bound { to ≤ length self.now }
@@ -74,7 +74,7 @@ impl Flags {
         count_between(&self.flags, &self.sums, from, to)
     }
 
-    /// Sets the flags from a place to another to a value. Returns the number of those that had another one.
+    /// Sets the flags from one place to another to a value. Returns the number of changed flags.
     pub(crate) fn set(&mut self, from: usize, to: usize, value: bool) -> usize
         requires ordered { from ≤ to }
         requires bound { to ≤ length self.old }

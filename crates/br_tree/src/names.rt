@@ -12,7 +12,7 @@ use crate::spans::span_at;
 use crate::walk::part_of;
 use std::alloc::{AllocError, Global};
 
-/// Returns the path of a child, the front of a path that is the child's or below it.
+/// Returns the path of a child from a path that is the child's or below it.
 fn front_of<'p>(directory: &[u8], path: &'p [u8], name: &[u8]) -> &'p [u8]
     requires begins { model.begins_with path.now directory.now ≡ true }
     requires named { name.now ≡ model.child_of directory.now path.now }
@@ -21,8 +21,8 @@ fn front_of<'p>(directory: &[u8], path: &'p [u8], name: &[u8]) -> &'p [u8]
     &path[..directory.len() + name.len()]
 }
 
-/// Returns the first of some paths in a directory, and the number of first ones that are of its child. A right guess of this
-/// number saves a search.
+/// Returns the first of some paths in a directory, and the number of first paths that belong to its
+/// child. A right guess of this number saves a search.
 fn next_child<'h>(entries: &[Shown<'h>], directory: &[u8], guess: usize) -> (&'h [u8], usize)
     requires sorted { AreSorted entries.now }
     requires begins { AllPassing (λ path. model.begins_with path directory.now) (seen_paths entries.now) }
@@ -36,15 +36,16 @@ fn next_child<'h>(entries: &[Shown<'h>], directory: &[u8], guess: usize) -> (&'h
     )
 }
 
-/// Returns a guess, unless it is not needed.
+/// Returns a guess, unless none is needed.
 fn guess_unless(is_quiet: bool, guess: (usize, usize)) -> Option<(usize, usize)>
     ensures { IfNone result (is_quiet ≡ true) }
 {
     if is_quiet { None } else { Some(guess) }
 }
 
-/// Notes the child that has a path, with its sign; the directory itself is no child. A right guess of the places between which
-/// its paths are saves a search. There is none only if no path in the directory is marked.
+/// Notes the child of a path, with its sign; the directory itself is not a child. A right guess of
+/// the places between which its paths are saves a search. There is no guess only if no path in the
+/// directory is marked.
 fn note_child<'h>(
     noted: &mut Vec<Child<'h>>,
     entries: &[Shown<'_>],

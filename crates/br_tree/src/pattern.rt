@@ -16,7 +16,7 @@ pub fn bare_name(name: &[u8]) -> &[u8]
     }
 }
 
-/// What a match of a pattern with a name comes to up to the first `*`.
+/// The result of matching a pattern with a name up to the first `*`.
 enum Front<'t> {
     /// There is no `*`, and it matches the whole name.
     Whole,
@@ -61,8 +61,9 @@ fn match_front<'t>(pattern: &'t [u8], name: &'t [u8]) -> Front<'t>
     }
 }
 
-/// Returns whether a pattern matches the name from some place on. What comes before a `*` is taken at the first place that
-/// matches: a later place leaves less of the name, and what it leaves is left by the first one too.
+/// Returns whether a pattern matches the name from some place on. The part before a `*` is
+/// matched at the first possible place: a later place leaves less of the name, a part of what the
+/// first leaves.
 fn matches_somewhere(pattern: &[u8], name: &[u8]) -> bool
     ensures { result ≡ list_any (model.matches pattern.now) (model.tails name.now) }
 {

@@ -9,7 +9,7 @@ use crate::cut::{Test, cut};
 use br_types::Path;
 use br_view::Entry;
 
-/// A path of a view beside its newest copy.
+/// A path of a view with its newest copy.
 pub(crate) type Shown<'h> = (&'h Path, Entry);
 
 /// Returns the place of the first `/` of a text.
@@ -37,7 +37,7 @@ pub(crate) fn rest_of<'p>(directory: &[u8], path: &'p [u8]) -> &'p [u8]
     &path[directory.len().min(path.len())..]
 }
 
-/// Returns the rest of a path after a directory, up to its next `/`.
+/// Returns the rest of a path after a directory, up to and including its next `/`.
 pub(crate) fn child_name<'p>(directory: &[u8], path: &'p [u8]) -> &'p [u8]
     ensures { result.now ≡ child_of directory.now path.now }
 {
@@ -54,8 +54,8 @@ pub(crate) fn not_before(entries: &[Shown<'_>], text: &[u8], guess: usize) -> us
     cut(entries, Test::Before(text), guess)
 }
 
-/// Returns the number of first paths that begin with a text, of paths of which none comes before it. A right guess saves the
-/// search.
+/// Returns the number of first paths that begin with a text; none of the paths comes before the
+/// text. A right guess saves the search.
 fn begin_with(entries: &[Shown<'_>], text: &[u8], guess: usize) -> usize
     requires sorted { AreSorted entries.now }
     requires after { NonePassing (λ path. is_lt (slice_cmp nat_cmp path text.now)) (seen_paths entries.now) }
@@ -87,8 +87,8 @@ pub(crate) fn run_of(entries: &[Shown<'_>], text: &[u8]) -> (usize, usize)
     run_near(entries, text, (0, 0))
 }
 
-/// Returns the number of first paths in a directory that are of its first child: the child itself and what is below it. A right
-/// guess saves the search.
+/// Returns the number of first paths in a directory that belong to its first child: the child
+/// itself and the paths below it. A right guess saves the search.
 pub(crate) fn child_len(entries: &[Shown<'_>], directory: &[u8], name: &[u8], guess: usize) -> usize
     requires sorted { AreSorted entries.now }
     requires below { AllPassing (λ path. begins_with path directory.now) (seen_paths entries.now) }

@@ -18,7 +18,7 @@ fn any_set(flags: &[bool]) -> bool
     flags.iter().any(|flag| *flag)
 }
 
-/// Returns whether a flag of some places is set, of which there are few.
+/// Returns whether a flag in a short range of places is set.
 fn any_between(flags: &[bool], from: usize, to: usize) -> bool
     requires ordered { from ≤ to }
     requires bound { to ≤ length flags.now }
@@ -27,7 +27,7 @@ fn any_between(flags: &[bool], from: usize, to: usize) -> bool
     any_set(&flags[from..to])
 }
 
-/// Returns whether a flag of some places is set, by the number of those that are.
+/// Returns whether a flag in a range of places is set, by the number of set flags there.
 fn counts_between(flags: &Flags, from: usize, to: usize) -> bool
     requires ordered { from ≤ to }
     requires bound { to ≤ length flags.now }
@@ -93,7 +93,7 @@ pub(crate) fn sign_of(
     }
 }
 
-/// Returns the sign of a path as `sign_of` does, with no search if no path that begins with it is
+/// Returns the sign of a path as `sign_of` does, without a search if no path that begins with it is
 /// marked: then there is no guess.
 pub(crate) fn sign_if_any(
     entries: &[Shown<'_>],

@@ -2,7 +2,7 @@ ghost use Rattle.std.specs.Prelude.{◌≡◌, ◌<◌, ◌≤◌, ◌+◌, ◌-
 ghost use Rattle.br_tree.specs.Sums.{set_in, cut, AreSums, painted, repainted, moved};
 ghost use Rattle.br_tree.specs.Walk.{differs};
 
-/// The number of flags between two sums.
+/// The number of flags per sum.
 pub(crate) const BLOCK: usize = 16;
 
 /// Returns the number of flags that are set.
@@ -31,7 +31,7 @@ pub(crate) fn count_before(flags: &[bool], sums: &[usize], end: usize) -> usize
     }
 }
 
-/// Returns a number of set flags after some were set or taken.
+/// Returns a number of set flags after some were set or cleared.
 fn recount(count: usize, changed: usize, value: bool) -> usize
     requires { moved value count changed < 2 ^ 64 }
     ensures { result ≡ moved value count changed }
@@ -43,7 +43,7 @@ fn recount(count: usize, changed: usize, value: bool) -> usize
     }
 }
 
-/// Sets flags to a value and returns the number of those that had another one.
+/// Sets flags to a value, and returns the number of flags that change.
 fn set_flags(flags: &mut [bool], value: bool) -> usize
     ensures flags { flags.new ≡ replicate (length flags.old) value }
     ensures count { result ≡ count_by (λ flag. differs value flag) flags.old }
@@ -53,7 +53,7 @@ fn set_flags(flags: &mut [bool], value: bool) -> usize
     count
 }
 
-/// Sets the flags from a place to another, or to the end, and returns the number of those that had another value.
+/// Sets the flags from one place to another, or to the end. Returns the number of changed flags.
 fn set_each(flags: &mut [bool], from: usize, to: usize, value: bool) -> usize
     requires ordered { from ≤ to }
     requires within { from ≤ length flags.old }
@@ -64,7 +64,8 @@ fn set_each(flags: &mut [bool], from: usize, to: usize, value: bool) -> usize
     set_flags(&mut flags[from..end], value)
 }
 
-/// Sets the flags from a place to another, or to the end, and the sums with them. Returns the number of flags that had another value.
+/// Sets the flags from one place to another, or to the end, and the sums. Returns the number of
+/// changed flags.
 pub(crate) fn set_between(
     flags: &mut [bool],
     sums: &mut [usize],

@@ -21,7 +21,7 @@ use br_view::{Entry, View};
 use std::alloc::{AllocError, Global};
 use std::marker::Model;
 
-/// Widens a number of paths.
+/// Converts a number of paths to 64 bits.
 fn as_number(count: Option<usize>) -> Option<u64>
     ensures { result ≡ count }
 {
@@ -31,7 +31,7 @@ fn as_number(count: Option<usize>) -> Option<u64>
     }
 }
 
-/// Sets the flags of the paths that are meant. Returns the number of those that had another value;
+/// Sets the flags of the paths that are meant. Returns the number of flags that change;
 /// `None` if no path is meant.
 fn set_meant(
     entries: &[(&Path, Entry)],
@@ -148,14 +148,14 @@ impl<'h> Tree<'h> {
         (paths as u64, self.is_marked.count(0, paths) as u64)
     }
 
-    /// Returns whether the view has a directory: it has the root, and each text that a path begins with.
+    /// Returns whether the view has a directory: the root, or any text with which a path begins.
     pub fn has_dir(&self, directory: &[u8]) -> bool
         ensures { result ≡ model.is_directory_of (marking.paths_of self.now) directory.now }
     {
         directory == b"/".as_slice() || begin_so(rows(&self.shown), directory)
     }
 
-    /// Sets or takes the marks of the paths that are meant in a directory. Returns the number of
+    /// Sets or removes the marks of the paths that are meant in a directory. Returns the number of
     /// marks that changed. If no path is meant, it returns `None`, and nothing changes.
     fn change(&mut self, directory: &[u8], meant: Meant<'_>, change: Change) -> Option<u64>
         ensures answer { result ≡ newly_changed change self.old (chosen (marking.paths_of self.old) directory.now meant.entry) }
@@ -170,8 +170,9 @@ impl<'h> Tree<'h> {
         )
     }
 
-    /// Marks the children of a directory that match the pattern, and all below them. Returns the number of paths that were not
-    /// marked before. If no child matches, it returns nothing, and nothing changes.
+    /// Marks the children of a directory that match the pattern, and all paths below them. Returns
+    /// the number of paths that were not marked before. If no child matches, returns `None` and
+    /// changes nothing.
     pub fn mark(&mut self, directory: &[u8], pattern: &[u8]) -> Option<u64>
         ensures answer { result ≡ marking.newly_marked self.old (marking.meant self.old directory.now pattern.now) }
         ensures marks { self.new ≡ marking.after_mark self.old (marking.meant self.old directory.now pattern.now) }
@@ -179,8 +180,9 @@ impl<'h> Tree<'h> {
         self.change(directory, Meant::Names(pattern), Change::Mark)
     }
 
-    /// Takes the marks from the children of a directory that match the pattern, and from all below them. Returns the number of
-    /// paths that were marked before. If no child matches, it returns nothing, and nothing changes.
+    /// Unmarks the children of a directory that match the pattern, and all paths below them.
+    /// Returns the number of paths that were marked before. If no child matches, returns `None` and
+    /// changes nothing.
     pub fn unmark(&mut self, directory: &[u8], pattern: &[u8]) -> Option<u64>
         ensures answer { result ≡ marking.newly_unmarked self.old (marking.meant self.old directory.now pattern.now) }
         ensures marks { self.new ≡ marking.after_unmark self.old (marking.meant self.old directory.now pattern.now) }
@@ -188,9 +190,9 @@ impl<'h> Tree<'h> {
         self.change(directory, Meant::Names(pattern), Change::Unmark)
     }
 
-    /// Marks the own paths of the directories in a directory that match the pattern, without a pattern the path of the
-    /// directory itself. Returns the number of them that were not marked before. If there is no such path, it returns nothing,
-    /// and nothing changes.
+    /// Marks the own paths of the directories in a directory that match the pattern, or that of the
+    /// directory itself without a pattern. Returns the number of them that were not marked before.
+    /// If there is no such path, returns `None` and changes nothing.
     pub fn mark_dir(&mut self, directory: &[u8], pattern: Option<&[u8]>) -> Option<u64>
         ensures answer { result ≡ marking.newly_marked self.old (marking.meant_directories self.old directory.now pattern.entry) }
         ensures marks { self.new ≡ marking.after_mark self.old (marking.meant_directories self.old directory.now pattern.entry) }
@@ -198,9 +200,9 @@ impl<'h> Tree<'h> {
         self.change(directory, Meant::Directories(pattern), Change::Mark)
     }
 
-    /// Takes the marks from the own paths of the directories in a directory that match the pattern, without a pattern from the
-    /// path of the directory itself. Returns the number of them that were marked before. If there is no such path, it returns
-    /// nothing, and nothing changes.
+    /// Unmarks the own paths of the directories in a directory that match the pattern, or that of
+    /// the directory itself without a pattern. Returns the number of them that were marked before.
+    /// If there is no such path, returns `None` and changes nothing.
     pub fn unmark_dir(&mut self, directory: &[u8], pattern: Option<&[u8]>) -> Option<u64>
         ensures answer { result ≡ marking.newly_unmarked self.old (marking.meant_directories self.old directory.now pattern.entry) }
         ensures marks { self.new ≡ marking.after_unmark self.old (marking.meant_directories self.old directory.now pattern.entry) }
@@ -237,7 +239,7 @@ impl<'h> Tree<'h> {
         flagged_pairs(alloc, rows(&self.shown), self.is_marked.as_slice())
     }
 
-    /// Returns the paths whose last component matches the pattern, each with whether it is marked.
+    /// Returns the paths whose last component matches the pattern, and whether each is marked.
     pub fn find(&self, alloc: Global, pattern: &[u8]) -> Result<Vec<(&'h Path, bool)>, AllocError>
         ensures { IfOk result (λ found. map seen_path found.items ≡ marking.found_paths self.now pattern.now) }
     {

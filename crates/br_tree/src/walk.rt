@@ -10,7 +10,8 @@ use crate::pattern::{bare_name, matches as fits};
 use crate::run::{Shown, child_len, child_name, not_before, rest_of, run_of};
 use br_types::is_directory_path;
 
-/// Returns whether a path in a directory, of a child of this name, is that of the directory that the child is.
+/// Returns whether a path in a directory, of a child of this name, is the own path of a child that
+/// is a directory.
 fn is_own_path(directory: &[u8], path: &[u8], name: &[u8]) -> bool
     requires begins { begins_with path.now directory.now ≡ true }
     requires named { name.now ≡ child_of directory.now path.now }
@@ -43,7 +44,8 @@ fn reach_of(
     }
 }
 
-/// Returns the number of paths of the first child that are meant, from the first on, and the number that it has.
+/// Returns the number of paths of the first child that are meant, from the first path on, and the
+/// number of its paths.
 fn step(entries: &[Shown<'_>], directory: &[u8], pattern: &[u8], deep: bool) -> (usize, usize)
     requires sorted { AreSorted entries.now }
     requires begins { AllPassing (λ path. begins_with path directory.now) (seen_paths entries.now) }
@@ -61,7 +63,7 @@ fn step(entries: &[Shown<'_>], directory: &[u8], pattern: &[u8], deep: bool) -> 
     }
 }
 
-/// Returns the pairs from a place to another.
+/// Returns the pairs from one place to another.
 pub(crate) fn part_of<'e, 'h>(
     entries: &'e [Shown<'h>],
     first: usize,
@@ -74,7 +76,8 @@ pub(crate) fn part_of<'e, 'h>(
     &entries[first..last]
 }
 
-/// Returns the number of first paths that are a directory's own, of paths of which none comes before it.
+/// Returns the number of first paths that are a directory's own; no path comes before
+/// the directory.
 pub(crate) fn own_len(entries: &[Shown<'_>], directory: &[u8]) -> usize
     requires sorted { AreSorted entries.now }
     requires from { NonePassing (λ path. is_lt (slice_cmp nat_cmp path directory.now)) (seen_paths entries.now) }
@@ -88,7 +91,7 @@ pub(crate) fn own_len(entries: &[Shown<'_>], directory: &[u8]) -> usize
     }
 }
 
-/// Returns what `step` does of the paths from a place to another, all in a directory.
+/// Returns the result of `step` for the paths from one place to another, all in a directory.
 fn step_at(
     entries: &[Shown<'_>],
     place: usize,
@@ -106,8 +109,9 @@ fn step_at(
     step(part_of(entries, place, last), directory, pattern, deep)
 }
 
-/// Sets the flags of the children of a directory that match a pattern and of all below them, or of the directories among them
-/// alone. Returns the number of those that had another value, or nothing if no path is meant.
+/// Sets the flags of the children of a directory that match a pattern and of all paths below them,
+/// or only of the directories among them. Returns the number of flags that change; `None` if no
+/// path is meant.
 pub(crate) fn set_matching(
     entries: &[Shown<'_>],
     flags: &mut Flags,
@@ -134,7 +138,8 @@ pub(crate) fn set_matching(
     if found { Some(count) } else { None }
 }
 
-/// Sets the flag of the path of a directory. Returns the number of those that had another value, or nothing if it is no path.
+/// Sets the flag of the path of a directory. Returns the number of flags that change; `None` if it
+/// is not a path of the view.
 pub(crate) fn set_own(
     entries: &[Shown<'_>],
     flags: &mut Flags,

@@ -7,7 +7,7 @@ use Rattle.br_types.specs.Escape.{byte_of, digit_value, in_front, unescaped, Esc
 
 -- ---- a text read byte by byte
 
--- bytes in front of others, where these are there
+-- bytes before others, if these are there
 abbrev pub behind : List ℕ → Option (List ℕ) → Option (List ℕ)
 behind front None = None
 behind front (Some bytes) = Some (front ++ bytes)

@@ -91,7 +91,7 @@ neither : (a b : Bool) → ((a && false) || b) ≡ b
 neither true b = refl
 neither false b = refl
 
--- what stood in front of a slash is a folder more
+-- what came before a slash is one more folder
 pub one_more_front : (before after : Bool) (q path : List ℕ) (i : ℕ) → i < length path → slice_index path i ≡ 47
     → after ≡ (bytes_eq (take i path) q || before) → (initial : Bool) → before ≡ (goes_on_behind q (take i path) || initial)
     → after ≡ (goes_on_behind q (take (i + 1) path) || initial)
@@ -111,7 +111,7 @@ no_more_front q path i less other =
     ∙ ap (λ b. (bytes_eq q (take i path) && b) || goes_on_behind q (take i path)) (ne_eqb 47 (slice_index path i) (λ e. other (sym e)))
     ∙ neither (bytes_eq q (take i path)) (goes_on_behind q (take i path))
 
--- ---- what is in the way
+-- ---- what conflicts
 
 some_inside : (files folders : List ℕ → Bool) (paths : List (List ℕ)) (path : List ℕ) → AreNoted files folders paths
     → (i : ℕ) × (i < length path) × (slice_index path i ≡ 47) × (files (take i path) ≡ true) → list_any (λ p. is_on_the_way p path) paths ≡ true
@@ -143,7 +143,7 @@ denied false true c = refl
 denied false false true = refl
 denied false false false = refl
 
--- the files that stand in front of a slash of a path are those that are on its way
+-- the files before a slash of a path are those that the path is below
 pub inside_is : (files folders : List ℕ → Bool) (paths : List (List ℕ)) (path : List ℕ) (inside : Bool) → AreNoted files folders paths
     → (inside ≡ false → HasNoFront files path)
     → (inside ≡ true → (i : ℕ) × (i < length path) × (slice_index path i ≡ 47) × (files (take i path) ≡ true))
@@ -155,7 +155,7 @@ inside_is files folders paths path inside noted none one =
       | false ↦ λ empty _. sym (false_from_ne_true _ (none_inside files folders paths path noted (empty refl)))
     ] none one
 
--- a path is free where it stands in no file, and is no file where a folder stands
+-- a path is free if it is below no file, and is no file at the place of a folder
 pub free_is : (files folders : List ℕ → Bool) (paths : List (List ℕ)) (path : List ℕ) (inside : Bool) → AreNoted files folders paths
     → (inside ≡ false → HasNoFront files path)
     → (inside ≡ true → (i : ℕ) × (i < length path) × (slice_index path i ≡ 47) × (files (take i path) ≡ true))

@@ -1,4 +1,4 @@
--- Paths that were noted, as two sets: of files, and of the folders on the way of a path.
+-- Noted paths as two sets: of files, and of the folders above a path.
 use Rattle.std.specs.Prelude.{◌≡◌, ℕ, ◌<◌, Bool, true, false, not, ◌&&◌, ◌||◌, ◌==◌, List, [], ◌∷◌, ◌++◌, take, length, slice_index, bytes_eq}
 use Rattle.std.specs.List.{list_any, starts_with}
 use Rattle.std.specs.BTreeSet.{BTreeSet, contains_by}
@@ -20,12 +20,12 @@ goes_on_behind a b = starts_with (λ x y. x == y) b (a ++ 47 ∷ [])
 abbrev pub is_file : List ℕ → List ℕ → Bool
 is_file a b = bytes_eq b a && not (is_directory b)
 
--- The one set has the paths that are no directories, the other the folders on the way of the paths.
+-- One set has the paths that are not directories, the other the folders above the paths.
 pub record AreNoted (files : List ℕ → Bool) (folders : List ℕ → Bool) (paths : List (List ℕ)) : Type 0 where
   pub of_files : (path : List ℕ) → files path ≡ list_any (is_file path) paths
   pub of_folders : (path : List ℕ) → folders path ≡ list_any (goes_on_behind path) paths
 
--- the same of the two sets
+-- the same for the two sets
 abbrev pub Noted : Ways → List (List ℕ) → Type 0
 Noted ways paths = AreNoted (has_path (λ k. k.now) ways.files) (has_path (λ k. k.now) ways.folders) paths
 

@@ -10,7 +10,8 @@ pairs_read [] = Some []
 pairs_read (last ∷ []) = None
 pairs_read (high ∷ low ∷ text) = in_front (byte_of (digit_value high) (digit_value low)) (pairs_read text)
 
--- what is read of a text's front: nothing if it is empty, else the first byte that it spells and the rest
+-- what is read at a text's front: nothing if it is empty, else the first byte that it spells
+-- and the rest
 abbrev pub ReadsByte : List ℕ → Option (ℕ × Bor (List ℕ)) → Type 0
 ReadsByte text first = MatchOption first (text ≡ []) (λ p. pairs_read text ≡ in_front (Some p.0) (pairs_read p.1.now))
 

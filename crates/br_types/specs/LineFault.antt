@@ -7,18 +7,18 @@ use Rattle.br_types.specs.declared.fault.NameFault.TheVariants as names
 use Rattle.br_types.specs.declared.line_fault.LineFault.{LineFault}
 use Rattle.br_types.specs.declared.line_fault.LineFault.TheVariants.{Memory, BadScript}
 
--- the refusal that the line decides, none if memory ran out
+-- the refusal that the line decides; none if memory ran out
 abbrev pub line_cause : LineFault → Option (Unit {0})
 line_cause Memory = None
 line_cause BadScript = Some tt
 
--- what a refused name is for its line
+-- the refusal of a line for a refused name
 abbrev pub of_name_fault : NameFault → LineFault
 of_name_fault names.Memory = Memory
 of_name_fault names.BadName = BadScript
 of_name_fault names.BadPath = BadScript
 
--- what a refused escape is for its line
+-- the refusal of a line for a refused escape
 abbrev pub of_escape_fault : EscapeFault → LineFault
 of_escape_fault escapes.Memory = Memory
 of_escape_fault escapes.BadEscape = BadScript

@@ -37,7 +37,7 @@ is_outdated copies c = list_any (λ (d : Copy). is_of c.path d && is_older c.key
 
 -- ---- the newest files of a restore
 
--- a file as a copy of its path; a fault is none
+-- a file as a copy of its path; none for a fault
 abbrev pub copy_of : Restored → Option Copy
 copy_of r = of_outcome r.outcome
   where
@@ -49,50 +49,51 @@ copy_of r = of_outcome r.outcome
 abbrev pub copies_of : List Restored → List Copy
 copies_of rs = filter_map copy_of rs
 
--- whether none of the copies is a newer one of the path; this is so of no copy
+-- whether no copy is a newer one of the path; always true if there is no copy to compare
 abbrev pub is_current : List Copy → Option Copy → Bool
 is_current copies None = true
 is_current copies (Some c) = not (is_outdated copies c)
 
--- whether no file among the outcomes is newer and has the path; a fault has none
+-- whether no file among the outcomes is newer and has the same path; true for a fault
 abbrev pub is_newest : List Restored → Restored → Bool
 is_newest rs r = is_current (copies_of rs) (copy_of r)
 
--- the outcomes without the files of whose path a newer one is among them
+-- the outcomes without the files for whose path there is a newer one
 unfoldable pub newest : List Restored → List Restored
 newest rs = filter (is_newest rs) rs
 
--- ---- a set of copies that knows the newest of each path
+-- ---- a set of copies that has the newest of each path
 
 -- whether a copy is older than a known one
 abbrev pub is_beaten : FileKey → Option FileKey → Bool
 is_beaten key None = false
 is_beaten key (Some k) = is_older key k
 
--- whether a copy takes the place of the one that is known
+-- whether a copy replaces the known one
 abbrev pub is_news : Option FileKey → FileKey → Bool
 is_news None key = true
 is_news (Some k) key = is_older k key
 
--- the copy that was found is the newest of the path: it is among the copies, and those that a newer one beats are older than it
+-- the copy found is the newest of the path: it is one of the copies, and a copy is outdated exactly
+-- if it is older
 pub record IsNewestAt (copies : List Copy) (path : List ℕ) (found : Option FileKey) : Type 0 where
   pub some : is_some found ≡ list_any (is_of path) copies
   pub among : IfSome found (λ k. Contains copies (record { key = k; path = path }))
   pub beats : (key : FileKey) → is_outdated copies (record { key = key; path = path }) ≡ is_beaten key found
 
--- the newest copy of a path that is kept, by the bytes of the path
+-- the newest copy of each path, by the bytes of the path
 abbrev pub Kept : Type 0
 Kept = BTreeMap (Bor (List ℕ)) FileKey
 
--- what is kept of a path
+-- the newest copy of a path, if there is one
 abbrev pub kept_at : List ℕ → Kept → Option FileKey
 kept_at path kept = get_by (λ k. slice_cmp nat_cmp path k.now) kept
 
--- what is kept of a path after one more copy
+-- the newest copy of a path after one more copy
 abbrev pub with_copy : List ℕ → Option FileKey → Copy → Option FileKey
 with_copy path known c = if is_of path c && is_news known c.key then Some c.key else known
 
--- a copy was added to those that are kept
+-- a copy was added to the set
 abbrev pub Keeps : Kept → Copy → Kept → Type 0
 Keeps before c after = (path : List ℕ) → kept_at path after ≡ with_copy path (kept_at path before) c
 
@@ -102,7 +103,7 @@ AreNoted set copies = (path : List ℕ) → IsNewestAt copies path (kept_at path
 
 -- ---- laws
 
--- a file with a path of the files is among the newest, and it is not older
+-- for each file there is one among the newest that has its path and is not older
 abbrev pub NewestHasEachPath : Type 0
 NewestHasEachPath =
     (rs : List Restored) (c : Copy) → Contains (copies_of rs) c
@@ -112,13 +113,13 @@ NewestHasEachPath =
 abbrev pub HaveOwnKeys : List Copy → Type 0
 HaveOwnKeys copies = (c d : Copy) → Contains copies c → Contains copies d → c.key ≡ d.key → c ≡ d
 
--- of files with keys of their own, those that are newest have paths of their own
+-- if files have keys of their own, the newest have paths of their own
 abbrev pub NewestHasEachPathOnce : Type 0
 NewestHasEachPathOnce =
     (rs : List Restored) (c d : Copy) → HaveOwnKeys (copies_of rs) → Contains (copies_of (newest rs)) c → Contains (copies_of (newest rs)) d
     → c.path ≡ d.path → c ≡ d
 
--- a plan asks for each path once, so that over any hits its files are the newest
+-- a plan has each path once, so its files are the newest for any hits
 abbrev pub PlannedAreNewest : Type 0
 PlannedAreNewest =
     (history : List JobRows) (q : Request) (marks : List (List ℕ)) (plan : Plan) (hits : Hits)

@@ -6,7 +6,7 @@ use crate::bytes::is_directory_path;
 use std::alloc::{AllocError, Global};
 use std::collections::BTreeSet;
 
-/// Paths that were noted: those of files, and the folders on the way of any.
+/// Noted paths: those of files, and the folders above any path.
 #[derive(Drop)]
 pub struct Ways<'p> {
     files: BTreeSet<&'p [u8]>,

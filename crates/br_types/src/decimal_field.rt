@@ -5,7 +5,7 @@ ghost use Rattle.br_types.specs.DecimalField.{capped, number_spelled, up_to};
 
 use crate::bytes::are_digits;
 
-/// The number that is read for all that do not fit 64 bits: 2^64.
+/// The number that is read for every number that does not fit 64 bits: 2^64.
 const CAP: u128 = 18_446_744_073_709_551_616;
 
 /// Returns the number whose digits are those of `value` and one more, or 2^64 if it is greater.

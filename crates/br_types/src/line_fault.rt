@@ -9,7 +9,7 @@ use std::alloc::AllocError;
 #[derive(Clone, Copy, PartialEq, Eq)]
 pub enum LineFault {
     Memory,
-    /// It fits none of the forms.
+    /// The line has none of the forms.
     BadScript,
 }
 

@@ -6,13 +6,13 @@ use crate::key::FileKey;
 use std::alloc::{AllocError, Global};
 use std::collections::BTreeMap;
 
-/// NewestCopies of paths, of which it knows for each path the newest.
+/// Copies of paths, of which the newest of each path is kept.
 #[derive(Drop)]
 pub struct NewestCopies<'p> {
     newest: BTreeMap<&'p [u8], FileKey>,
 }
 
-/// Returns by what copies are ordered: session time, session number and index.
+/// Returns the key by which copies are ordered: session time, session number and index.
 fn age(key: FileKey) -> (u32, u32, u32)
     ensures time { result.0 ≡ key.session.time }
     ensures number { result.1 ≡ key.session.id }

@@ -1,5 +1,5 @@
-//! What a restore does beside the plain one: of several copies, at missing indexes, at a file that
-//! can't be put, and with a folder that holds files already.
+//! What a restore does besides the plain one: with several copies of a path, at missing indexes, at
+//! a file that can't be written, and with a folder that contains files already.
 
 /// Which files are delivered, if a bootstrap selects several copies of a path.
 #[derive(Clone, Copy, Debug, PartialEq, Eq)]
@@ -10,7 +10,7 @@ pub enum Copies {
     Newest,
 }
 
-/// What is printed of the indexes that a bootstrap asks for and that gave no outcome.
+/// What is printed about the indexes that a bootstrap asks for and that gave no outcome.
 #[derive(Clone, Copy, Debug, PartialEq, Eq)]
 pub enum Gaps {
     /// Nothing.
@@ -19,7 +19,7 @@ pub enum Gaps {
     Reported,
 }
 
-/// What a delivery does at a file that can't be put.
+/// What a delivery does at a file that can't be written.
 #[derive(Clone, Copy, Debug, PartialEq, Eq)]
 pub enum Stops {
     /// It stops.
@@ -28,16 +28,16 @@ pub enum Stops {
     Never,
 }
 
-/// What the folder that files are put into may hold before.
+/// What the folder of the restored files may contain before.
 #[derive(Clone, Copy, Debug, PartialEq, Eq)]
 pub enum Start {
     /// Nothing.
     Empty,
-    /// What a restore that was cut off has put there.
+    /// What an interrupted restore has written there.
     Resumed,
 }
 
-/// What `extract` does beside what each restore does.
+/// What `extract` does besides what each restore does.
 #[derive(Clone, Copy, Debug, PartialEq, Eq)]
 pub struct Wanted {
     pub copies: Copies,

@@ -30,7 +30,7 @@ use Rattle.br_view.specs.Shown.{shown}
 newer_order : IsStrictWeakOrder is_newer
 newer_order = ranks_by nat_list_cmp_total copy_rank
 
--- one of the copies of the path, than which none is newer; nothing where the path has no copy
+-- one of the copies of the path, than which none is newer; none if the path has no copy
 abbrev pub Found : List ℕ → List Copy → Option Copy → Type 0
 Found path cs None = AllByRecursion (λ c. is_row_of path c.1 ≡ false) cs
 Found path cs (Some d) = Contains cs d × (is_row_of path d.1 ≡ true) × AllByRecursion (λ c. is_row_of path c.1 ≡ true → is_newer d c ≡ false) cs

@@ -21,7 +21,7 @@ use Rattle.br_model.proofs.PairLaws.{EachPair}
 use Rattle.br_view.specs.declared.entry.Entry.{Entry}
 use Rattle.br_view.specs.Shown.{entry_with, shown_pair}
 
--- a path beside its entry
+-- a path with its entry
 abbrev pub Pair : Type 0
 Pair = Bor (List ℕ) × Entry
 
@@ -100,7 +100,7 @@ less_apart o is e = let both : Less ≡ Equal = sym is ∙ e in absurd cc
 greater_apart : (o : Ordering) → o ≡ Greater → o ≡ Equal → ⊥
 greater_apart o is e = let both : Greater ≡ Equal = sym is ∙ e in absurd cc
 
--- where all paths are below or above the path, it has no entry
+-- if all paths are below or above the path, it has no entry
 pub not_found : (xs : List Pair) (path : List ℕ) (i : ℕ) → IsPartitionPoint (λ p. compares path p ≡ Less) (λ p. compares path p ≡ Greater) xs i → None ≡ entry_at (map shown_pair xs) path
 unfolding entry_at
 not_found xs path i parts = sym (none_found xs path (recursion_from_All (λ (p : Pair). bytes_eq p.0.now path ≡ false) xs apart))

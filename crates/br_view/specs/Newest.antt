@@ -41,11 +41,11 @@ copies jobs = flat_map job_copies jobs
 abbrev pub newest : List ℕ → Option Copy → List Copy → Option Copy
 newest path o cs = fold (kept path) o cs
 
--- what a map keeps of a copy
+-- what a map stores for a copy
 abbrev pub Kept : Type 0
 Kept = Bor JobRows × Bor FileRow
 
--- the copy that a map keeps
+-- the copy that a map entry stores
 abbrev pub copy_of : Kept → Copy
 copy_of p = (p.0.now, p.1.now)
 
@@ -53,11 +53,11 @@ copy_of p = (p.0.now, p.1.now)
 abbrev pub copy_at : List ℕ → BTreeMap (Bor (List ℕ)) Kept → Option Copy
 copy_at path m = option_map copy_of (get_by (λ k. slice_cmp nat_cmp path k.now) m)
 
--- the second map has at each path the newest of what the first has and of some copies
+-- the second map has at each path the newest of the first map's copy and of some copies
 abbrev pub Adds : BTreeMap (Bor (List ℕ)) Kept → List Copy → BTreeMap (Bor (List ℕ)) Kept → Type 0
 Adds old cs new = (path : List ℕ) → copy_at path new ≡ newest path (copy_at path old) cs
 
--- the map has at each path the newest copy of the jobs, the rows of each of which can stand together
+-- the map has the newest copy at each path of the jobs, whose rows are consistent
 pub record IsNewest (jobs : List JobRows) (m : BTreeMap (Bor (List ℕ)) Kept) : Type 0 where
   pub at_path : (path : List ℕ) → copy_at path m ≡ newest path None (copies jobs)
   pub valid : AllByRecursion (λ j. are_rows j ≡ true) jobs

@@ -17,11 +17,11 @@ pub struct Entry {
     pub index: FileIndex,
     /// The size in bytes, 0 if the row has no numbers.
     pub size: i64,
-    /// LinkFI: of a hard link the index of the file that it names, else 0.
+    /// LinkFI: for a hard link the index of the file that it names, else 0.
     pub link_index: i64,
 }
 
-/// Returns size and LinkFI of a row, zeros if its numbers can't be read.
+/// Returns size and LinkFI of a row; zeros if its numbers can't be read.
 fn numbers_of(row: &FileRow) -> (i64, i64)
     ensures size { result.0 ≡ (row_stat row.now).size }
     ensures link { result.1 ≡ (row_stat row.now).link_index }
@@ -47,7 +47,7 @@ fn entry_of(job: &JobRows, row: &FileRow, index: FileIndex) -> Entry
     }
 }
 
-/// Returns path and entry of a row of a job, nothing for a deletion.
+/// Returns path and entry of a row of a job; `None` for a deletion.
 pub(crate) fn shown_of<'h>(job: &'h JobRows, row: &'h FileRow) -> Option<(&'h Path, Entry)>
     ensures { option_map shown_pair result ≡ shown (job.now, row.now) }
 {

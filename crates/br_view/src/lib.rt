@@ -1,4 +1,4 @@
-//! The view of some jobs: the newest copy of each path that they have.
+//! The view of some jobs: the newest copy of each of their paths.
 //!
 //! Contracts see a `View` as the model's list of entries, each with its path.
 #![tactic(auto)]

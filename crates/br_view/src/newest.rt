@@ -12,7 +12,7 @@ use std::collections::BTreeMap;
 /// A row of a job, by reference.
 type Kept<'h> = (&'h JobRows, &'h FileRow);
 
-/// Returns by what copies are ordered: start time and number of the job, then the index.
+/// Returns the key by which copies are ordered: start time and number of the job, then the index.
 fn rank(job: &JobRows, row: &FileRow) -> (u64, u32, u32)
     ensures start { result.0 ≡ job.now.row.start }
     ensures number { result.1 ≡ job.now.row.id }
@@ -47,7 +47,7 @@ fn note<'h>(
     Ok(())
 }
 
-/// Keeps what is new of a job.
+/// Adds the newer copies of a job.
 fn note_job<'h>(kept: &mut BTreeMap<&'h [u8], Kept<'h>>, job: &'h JobRows) -> Result<(), AllocError>
     ensures kept { OnOk result (newest.Adds kept.old (newest.job_copies job.now) kept.new) }
     ensures valid { are_rows job.now ≡ true }
@@ -72,7 +72,7 @@ pub(crate) fn newest_copies<'h>(
     Ok(kept)
 }
 
-/// Returns paths and entries of the copies that are no deletions, in byte order of the paths.
+/// Returns paths and entries of the copies that are not deletions, in byte order of the paths.
 pub(crate) fn entries_of<'h>(
     alloc: Global,
     kept: &BTreeMap<&'h [u8], Kept<'h>>,

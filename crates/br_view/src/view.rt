@@ -23,7 +23,8 @@ fn compared(first: &Path, second: &Path) -> Ordering
     first.bytes().cmp(second.bytes())
 }
 
-/// The newest copies of the paths of some jobs, in byte order of the paths. The paths are lent by the jobs.
+/// The newest copies of the paths of some jobs, in byte order of the paths. The paths are borrowed
+/// from the jobs.
 #[derive(Drop)]
 pub struct View<'h> {
     entries: Vec<(&'h Path, Entry)>,
@@ -42,9 +43,10 @@ impl<'h> Model for View<'h> {
 }
 
 impl<'h> View<'h> {
-    /// Builds the view of jobs with distinct numbers, in whatever order they come. A path's newest copy is in the job of the
-    /// latest start, of equal ones in that of the greatest number, that has a row for the path. Of this job's rows for it the
-    /// one with the greatest FileIndex counts. If that is 0, the path was deleted and is not in the view.
+    /// Builds the view of jobs with distinct numbers, in any order. The newest copy of a path is in
+    /// the job with the latest start, or the greatest number among equal starts, that has a row for
+    /// the path. Of this job's rows for it the one with the greatest FileIndex counts. If that is
+    /// 0, the path was deleted and is not in the view.
     pub fn build(alloc: Global, jobs: &[&'h JobRows]) -> Result<View<'h>, AllocError>
         requires { no_pair (λ j k. j.row.id == k.row.id) (map (λ j. j.now) jobs.now) ≡ true }
         ensures { IfOk result (λ view. view ≡ view_of (map (λ j. j.now) jobs.now)) }

@@ -1,4 +1,4 @@
--- What a drive's results say of the volumes that it tells.
+-- What a drive's results say about the volumes that it tells.
 use Rattle.std.proofs.Common.{◌≡◌, ℕ, true, false, ◌<◌, ◌≤◌, cond, Option, Some, None, Result, Ok, Err, List, length, take, drop, refl}
 use Rattle.std.specs.Prelude.{nat_lt}
 use Rattle.std.proofs.lemmas.Bool.{ltb-true, ltb-false}

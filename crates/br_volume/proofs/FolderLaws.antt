@@ -75,7 +75,7 @@ end_at bytes a size past = rw (le-ltb a (length bytes) past) refl
 some_at : (bytes : List ℕ) (a size : ℕ) → a < length bytes → bytes_from bytes a size ≡ Some (take size (drop a bytes))
 some_at bytes a size before = rw (lt-ltb a (length bytes) before) refl
 
--- bytes that are cut, where enough were read
+-- bytes that are cut, if enough were read
 cut_at : (bytes : List ℕ) (a wanted size : ℕ) → min size (2 ^ 63 - 1 - a) ≤ wanted → length bytes < 2 ^ 63
     → take size (take wanted (drop a bytes)) ≡ take size (drop a bytes)
 cut_at bytes a wanted size enough short =
@@ -85,7 +85,7 @@ cut_at bytes a wanted size enough short =
       | inr above ↦ take-take size wanted (drop a bytes) above
     ]
 
--- where a file was read, the volume shows its bytes
+-- if a file was read, the volume shows its bytes
 pub shown_of : (folder name : List ℕ) (told : Option Tree) (address size : ℕ) (buffer : List ℕ) (got : Got)
     → HasBlock told (file_path folder name) address size buffer got
     → AnswersOver (volumes_told folder told) name address size buffer (Ok got)
@@ -94,7 +94,7 @@ shown_of folder name None address size buffer got has = tt
 shown_of folder name (Some tree) address size buffer got has =
     rw (volume_below folder name tree.files, has.1, has.2) refl
 
--- where there is no file, there is no volume
+-- if there is no file, there is no volume
 pub unknown_of : (folder name : List ℕ) (told : Option Tree) (address size : ℕ) (buffer : List ℕ)
     → IsNoFile told (file_path folder name) → AnswersOver (volumes_told folder told) name address size buffer (Err UnknownVolume)
 unfolding bytes_shown

@@ -1,4 +1,4 @@
--- What a drive returns, and what stays true of the volumes that it shows.
+-- The result of a drive, and what always holds of the volumes that it shows.
 use Rattle.std.specs.Prelude.{◌≡◌, ℕ, ◌+◌, ◌^◌, ◌<◌, ◌≤◌, nat_lt, if◌then◌else◌, List, [], length, take, drop, Option, Some, None, Result, Ok, ⊤}
 use Rattle.br_model.specs.Answer.{◌>>=◌, some_or, Answers}
 use Rattle.br_model.specs.Volume.{Volume, volume_bytes, Extends}

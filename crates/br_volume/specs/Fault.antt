@@ -1,4 +1,4 @@
--- What a drive's fault means.
+-- The numbers and causes of a drive's faults.
 use Rattle.std.specs.Prelude.{ℕ, Option, Some, None}
 use Rattle.br_volume.specs.declared.fault.DriveFault.{DriveFault}
 use Rattle.br_volume.specs.declared.fault.DriveFault.TheVariants.{Memory, Fault, UnknownVolume}

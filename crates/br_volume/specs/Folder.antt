@@ -12,7 +12,7 @@ use Rattle.br_volume.specs.declared.drive.Got.TheVariants.{Block, End}
 use Rattle.br_volume.specs.declared.fault.DriveFault.{DriveFault}
 use Rattle.br_volume.specs.declared.fault.DriveFault.TheVariants.{Memory, Fault, UnknownVolume}
 
--- the drive's fault for that of its disk
+-- the drive's fault for a fault of its disk
 abbrev pub drive_fault : DiskFault → DriveFault
 drive_fault disk.NotFound = UnknownVolume
 drive_fault disk.Memory = Memory
@@ -45,27 +45,27 @@ volumes_in folder files = flat_map (volume_in folder) files
 abbrev pub volumes_told : List ℕ → Option Tree → Option (List Volume)
 volumes_told folder told = option_map (λ (tree : Tree). volumes_in folder tree.files) told
 
--- if the disk tells its files, a file is at the path, and what was got are its next bytes
+-- if the disk tells its files, a file is at the path, and these are its next bytes
 abbrev pub HasBlock : Option Tree → List ℕ → ℕ → ℕ → List ℕ → Got → Type 0
 HasBlock told path address size buffer got =
     HasFile told path (λ bytes. bytes_got buffer got ≡ bytes_from bytes address size)
 
--- what was read, cut to a block of this size: none is the end
+-- the bytes that were read as a block of at most this size; no bytes are the end
 abbrev pub IsCut : ℕ → List ℕ → List ℕ → Got → Type 0
 IsCut size was now End = (was ≡ []) × (now ≡ [])
 IsCut size was now (Block n) = (0 < length was) × (now ≡ take size was) × (n ≡ length now)
 
--- the file at the path is there to be appended to, or an empty one was made
+-- the file at the path exists and can be appended to, or an empty one was made
 abbrev pub IsReady : List ℕ → Option Tree → Option Tree → Type 0
 IsReady path earlier later = (later ≡ earlier) ⊎ Appends path [] earlier later
 
--- If the disk tells that nothing is at the path, and does not fail by itself and is not interrupted, no
--- call is refused there but for want of memory.
+-- If the disk tells that nothing is at the path, does not fail by itself and is not interrupted,
+-- a call there is refused only if memory runs out.
 abbrev pub IsKnownFree : Option ℕ → Option Tree → List ℕ → Type 0
 IsKnownFree steady None path = ⊥
 IsKnownFree steady (Some tree) path = (steady ≡ Some 0) × IsNothing (Some tree) path
 
--- the search for a file where nothing is gives none, unless memory runs out, and the disk stays so
+-- a search where nothing is finds no file, unless memory runs out, and the disk is unchanged
 abbrev pub FindsNone : Option ℕ → Result ℕ DriveFault → Type 0
 FindsNone steady (Ok n) = ⊥
 FindsNone steady (Err UnknownVolume) = steady ≡ Some 0

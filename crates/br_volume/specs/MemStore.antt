@@ -3,8 +3,8 @@ use Rattle.std.specs.Prelude.{◌≡◌, ℕ, zero, suc, ◌+◌, ◌⊎◌, if�
 use Rattle.br_model.specs.Volume.{Volume}
 use Rattle.br_volume.specs.Calls.{one_fewer}
 
--- its volumes, the number of failed calls, and the one append that is to fail, if one is: how many
--- appends come before it, and how many of its bytes it keeps
+-- its volumes, the number of failed calls, and the one append that is to fail, if one is: the
+-- number of appends before it, and the number of its bytes that it keeps
 pub record Stored : Type 0 where
   pub volumes : List Volume
   pub failures : ℕ
@@ -43,7 +43,7 @@ after_append volume bytes store = record {
   bytes_kept = store.bytes_kept;
 }
 
--- the store after an append found no memory
+-- the store after an append ran out of memory
 abbrev pub after_failure : Stored → Stored
 after_failure store = record {
   volumes = store.volumes;
@@ -57,7 +57,7 @@ abbrev pub after_part : List Volume → Stored → Stored
 after_part volumes store =
     record { volumes = volumes; failures = store.failures + 1; appends_left = None; bytes_kept = store.bytes_kept }
 
--- the append that was to fail kept the first of its bytes, or found no memory and changed no volume
+-- the append that was to fail kept the first of its bytes, or ran out of memory and changed nothing
 abbrev pub FailsInPart : List ℕ → List ℕ → Stored → Stored → Type 0
 FailsInPart volume bytes earlier later =
     (later ≡ after_part (with_appended volume (take earlier.bytes_kept bytes) earlier.volumes) earlier)

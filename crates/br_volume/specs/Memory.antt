@@ -55,7 +55,7 @@ given (Ok (Block n)) = n
 given (Ok End) = 0
 given (Err why) = 0
 
--- the drive after a call that it read for, if the call gave `count` bytes
+-- the drive after a call for which this one read, if the call gave `count` bytes
 abbrev pub after_read : Held → ℕ → Held
 after_read drive count = record {
   volumes = drive.volumes;

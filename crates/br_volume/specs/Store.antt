@@ -1,16 +1,16 @@
--- What a store appends, and what stays true of the volumes that it tells.
+-- The effect of an append, and what always holds of the volumes that a store tells.
 use Rattle.std.specs.Prelude.{◌≡◌, ℕ, ◌⊎◌, if◌then◌else◌, List, [], ◌∷◌, ◌++◌, length, bytes_eq, Option, Some, None, ⊤}
 use Rattle.br_model.specs.Volume.{Volume, volume_bytes, Extends}
 use Rattle.br_model.specs.SessionHolds.{bytes_of_volume, AreAppended}
 
--- what a name shows once bytes are appended to a volume: the volume's bytes and then these, or what
--- the name showed before
+-- the bytes of a volume after an append: those before and then these; or those before, if it is
+-- another volume
 abbrev pub shown_after : List Volume → List ℕ → List ℕ → List ℕ → Option (List ℕ)
 shown_after earlier volume bytes name =
     if bytes_eq name volume then Some (bytes_of_volume earlier volume ++ bytes) else volume_bytes earlier name
 
 -- The later volumes are the earlier ones with bytes appended to one of them, which is made if it
--- was not there.
+-- does not exist.
 abbrev pub IsAppended : List ℕ → List ℕ → List Volume → List Volume → Type 0
 IsAppended volume bytes earlier later = (name : List ℕ) → volume_bytes later name ≡ shown_after earlier volume bytes name
 
@@ -34,7 +34,7 @@ AppendsInPartTo volume bytes (Some earlier) (Some later) = IsAppendedInPart volu
 AppendsInPartTo volume bytes None (Some later) = ⊥
 AppendsInPartTo volume bytes (Some earlier) None = ⊥
 
--- if the store tells its volumes, this is the length of one of them, 0 if it is not there
+-- if the store tells its volumes, this is the length of one of them; 0 if it does not exist
 abbrev pub IsLengthIn : Option (List Volume) → List ℕ → ℕ → Type 0
 IsLengthIn None volume n = ⊤
 IsLengthIn (Some volumes) volume n = n ≡ length (bytes_of_volume volumes volume)

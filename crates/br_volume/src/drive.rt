@@ -24,9 +24,9 @@ pub trait Drive {
     /// The number of calls that have failed.
     ghost failures: { Self → ℕ };
 
-    /// Reads a block of a volume into `buf`, in place of what it holds: `size` bytes from `addr`,
+    /// Reads a block of a volume into `buf` and replaces its contents: `size` bytes from `addr`,
     /// or all that are left if these are fewer. At the volume's end or past it `buf` is empty.
-    /// After a refusal `buf` may hold anything.
+    /// After a refusal `buf` may contain anything.
     ///
     /// # Errors
     ///

@@ -1,4 +1,4 @@
-//! A folder's path, and what a disk finds in it.
+//! A folder's path, and files in the folder.
 ghost use Rattle.std.specs.Prelude.{◌≡◌, IfOk, IfErr, Err, string_bytes};
 ghost use Rattle.br_fs.specs.Calls.{IsFound, IsNoFile};
 ghost use Rattle.br_fs.specs.declared.kind.Kind.TheVariants.{File};
@@ -64,7 +64,7 @@ pub(crate) fn fault_of(fault: DiskFault) -> DriveFault
     }
 }
 
-/// Returns the length of a file, and `Fault` of anything else.
+/// Returns the length of a file; `Fault` for anything else.
 fn len_of(found: Found) -> Result<u64, DriveFault>
     ensures file { IfOk result (λ n. (found.kind ≡ File) × (n ≡ found.len)) }
     ensures other { IfErr result (λ fault. fault ≡ Fault) }
@@ -76,7 +76,7 @@ fn len_of(found: Found) -> Result<u64, DriveFault>
     }
 }
 
-/// Finds the file at the path. Returns its length, and `Fault` if what is there is no file.
+/// Finds the file at the path. Returns its length; `Fault` if it is not a file.
 #[tactic(auto, using(crate::proofs::FolderLaws::len_is, crate::proofs::FolderLaws::never_unknown, crate::proofs::FreeLaws::nothing_found, crate::proofs::FreeLaws::none_found))]
 pub(crate) fn find_file<D: Disk>(disk: &mut D, path: &str) -> Result<u64, DriveFault>
     ensures found { IfOk result (λ n. IsFound (D.told disk.new) path.now File n) }

@@ -19,7 +19,7 @@ use std::rt::Files;
 /// The greatest length of a file in bytes.
 const MAX_LEN: u64 = (1 << 63) - 1;
 
-/// Opens the file at the path, which is looked at first: what is no file is not opened.
+/// Opens the file at the path. Its kind is tested first: anything but a file is not opened.
 #[tactic(auto, using(crate::proofs::FolderLaws::file_of))]
 fn open_file<D: Disk>(disk: &mut D, path: &str) -> Result<D::File, DriveFault>
     ensures opened { IfOk result (λ file. D.path_of file ≡ path.now) }
@@ -33,7 +33,7 @@ fn open_file<D: Disk>(disk: &mut D, path: &str) -> Result<D::File, DriveFault>
     }
 }
 
-/// Returns the file at the path: the held one if it is that, and else one that is opened.
+/// Returns the file at the path: the file held open if it is this one, else a newly opened one.
 fn opened<D: Disk>(disk: &mut D, held: Option<D::File>, path: &str) -> Result<D::File, DriveFault>
     ensures opened { IfOk result (λ file. D.path_of file ≡ path.now) }
     ensures missing { result ≡ Err UnknownVolume → IsNoFile (D.told disk.new) path.now }
@@ -45,7 +45,7 @@ fn opened<D: Disk>(disk: &mut D, held: Option<D::File>, path: &str) -> Result<D:
     }
 }
 
-/// Cuts what was read to a block of this size. No bytes are the end.
+/// Makes a block of at most this size of the bytes that were read. No bytes are the end.
 fn cut(size: u32, buf: &mut Vec<u8>) -> Got
     requires { vec_len buf.old < 2 ^ 32 }
     ensures { IsCut size buf.old.items buf.new.items result }
@@ -81,7 +81,7 @@ fn read_block<D: Disk>(
     }
 }
 
-/// Finds that a file ends before this address, which no file goes past.
+/// Reports that a file ends before this address, which is beyond the end of any file.
 #[tactic(auto, using(crate::proofs::FolderLaws::past_of))]
 fn read_end<D: Disk>(
     disk: &mut D,
@@ -103,7 +103,7 @@ fn read_end<D: Disk>(
     Ok(Got::End)
 }
 
-/// Reads a block of the file at the path, which is held open after it.
+/// Reads a block of the file at the path, and keeps the file open.
 fn read_at_path<D: Disk>(
     disk: &mut D,
     held: &mut Option<D::File>,

@@ -58,7 +58,7 @@ pub fn open_or_make<D: Disk>(disk: &mut D, path: &str) -> Result<D::File, DriveF
     }
 }
 
-/// Returns the file at the path: the held one if it is that, and else one that is opened or made.
+/// Returns the file at the path: the file held open if it is this one, else one opened or made.
 #[tactic(auto, using(crate::proofs::StoreLaws::ready_held))]
 fn opened<D: Disk>(disk: &mut D, held: Option<D::File>, path: &str) -> Result<D::File, DriveFault>
     ensures opened { IfOk result (λ file. D.path_of file ≡ path.now) }
@@ -71,7 +71,7 @@ fn opened<D: Disk>(disk: &mut D, held: Option<D::File>, path: &str) -> Result<D:
     }
 }
 
-/// Appends bytes to the file at the path, which is held open after it.
+/// Appends bytes to the file at the path, and keeps the file open.
 #[tactic(auto, using(crate::proofs::StoreLaws::after_ready, crate::proofs::StoreLaws::part_after_ready))]
 fn append_at_path<D: Disk>(
     disk: &mut D,
@@ -107,7 +107,7 @@ fn append_to_volume<D: Disk>(
     append_at_path(disk, held, path.as_str(), bytes)
 }
 
-/// Returns the length of a volume in bytes, 0 if there is no such file.
+/// Returns the length of a volume in bytes; 0 if there is no such file.
 #[tactic(auto, using(crate::proofs::StoreLaws::length_at, crate::proofs::StoreLaws::no_length_at))]
 fn length_of_volume<D: Disk>(
     disk: &mut D,

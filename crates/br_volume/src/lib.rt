@@ -7,7 +7,7 @@
 //!
 //! `FolderDrive` and `FolderStore` read and append volumes in a folder of a disk: each volume is
 //! the file with its name. If the disk tells its files, the clauses of `Drive` and `VolumeStore`
-//! hold of them whole. `drives_over` makes drives over a folder of the system.
+//! hold for them completely. `drives_over` makes drives over a folder of the system.
 #![tactic(auto)]
 
 mod borrowed;

@@ -27,7 +27,7 @@ pub trait VolumeStore {
         ensures counted { failures self.old ≤ failures self.new }
         ensures failed { OnErr result (failures self.old < failures self.new) };
 
-    /// Returns the length of a volume in bytes, 0 if the volume does not exist. Changes no volume.
+    /// Returns the length of a volume in bytes; 0 if the volume does not exist. Changes no volume.
     ///
     /// # Errors
     ///

@@ -5,6 +5,6 @@ use Rattle.br_model.specs.BootstrapText.{is_group}
 use Rattle.br_plan.specs.Parts.{groups_of_span}
 use Rattle.br_plan.proofs.group.add_job.Given as goal
 
--- behind the first groups those of the spans so far, which a bootstrap may have
+-- after the first groups those of the spans so far, which a bootstrap may have
 abbrev pub invariant-loop-span : goal.invariant-loop-span
 invariant-loop-span l = (l.groups.items ≡ l.initial.groups.items ++ flat_map (groups_of_span l.files l.job) (take l.span-index l.span-items)) × (list_all is_group l.groups.items ≡ true)

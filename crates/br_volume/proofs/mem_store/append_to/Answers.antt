@@ -3,7 +3,7 @@ use Rattle.std.specs.Prelude.{position, bytes_eq, is_ok}
 use Rattle.br_volume.proofs.PlaceLaws.{longer_where_found, made_at_end, same_where_set}
 use Rattle.br_volume.proofs.mem_store.append_to.Goals as goal
 
--- where bytes were put behind others, or not
+-- whether bytes were appended to others
 where_longer : {E P : Type 0} (r : Result (Unit {0}) E) (now before more : List ℕ)
     → now ≡ cond (is_ok r) (before ++ more) before → (now ≡ before ++ more → P) → OnOk r P
 where_longer (Ok u) now before more e f = f e
