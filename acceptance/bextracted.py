@@ -1,7 +1,8 @@
 """Compares what Bacula's own `bextract` restores of a case with what GNU tar unpacked of the program's stream.
 
-Path by path: type, mode, owner, time, size and digest, link, device, and which paths are one file. The places where the two do not
-do the same are worked out from the manifest and the volumes, and what has to be there instead is compared too.
+Path by path: type, mode, owner, time, size and digest, link, device, and which paths are one file.
+The known differences are worked out from the manifest and the volumes, and what has to be there
+instead is compared too.
 """
 
 import hashlib
@@ -14,7 +15,8 @@ from bacula import words_of_bextract
 from common import unescaped
 from reading import attributes_of, groups_of, match, records_of
 
-# The system takes no longer path, and bextract names each file by its whole path, that of the folder in front.
+# The system takes no longer path, and bextract names each file by its whole path, with that of the
+# folder before it.
 LONGEST_PATH = 4095
 SECOND = 10**9
 
@@ -53,7 +55,8 @@ class Line:
 
     def __init__(self, fields):
         session_id, session_time, index, self.kind = map(int, fields[1:5])
-        # Bacula counts the sessions anew after each start of the storage daemon, whose time they bear.
+        # Bacula counts the sessions anew after each start of the storage daemon; they carry its
+        # time.
         self.written = session_time, session_id, index
         self.path = unescaped(fields[5])[1:].rstrip(b"/")
         stat = [int(number) for number in fields[6].split(b",")]
@@ -91,7 +94,7 @@ def changed_later(lines, folder):
 
 
 class Comparison:
-    """Both trees of a case, and what the two programs do in another way."""
+    """Both trees of a case, and the known differences between the two programs."""
 
     def __init__(self, manifest, ours, theirs, begin):
         self.lines, self.ours, self.theirs, self.begin = lines_of(manifest), ours, theirs, begin
@@ -107,7 +110,8 @@ class Comparison:
         ours, theirs = dict(self.ours[path]), dict(self.theirs[path])
         line = self.newest.get(path)
         if line is None:
-            # A folder on the way to a file has no entry, and each program gives it what it likes.
+            # A folder on the way to a file has no entry, and each program sets its attributes as it
+            # likes.
             for facts in (ours, theirs):
                 del facts["mode"], facts["time"]
         elif line is not self.last[path]:
@@ -128,7 +132,8 @@ class Comparison:
         self.wrong += [f"{what} of {path!r}" for what in {**facts, **expected} if facts.get(what) != expected.get(what)]
 
     def run(self, without_data, longest):
-        """Compares the trees. Takes the paths of the files that only bextract restores, and how long a path it can make."""
+        """Compares the trees. Takes the paths of the files that only bextract restores, and the
+        length of the longest path that it can make."""
         for path in sorted({*self.ours, *self.theirs}):
             if path in self.ours and path in self.theirs:
                 self.compare(path)

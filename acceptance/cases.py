@@ -40,7 +40,7 @@ def unpack(volumes, folder):
 
 
 def differences(words, status, manifest, refusals):
-    """Returns what of a run differs from what is expected."""
+    """Returns the differences between a run and what is expected."""
     run = subprocess.run(words, stdin=subprocess.DEVNULL, capture_output=True, check=False)
     answers = {
         "status": (run.returncode, status),
@@ -51,7 +51,8 @@ def differences(words, status, manifest, refusals):
 
 
 def newest_faults(words, into, expected):
-    """Returns what of a run by `--newest` and `--complete` differs, whose status, manifest and refusals are given."""
+    """Returns the differences in a run with `--newest` and `--complete`. Its status, manifest and
+    refusals are given."""
     status, manifest, refusals = expected
     tree, stop = delivery(newest_copies(manifest))
     if stop is not None:
@@ -63,7 +64,7 @@ def newest_faults(words, into, expected):
 
 
 def read_again_faults(words, folder, expected, tree):
-    """Returns what of deliveries differs whose bytes are read again from the volumes."""
+    """Returns the differences in deliveries whose bytes are read again from the volumes."""
     wrong = []
     for memory in MEMORIES:
         into = folder / f"into-{memory}"
@@ -89,7 +90,7 @@ def cut_faults(executable, folder):
 
 
 def faults(executable, case, folder):
-    """Returns what of the runs of a case differs from what is expected."""
+    """Returns the differences between the runs of a case and what is expected."""
     volumes = folder / case.name / (case / "set").read_text().strip()
     into = folder / case.name / "into"
     unpack(Path(SETS) / volumes.name, volumes)

@@ -39,7 +39,7 @@ def group(session, time, ends, indexes):
     return "".join(f"{line}\n" for line in lines + [f"FileIndex={it}" for it in indexes])
 
 
-# What Bacula's own bootstraps ask of the volume: the Full, the Differential, the Incremental.
+# The records that Bacula's own bootstraps ask for: the Full, the Differential, the Incremental.
 FULL, DIFFERENTIAL, INCREMENTAL = (1, 1795302931, "206-1172"), (2, 1795302931, "1173-1655"), (1, 1795302940, "1656-2149")
 
 
@@ -243,7 +243,7 @@ def new_db(folder, sql, change=""):
 
 
 def refuses(checks, folder):
-    """Tries catalogues that somebody changed, and files that are no catalogue."""
+    """Tries catalogues that somebody changed, and files that are not catalogues."""
     for name, change, number in REFUSED:
         checks.check(name, checks.console(new_db(folder, ORDER_SQL, change)), (1, "", f"refused {number}\n"))
     before, text = list(answers().items())[-1]
@@ -267,7 +267,7 @@ def refuses(checks, folder):
         checks.check("and keeps them", file.read(), text)
 
 
-# All that the rows of a catalogue of either version say, as sqlite3 shows it.
+# All columns of the rows of a catalogue of either version, as sqlite3 shows them.
 JOBS = """SELECT * FROM Job JOIN Client USING (ClientId) JOIN FileSet USING (FileSetId) ORDER BY JobId;
 SELECT * FROM JobMedia JOIN Media USING (MediaId) ORDER BY JobMediaId;"""
 OLD_FILES = """SELECT FileId, FileIndex, JobId, hex(Path), hex(Name), LStat, MD5 FROM File

@@ -3,10 +3,11 @@
 
     acceptance/catalogue_rows.py [--program FILE] [NAME, NAME ..]     all rows, or those with these names
 
-The rows are in rows/catalogues, which says what each step of a row does. SQLite's own library carries out the statements of a row, and
-`brestore` all else: `serve` opens a catalogue and commits jobs to it, `jobs` and `console` load it, and `migrate` migrates it. What `jobs`
-and `console` print is compared with the rows that SQLite's own library finds, by the second reading of the formats. The status is 1 if
-something is not as expected.
+The rows are in rows/catalogues, with what each step of a row means. SQLite's own library carries
+out the statements of a row, and `brestore` everything else: `serve` opens a catalogue and commits
+jobs to it, `jobs` and `console` load it, and `migrate` migrates it. The output of `jobs` and
+`console` is compared with the rows that SQLite's own library finds, by the second reading of the
+formats. The status is 1 if something is not as expected.
 """
 
 import contextlib
@@ -138,7 +139,8 @@ def lines_of(field):
 
 
 def digest_of(path, start, end):
-    """Returns the digest of bytes of a volume, or an empty text if they are not all there or are more than a mebibyte."""
+    """Returns the digest of bytes of a volume, or an empty text if some are missing or they are
+    more than a mebibyte."""
     if not path.exists() or path.stat().st_size <= end or end - start > MIB:
         return ""
     with open(path, "rb") as file:
@@ -152,7 +154,8 @@ def spans_text(job):
 
 
 class World:
-    """What a row has as it goes on: a catalogue, until a step loses it, a folder of volumes, and the jobs that were loaded last."""
+    """The state of a row: a catalogue, until a step loses it, a folder of volumes, and the jobs
+    that were loaded last."""
 
     def __init__(self, place):
         self.place, self.jobs, self.gave, self.is_new = place, [], [], False
@@ -230,7 +233,7 @@ class World:
             self.gave += [it for it in digests if it]
 
     def look_at(self, job):
-        """Restores what was there once a job was stored, by `console`, and compares what it prints."""
+        """Restores what was there after a job was stored, by `console`, and compares the output."""
         sizes = {it.name.encode(): it.stat().st_size for it in self.volumes.iterdir()}
         volumes = {name: (self.volumes / name.decode()).read_bytes() for name, size in sizes.items() if size < MIB}
         if sizes.keys() != volumes.keys():

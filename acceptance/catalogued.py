@@ -10,7 +10,7 @@ from common import ORDER_SQL
 # A job of the client `mars` and the file set `home`: its files are tuples of index, path and numbers, and its span is a tuple of the
 # volume, the first and the last index, and the first and the last address.
 Job = namedtuple("Job", "id level start session files span")
-# The numbers of a file of so many bytes, which are written in base 64.
+# The numbers of a file with this number of bytes, which are written in base 64.
 NUMBERS = b"A A IGk B A A A %s A A A A A A"
 
 
@@ -45,7 +45,7 @@ def add_job(connection, job):
 
 
 def write_catalogue(file, jobs):
-    """Makes a catalogue of these jobs in a new file. One that is there goes, with its log."""
+    """Makes a catalogue of these jobs in a new file. An old one is removed, with its log."""
     for name in (file, f"{file}-wal"):
         with contextlib.suppress(FileNotFoundError):
             os.remove(name)

@@ -65,7 +65,7 @@ REFUSED = {
     "a row that points to no job": "CREATE TABLE Notes(JobId INTEGER REFERENCES Job(JobId)); INSERT INTO Notes VALUES (99);",
     "a virtual table": "CREATE VIRTUAL TABLE Words USING fts5(Word);",
 }
-# What somebody added to a catalogue of version 1, and how it goes again.
+# What somebody added to a catalogue of version 1, and how it is removed again.
 OLD_ADDITIONS = {
     "an index": ("CREATE INDEX FilesOfJobs ON File(JobId);", "DROP INDEX FilesOfJobs;"),
     "statistics": ("ANALYZE;", "DROP TABLE sqlite_stat1;"),
@@ -73,7 +73,7 @@ OLD_ADDITIONS = {
     "a table": ("CREATE TABLE Notes(JobId INTEGER, Note TEXT);", "DROP TABLE Notes;"),
     "a column": ("ALTER TABLE Job ADD COLUMN Note TEXT;", "ALTER TABLE Job DROP COLUMN Note;"),
 }
-# What makes version 2 of version 1 by sqlite3 alone.
+# The statements that change version 1 to version 2 with sqlite3 alone.
 BY_HAND = """CREATE TABLE NewFile(FileId INTEGER PRIMARY KEY, FileIndex INTEGER NOT NULL, JobId INTEGER NOT NULL REFERENCES Job(JobId),
   PathId INTEGER NOT NULL REFERENCES Path(PathId), Filename BLOB NOT NULL, LStat TEXT NOT NULL, MD5 TEXT NOT NULL);
 INSERT INTO NewFile SELECT FileId, FileIndex, JobId, PathId, Name, LStat, MD5 FROM File JOIN Filename USING (FilenameId) ORDER BY FileId;
@@ -105,15 +105,16 @@ def tables_and_rows():
 
 
 def remade(table, column, value="NULL", key=""):
-    """Returns statements that make a table anew with a column more, which has a value in the rows that are there, and a key."""
+    """Returns statements that make a table again with one more column, which has a value in the old
+    rows, and a key."""
     made = next(it for it in tables_and_rows()[0] if f"TABLE {table}(" in it)
     columns, keys = re.fullmatch(r".*?\((.*?)((?:, UNIQUE\(\w+, \w+\))?)\)", made, re.S).groups()
     fill = f"INSERT INTO New SELECT *, {value} FROM {table};"
     return f"CREATE TABLE New({columns}, {column}{keys}{key}); {fill} DROP TABLE {table}; ALTER TABLE New RENAME TO {table};"
 
 
-# Columns that somebody added to tables of the catalogue, and what a query shows once a job was committed. The job has one row in Job,
-# JobMedia, File and Media each.
+# Columns that somebody added to tables of the catalogue, and what a query shows after a job was
+# committed. The job has one row in each of Job, JobMedia, File and Media.
 COLUMNS = {
     "a column": (
         "ALTER TABLE File ADD COLUMN Note TEXT; UPDATE File SET Note = 'mine' WHERE FileId = 7;",
@@ -190,7 +191,8 @@ class Place:
         sqlite3(self.db, text)
 
     def own(self):
-        """Returns what is not the catalogue's: other tables with their rows, indexes, views and numbers."""
+        """Returns what does not belong to the catalogue: other tables with their rows, indexes,
+        views and numbers."""
         names = ", ".join(f"'{name}'" for name in [*TABLES, "sqlite_sequence"])
         others = sqlite3(self.db, f"SELECT name FROM sqlite_schema WHERE type = 'table' AND name NOT IN ({names}) ORDER BY name;").split()
         rows = "".join(f"SELECT * FROM {name};" for name in others)
@@ -212,7 +214,7 @@ def takes(checks, folder, name, text):
 
 
 def refuses(checks, folder, name, text):
-    """Hands a catalogue that is not taken to all that take one."""
+    """Gives a refused catalogue to all commands that take one."""
     place = Place(folder, text)
     data = Path(place.db).read_bytes()
     checks.check(f"{name}: console", checks.console(place.db), (1, "", "refused 45\n"))
@@ -222,7 +224,8 @@ def refuses(checks, folder, name, text):
 
 
 def takes_old(checks, folder, name, added, dropped):
-    """Hands a catalogue of version 1 to which something was added to all that take one, and migrates it once that is gone."""
+    """Gives a catalogue of version 1 with an addition to all commands that take one, and migrates
+    it after the addition is removed."""
     text = Path(VERSION_1_SQL).read_text()
     refuses(checks, folder, f"version 1 with {name}", text + added)
     place = Place(folder, text + added + dropped)
@@ -232,7 +235,8 @@ def takes_old(checks, folder, name, added, dropped):
 
 
 def fills(checks, folder, name, text, query, shown):
-    """Commits a job to a catalogue with a column more, and compares what is in the column then."""
+    """Commits a job to a catalogue with one more column, and compares what is then in the
+    column."""
     takes(checks, folder, name, Path(ORDER_SQL).read_text() + text)
     checks.check("and its values", sqlite3(os.path.join(folder, "own.db"), query), shown)
 
@@ -245,7 +249,7 @@ def refuses_job(checks, name, place):
 
 
 def cannot_insert(checks, folder):
-    """Commits a job to a catalogue whose added index allows no more."""
+    """Commits a job to a catalogue with an added index that allows no more."""
     place = Place(folder, Path(ORDER_SQL).read_text() + "DELETE FROM File; DELETE FROM JobMedia; DELETE FROM Job; CREATE UNIQUE INDEX OneJob ON Job(ClientId);")
     first = JOB.replace(b"job 4 B I T 1795302950 4", b"job 5 B F T 1795302950 5").replace(b"Own-1", b"Own-2")
     checks.check("an index that allows one job", served(checks.program, place.db, place.volumes, first), (0, b"stored 5\n", b""))

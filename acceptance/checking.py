@@ -35,7 +35,8 @@ NOTHING += f"count 1 1795302931 4 0 {NAME}\ncount 1 1795302940 1 0 {NAME}\n"
 
 
 def copy_lines(files):
-    """Returns the lines of the files whose paths come more than once: session, time, index and path of each."""
+    """Returns the lines of the files whose paths occur more than once: session, time, index and
+    path of each."""
     lines = []
     for session, time, index, path in files:
         ages = [(int(it[1]), int(it[0]), int(it[2])) for it in files if it[3] == path]
@@ -46,7 +47,8 @@ def copy_lines(files):
 
 
 def conflict_lines(files):
-    """Returns the lines of the files whose paths conflict with one before, and not with one alone that conflicts itself."""
+    """Returns the lines of the files whose paths conflict with an earlier one that does not
+    conflict itself."""
     lines, kept = [], []
     for session, time, index, path in files:
         own = unescaped(path.encode())
@@ -84,7 +86,7 @@ def fragments_of(bsr, volumes):
 
 
 def memory_line(bsr, volumes, manifest, budget=1 << 30):
-    """Returns the line of the memory that a restore of the files of a manifest asks for."""
+    """Returns the line with the memory that a restore of the files of a manifest needs."""
     fragments = fragments_of(bsr, volumes)
     files = [line.split(" ") for line in manifest.splitlines() if line.startswith("F ")]
     paths, size = sum(len(unescaped(it[5].encode())) for it in files), sum(int(it[-2]) for it in files)
@@ -93,7 +95,7 @@ def memory_line(bsr, volumes, manifest, budget=1 << 30):
 
 
 def with_memory(text, bsr, volumes, manifest):
-    """Returns what is expected of a check with the line of the memory before that of the files."""
+    """Returns what is expected of a check, with the line of the memory before that of the files."""
     return text.replace("total ", memory_line(bsr, volumes, manifest) + "total ")
 
 
@@ -185,7 +187,7 @@ def flipped(data, at):
 
 
 def checks_flipped(checks, folder):
-    """Volumes of which one bit is another."""
+    """Volumes with one bit changed."""
     case = Path(CASES) / "order-inc"
     manifest = (case / "expected").read_text()
     path = "/tmp/peerlab/src/sub/f3"
@@ -226,7 +228,7 @@ def block_at(data, place):
 
 
 def checks_sums(checks, folder):
-    """Blocks of which one bit is another, with their checksums compared."""
+    """Blocks with one bit changed, with their checksums compared."""
     case = Path(CASES) / "order-inc"
     manifest = (case / "expected").read_text()
     lines, total = found(manifest)
@@ -282,7 +284,8 @@ def checks_long(checks, folder):
 
 
 def checks_conflicts(checks, folder):
-    """Paths that conflict: the lines of a check are what a restore leaves out for them."""
+    """Paths that conflict: the lines of a check name the files that a restore leaves out for
+    them."""
     paths = [b"/a/b", b"/a", b"/a/", b"/a/b/c", b"/ab", b"/a/b/", b"/d/e/f", b"/d/e", b"/d/e/g"]
     made = Path(tempfile.mkdtemp(dir=folder))
     manifest = write_volume(made, [(path, b"data") for path in paths])
@@ -299,7 +302,8 @@ def checks_conflicts(checks, folder):
 
 
 def checks_counts(checks, folder):
-    """Groups that count more files than there are, on a volume that is whole or cut, and on two volumes that share a file."""
+    """Groups that count more files than there are, on a volume that is complete or cut, and on two
+    volumes that share a file."""
     group = "Volume={}\nVolSessionId=1\nVolSessionTime={}\n"
     full, last = group.format(NAME, 1795302931), group.format(NAME, 1795302940)
     volumes = new_volumes(folder)
@@ -336,7 +340,7 @@ def checks_counts(checks, folder):
 
 
 def checks_mistakes(checks, folder):
-    """What an operator may mistake for the bootstrap or its volumes."""
+    """Other files that an operator may give as the bootstrap or its volumes."""
     bsr = Path(CASES) / "order-inc" / "x.bsr"
     volumes = new_volumes(folder)
     lines = bsr.read_text()

@@ -141,7 +141,7 @@ class Session:
         return self.change(self.below(self.matching(text)), False)
 
     def own(self, text):
-        """Returns the own paths of the directories that are meant."""
+        """Returns the own paths of the directories that a line selects."""
         if text is None:
             paths = {self.directory} & {*self.view}
         else:
@@ -258,7 +258,8 @@ def planned_file(fragments, key, name):
 
 
 def consoled(jobs, volumes, asked, text):
-    """Returns exit status, standard output and standard error of `console`. Asked are client, file set and moment in seconds."""
+    """Returns exit status, standard output and standard error of `console`. The request is client,
+    file set and moment in seconds."""
     try:
         chosen = choose(jobs, *asked)
     except Refused as refused:

@@ -58,7 +58,7 @@ def small_blocks(session, path):
 
 FIRST_OF_A, REST_OF_A = small_blocks(b"\0\0\0\x01\0\0\0\x64", b"/a")
 FIRST_OF_B, REST_OF_B = small_blocks(b"\0\0\0\x02\0\0\0\xc8", b"/b")
-# Both files begin on one volume and go on on the other.
+# Both files begin on one volume and continue on the other.
 TWO_VOLUMES = {"A": FIRST_OF_A + REST_OF_B, "B": REST_OF_A + FIRST_OF_B}
 ACROSS = b"""Volume=A
 VolSessionId=1
@@ -323,7 +323,8 @@ def block_of(number, path, data):
 
 
 def many(checks, folder):
-    """Restores forty files, of which each fifth is large, into a folder. They are written side by side."""
+    """Restores forty files, every fifth of them large, into a folder. They are written side by
+    side."""
     files = {f"d{number % 4}/f{number}": bytes([number]) * (300_000 if number % 5 == 0 else 411 * number) for number in range(1, 41)}
     place = Place(folder, {"V": b"".join(block_of(number, *file) for number, file in enumerate(files.items(), 1))})
     status, printed, told = run(checks, extract_words(place, b"Volume=V\n", "--into", place.into))

@@ -11,7 +11,7 @@ LONGEST_NAME = 255
 
 
 def is_on_the_way(path, other):
-    """Returns whether the first path is one of a file, and a folder on the way of the other."""
+    """Returns whether the first path is a file's and also a folder on the way to the second."""
     return not path.endswith(b"/") and other.startswith(path + b"/")
 
 
@@ -47,7 +47,7 @@ def delivery(manifest):
             return tree, 80
         for end in range(1, len(names) + 1):
             is_file, name = kind != b"5" and end == len(names), b"/".join(names[:end])
-            # What is there stays a file, or a folder.
+            # What is there stays a file or a folder.
             if name in tree and (tree[name] is None) == is_file:
                 return tree, 80
             tree[name] = content if is_file else None
@@ -55,7 +55,8 @@ def delivery(manifest):
 
 
 def newest_copies(manifest):
-    """Returns a manifest without the files of whose path there is one of a later session, or a later one of the same session."""
+    """Returns a manifest without the files whose path occurs in a later session, or later in the
+    same session."""
     files = {}
     lines = manifest.splitlines(keepends=True)
     for line in lines:

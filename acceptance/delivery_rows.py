@@ -6,10 +6,12 @@
     acceptance/delivery_rows.py windows hits        the rows with these names, in which `_` may be a blank
     acceptance/delivery_rows.py --rows FILE         the rows of another text
 
-For each row it writes the volumes that the fields describe, runs the program on them, and writes what comes of it as the row does: the
-manifest, the refusal, the log, and what is then in the folder. `trapped_calls.c`, which is compiled and preloaded, lets calls fail that
-the program makes in the folder, ends the room of files, and changes the volume while the files are put. Each row that gives something
-else is printed, and how many rows of each name hold. The status is 1 if one of them does not.
+For each row it writes the volumes that the fields describe, runs the program on them, and prints
+the result as the row does: the manifest, the refusal, the log, and what is then in the folder.
+`trapped_calls.c`, which is compiled and preloaded, lets calls of the program in the folder fail,
+limits the room of files, and changes the volume while the files are put. Each row that gives
+something else is printed, and the number of rows of each name that hold. The status is 1 if one of
+them does not.
 """
 
 import argparse
@@ -46,7 +48,8 @@ def gave(tools, row):
 
 
 def run_rows(tools, rows):
-    """Runs rows, and prints those that give something else and how many of each name hold. Returns if all do that have to."""
+    """Runs rows, prints those that differ, and the number of each name that hold. Returns true if
+    all do that have to."""
     held = {}
     for row in rows:
         found = gave(tools, row).strip()

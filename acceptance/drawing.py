@@ -49,7 +49,7 @@ def draw_data(dice):
 
 
 def draw_sparse(dice):
-    """Returns records of sparse data and the contents that they make, if these are small."""
+    """Returns records of sparse data and the contents that they give, if these are small."""
     records, end = [], 0
     for _ in range(dice.randrange(1, 5)):
         address = end + dice.choice((0, 0, 1, 4096, 100_000))
@@ -214,7 +214,7 @@ def draw_bootstrap(dice, volumes, sessions):
 
 
 def spoil(dice, data):
-    """Returns data of which some bytes are changed, cut, doubled, exchanged or added."""
+    """Returns data with some bytes changed, cut, doubled, exchanged or added."""
     data = bytearray(data)
     for _ in range(dice.choice((1, 1, 1, 2, 5))):
         way, size = dice.randrange(8), len(data)

@@ -78,7 +78,8 @@ class Trial:
     def run(self, words, lines=os.devnull):
         """Runs the program. Returns status, standard output and standard error, and notes a run that costs too much."""
         out, errors = os.path.join(self.folder, "out"), os.path.join(self.folder, "errors")
-        # The shell's own memory is small. The peak of a child counts what the process held that started it.
+        # The shell's own memory is small. The peak of a child includes what the process held that
+        # started it.
         command = f"ulimit -t {LONGEST}; {shlex.join([self.program, *words])} < {shlex.quote(lines)}"
         self.write("command", command.encode())
         _, memory, seconds, status = run_measured(["sh", "-c", command], out, errors)
@@ -219,7 +220,7 @@ class Trial:
 
 
 def run_one(given, number):
-    """Runs one input. Returns what of it was not as expected."""
+    """Runs one input. Returns what was not as expected."""
     dice = random.Random(f"{given.seed} {number}")
     folder = tempfile.mkdtemp(prefix="drawn-")
     trial, chance = Trial(given, folder), dice.random()

@@ -1,7 +1,7 @@
-/* Refuses memory: preloaded, it lets one request of the program for memory fail, or that one and all
- * after it. REFUSED_REQUEST says which request, counted from 1. With REFUSED_LATER set each later one
- * fails too. A byte is appended to the file REFUSED_LOG when the first is refused, and the number of
- * requests is written to the file REFUSED_COUNT when the program ends.
+/* Refuses memory: preloaded, it lets one request of the program for memory fail, or that one and
+ * all after it. REFUSED_REQUEST is the number of the request, counted from 1. If REFUSED_LATER is
+ * set, each later one fails too. A byte is appended to the file REFUSED_LOG when the first is
+ * refused, and the number of requests is written to the file REFUSED_COUNT when the program ends.
  *
  * The requests are the calls of malloc, calloc and realloc, those that the C library itself makes
  * included, as for a thread. */

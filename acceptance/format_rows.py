@@ -77,8 +77,8 @@ def expected_manifest(fragments):
 
 
 def block(place, fields, wanted):
-    """Restores the block at the front of these bytes: the manifest is that of the wanted fragments. With the block alone, the next one is
-    looked for at the end of as many bytes as are wanted."""
+    """Restores the block at the start of these bytes: the manifest is that of the wanted fragments.
+    If only the block is there, the next one is looked for after as many bytes as are wanted."""
     data = bytes_of(fields[1])
     _, output, told = run_bootstrap(place, "extract", b"Volume=V\nVolAddr=0\n", {"V": data})
     if told:
@@ -155,7 +155,7 @@ def bootstrap(place, fields, _wanted):
 
 
 def check(place, fields, _wanted):
-    """Prints what a check finds. A drive that fails reads a folder in place of its first volume."""
+    """Prints what a check finds. A drive that fails reads a folder instead of its first volume."""
     kind, volumes, tails, text, *memory = fields
     volumes, text = named_fields(volumes), text_of(text)
     if kind != "growing":
@@ -168,7 +168,7 @@ def check(place, fields, _wanted):
 
 
 def explanation(place, fields, _wanted):
-    """Prints what `explain` says of a number, or `none`."""
+    """Prints the output of `explain` for a number, or `none`."""
     status, output, _ = place.run("explain", fields[1])
     return printed(output) if status == 0 else "none" if (status, output) == (1, b"") else printed(output)
 
@@ -218,7 +218,7 @@ def saved_file(place, field, wanted):
 
 
 def long_printed(data):
-    """Returns bytes as a row prints them, of long ones the first and the last."""
+    """Returns bytes as a row prints them; if they are many, only the first and the last."""
     return printed(data) if len(data) <= 200 else f"{printed(data[:90])}..{printed(data[-16:])}"
 
 

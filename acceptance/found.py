@@ -4,9 +4,10 @@
     acceptance/found.py                     needs the program in crates/brestore/out
     acceptance/found.py --program FILE      another program
 
-Each case is made here from a set of `sets/`: a volume that is cut, empty or another one's, one byte that is another, a name that is not
-UTF-8, a full disk, a file in the way, and volumes that are missing. What each command must print, its status, and the files that must be
-there afterwards were worked out by hand from docs/formats.md. The full disk is mounted, which only root may do. The status is 1 if
+Each case is made here from a set of `sets/`: a volume that is cut, empty or another one's, one byte
+changed, a name that is not UTF-8, a full disk, a conflicting file, and volumes that are missing.
+The output and status of each command, and the files that must be there afterwards, were worked out
+by hand from docs/formats.md. The full disk is mounted, which only root may do. The status is 1 if
 something differs.
 """
 
@@ -141,7 +142,8 @@ def checks_nothing(checks, folder):
 
 
 def checks_path(checks, folder):
-    """A byte of a path is another: the file comes under the path of a newer one, and nothing is under its own."""
+    """A byte of a path is changed: the file has the path of a newer one, and nothing has its own
+    path."""
     made, name = new_case(folder), "a flipped byte in a path"
     volume_of(made).write_bytes(flipped(volume_of(made).read_bytes(), PATH_END))
     copies = b"older 1 1795302931 2 %s\nnewest 1 1795302940 1 %s\n" % (F2, F2)
@@ -152,7 +154,8 @@ def checks_path(checks, folder):
 
 
 def checks_data(checks, folder):
-    """A byte of the data of a file is another. Its digest tells; without one only the block's checksum does."""
+    """A byte of the data of a file is changed. Its digest shows it; without a digest only the
+    block's checksum does."""
     made, name = new_case(folder), "a flipped byte in signed data"
     whole = volume_of(made).read_bytes()
     volume_of(made).write_bytes(flipped(whole, DATA))
@@ -162,7 +165,7 @@ def checks_data(checks, folder):
     checks.both(name, made, 1, manifest, b"", {F2: WHOLE[F2], F3: WHOLE[F3]})
 
     made, name, odd = new_case(folder), "a flipped byte in unsigned data", b"gull 1\n"
-    # A digest of stream 10 is not compared. The block gets the checksum that it then has.
+    # A digest of stream 10 is not compared. The block gets its new checksum.
     unsigned = whole[:DIGEST_STREAM] + b"\x0a" + whole[DIGEST_STREAM + 1 :]
     sum_of_block = zlib.crc32(unsigned[BLOCK + 4 : BLOCK_END]).to_bytes(4, "big")
     volume_of(made).write_bytes(flipped(unsigned[:BLOCK] + sum_of_block + unsigned[BLOCK + 4 :], DATA))
@@ -189,7 +192,7 @@ def checks_name(checks, folder):
 
 
 def checks_disk(checks, folder):
-    """The disk has room for two files. It gets more."""
+    """The disk has room for two files, but gets more."""
     made, name, some = new_case(folder), "a full disk", {F1: WHOLE[F1], F3: WHOLE[F3]}
     checks.checks_found(name, made, ALL)
     checks.complete(name, made, 0, manifest_of())
@@ -207,7 +210,8 @@ def checks_disk(checks, folder):
 
 
 def checks_way(checks, folder):
-    """Two backups of which one has a file where the other has a folder, by the bootstrap that Bacula keeps of both."""
+    """Two backups, with a file in one at the path of a folder in the other, by the bootstrap that
+    Bacula keeps of both."""
     group = 'Volume="Vol-0001"\nVolSessionId=%d\nVolSessionTime=1795302717\nFileIndex=1-%d\n'
     made, name = new_case(folder, "swap", (group % (1, 5) + group % (2, 4)).encode()), "a file in the way"
     escaped = AT + b"name\\x20with\\x20spaces"

@@ -13,10 +13,12 @@ The program must end by itself. It prints and leaves what it does with all its m
 - `extract` and `console` end with the status 1 and `refused 1`, or `refused 45` if the catalogue was read, after whole lines of what
   they print with all their memory. If files are delivered, the number may be 80 once all is printed.
 
-What was in the folder of volumes and in the catalogue is unchanged, but for jobs that are committed. Of the files of a delivery the
-first ones are there, and maybe a front of the next one; of a stream, its front. A case of more than three times `--each` requests has
-as many at its front and at its end refused in turn, and `--drawn` of those between, which are drawn by the seed. If jobs are committed to
-files, `--drawn` of the requests by which the catalogue is made are refused, and each later one. The status is 1 if a run differs.
+The folder of volumes and the catalogue are unchanged, except for jobs that are committed. Of a
+delivery's files the first ones are there, and perhaps a first part of the next; of a stream, a
+first part. If a case has more than three times `--each` requests, this number of them is refused in
+turn at its start and at its end, and `--drawn` of those between, which are drawn by the seed. If
+jobs are committed to files, `--drawn` of the requests that make the catalogue are refused, and each
+later one. The status is 1 if a run differs.
 """
 
 import argparse
@@ -55,7 +57,7 @@ STAT = [0, 0, 33188, 1, 0, 0, 0, 14, 0, 0, 0, 0, 0, 0]
 MESSAGE = b"message digest"
 
 
-# ---- scripts: what they answer if one line is refused
+# ---- scripts: their answers if one line is refused
 
 
 class Script:
@@ -123,7 +125,7 @@ def answers_of(lines):
     return own, refused | {(1, b"", b"refused 1\n"), (1, b"refused 1\n", b"")}
 
 
-# ---- what is there
+# ---- the state of files
 
 
 def contents_of(folder):
@@ -167,7 +169,8 @@ def folders_above(name):
 
 
 def is_begun(tree, before, name, data):
-    """Returns whether a delivery left this that had left `before`, and then was refused at this name."""
+    """Returns whether a delivery that began with `before` and was refused at this name left
+    this."""
     changed = {it for it in {*tree, *before} if tree.get(it, b"missing") != before.get(it, b"missing")}
     others = changed - {name} - {*folders_above(name)}
     is_cut = name not in tree or (tree[name] is None if data is None else tree[name] is not None and data.startswith(tree[name]))
@@ -200,7 +203,7 @@ class Case:
         return os.path.join(self.folder, name)
 
     def renew(self):
-        """Makes anew what a run changes."""
+        """Makes again what a run changes."""
 
     def run(self, request, later=False):
         """Runs the command with this request refused. Returns what it printed, what it left, and whether a request was refused."""
@@ -238,7 +241,8 @@ class Case:
         return is_told and is_fronted and (whole.startswith(left) if isinstance(left, bytes) else may_be_left(left, self.steps))
 
     def is_script_of_refusals(self, found, own):
-        """Returns whether each line of a script's answer is one that it may give, with a refusal among them."""
+        """Returns whether each line of a script's answers is a possible one, with a refusal among
+        them."""
         known = {line for printed in [own[1], *(it[1] for it in self.refused)] for line in printed.splitlines()}
         lines = found[1].splitlines()
         return found[0] == 1 and found[2] == b"" and known.issuperset(lines) and any(it.startswith(b"refused ") for it in lines)
@@ -278,7 +282,8 @@ class Case:
         return count
 
     def places(self, count, dice):
-        """Returns the requests that are refused, of as many: those at the front and at the end, and some of those between."""
+        """Returns which of `count` requests are refused: the first, the last, and some of those
+        between."""
         each, places = self.given.each, range(1, count + 1)
         if count <= 3 * each:
             return places
@@ -297,7 +302,8 @@ class Case:
 
 
 class Kept(Case):
-    """A script that commits jobs to a new catalogue and a new folder of volumes, and one that goes on from what it left."""
+    """A script that commits jobs to a new catalogue and a new folder of volumes, and one that
+    continues from there."""
 
     def __init__(self, given, folder, lines, later_lines):
         super().__init__(given, folder, ["serve", "--db", os.path.join(folder, "jobs"), "--volumes", os.path.join(folder, "kept")], text_of(lines))
@@ -311,7 +317,8 @@ class Kept(Case):
         os.mkdir(self.path("kept"))
 
     def places(self, count, dice):
-        """Returns some of the requests up to the first line, by which the catalogue is made and opened, and each later one."""
+        """Returns some of the requests up to the first line, which make and open the catalogue, and
+        each later one."""
         lines, self.lines = self.lines, b""
         self.run(0)
         self.lines, opened = lines, int(Path(self.path("count")).read_text())
@@ -375,7 +382,8 @@ def first_script(given, folder):
 
 
 def two_volumes(given, folder):
-    """A script with two volumes, of which the second gets its bytes in two lines, and two bootstraps."""
+    """A script with two volumes, the second of which gets its bytes in two lines, and two
+    bootstraps."""
     first, second = block([attributes(1), (1, 2, None, b"hello")]), block([attributes(2, b"/b"), (2, 2, None, b"hello")], (2, 200))
     lines = [b"volume V1 " + first.hex().encode(), b"volume V2 " + second[:50].hex().encode(), b"volume V2 " + second[50:].hex().encode()]
     lines += [b"bsr", b'Volume="V1"', b".", b"extract", b"drives 3", b"bsr", b"Volume=V2", b"FileIndex=2", b'Volume="V1"', b".", b"extract"]
@@ -408,7 +416,7 @@ def two_jobs(given, folder):
 
 
 def refused_jobs(given, folder):
-    """Jobs of which some are refused, deletions, bytes beside them, and sessions with the console."""
+    """Jobs, some of which are refused, deletions, further bytes, and sessions with the console."""
     lines = [*job_lines(1, b"/a", b"A", b"B", b"F"), *job_lines(1, b"/b", b"B", b"A"), b"volume A 00", *job_lines(3, b"/c", b"A", b"B")]
     lines += [*job_lines(4, b"/d", b"B", b"C")[:-1], b"del /a", b"end", b"restore c f 1970-01-01 00:10:00", b"ls", b"mark *", b"frob", b"done"]
     return job_script(given, folder, [*lines, b"restore c f 1970-01-01 00:02:30", b"find *", b"unmark a", b"quit"])
@@ -483,7 +491,7 @@ def sparse_file(given, folder):
 
 
 def conflict(given, folder):
-    """A file in the place of a folder: the delivery stops with 81."""
+    """A file at the path of a folder: the delivery stops with 81."""
     records = [attributes(1), (1, 2, None, b"hello"), attributes(2, b"/a/b"), (2, 2, None, b"hello")]
     return own_restore(given, folder, block(records), "--into")
 

@@ -1,8 +1,8 @@
 #!/usr/bin/env python3
 """Asks for `help` and `dir` at a console's terminal, and compares what the terminal shows with sizes and moments of a manifest.
 
-Standard input and standard error are a pseudo terminal; standard output is a file, which must have no word of what was asked. Needs
-sqlite3.
+Standard input and standard error are a pseudo terminal; standard output is a file, which must
+contain nothing of what was asked. Needs sqlite3.
 
     acceptance/helping.py                    over the program that is there
     acceptance/helping.py --program FILE     over another program
@@ -30,7 +30,8 @@ NO_ROW = "           -                   - "
 
 
 def listed(folder):
-    """The lines of `dir` for the names with rows of their own in a folder, by the manifest of the same jobs."""
+    """Returns the lines of `dir` for the names with their own rows in a folder, by the manifest of
+    the same jobs."""
     with open(os.path.join(CASES, "order-inc", "expected")) as text:
         rows = [line.split(" ") for line in text if line.startswith("F ")]
     lines = {}
@@ -44,7 +45,8 @@ def listed(folder):
 
 
 def asked(*answers):
-    """What the terminal shows: a prompt before each line that is typed, and after it the answer, if it has one."""
+    """Returns what the terminal shows: a prompt before each typed line, and its answer after it, if
+    it has one."""
     shown = "".join(PROMPT + "".join(f"{line}\n" for line in answer) for answer in answers)
     return [*CHOSEN, *GREETING, *shown.splitlines()]
 

@@ -98,7 +98,7 @@ def shortened(result):
 
 
 def prefixes(runs):
-    """Each front of a small volume."""
+    """Each first part of a small volume."""
     for volume in (HELLO, OLDER):
         for length in range(len(volume)):
             runs.extract(f"{length} bytes", ONE, {"V": volume[:length]})
@@ -139,7 +139,8 @@ TOO_LONG = b"refused 34 line %d\n"
 
 
 def endless(runs):
-    """Bootstraps whose last line has no end, from a device and from pipes: refused as soon as that line is too long, or by a line before it."""
+    """Bootstraps whose last line has no end, from a device and from pipes: refused as soon as that
+    line is too long, or by an earlier line."""
     Path(runs.folder, "volumes").mkdir(exist_ok=True)
     device, pipe = Path(runs.folder) / "device", os.path.join(runs.folder, "pipe")
     device.symlink_to("/dev/zero")
@@ -225,7 +226,8 @@ def jumps(runs):
 
 
 def gibibyte(runs):
-    """A file of 1 GiB that is zeros but for one byte: its digest is computed, its zeros are not stored."""
+    """A file of 1 GiB that is zeros except for one byte: its digest is computed, its zeros are not
+    stored."""
     words = {"V": block([attributes(1), sparse(2**30 - 1, b"x")])}
     digest = subprocess.run("(head -c 1073741823 /dev/zero; printf x) | md5sum", shell=True, capture_output=True, check=True).stdout[:32]
     line = b"F 1 100 1 3 /a 0,0,33188,1,0,0,0,5,0,0,0,0,0,0 = 1073741824 " + digest + b"\ntotal 1 0 0\n"
@@ -313,7 +315,7 @@ def odd_files(runs):
 
 
 def odd_places(runs):
-    """The same in the place of a catalogue, of a bootstrap, and of what is delivered to: 45, the status 3, 81."""
+    """The same for a catalogue, a bootstrap, and a target: 45, the status 3, 81."""
     volumes, odd = Path(runs.folder) / "volumes", Path(runs.folder) / "odd"
     volumes.mkdir(exist_ok=True)
     extract = ["extract", "--volumes", str(volumes), "--bsr"]
@@ -431,7 +433,8 @@ def circles(runs):
 
 
 def odd_old_rows(runs):
-    """Each column of a catalogue of version 1 with odd values: migrated with the same rows, or refused with 45 or 47 and as it was."""
+    """Each column of a catalogue of version 1 with odd values: migrated with the same rows, or
+    refused with 45 or 47 and unchanged."""
     words = ["console", "--volumes", os.path.join(SETS, "order"), "--client", "peer-fd", "--fileset", "Peer", "--before", "2026-11-21 23:15:46"]
     lines = runs.write("lines", b"ls\nmark *\nfind *\nestimate\ndone\n")
     for label, catalogue in odd_catalogues(runs, VERSION_1_SQL):
@@ -506,7 +509,8 @@ def cut_catalogues(runs):
 
 
 def cut_old_catalogues(runs):
-    """The same of a catalogue of version 1 that is to be migrated: refused with 45 or 47 and as it was, or migrated to the same rows."""
+    """The same for a catalogue of version 1 that is to be migrated: refused with 45 or 47 and
+    unchanged, or migrated to the same rows."""
     whole = new_catalogue(runs, "whole.db", Path(VERSION_1_SQL).read_text())
     data, rows = Path(whole).read_bytes(), rows_of(whole, 1)
     for label, changed in spoilt(data):
@@ -532,7 +536,7 @@ def main():
     given, failed = parser.parse_args(), 0
     names = [case.__name__ for case in CASES]
     if not given.names:
-        # A process for each case: the peak memory of a run counts what the process held that started it.
+        # Each case runs in its own process: the peak memory of a run includes what its parent held.
         words = [sys.executable, __file__, "--program", given.program]
         return max(subprocess.run([*words, name], check=False).returncode for name in names)
     for case in (CASES[names.index(name)] for name in given.names):

@@ -8,8 +8,9 @@ to a volume, and lets a session learn a receipt. After each call it prints what 
 the keeper vouches for, and how many jobs a snapshot shows; at the end the jobs of the catalogue, and the digests of the volumes. Another
 keeper then goes on from what is left.
 
-`failing_memory.c`, which is compiled by `cc` and preloaded, lets one request for memory fail, and in a second turn that one and all later
-ones. A call returns what it would with all its memory, or it is refused:
+`failing_memory.c`, which is compiled by `cc` and preloaded, lets one request for memory fail, and
+in a second turn that one and all later ones. A call returns the same as with all its memory, or it
+is refused:
 
 - a commit by 1 before the first block is written, by 44 if a volume does not take a block, by 45 if the catalogue does not take the rows,
   and by 46 if the job is stored and not published;
@@ -42,7 +43,7 @@ SECONDS = 30
 STAT = [0, 0, 33188, 1, 0, 0, 0, 14, 0, 0, 0, 0, 0, 0]
 # Of each job the path, and its volumes with the number of blocks that go there; the last one takes all that are left.
 JOBS = {1: (b"/a", ("A", 1), ("B", None)), 2: (b"/b", ("B", 1), ("A", None)), 3: (b"/c", ("C", None)), 4: (b"/d", ("A", 2), ("B", None))}
-# What is done by each keeper, and whether it goes on from what the one before left.
+# The deeds of each keeper, and whether it continues from what the previous one left.
 PARTS = (
     (False, ("learn 1", "republish", "commit 1", "append", "commit 2", "republish", "commit 3")),
     (True, ("learn 4", "commit 3", "commit 2", "republish")),
@@ -63,14 +64,15 @@ def placed_blocks(number):
 
 
 class Keeper:
-    """What is there: the volumes, the lengths that are vouched for, the jobs of the catalogue with their spans, and what is published."""
+    """The state: the volumes, the lengths that are vouched for, the jobs of the catalogue with
+    their spans, and what is published."""
 
     def __init__(self, refused=0, volumes=(), jobs=()):
         self.volumes, self.jobs, self.refused = dict(volumes), list(jobs), refused
         self.entries, self.retired, self.opening, self.published = {}, set(), len(self.jobs), len(self.jobs)
 
     def after(self, change=lambda keeper: None, refused=False):
-        """Returns a copy after a change, with one refusal of memory more if that was one."""
+        """Returns a copy after a change, with one more refusal of memory if there was one."""
         made = copy.deepcopy(self)
         made.refused += refused
         change(made)
@@ -161,7 +163,8 @@ def lines_of(keeper, deed):
 
 
 class Reading:
-    """What a run printed, read line by line beside all that may be there after at most so many refusals of memory."""
+    """The output of a run, read line by line together with all states that are possible after at
+    most this number of refusals of memory."""
 
     def __init__(self, text, most):
         self.lines, self.most = text.split("\n"), most
@@ -221,7 +224,8 @@ class Runs:
         return found, was_refused, int(made or 0)
 
     def try_each(self, requests, later):
-        """Refuses requests in turn. Returns in how many runs each number was met, the number of runs, and what differed."""
+        """Refuses requests in turn. Returns the number of runs in which each number occurred, the
+        number of runs, and the differences."""
         met, runs, wrong = {}, 0, []
         with concurrent.futures.ThreadPoolExecutor(os.cpu_count()) as pool:
             for request, (found, was_refused, _) in zip(requests, pool.map(lambda request: self.run(request, later), requests)):
@@ -234,7 +238,7 @@ class Runs:
 
 
 def is_expected(found, most):
-    """Returns whether a run may give this, with at most so many refusals of memory."""
+    """Returns whether a run may give this, with at most this number of refusals of memory."""
     status, printed, told = found
     return (status, told) == (0, "") and Reading(printed, most).is_expected()
 

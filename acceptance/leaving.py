@@ -1,5 +1,6 @@
 #!/usr/bin/env python3
-"""Restores files of which some can't be delivered, with and without `--keep-going`, and compares what comes of it.
+"""Restores files, some of which can't be delivered, with and without `--keep-going`, and compares
+the results.
 
     acceptance/leaving.py                     needs the program in crates/brestore/out
     acceptance/leaving.py --program FILE      another program
@@ -108,7 +109,7 @@ def checks_sound(checks):
 
 
 def checks_tar(checks):
-    """A tar stream has each name, and so leaves out conflicts alone."""
+    """A tar stream can contain each name, and so only conflicts are left out."""
     files = [*SHORT.items(), (b"/in/n\xff", b"odd"), (b"/in/a/x", b"in the way"), (b"/in/y", b"last")]
     with tempfile.TemporaryDirectory() as made:
         folder = Path(made)
@@ -121,7 +122,8 @@ def checks_tar(checks):
 
 
 def into_disk(checks, folder, options, *more):
-    """Delivers into a disk that is mounted with these options. Returns what came of it and the files there, or nothing if none can be mounted."""
+    """Delivers into a disk that is mounted with these options. Returns the result and the files
+    there; nothing if none can be mounted."""
     (folder / "into").mkdir()
     if subprocess.run(["mount", "-t", "tmpfs", "-o", options, "tmpfs", folder / "into"], capture_output=True).returncode:
         return None
@@ -132,7 +134,8 @@ def into_disk(checks, folder, options, *more):
 
 
 def checks_disk(checks, name, options, files, first, left):
-    """Delivers into such a disk: without the option the files `first` come, with it all but those of `left`, and no part of another file."""
+    """Delivers into such a disk: without the option it gets the files `first`, with it all except
+    those of `left`, and no part of another file."""
     going = {name: data for name, data in files if name not in left}
     told = b"".join(b"left 80 %s\n" % name for name in left)
     for more, wanted in (((), (b"refused 80\n", first)), (("--keep-going",), (told, going))):

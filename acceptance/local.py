@@ -28,7 +28,7 @@ MOMENTS = ["2026-11-21 23:15:33", "2026-07-01 22:30:00", "9999-12-31 23:59:59"]
 IN_BERLIN = ["2026-11-22T00:15:33+01:00", "2026-07-02T00:30:00+02:00", "-"]
 IN_UTC = ["2026-11-21T23:15:33+00:00", "2026-07-01T22:30:00+00:00", "-"]
 UNKNOWN = ["-", "-", "-"]
-# By `TZ`, what is shown of each moment.
+# For each `TZ`, what is shown of each moment.
 NAMED = {
     "Europe/Berlin": IN_BERLIN,
     ":Europe/Berlin": IN_BERLIN,
@@ -51,7 +51,8 @@ COMPARED = [
     "Africa/Casablanca", "America/New_York", "America/St_Johns", "Antarctica/Troll", "Asia/Kathmandu", "Asia/Tokyo",
     "Australia/Lord_Howe", "Europe/Dublin", "Europe/Lisbon", "Pacific/Apia", "Pacific/Chatham", "Pacific/Kiritimati", "Etc/GMT+12",
 ]
-# Three moments each: the first of 1970 and two of an early year; changes of clocks in 2026; late years, for which a rule stands in.
+# Three moments each: the first of 1970 and two of an early year; changes of clocks in 2026; late
+# years, for which a rule is used.
 TIMES = [
     [0, 86_399, 181_345_678],
     [1_774_745_999, 1_774_746_000, 1_792_890_000],
@@ -133,7 +134,7 @@ def places(checks, db, folder):
 
 
 def chooses(checks, db):
-    """Lists jobs of which some are chosen. The moment of `--before` is one in UTC."""
+    """Lists jobs, some of which are chosen. The moment of `--before` is in UTC."""
     set_moments(db, [seconds_of(it) for it in ("2026-11-21 23:15:33", "2026-07-01 22:30:00", "2026-11-22 00:00:00")])
     lines = checks.local(db, ["2026-11-22T00:15:33+01:00", "2026-07-02T00:30:00+02:00", "2026-11-22T01:00:00+01:00"]).splitlines(keepends=True)
     full, differential = lines[0].replace("-", "*", 1), lines[1]

@@ -4,10 +4,12 @@
     acceptance/logged.py                       needs the program in crates/brestore/out, `cc` and sqlite3
     acceptance/logged.py --program FILE        another program
 
-The log of a whole restore is compared line by line with what docs/formats.md says of it, with the table of docs/RESTORING.md for the words
-beside a refusal. `stopping_calls.c`, which is compiled and preloaded, ends the process before each of its calls that change a file: then
-each file that the log names is whole in the folder, and of the others no more are than the log may lack. Standard output and standard
-error are those of the same restore without a log. The status is 1 if something differs.
+The log of a whole restore is compared line by line with docs/formats.md, and the words beside a
+refusal with the table of docs/RESTORING.md. `stopping_calls.c`, which is compiled and preloaded,
+ends the process before each of its calls that change a file: then each file that the log names is
+complete in the folder, and of the others there are no more than the log may lack. Standard output
+and standard error are those of the same restore without a log. The status is 1 if something
+differs.
 """
 
 import argparse

@@ -3,11 +3,13 @@
 
     acceptance/looking.py [--program FILE] [PART ..]     all parts, or these; needs sqlite3 and cc
 
-Both must leave each file as it was and make none, also in a folder that it can't write, on an empty file and on one that is no
-database. It must wait while another program writes, for five seconds at most, and must refuse a journal that has to be rolled back and a
-log that was not put into the file. After `serve` and `migrate` ended, a copy of the catalogue's file alone must have all jobs, by the
-real sqlite3. After a `serve` that was killed it must once `serve` ran again. The part `moments` counts the moments of a wait, which
-`passing_moments.c` lets pass at once. The status is 1 if something is not as expected.
+Both must leave each file as it was and make none, also in a folder that they can't write, on an
+empty file and on one that is no database. They must wait while another program writes, for five
+seconds at most, and must refuse a journal that has to be rolled back and a log that was not put
+into the file. After `serve` and `migrate` ended, a copy of the catalogue's file alone must have all
+jobs, by the real sqlite3; after a `serve` that was killed, as soon as `serve` ran again. The part
+`moments` counts the moments of a wait, which `passing_moments.c` lets pass at once. The status is 1
+if something is not as expected.
 """
 
 import argparse
@@ -37,7 +39,7 @@ PEER = ["--client", "peer-fd", "--fileset", "Peer", "--before", "2026-11-21 23:1
 CHOSEN = (0, listed("***"), "")
 # From the first refusal to the last try, and what the program and a busy machine may add.
 LONGEST, SLACK = 5, 5
-# How many times a file in use is tried, with a moment of a tenth of a second after each.
+# The number of tries of a file in use, with a moment of a tenth of a second after each.
 TRIES = 50
 
 JOB = b"""job 4 B F T 1795302950 4 1795302950 64512 mars home
@@ -57,7 +59,8 @@ def contents(folder):
 
 
 def copied(db, *ends):
-    """Returns a copy of a catalogue in a folder of its own, with what lies beside it under these ends of its name."""
+    """Returns a copy of a catalogue in a separate folder, with the files beside it that have these
+    endings."""
     copy = os.path.join(tempfile.mkdtemp(dir=os.path.dirname(os.path.dirname(db))), "c.db")
     for end in ("", *ends):
         shutil.copy(db + end, copy + end)
@@ -278,7 +281,8 @@ def ends(checks, folder):
 
 
 def running(program, db, volumes, script, lines):
-    """Starts `serve` with a script that does not end, and waits for so many lines of its answers."""
+    """Starts `serve` with a script that does not end, and waits for this number of lines of its
+    answers."""
     ran = subprocess.Popen([program, "serve", "--db", db, "--volumes", volumes], stdin=subprocess.PIPE, stdout=subprocess.PIPE)
     ran.stdin.write(script)
     ran.stdin.flush()

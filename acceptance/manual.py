@@ -1,8 +1,9 @@
 #!/usr/bin/env python3
-"""Compares the manual page and the completions for bash with what the program says, and tries both.
+"""Compares the manual page and the completions for bash with the program's help, and tries both.
 
-`tools/manual` writes them; here it is asked what it would write. `man` has to show the page without a warning, with each command and
-each number of `explain`, and bash has to complete the lines below. Needs bash, and man if the page is to be shown.
+`tools/manual` writes them; here it is asked for what it would write. `man` has to show the page
+without a warning, with each command and each number of `explain`, and bash has to complete the
+lines below. Needs bash, and man if the page is to be shown.
 
     acceptance/manual.py                  over the program that is there
     acceptance/manual.py --program FILE   over another program
@@ -27,7 +28,7 @@ COMPLETIONS = os.path.join(ROOT, "share/bash-completion/completions/brestore")
 COMMANDS = ["check", "console", "explain", "extract", "jobs", "migrate", "serve"]
 # The folder in which lines are completed has a file and a folder.
 FILE, FOLDER = "jobs of mars.db", "volumes"
-# A line, of which the last word is completed, and the words that fit.
+# A line whose last word is completed, and the words that fit.
 LINES = [
     ("brestore ex", ["explain", "extract"]),
     ("brestore ch", ["check"]),
@@ -51,7 +52,7 @@ SCRIPT = """source "$1"; shift; COMP_WORDS=("$@"); COMP_CWORD=$(($# - 1)); _bres
 
 
 def completed(line, folder):
-    """How bash completes the last word of a line."""
+    """Returns how bash completes the last word of a line."""
     words = ["bash", "-c", SCRIPT, "bash", COMPLETIONS, *line.split(" ")]
     printed = subprocess.run(words, cwd=folder, check=True, capture_output=True, text=True).stdout
     return sorted(word for word in printed.split("\0") if word)

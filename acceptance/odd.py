@@ -1,4 +1,5 @@
-"""A volume of files with odd names, owners, times and types, and what its restore prints. No Bacula wrote it, but its tools read it."""
+"""A volume of files with odd names, owners, times and types, and what its restore prints. Bacula
+did not write it, but its tools read it."""
 
 import hashlib
 import struct

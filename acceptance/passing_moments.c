@@ -1,7 +1,7 @@
-/* Lets the moments pass at once for which the program waits: preloaded, it takes the place of nanosleep.
- * A byte is appended to the file MOMENTS_LOG for each moment. After MOMENTS_BUSY of them the file
- * MOMENTS_FILE is removed, as if another program had ended its work. A read of a part of a file gives at
- * most MOMENTS_MOST bytes. */
+/* Lets the moments that the program waits pass at once: preloaded, it replaces nanosleep. A byte is
+ * appended to the file MOMENTS_LOG for each moment. After MOMENTS_BUSY of them the file
+ * MOMENTS_FILE is removed, as if another program had ended its work. A read of a part of a file
+ * gives at most MOMENTS_MOST bytes. */
 #define _GNU_SOURCE
 #include <fcntl.h>
 #include <stdlib.h>

@@ -3,12 +3,13 @@
 from scripting import Bad, Script
 from stored import vouched_by
 
-# A length that no volume has: what it is said of is retired.
+# A length that no volume has; a volume with it is retired.
 RETIRED = -1
 
 
 class Refusing(Script):
-    """A script of which one line is refused memory, in one of the ways of that line (`ways_of`)."""
+    """A script with one line that is refused memory, in one of the ways of that line
+    (`ways_of`)."""
 
     def __init__(self, text, place=None, way=()):
         super().__init__(text)
@@ -34,7 +35,8 @@ class Refusing(Script):
             self.job["given_up"] = True
 
     def refuse_within(self, line, number, count):
-        """Carries out a line and keeps as many lines of what it printed; then it is refused."""
+        """Carries out a line and keeps this number of lines of its output; then the line is
+        refused."""
         printed, kept = len("".join(self.printed)), "".join(self.printed)
         volumes = dict(self.volumes)
         super().carry_out(line)
@@ -44,7 +46,7 @@ class Refusing(Script):
         self.refuse(number)
 
     def refuse_commit(self, line, number, count):
-        """Ends a job whose commit is refused after as many blocks."""
+        """Ends a job whose commit is refused after this number of blocks."""
         job, self.job = self.job, None
         if job["given_up"]:
             return
@@ -57,7 +59,7 @@ class Refusing(Script):
         self.jobs, self.waiting = self.jobs + self.waiting, []
 
     def commit(self, job, number=None, count=0):
-        """Commits a job, or refuses it after as many blocks."""
+        """Commits a job, or refuses it after this number of blocks."""
         if number != 1 or count:
             self.publish()
         before = dict(self.volumes), dict(self.vouched)
@@ -76,7 +78,7 @@ class Refusing(Script):
             self.waiting.append(job)
 
     def check(self, job):
-        """Refuses a job whose number or session is there, which needs no memory."""
+        """Refuses a job whose number or session exists already, which needs no memory."""
         if any(it["id"] == job["id"] for it in self.jobs):
             raise Bad(40)
         if any(it["session"] == job["session"] for it in self.jobs):
@@ -112,7 +114,7 @@ def blocks_in_order(job, after):
 
 
 def count_of_blocks(text, place):
-    """Returns how many blocks the commit at a line appends."""
+    """Returns the number of blocks that the commit at a line appends."""
     script = Refusing(text)
     sizes = []
     script.commit = lambda job: (Script.commit(script, job), sizes.append((script.at - 1, len(list(blocks_in_order(job, script.volumes))))))

@@ -11,12 +11,14 @@ from row_items import Item, block_of, item_of, outcomes_of, records_of, text_of
 
 # The program, the library that is preloaded, and the folder of a row.
 Tools = namedtuple("Tools", "program library folder")
-# What comes of a restore: exit status, manifest, lines of standard error and of the log, and the calls in the folder.
+# The result of a restore: exit status, manifest, lines of standard error and of the log, and the
+# calls in the folder.
 Restored = namedtuple("Restored", "status manifest told log calls")
 
-# The outcomes that have the name `small`.
+# The outcomes with the name `small`.
 NAMES = {"small": "/a,3,hello;/d/b,3,more;/d/e/,5,-;/d/e/c,2,letters"}
-# A link is put into no folder. Between two files it keeps the second from being put side by side with the first.
+# A link is not put into a folder. Between two files it keeps the second from being put side by side
+# with the first.
 LINK = Item(b"/link", 4, b"", b"A A A A A A A A A A A A A", b"", 0)
 # Bytes after the records of a block, which are too few for one more.
 PAD = 11
@@ -29,7 +31,7 @@ class Volume:
         self.blocks, self.changed, self.files, self.count = [], [], [], 0
 
     def add(self, outcome, given=None, is_sparse=False):
-        """Adds a file or a fault. `given` are the bytes that are read again, if they are others."""
+        """Adds a file or a fault. `given` are the bytes that are read again, if they differ."""
         self.count += 1
         self.files += [outcome] if isinstance(outcome, Item) else []
         records = records_of(self.count, outcome, is_sparse)
@@ -59,7 +61,7 @@ def padded(record, size):
 
 
 def restored(tools, volume, *options, how="-"):
-    """Restores the files of a volume, by calls of which some fail as the options `how` say."""
+    """Restores the files of a volume. Some calls fail, as the options `how` require."""
     changed, folder = volume.write(tools.folder), tools.folder
     for name in ("log", "calls"):
         (folder / name).write_bytes(b"")
@@ -87,7 +89,7 @@ def refusal(found):
 
 
 def count_put(found):
-    """Returns how many files were put, as the log tells."""
+    """Returns the number of files that were put, by the log."""
     counts = [int(line.split(" ")[0]) for line in found.log if line.endswith(" files were put")]
     return counts[0] if counts else 0
 
@@ -114,7 +116,7 @@ def end_of(found, totals):
 
 
 def two_of(found, before):
-    """Returns what became of two files, of which the delivery put as many before."""
+    """Returns the result for two files, given the number of files that the delivery put before."""
     number, count = refusal(found), count_put(found) - before
     word = "both" if not number else ("neither", "one")[count]
     return ("" if were_side_by_side(found) else "alone ") + word + (f" {number} " if number else " ")
@@ -171,7 +173,8 @@ def shown_bytes(data):
 
 
 def there(tools, path, files=()):
-    """Returns what is at a path: the bytes of a file, `part` if they are not those of a file of the restore, `folder`, `link` or `none`."""
+    """Returns what is at a path: the bytes of a file, `part` if no file of the restore has these,
+    `folder`, `link` or `none`."""
     at = os.fsencode(into(tools)) + path
     if os.path.islink(at):
         return "link"
@@ -225,7 +228,8 @@ def leaving(tools, fields, _wanted):
 
 
 def watched(tools, fields, _wanted):
-    """Runs `watch`: prints the paths of which the log has a reason, and its lines that name files and count them."""
+    """Runs `watch`: prints the paths with a reason in the log, and its lines that name files and
+    count them."""
     how, paths, step = fields
     found, gave, volume = put_steps(tools, [step], *memory_for(step), how=how)
     lines = [line for line in found.log if line.startswith(("put ", "failed ")) or line.endswith(" files were put")]
@@ -236,7 +240,8 @@ def watched(tools, fields, _wanted):
 
 
 def streamed(tools, fields, _wanted):
-    """Runs `tar`: prints the number of the refusal of each step, and how the first stream is to the second."""
+    """Runs `tar`: prints the number of the refusal of each step, and how the first stream compares
+    with the second."""
     gave, streams = "", []
     for number, step in enumerate(fields):
         volume = Volume()

@@ -5,9 +5,9 @@ from collections import namedtuple
 
 import row_fields
 
-# What becomes of a file: its path, type, bytes, numbers, link and the number of records that are passed over.
+# The contents of a file: its path, type, bytes, numbers, link and the number of skipped records.
 Item = namedtuple("Item", "path kind data stat link skipped")
-# What is in the place of a file that can't be restored: the number, and the stream of 65.
+# A fault instead of a file: the number, and the stream for 65.
 Fault = namedtuple("Fault", "number stream")
 
 PLAIN = ["A_A_A_A_A_A_A_A_A_A_A_A_A", "-", "0"]
@@ -70,7 +70,7 @@ def attributes_of(index, item):
 
 
 def fault_records(index, fault):
-    """Returns records of which a file can't be restored, for this reason."""
+    """Returns records from which a file can't be restored, for this reason."""
     plain = attributes_of(index, Item(b"/fault", 3, b"", text_of(PLAIN[0]), b"", 0))
     records = {60: [whole(index, -2, b"x")], 63: [whole(index, 2, b"x")], 65: [plain, whole(index, fault.stream, b"x")]}
     return records[fault.number]

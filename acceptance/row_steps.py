@@ -23,7 +23,7 @@ AFTER = "2106-02-07 06:28:18"
 # The error with which reading fails, by its word in a row.
 ERRORS = {"pipe": errno.EPIPE, "memory": errno.ENOMEM}
 SECONDS = 60
-# What is said of each kind of fault of a command line, by clap and by the program itself.
+# The message for each kind of fault of a command line, by clap and by the program itself.
 KINDS = (
     (r"error: the following required arguments were not provided|.* must be given (together|with '.*)$", "MissingRequiredArgument"),
     (r"error: unexpected argument ", "UnknownArgument"),
@@ -34,7 +34,8 @@ KINDS = (
 
 
 def limited(size):
-    """Returns what lets a child write no file beyond this number of bytes; further bytes are an error, and do not end it."""
+    """Returns a function that keeps a child from writing files beyond this number of bytes; further
+    bytes are an error, and do not end the child."""
 
     def limit():
         signal.signal(signal.SIGXFSZ, signal.SIG_IGN)
@@ -299,7 +300,8 @@ def session(place, jobs, drives, block, source, output, target, text):
 
 
 def turns(place, jobs, drives, block, text):
-    """Runs a session, and hands it each line after the answer to the one before has come. Returns what each call wrote, and the status."""
+    """Runs a session, and gives it each line after the answer to the previous one has come. Returns
+    what each call wrote, and the status."""
     words = [place.program, *session_words(place, jobs, drives, block)]
     # Of such a socket each call reads what one call wrote.
     reading, writing = socket.socketpair(socket.AF_UNIX, socket.SOCK_SEQPACKET)
@@ -344,7 +346,8 @@ def counted(place, words):
 
 
 def held(place, memory):
-    """Returns how many bytes of the data of a file of 3 MiB may be held with this memory, `-` for none that is given."""
+    """Returns the number of bytes of a file of 3 MiB that may be held with this memory; `-` if no
+    memory is given."""
     if not place.path("volumes").exists():
         write_volume(place.folder, [(b"/a", bytes(3 * MIB))])
     words = [] if memory == "-" else ["--memory", memory]
@@ -367,7 +370,7 @@ def at_terminal(place, files, text):
 
 
 def asked(place, line):
-    """Returns what a line asks for at a terminal: `Help` or `Dir`, or `Other`."""
+    """Returns the request of a line at a terminal: `Help` or `Dir`, or `Other`."""
     terminal = at_terminal(place, [(1, b"/f2", NUMBERS % b"Y")], text_of(line).decode())
     if any(it.startswith("unmarkdir") for it in terminal):
         return ["Help"]
@@ -375,7 +378,8 @@ def asked(place, line):
 
 
 def name_line(place, name, number, moment):
-    """Returns the line of a name in `dir`. A name without a size has no row, but one below it has."""
+    """Returns the line of a name in `dir`. A name without a size has no row, but a name below it
+    has one."""
     name = text_of(name)
     numbers = [b"A", b"A", b"IGk", b"B", b"A", b"A", b"A", b"A", b"A", b"A", b"A", b"A", b"A", b"A"]
     numbers[7] = b"A" if number == "-" else base64_of(int(number)) or b"A"

@@ -29,7 +29,8 @@ def fields_of_refusal(printed):
 
 
 def hit_in(volume, word):
-    """Returns the file, the place and the fragment of a hit of a volume, of which a row has group, address and ordinal."""
+    """Returns the file, the place and the fragment of a hit of a volume; a row gives its group,
+    address and ordinal."""
     group, address, ordinal = map(int, word.split(":"))
     end = address + int.from_bytes(volume[address + 4 : address + 8], "big")
     session, index, *fragment = fragments_of(volume[address:end])[ordinal]
@@ -37,7 +38,7 @@ def hit_in(volume, word):
 
 
 def spots_in(volume, words):
-    """Returns the hits of which a row has group, address and ordinal."""
+    """Returns the hits of a row that gives group, address and ordinal."""
     return [hit_in(volume, word) for word in words]
 
 
@@ -47,7 +48,7 @@ def indexes_in(volume, words):
 
 
 def records_in(_volume, words):
-    """Returns the hits of which a row has session, index, stream, size and bytes."""
+    """Returns the hits of a row that gives session, index, stream, size and bytes."""
     found = []
     for at in range(0, len(words), 6):
         session, time, index, stream, size = map(int, words[at : at + 5])
@@ -85,7 +86,8 @@ def hits_of(steps):
 
 
 def volumes_of(hits):
-    """Returns the volumes A and B, of which the first has the fragments of group 0 and the second those of group 1."""
+    """Returns the volumes A and B; the first has the fragments of group 0 and the second those of
+    group 1."""
     volumes = {}
     for group, name in enumerate("AB"):
         blocks = {}

@@ -45,7 +45,7 @@ def run(program, words, script):
 
 
 def differences(program, script, wanted):
-    """Returns what else than the wanted text was found, each with the way to it."""
+    """Returns the texts that differ from the wanted one, each with the way to it."""
     found = [(" ".join(("brestore", *words)), run(program, words, script)) for words in ROOMS]
     found.append(("the second reading", text_of(*served(script.encode())[:2])))
     return [(way, text) for way, text in found if text != wanted]

@@ -98,7 +98,8 @@ def rows(place, field):
 
 
 def histories(place, fields):
-    """Commits jobs to a catalogue. Prints what becomes of each, and number and session of those that the catalogue has."""
+    """Commits jobs to a catalogue. Prints the result for each, and number and session of those that
+    the catalogue has."""
     (place.folder / "volumes").mkdir()
     words = ["serve", "--db", place.folder / "c.db", "--volumes", place.folder / "volumes"]
     told = place.run(*words, lines=b"".join(job_lines(job_of(field)) for field in fields))[1]
@@ -107,7 +108,8 @@ def histories(place, fields):
 
 
 def many(place, count):
-    """Commits many jobs, of which the last has a file and is restored. Then a history is opened that has as many."""
+    """Commits many jobs; the last one has a file and is restored. Then a history with as many jobs
+    is opened."""
     jobs = [job_of(f"{number}:BFT:0") for number in range(1, int(count) + 1)]
     lines = b"".join(job_lines(job) for job in jobs[:-1])
     lines += job_lines(jobs[-1], lines=put_line(b"/a", b"") + b"\nplace V 0\n") + b"restore mars home 1970-01-01 00:00:01\nmark a\ndone\n"
@@ -139,7 +141,8 @@ def history(place, fields, _wanted):
 
 
 def chosen(place, request, fields):
-    """Commits jobs with a file each, and restores all. The bootstrap has the sessions of the chosen jobs in their order."""
+    """Commits jobs with a file each, and restores everything. The bootstrap has the sessions of the
+    chosen jobs in their order."""
     put = [put_line(b"/%d" % number, b"") + b"\nplace V 0\n" for number in range(len(fields))]
     jobs = b"".join(job_lines(job_of(field), lines=line) for field, line in zip(fields, put))
     request = " ".join(escaped(it.encode()) for it in request_of(request)[:2]) + f" {request_of(request)[2]}"
@@ -150,7 +153,8 @@ def chosen(place, request, fields):
 
 
 def with_span(job):
-    """Returns a job with a visit to a volume of its own, so that plans say which files of it are restored."""
+    """Returns a job with a visit to a separate volume, so that plans show which files of it are
+    restored."""
     return {**job, "spans": [(f"V{job['id']}", 1, 2**31 - 1, 0, 99, 1)]}
 
 
@@ -187,7 +191,8 @@ def view(place, fields):
 
 
 def view_by(place, request, fields):
-    """Shows the view of the jobs that a request chooses, and what it has at three paths, but for what links lead to."""
+    """Shows the view of the jobs that a request chooses, and its contents at three paths, except
+    for what links lead to."""
     jobs, request = [with_span(job_of(field)) for field in fields], request_of(request)
     entries = entries_of(place, jobs, request)
     count = console(place, jobs, [b"count"], request)[1].split(b" ")[0].decode()
@@ -215,7 +220,7 @@ def choice(place, fields, _wanted):
 
 
 def is_match(place, pattern, name):
-    """Says whether a pattern finds the one path of a view. The name of `/` is empty."""
+    """Returns whether a pattern finds the one path of a view. The name of `/` is empty."""
     jobs = [job_of("1:BFT:100")]
     jobs[0]["files"] = [(b"/" + bytes_of(name), 1, lstat_of("empty"), "")]
     output = console(place, jobs, [b"find " + bytes_of(pattern)])[1]
@@ -275,7 +280,8 @@ def steps(place, field, fields):
 
 
 def counts(place, field):
-    """Marks and unmarks two hundred times. Prints after how many changes `count` is right, and the number of paths."""
+    """Marks and unmarks two hundred times. Prints the number of changes after which `count` is
+    right, and the number of paths."""
     number, lines = 1, []
     for _ in range(200):
         number = (number * 1_664_525 + 1_013_904_223) % 2**32
@@ -358,7 +364,8 @@ def plan(place, request, marks, fields):
 
 
 def groups(place, count):
-    """Shows how many groups and files the plan for a file in many spans has. Its volume is empty, so that the file is missing."""
+    """Shows the number of groups and of files in the plan for a file in many spans. Its volume is
+    empty, so the file is missing."""
     job = job_of("1:BFT:100;/a,1,saved")
     job["spans"] = [("A", 1, 1, 100 * before, 100 * before + 99, before + 1) for before in range(int(count))]
     (place.folder / "volumes").mkdir()
@@ -369,7 +376,8 @@ def groups(place, count):
 
 
 def seconds_by(place, before, wanted, words=()):
-    """Returns the wanted seconds, if of two jobs that begin then and a second before the second one alone is before the moment."""
+    """Returns the wanted seconds, if of two jobs, one that begins then and one a second earlier,
+    only the earlier one is before the moment."""
     jobs = [job_of(f"{number}:BFT:{int(wanted) + 1 - number}") for number in (1, 2)] if wanted.isdigit() else []
     status, output, told = place.run("jobs", "--db", catalogue_of(place, jobs), *words, "--before", before)
     if output:

@@ -77,7 +77,7 @@ class Place:
         return ran.returncode, ran.stdout, ran.stderr
 
     def wrong(self, script):
-        """Returns what of the catalogue and the volumes is not as the script leaves it."""
+        """Returns the differences of the catalogue and the volumes from what the script leaves."""
         try:
             rows = differences(rows_of(self.catalogue), rows_by(script.jobs))
         except (sqlite3.Error, ValueError) as error:
@@ -237,7 +237,8 @@ def seconds_of(program, place, script_file):
 
 
 def stored_jobs(place, jobs):
-    """Returns how many of the first jobs are in the catalogue. Raises an error if it has other rows."""
+    """Returns the number of first jobs that are in the catalogue. Raises an error if it has other
+    rows."""
     if not has_tables(place.catalogue):
         return 0
     rows = rows_of(place.catalogue)
@@ -249,14 +250,15 @@ def stored_jobs(place, jobs):
 
 
 def wrong_volumes(found, whole, vouched):
-    """Returns the volumes that are no front of the whole ones, or end before the last byte of a stored job."""
+    """Returns the volumes that are no first part of the complete ones, or end before the last byte
+    of a stored job."""
     fronts = [name for name, data in found.items() if not whole.get(name, b"").startswith(data)]
     return fronts + [name for name, length in vouched.items() if len(found.get(name, b"")) < length]
 
 
 def after_kill(given, place, whole, lines):
-    """Compares what a killed run left. Returns how many jobs are stored, how many volumes have bytes that no job vouches for, and what
-    is wrong."""
+    """Compares what a killed run left. Returns the number of stored jobs, the number of volumes
+    with bytes that no job vouches for, and what is wrong."""
     try:
         count = stored_jobs(place, whole.jobs)
     except (sqlite3.Error, ValueError) as error:

@@ -1,5 +1,6 @@
 /* Stops the program: preloaded, it ends the process at one of its calls that change a file, or lets
- * that call and each later one fail. STOPPED_CALL says which call, counted from 1, and STOPPED_WAY how:
+ * that call and each later one fail. STOPPED_CALL is its number, counted from 1, and STOPPED_WAY
+ * how:
  *
  * - `before`: the process ends before the call.
  * - `within`: as `before`, but of a write half the bytes are written.
@@ -48,7 +49,7 @@ static void path_of(int file, char *path)
     path[length < 0 ? 0 : length] = 0;
 }
 
-/* Notes what the bytes of a file are that are about to change. */
+/* Notes the bytes of a file that are about to change. */
 static void note_change(int file, off_t place, size_t size)
 {
     const char *lost = getenv("STOPPED_LOST");

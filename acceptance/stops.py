@@ -112,14 +112,16 @@ def copied(folder, kept):
 
 
 def allowed_after(own, way):
-    """Returns what a stopped run may give. What is written before a stop is nothing, or all that a run without a stop gives."""
+    """Returns what a stopped run may give: before a stop nothing is written, or all that a run
+    without a stop gives."""
     if way == "failing":
         return own, REFUSED, (1, own[1], REFUSED[2])
     return STOPPED, (STOPPED[0], own[1], b"")
 
 
 def stop_in_turn(given, folder, kept):
-    """Stops a script over this catalogue at each call in each way. Returns how many stops there were, and what differed."""
+    """Stops a script over this catalogue at each call in each way. Returns the number of stops, and
+    the differences."""
     catalogue = copied(folder, kept)
     own, rows = opened(given, catalogue), rows_of(catalogue)
     stops, wrong = 0, [] if is_traceless(given, folder, kept) else ["console changes a file"]
@@ -151,7 +153,8 @@ class Versions:
         self.new = found_in(catalogue), console(given, catalogue)
 
     def fault(self, given, catalogue, is_done):
-        """Returns what is wrong of a catalogue after a stop. It has to be of version 2 if that was said."""
+        """Returns what is wrong with a catalogue after a stop. It has to be of version 2 if that
+        was printed."""
         found = found_in(catalogue), said(given, catalogue)
         is_new, is_old = (found[0] == it[0] and found[1] in (None, it[1]) for it in (self.new, self.old))
         if not is_new and (is_done or not is_old):
@@ -167,7 +170,8 @@ def found_in(catalogue):
 
 
 def stop_migrations(given, folder, kept):
-    """Stops the migration of this catalogue at each call in each way. Returns how many stops there were, and what differed."""
+    """Stops the migration of this catalogue at each call in each way. Returns the number of stops,
+    and the differences."""
     versions, log = Versions(given, folder, kept), os.path.join(folder, "log")
     is_migrated = (versions.migrated, versions.new[1][0]) == ((0, b"migrated 3\n", b""), 0)
     stops, wrong = 0, [] if is_migrated else [f"without a stop: {versions.migrated} {versions.new}"]
@@ -230,7 +234,8 @@ def new_places(folder):
 
 
 def is_stop(found, way):
-    """Returns how many jobs a stopped script acknowledged, or None if it may not give that."""
+    """Returns the number of jobs that a stopped script acknowledged, or None if it may not give
+    that."""
     status, printed, told = found
     stored = [line for line in printed.splitlines() if line.startswith(b"stored ")]
     others = [line for line in printed.splitlines() if not line.startswith(b"stored ")]
@@ -244,7 +249,7 @@ def is_stop(found, way):
 
 
 def wrong_rows(places, count):
-    """Returns what of a catalogue and its volumes is not as the first jobs leave it."""
+    """Returns the differences of a catalogue and its volumes from what the first jobs leave."""
     whole = Script(text_of(COMMITS))
     whole.run()
     jobs = whole.jobs[:count]
@@ -256,7 +261,8 @@ def wrong_rows(places, count):
 
 
 def stop_commits(given, folder):
-    """Stops the commits at each call in each way. Returns how many stops there were, and what differed."""
+    """Stops the commits at each call in each way. Returns the number of stops, and the
+    differences."""
     stops, wrong, log = 0, [], os.path.join(folder, "..", "log")
     for way in WAYS + LOST:
         call, was_stopped, counts = 0, True, []
@@ -301,19 +307,19 @@ def told(name, stops, wrong):
 
 
 def openings(given, folder):
-    """Stops the openings of catalogues. Returns how many differed."""
+    """Stops the openings of catalogues. Returns the number that differed."""
     *current, _ = catalogues(given, folder)
     return sum(told(os.path.basename(kept), *stop_in_turn(given, os.path.join(folder, "run"), kept)) for kept in current)
 
 
 def migrations(given, folder):
-    """Stops the migration of a catalogue of version 1. Returns how many differed."""
+    """Stops the migration of a catalogue of version 1. Returns the number that differed."""
     *_, old = catalogues(given, folder)
     return told(os.path.basename(old), *stop_migrations(given, os.path.join(folder, "run"), old))
 
 
 def commits(given, folder):
-    """Stops the commits of two jobs. Returns how many differed."""
+    """Stops the commits of two jobs. Returns the number that differed."""
     return told("two commits", *stop_commits(given, os.path.join(folder, "run")))
 
 

@@ -30,8 +30,8 @@ SELECTS = {
 
 
 def memory():
-    """Returns a folder in memory, for files that are flushed often and that no disk has to keep; None if there is none, or if TMPDIR
-    names another place. No program may lie there on some systems."""
+    """Returns a folder in memory, for files that are flushed often and that no disk has to keep;
+    None if there is none, or if TMPDIR names another place. Some systems forbid programs there."""
     place = "/dev/shm"
     return place if "TMPDIR" not in os.environ and os.path.isdir(place) and os.access(place, os.W_OK) else None
 

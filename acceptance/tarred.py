@@ -77,7 +77,8 @@ def device_of(number):
 
 
 def entries_of(manifest):
-    """Returns the entries that the stream must have, how many files have none, and the number at which the delivery stops."""
+    """Returns the entries that the stream must have, the number of files without an entry, and the
+    number with which the delivery stops."""
     entries, left_out, put = [], 0, []
     for line in manifest.splitlines():
         fields = line.split(b" ")
@@ -129,7 +130,7 @@ def entries_read(file):
 
 
 def names_listed(words, file):
-    """Returns the names that a program lists, and all else that it says."""
+    """Returns the names that a program lists, and its other output."""
     run = subprocess.run([*words, "-f", file], stdin=subprocess.DEVNULL, capture_output=True, check=False)
     names = [codecs.escape_decode(line)[0] for line in run.stdout.splitlines()]
     return [name.rstrip(b"/") for name in names], (run.returncode, run.stderr)
@@ -164,14 +165,15 @@ def is_unpacked(entry, has_time):
 
 
 def differences(words, expected):
-    """Returns what of a run differs from the expected status, standard output and standard error."""
+    """Returns the differences of a run from the expected status, standard output and standard
+    error."""
     run = subprocess.run(words, stdin=subprocess.DEVNULL, capture_output=True, check=False)
     names = ("status", "standard output", "standard error")
     return [name for name, answer, wanted in zip(names, (run.returncode, run.stdout, run.stderr), expected) if answer != wanted]
 
 
 def unpacking_faults(file, entries, folder):
-    """Returns which programs list or unpack the stream in another way, or with a warning."""
+    """Returns which programs list or unpack the stream differently, or with a warning."""
     wrong = []
     for name, words in LISTERS.items():
         if shutil.which(words[0]) and names_listed(words, file) != ([entry["name"] for entry in entries], (0, b"")):
@@ -184,7 +186,7 @@ def unpacking_faults(file, entries, folder):
         target = folder / words[0]
         target.mkdir()
         wrong += [f"{what} of {name}" for what in differences([*words, "-f", file, "-C", target], (0, b"", b""))]
-        # The longest path is one that the system takes, but not with the folder in front.
+        # The longest path is one that the system takes, but not with the folder before it.
         os.chdir(target)
         for entry in last.values():
             if not is_unpacked(entry, name != "bsdtar" or not is_split(entries, entry)):
@@ -204,7 +206,7 @@ def case_of(name, folder):
 
 
 def faults(executable, case, volumes, folder):
-    """Returns what of the runs of a case differs from what is expected."""
+    """Returns the differences between the runs of a case and what is expected."""
     file = folder / "restored.tar"
     words = [executable, "extract", "--bsr", case / "x.bsr", "--volumes", volumes, "--tar"]
     status, manifest, errors = int((case / "status").read_text()), (case / "expected").read_bytes(), (case / "stderr").read_bytes()
@@ -229,7 +231,7 @@ def faults(executable, case, volumes, folder):
 
 
 def beside_bextract(program, case, volumes, unpacked):
-    """Returns what differs from bextract, and what to say of the comparison."""
+    """Returns the differences from bextract, and a remark on the comparison."""
     if not unpacked.exists():
         return [], "nothing was restored to compare with bextract"
     wrong, known = compare_with_bextract(program, case, volumes, unpacked)
@@ -240,7 +242,7 @@ def beside_bextract(program, case, volumes, unpacked):
 
 
 def run_case(executable, name, bextract):
-    """Runs a case, and returns what differs, and what to say of the comparison with bextract."""
+    """Runs a case. Returns the differences, and a remark on the comparison with bextract."""
     with tempfile.TemporaryDirectory() as place:
         folder = Path(place)
         case, volumes = case_of(name, folder)

@@ -241,7 +241,8 @@ def extracts(checks, folder):
 
 
 def spoilt(checks, folder):
-    """A restore of which some outcomes are no files, with a file in the place of a folder, and the same once more with mistakes put right."""
+    """A restore with some outcomes that are no files and a file at the path of a folder, and the
+    same again with the mistakes corrected."""
     case, into, volumes = os.path.join(CASES, "feat-full"), os.path.join(folder, "spoilt"), os.path.join(folder, "feat")
     unpack(Path(SETS) / "feat", Path(volumes))
     with open(os.path.join(case, "expected")) as text:
@@ -275,12 +276,12 @@ def spoilt(checks, folder):
 
 
 def as_read_once(shown, again):
-    """Returns what was shown as a program shows it that reads nothing again, if this one may."""
+    """Returns the output as a program shows it that reads nothing again, if this one may."""
     return shown.replace("\rreading again,", "\r0.0 MiB of 0.0 MiB read,") if again else shown
 
 
 def tells(checks, folder, again):
-    """The line that tells how far a restore is."""
+    """The line that shows the progress of a restore."""
     into = [os.path.join(folder, f"told{number}") for number in range(3)]
     for place in into:
         os.mkdir(place)
@@ -301,7 +302,8 @@ def tells(checks, folder, again):
 
 
 def tells_a_session(checks, folder, again):
-    """The same line of a console session, which knows how much it reads once its bootstrap is printed."""
+    """The same line of a console session, which knows the number of bytes to read after its
+    bootstrap is printed."""
     db, into = os.path.join(folder, "told.db"), os.path.join(folder, "told3")
     with open(ORDER_SQL) as text:
         subprocess.run(["sqlite3", db], stdin=text, check=True)

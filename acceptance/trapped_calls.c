@@ -104,7 +104,8 @@ static void note(const char *call, const char *path)
         (void)!syscall(SYS_write, log_file, line, length);
 }
 
-/* Puts a link at a path below the folder, and the folder on its way. It leads to what was there, if that was a folder. */
+/* Puts a link at a path below the folder, and makes the folder on its way. The link leads to what
+ * was there, if that was a folder. */
 static void put_link(void)
 {
     char path[PATH_MAX], aside[PATH_MAX];
@@ -151,7 +152,7 @@ static int fails_now(const char *call, const char *path)
     return (fails >= 0 && number >= fails) || (number == once && link_path == NULL);
 }
 
-/* Gives a new file its room. */
+/* Limits the room of a new file. */
 static void note_made(int file, const char *path)
 {
     struct made *made;

@@ -23,7 +23,7 @@ HERE = os.path.dirname(os.path.abspath(__file__))
 sys.path.insert(0, os.path.join(os.path.dirname(HERE), "tools"))
 from common import PROGRAM
 
-# Those that restore, and have no runs with `--memory` of their own.
+# The scripts that restore, and have no runs with `--memory` of their own.
 SCRIPTS = ("catalogue.py", "commands.py", "hostile.py", "leaving.py", "serving.py", "stops.py", "tarred.py", "terminal.py")
 # These take the program without `--program`.
 PLAIN = ("tarred.py",)
@@ -59,7 +59,7 @@ def write_wrapper(folder, program, size):
 
 
 def has_passed(script, program):
-    """Runs a script over a program, and says whether all was as it expects."""
+    """Runs a script over a program, and returns whether everything was as expected."""
     words = [program] if script in PLAIN else ["--program", program]
     words += ["--again"] if script in AGAIN else []
     ran = subprocess.run([sys.executable, os.path.join(HERE, script), *words], stdin=subprocess.DEVNULL)

@@ -31,7 +31,7 @@ sys.path.insert(0, os.path.join(os.path.dirname(os.path.dirname(os.path.abspath(
 from common import BENCH_PROGRAM, MIB, PROGRAM
 from loading import make
 
-# Of the files of a folder, of which each path has one.
+# The number of files in a folder.
 FILES_IN_FOLDER = 100
 STAT = b"P0A Cat6a IGk B Po Po A Q BAA I BfV5Ch BfV5Ch BfV5Ch A"
 FIRST_JOB = 1000
@@ -62,7 +62,7 @@ def lines_of(job, count):
 
 
 def written(file, commits, count):
-    """Writes a script of this many jobs, and returns its length."""
+    """Writes a script with this number of jobs, and returns its length."""
     with open(file, "wb") as script:
         for job in range(commits):
             script.write(lines_of(job, count))

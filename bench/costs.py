@@ -40,7 +40,7 @@ def saved(index):
 
 
 def filled(size, make):
-    """Returns what `make` gives for 0, 1, 2 and on, as many as fit into a size."""
+    """Returns the results of `make` for 0, 1, 2 and on, as many as fit into a size."""
     parts, total = [], 0
     while True:
         part = make(len(parts))
@@ -124,7 +124,7 @@ def one_file(size):
     return ALL, b"".join(block(it) for it in [saved(1), *[record(1, 2, b"x" * 60_000) for _ in range(size // 60_036)]])
 
 
-# ---- both, half of the size each
+# ---- both, each with half of the size
 
 
 def groups_of_records(size):

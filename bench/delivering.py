@@ -17,8 +17,9 @@ Of the folders only regular files are compared. Neither flushes its files to the
 take turns on a volume, so the small files are of one session here. It is in Debian's package bacula-sd (no daemon is needed). The
 script needs Python 3.11.
 
-What was delivered and compared is cut to nothing, so that little goes to the disk, and is deleted only at the end: an ext4 without a
-journal makes new files slowly for six minutes after many were deleted. So wait as long before the next run on such a one.
+What was delivered and compared is cut to nothing, so that little goes to the disk, and is deleted
+only at the end: an ext4 without a journal makes new files slowly for six minutes after many were
+deleted. So wait this long before the next run on such a system.
 
     bench/delivering.py                    1 GiB a set; needs 4 GiB of disk and 4 GiB of memory
     bench/delivering.py --quick            16 MiB a set: whether all is right, not how fast it is
@@ -150,7 +151,7 @@ class Delivery:
         subprocess.run([sys.executable, os.path.abspath(__file__), "--list", source, self.path(name)], check=True)
 
     def prepare(self):
-        """Brings the volumes into the system's memory, and lists what is to be delivered."""
+        """Reads the volumes into the system's memory, and lists what is to be delivered."""
         run_measured(["cat", *(os.path.join(self.path("volumes"), name) for name in self.facts["volumes"])], os.devnull)
         self.list(self.path("manifest"), "wanted")
 
@@ -159,7 +160,7 @@ class Delivery:
         self.is_right = False
 
     def run(self, name, words):
-        """Runs a program once, and looks at what it printed."""
+        """Runs a program once, and checks its output."""
         printed = self.path(f"printed-{name}")
         seconds, memory, busy, status = run_measured([*self.commands[name], *words], printed)
         self.best[name].take(seconds, memory, busy)
@@ -169,7 +170,7 @@ class Delivery:
             self.fail(name, "the manifest is not what it should be")
 
     def deliver(self, name):
-        """Lets a program deliver into a new folder, and looks at what it put there."""
+        """Lets a program deliver into a new folder, and checks what it put there."""
         out = tempfile.mkdtemp(prefix=f"{name}-", dir=self.folder)
         self.run(name, [out])
         if name == "bextract":
@@ -187,7 +188,7 @@ class Delivery:
         self.run("manifest", [])
 
     def remove(self):
-        """Deletes what was delivered, but for what was wrong."""
+        """Deletes what was delivered, except what was wrong."""
         for out in self.delivered:
             shutil.rmtree(out)
 
@@ -203,7 +204,7 @@ class Delivery:
         print(f"  {'the same files and bytes from both, with the digests of the manifest' if self.is_right else 'WRONG'}")
 
     def most_memory(self):
-        """The most memory that the budget, the fragments and the files allow."""
+        """Returns the most memory that the budget, the fragments and the files allow."""
         number, unit = self.budget.rstrip("KMG"), self.budget[-1]
         files = sum(FILE_MEMORY + len(line.split()[0]) for line in open(self.path("wanted"))) if self.kind == "tiny" else 0
         return int(number) * UNITS.get(unit, 1) + FREE_MEMORY + FRAGMENT_MEMORY * self.facts["fragments"] + files

@@ -190,7 +190,7 @@ def measure(folder, kind, options):
     if options.no_run:
         return is_right, []
     for measured in sets.values():
-        # The first reading brings the volumes into the system's memory, and counts for nothing.
+        # The first reading brings the volumes into the system's memory, and is not counted.
         measured.run_md5sum()
         measured.md5sum = Best()
     for _ in range(options.repeats):

@@ -47,7 +47,7 @@ def read_options():
 
 
 def compiled(folder):
-    """Compiles what lets drives fail, and returns its file."""
+    """Compiles the library that lets drives fail, and returns its file."""
     library = os.path.join(os.path.abspath(folder), "failing_reads.so")
     source = os.path.join(HERE, "failing_reads.c")
     subprocess.run(["cc", "-O2", "-Wall", "-shared", "-fPIC", "-o", library, source, "-ldl"], check=True)
@@ -72,7 +72,7 @@ class Restore:
         return os.path.join(self.set, name)
 
     def failures(self):
-        """Returns how many drives failed in the last run."""
+        """Returns the number of drives that failed in the last run."""
         return os.path.getsize(self.log) if os.path.exists(self.log) else 0
 
     def complain(self, text):
@@ -99,7 +99,7 @@ def measure(folder, options):
     library = compiled(folder)
     sound = Restore(options, large, 1, 0, library)
     failing = Restore(options, large, DRIVES, FAILING, library)
-    # The first run brings the volumes into the system's memory, and counts for nothing.
+    # The first run brings the volumes into the system's memory, and is not counted.
     sound.run()
     sound.best = Best()
     for _ in range(options.repeats):

@@ -1,7 +1,7 @@
 /* Lets drives of a restore fail: preloaded, it lets the tenth `pread` of a thread fail with EIO, as
- * long as drives are to fail. FAILING_DRIVES says how many, and a byte is appended to the file
- * FAILING_LOG for each. A drive that failed reads no further, and each drive reads in a thread of
- * its own, so each failure is that of another drive. */
+ * long as drives are to fail. FAILING_DRIVES is their number, and a byte is appended to the file
+ * FAILING_LOG for each. A drive that failed reads no further, and each drive reads in its own
+ * thread, so each failure is that of another drive. */
 #define _GNU_SOURCE
 #include <dlfcn.h>
 #include <errno.h>

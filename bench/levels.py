@@ -47,10 +47,11 @@ def read_options():
 
 
 def compare(program, twins, drives, repeats):
-    """Returns what was measured of both twins, which are restored in turns; None in place of a run that was not right."""
+    """Returns the measurements of both twins, which are restored in turns; None for a run that was
+    not right."""
     runs = [], []
     for folder in twins:
-        # The first run brings the volumes into the system's memory, and counts for nothing.
+        # The first run brings the volumes into the system's memory, and is not counted.
         run_once(program, folder, drives, None)
     for turn in range(repeats):
         for place in (0, 1) if turn % 2 == 0 else (1, 0):

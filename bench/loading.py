@@ -43,7 +43,8 @@ def tables():
 
 
 def number_at(place):
-    """The number of the path at a place of the Full. The files of a directory come in no order."""
+    """Returns the number of the path at a place of the Full. The files of a directory are in no
+    order."""
     return place // 100 * 100 + place % 100 * 37 % 100
 
 

@@ -1,4 +1,4 @@
-"""A second reader of volumes, which says what a bootstrap restores from them.
+"""A second reader of volumes, which returns what a bootstrap restores from them.
 
 It shares no code with volume_sets.py, and reads only what a set needs: whole volumes, attributes, data and digests. It is there
 to find mistakes of the generator.
@@ -8,7 +8,7 @@ import hashlib
 import os
 import struct
 
-# For the letters of each level, how many bytes the headers of a block and of a record have.
+# For the letters of each level, the lengths of the headers of a block and of a record.
 FRONTS = {b"BB01": (16, 20), b"BB02": (24, 12)}
 
 

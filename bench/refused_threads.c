@@ -1,6 +1,6 @@
 /* Refuses a thread: preloaded, it lets one call of `pthread_create` fail with EAGAIN, as the system
- * does at its limit of threads. REFUSED_THREAD says which call, counted from 1. A byte is appended
- * to the file REFUSED_LOG when it was refused. */
+ * does at its limit of threads. REFUSED_THREAD is the number of the call, counted from 1. A byte is
+ * appended to the file REFUSED_LOG when it was refused. */
 #define _GNU_SOURCE
 #include <dlfcn.h>
 #include <errno.h>

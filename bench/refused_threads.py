@@ -41,7 +41,7 @@ def read_options():
 
 
 def compiled(folder):
-    """Compiles what refuses a thread, and returns its file."""
+    """Compiles the library that refuses a thread, and returns its file."""
     library = os.path.join(os.path.abspath(folder), "refused_threads.so")
     source = os.path.join(HERE, "refused_threads.c")
     subprocess.run(["cc", "-O2", "-Wall", "-shared", "-fPIC", "-o", library, source, "-ldl"], check=True)
@@ -61,7 +61,7 @@ class Runs:
             self.manifest = file.read()
 
     def ending(self, thread):
-        """Runs the program without this thread, and returns how it ended, and whether that is right."""
+        """Runs the program without this thread. Returns how it ended, and whether that is right."""
         words = ["env", f"LD_PRELOAD={self.library}", f"REFUSED_THREAD={thread}", f"REFUSED_LOG={self.log}", *self.words]
         try:
             run = subprocess.run(words, capture_output=True, timeout=LONGEST)

@@ -1,9 +1,10 @@
 #!/usr/bin/env python3
 """Measures the steps of a selection: the view, the tree, listing, marking and the plan.
 
-`br_bench` makes a history in memory, of a Full and thirty Incrementals, and goes through the steps up to a stage. It tells how long
-each step took of the processor; the peak memory of a stage is what the system says of the process. What it counts is compared
-with what a walk over the same paths by this script finds.
+`br_bench` makes a history in memory, of a Full and thirty Incrementals, and runs the steps up to a
+stage. It prints the processor time of each step; the peak memory of a stage is what the system
+reports for the process. Its counts are compared with what a walk over the same paths by this script
+finds.
 
     bench/selecting.py                    1,000,000 paths, and a tenth of that
     bench/selecting.py --paths N          N paths, and a tenth of that
@@ -57,7 +58,7 @@ def path_of(number):
 
 
 def change_at(job, place):
-    """The path of a row of an Incremental, and whether the row says that it was deleted."""
+    """Returns the path of a row of an Incremental, and whether the row is a deletion."""
     first = place * 100
     if place % 10 in (1, 2):
         number = first + job
@@ -86,7 +87,7 @@ def names_in(newest, directory):
 
 
 def expected_lines(paths, jobs):
-    """What the program has to print up to the last stage."""
+    """Returns what the program has to print up to the last stage."""
     newest = newest_jobs(paths, jobs)
     count = len(newest)
     return [
@@ -153,7 +154,8 @@ def expected_in_child(paths, jobs):
 
 
 def show(small, large):
-    """Prints a line for each step and each stage, with its growth. Whether no step grew by more than it may."""
+    """Prints a line for each step and each stage, with its growth. Returns whether no step grew by
+    more than it may."""
     well = True
     for step in STEPS:
         before, after = small.second(step), large.second(step)
@@ -170,7 +172,8 @@ def show(small, large):
 
 
 def compare(before, after):
-    """Prints the sums of an earlier program and of this one. Whether the second is small enough."""
+    """Prints the sums of an earlier program and of this one. Returns whether the second is small
+    enough."""
     ratio = after.sum() / before.sum()
     is_met = ratio <= MOST_OF_BEFORE
     print(f"{' + '.join(SUMMED)}: before {before.sum():.3f} s, now {after.sum():.3f} s, {100 * ratio:.0f} %  {'' if is_met else 'MISSED'}")

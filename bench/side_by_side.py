@@ -56,14 +56,16 @@ def read_options():
 
 
 def holds(into, manifest):
-    """Returns whether a folder holds just the regular files of a manifest. Cuts the files to nothing."""
+    """Returns whether a folder holds exactly the regular files of a manifest. Cuts the files to
+    nothing."""
     is_right = sorted(delivered(into)) == sorted(wanted(manifest))
     empty_files(into)
     return is_right
 
 
 def run_once(program, folder, drives, into):
-    """Runs a program. Returns the processor's seconds, the seconds and the peak memory; None if what came is not right."""
+    """Runs a program. Returns the processor's seconds, the seconds and the peak memory; None if the
+    output is not right."""
     words = [program, "extract", "--bsr", os.path.join(folder, "bootstrap"), "--volumes", os.path.join(folder, "volumes")]
     words += ["--drives", str(drives)]
     if into:
@@ -76,10 +78,11 @@ def run_once(program, folder, drives, into):
 
 
 def compare(folder, drives, delivers, options):
-    """Returns what was measured of both programs, which run in turns; None in place of a run that was not right."""
+    """Returns the measurements of both programs, which run in turns; None for a run that was not
+    right."""
     programs, runs = (options.before, options.after), ([], [])
     with tempfile.TemporaryDirectory(dir=folder, prefix="delivered-") as new:
-        # The first run brings the volumes into the system's memory, and counts for nothing.
+        # The first run brings the volumes into the system's memory, and is not counted.
         run_once(options.before, folder, drives, None)
         for turn in range(options.repeats):
             for place in (0, 1) if turn % 2 == 0 else (1, 0):
@@ -89,7 +92,7 @@ def compare(folder, drives, delivers, options):
 
 
 def show_times(name, before, after):
-    """Prints two medians, what was least and greatest, and returns their ratio."""
+    """Prints two medians, the least and the greatest value, and returns their ratio."""
     medians = [statistics.median(times) for times in (before, after)]
     shown = "  ".join(f"{median:.3f} s ({min(times):.3f} to {max(times):.3f})" for median, times in zip(medians, (before, after)))
     print(f"{name:32} {shown}  {medians[1] / medians[0]:.3f}", end="")

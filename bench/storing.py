@@ -112,7 +112,7 @@ def rows_in(catalogue, version):
 
 
 class Program:
-    """A program, and the least that it took."""
+    """A program, and its least measurements."""
 
     def __init__(self, file, version):
         self.file, self.version = file, version

@@ -39,7 +39,7 @@ from extract import KINDS, make, same_bytes
 
 MOST_TIME = 1.1
 WAYS = {"into": "--into", "piped": "--tar - | cat", "file": "--tar FILE"}
-# How many entries of each type a stream has, by the manifest's type of a file.
+# The number of entries of each type in a stream, by the manifest's type of a file.
 TYPES = {"2": tarfile.REGTYPE, "3": tarfile.REGTYPE, "4": tarfile.SYMTYPE, "5": tarfile.DIRTYPE}
 
 
@@ -130,7 +130,7 @@ class Tarring:
         subprocess.run([sys.executable, os.path.abspath(__file__), "--list", source, self.path(name)], check=True)
 
     def prepare(self):
-        """Brings the volumes into the system's memory, and lists what is to be delivered."""
+        """Reads the volumes into the system's memory, and lists what is to be delivered."""
         run_measured(["cat", *(os.path.join(self.path("volumes"), name) for name in self.facts["volumes"])], os.devnull)
         self.list(self.path("manifest"), "wanted-files")
         self.list(self.path("manifest"), "wanted-entries")
@@ -145,7 +145,7 @@ class Tarring:
         return run_measured([*self.words, "--tar", out], printed)
 
     def run(self, way, new, turn):
-        """Delivers once, and looks at what was printed and delivered."""
+        """Delivers once, and checks what was printed and delivered."""
         out, printed = os.path.join(new, f"{way}-{turn}.tar"), self.path(f"printed-{way}")
         *measured, status = self.deliver(way, out, printed)
         self.runs[way].append(measured)
@@ -161,7 +161,7 @@ class Tarring:
 
     def take_turns(self, repeats):
         with tempfile.TemporaryDirectory(dir=self.folder, prefix="delivered-") as new:
-            # The first run counts for nothing.
+            # The first run is not counted.
             self.run("into", new, "first")
             self.runs["into"].clear()
             for turn in range(repeats):

@@ -1,4 +1,4 @@
-"""Makes sets of volumes with a bootstrap, and says what a restore by it must give.
+"""Makes sets of volumes with a bootstrap, and what a restore by it must give.
 
 The format of blocks, records and attributes is that of docs/formats.md. Labels and the blocks' checksums, which our reader
 passes over, have the form that Bacula gives them (see the volumes in acceptance/sets/), so that Bacula's own tools read the
@@ -44,7 +44,8 @@ def base64_number(number):
 
 
 def session_label(number, time):
-    """What both labels of a session begin with: job, time, the names of pool, client, job and file set, and a full backup."""
+    """Returns the first fields of both labels of a session: job, time, the names of pool, client,
+    job and file set, and a full backup."""
     front = struct.pack(">Iqd", number, time * 1_000_000, 0.0)
     names = ("Bench", "Backup", "Bench", "bench", f"Bench.{number}", "Bench")
     return LABEL_FRONT + front + "".join(it + "\0" for it in names).encode() + struct.pack(">II", ord("B"), ord("F")) + b"\0"
@@ -96,7 +97,7 @@ class Volumes:
             self.file.close()
 
     def place(self):
-        """The volume that takes the next block, and the block's address there."""
+        """Returns the volume that takes the next block, and the block's address there."""
         if self.file is None or self.at >= self.capacity:
             self.begin()
         return self.names[-1], self.at
@@ -117,7 +118,8 @@ class Volumes:
 
 
 class VolumesInTurns:
-    """Two rows of volumes, of which each takes one block in turn, so that each block is a visit of its own."""
+    """Two rows of volumes, each of which takes one block in turn, so that each block is a separate
+    visit."""
 
     def __init__(self, folder, prefix, capacity, level):
         self.level = level
@@ -175,7 +177,7 @@ class Session:
         self.last_index = 0
 
     def put(self, index, stream, data):
-        """Packs a record, which may go on in later blocks."""
+        """Packs a record, which may continue in later blocks."""
         left = len(data)
         at = 0
         front = self.level.record_header_size
@@ -214,7 +216,8 @@ class Session:
         self.close_block()
 
     def begin_file(self, kind, path, size, link=b""):
-        """Packs the attributes of the next file, and gives the front of its line in the manifest."""
+        """Packs the attributes of the next file, and returns the first part of its line in the
+        manifest."""
         self.files += 1
         index = self.files
         mode, names = {FOLDER: (16_877, 2), LINK: (41_471, 1)}.get(kind, (33_188, 1))
@@ -240,7 +243,7 @@ class Session:
         self.lines.append(f"{front} {len(data)} {digest.hexdigest()}\n")
 
     def add_large(self, path, size, chunks):
-        """Saves a file whose bytes come in chunks, each of whole records but for the last."""
+        """Saves a file whose bytes come in chunks, each of complete records except for the last."""
         index, front = self.begin_file(FILE, path, size)
         digest = hashlib.md5()
         for chunk in chunks:
@@ -344,7 +347,8 @@ def fill_tiny(sessions, size, source):
         session.add(FILE, folder + b"file-%d" % number, source.take(1024))
 
 
-# For each kind: how the sessions are filled, how many there are, on how many volumes of which sort, and the level of blocks.
+# For each kind: how the sessions are filled, their number, the number and sort of volumes, and the
+# level of blocks.
 KINDS = {
     "small": (fill_small, 2, 4, Volumes, b"BB02"),
     "large": (fill_large, 1, 5, Volumes, b"BB02"),
@@ -358,7 +362,7 @@ KINDS = {
 
 
 def make_set(folder, kind, size, seed, without_every=0):
-    """Makes a set of files of so many bytes in all, or a little more."""
+    """Makes a set of files with this number of bytes in all, or a little more."""
     fill, session_count, volume_count, volumes_of, letters = KINDS[kind]
     os.mkdir(folder)
     volumes = volumes_of(os.path.join(folder, "volumes"), kind.capitalize(), size // volume_count + 1, Level(letters))
@@ -388,7 +392,8 @@ def make_set(folder, kind, size, seed, without_every=0):
 
 
 def write_manifest(path, sessions, without_every):
-    """Writes what the restore must print, and says how many files and bytes it restores."""
+    """Writes what the restore must print. Returns the number of files and bytes that it
+    restores."""
     files = 0
     restored = 0
     with open(path, "w") as manifest:

@@ -1,4 +1,5 @@
-"""Bacula's own `bextract`, which scripts of acceptance/ and bench/ run beside the program, and what it wants of a volume.
+"""Bacula's own `bextract`, which scripts of acceptance/ and bench/ run beside the program, and what
+it needs of a volume.
 
 It is in Debian's package bacula-sd; no daemon has to run.
 """
@@ -39,7 +40,7 @@ LABEL_FRONT = b"Bacula 1.0 immortal\n\0" + struct.pack(">I", 11)
 
 
 def find_bextract():
-    """Returns where the system's bextract is, or None."""
+    """Returns the path of the system's bextract, or None."""
     return shutil.which("bextract", path=os.environ["PATH"] + ":/usr/sbin")
 
 
@@ -52,7 +53,8 @@ def words_of_bextract(program, own, volumes, bootstrap, is_checked=True):
 
 
 def volume_label(name):
-    """What a volume's label holds: when it was made and written, and the names of volume, pool, kind, host and program."""
+    """Returns the contents of a volume's label: when it was made and written, and the names of
+    volume, pool, kind, host and program."""
     times = struct.pack(">qqdd", 0, 0, 0.0, 0.0)
     names = (name, "", "Bench", "Backup", "File", "bench", "bench", "Ver. 1", "Build 1")
     return LABEL_FRONT + times + "".join(it + "\0" for it in names).encode()

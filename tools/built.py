@@ -8,7 +8,7 @@ import shutil
 from common import BUILT, ROOT
 
 BUILD = os.path.dirname(BUILT)
-# What decides how the program is built, beside the toolchain.
+# The files that decide how the program is built, besides the toolchain.
 TOOLS = ("tools/build", "tools/bitcode.py")
 
 
@@ -49,9 +49,10 @@ def is_of(program, sources):
 
 
 def put(made, program, sources):
-    """Copies a program that was built of these sources into the place of the one that was there. One process at a time may do so."""
+    """Replaces the old program by one that was built of these sources. Only one process at a time
+    may do so."""
     shutil.copy2(made, program + ".new")
-    # At no time the sum of one program is beside another.
+    # The sum is never beside another program.
     if os.path.exists(program + ".sum"):
         os.remove(program + ".sum")
     os.replace(program + ".new", program)

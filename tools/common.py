@@ -50,7 +50,8 @@ def run_measured(words, output, errors=None):
 
 
 class Checks:
-    """Compares what a program gave with what is expected, prints each comparison, and counts those that differ."""
+    """Compares the output of a program with what is expected, prints each comparison, and counts
+    the differences."""
 
     def __init__(self, program):
         self.program, self.failed = program, 0

@@ -1,4 +1,4 @@
-"""Loads the module of the toolchain's `rt`, by whose parts the scripts of this folder prove."""
+"""Loads the module of the toolchain's `rt`; the scripts of this folder prove with its parts."""
 
 import importlib.machinery
 import importlib.util
@@ -11,7 +11,8 @@ import sys
 def stamp_once(crate_type):
     """Keeps the stamp of each crate, a sum of its sources and of those below it.
 
-    The toolchain makes it anew for each path from a crate down to another, which takes minutes in all.
+    The toolchain makes it again for each path from a crate down to another, which takes minutes in
+    all.
     """
     made, kept = crate_type.stamp, {}
 

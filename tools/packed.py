@@ -13,7 +13,7 @@ from common import ROOT
 
 PACKAGES = os.path.join(ROOT, "out", "package")
 TOOLS = {"dpkg-deb": "dpkg", "objdump": "binutils", "git": "git"}
-# The Debian package that has each library which the program loads.
+# The Debian package of each library that the program loads.
 LIBRARIES = {"libc.so.6": "libc6"}
 # What comes with the program, by its place below /usr.
 FILES = {
@@ -56,7 +56,7 @@ def stop_without_tools():
 
 
 def said(*words, **more):
-    """Returns what a command in the repository prints, less its last newline."""
+    """Returns the output of a command in the repository, without its last newline."""
     ran = subprocess.run(words, cwd=ROOT, stdout=subprocess.PIPE, text=True, env={**os.environ, "LC_ALL": "C", **more})
     return ran.stdout.rstrip("\n") if ran.returncode == 0 else sys.exit(f"tools/build: {' '.join(words)} failed")
 

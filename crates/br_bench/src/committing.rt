@@ -1,4 +1,4 @@
-//! Commits by a keeper over memory, while sessions in threads of their own take snapshots.
+//! Commits by a keeper in memory, while sessions in other threads take snapshots.
 ghost use Rattle.std.specs.Prelude.{⊤};
 
 use crate::fault::BenchFault;
@@ -14,7 +14,8 @@ use std::time::{Duration, Instant};
 /// The number of sessions that take snapshots.
 const SESSIONS: u32 = 2;
 
-/// A catalogue of the jobs that are there at first. Those that are added are in the keeper's history alone.
+/// A catalogue of the jobs that are there at first. Jobs that are added are only in the keeper's
+/// history.
 #[derive(Drop)]
 struct FirstJobs {
     history: Option<History>,
@@ -38,7 +39,8 @@ impl JobStore for FirstJobs {
 
 type BenchKeeper = Keeper<FirstJobs, MemStore>;
 
-/// Takes snapshots until one has this number of jobs, or the keeper has ended. Returns how many.
+/// Takes snapshots until one has this number of jobs, or the keeper has ended. Returns their
+/// number.
 fn watch<R: Wait>(rt: &R, session: Session, all: usize) -> u64 {
     let mut session = session;
     let mut count: u64 = 0;
@@ -56,7 +58,7 @@ fn watch<R: Wait>(rt: &R, session: Session, all: usize) -> u64 {
     count
 }
 
-/// Takes snapshots of each session in a thread of its own, as `watch`.
+/// Takes snapshots of each session in its own thread, as `watch` does.
 fn start_all<R: Threads + Wait + Copy + Send + 'static>(
     rt: R,
     alloc: Global,
@@ -100,7 +102,7 @@ fn saved_job(alloc: Global, number: u32, count: u32) -> Option<SavedJob> {
     draft.end().ok()?
 }
 
-/// Commits the jobs with the numbers from 2 on. Returns the time that the commits took.
+/// Commits the jobs with the numbers from 2 on. Returns the time of the commits.
 fn commit_each<R: Wait>(
     clock: &HostRuntime,
     rt: &R,

@@ -5,7 +5,7 @@ use std::alloc::AllocError;
 use std::io;
 use thiserror::Error;
 
-/// Why a run ended early.
+/// The reason why a run ended early.
 #[derive(Debug, Drop, Error)]
 pub(crate) enum BenchFault {
     #[error("out of memory")]

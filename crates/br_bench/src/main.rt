@@ -1,14 +1,14 @@
-//! Makes a history of backups in memory and goes through the steps of a selection over it, so that
-//! each can be measured.
+//! Makes a history of backups in memory and runs the steps of a selection over it, so that each can
+//! be measured.
 //!
 //! `br_bench STAGE PATHS JOBS ROWS` prints what each step up to the stage found, and on standard
 //! error the microseconds of the processor that each step took. The steps are those of the restore
 //! console: the view of the chosen jobs, its tree, lines of a dialogue, and the plan for the marks
 //! of the tree.
 //!
-//! `br_bench commit PATHS JOBS ROWS` commits JOBS jobs of ROWS files each, by a keeper over memory,
+//! `br_bench commit PATHS JOBS ROWS` commits JOBS jobs of ROWS files each, by a keeper in memory,
 //! to a history of PATHS file rows, while two sessions take snapshots. It prints on standard error
-//! the microseconds of the commits and of all, and the number of snapshots.
+//! the microseconds of the commits and of everything, and the number of snapshots.
 #![tactic(auto)]
 
 ghost use Rattle.std.specs.Prelude.{◌≡◌, IfOk};
@@ -91,7 +91,7 @@ fn mark_all(rt: &HostRuntime, console: &mut Console<'_>) -> Result<(), BenchFaul
     Ok(())
 }
 
-/// Plans the restore of what is marked in the tree of the chosen jobs.
+/// Plans the restore of the marks in the tree of the chosen jobs.
 fn plan_marked(
     rt: &HostRuntime,
     history: &History,
@@ -132,7 +132,7 @@ fn run_dialogue(
     plan_marked(rt, history, request, console.tree())
 }
 
-/// Builds the tree of the view of the chosen jobs, and goes on from it, up to the stage.
+/// Builds the tree of the view of the chosen jobs, and continues from it, up to the stage.
 fn walk<'h>(
     rt: &HostRuntime,
     stage: Stage,
@@ -186,7 +186,7 @@ fn request_of(alloc: Global) -> Option<Request> {
     })
 }
 
-/// Goes through the steps of a selection from a history, up to the stage.
+/// Runs the steps of a selection from a history, up to the stage.
 fn select(rt: &HostRuntime, stage: Stage, history: &History) -> Result<(), BenchFault> {
     if stage < Stage::View {
         return Ok(());
@@ -199,7 +199,7 @@ fn select(rt: &HostRuntime, stage: Stage, history: &History) -> Result<(), Bench
     walk(rt, stage, history, &request, view)
 }
 
-/// Makes a history and goes through the steps of a selection from it, up to the stage.
+/// Makes a history and runs the steps of a selection from it, up to the stage.
 fn measure(rt: &HostRuntime, stage: Stage, size: Size) -> Result<(), BenchFault> {
     let start = rt.process_cpu_time()?;
     let history = history_of(rt.alloc(), size).ok_or(AllocError)?;
@@ -208,7 +208,7 @@ fn measure(rt: &HostRuntime, stage: Stage, size: Size) -> Result<(), BenchFault>
     select(rt, stage, &history)
 }
 
-/// Does what the words of the command line ask for.
+/// Carries out the words of the command line.
 fn run<R: Threads + Wait + Copy + Send + 'static>(
     rt: &HostRuntime,
     threads: R,

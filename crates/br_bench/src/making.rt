@@ -12,7 +12,7 @@ pub(crate) const CLIENT: &[u8] = b"mars";
 /// The file set of each job.
 pub(crate) const FILESET: &[u8] = b"home";
 
-/// Numbers of a file of 184 bytes that is no hard link, as long as Bacula writes them.
+/// Numbers of a file of 184 bytes that is no hard link, with the length that Bacula gives them.
 pub(crate) const NUMBERS: &str = "P0A Cat6a IGk B Po Po A C4 BAA I BfV5Ch BfV5Ch BfV5Ch A A C";
 
 /// The size of a history. The shares of rows are exact if `rows` is a multiple of 10, `paths` of
@@ -45,13 +45,14 @@ pub(crate) fn path_text(alloc: Global, number: u32, job: u32) -> Result<String, 
     }
 }
 
-/// What a row says: the number of its path, the Incremental that adds the path (0 for none), and the index, which is 0
-/// for a deletion.
+/// The contents of a row: the number of its path, the Incremental that adds the path (0 for none),
+/// and the index, which is 0 for a deletion.
 type Change = (u32, u32, u32);
 
-/// Returns what the row of a job at a place says. The job is the Full if its number is 0, whose files of a directory come
-/// in no order; else it is that Incremental. Of ten rows one is a deletion, two are of new files, three of files that each
-/// Incremental has, and four of files that it alone has.
+/// Returns the contents of the row of a job at a place. The job is the Full if its number is 0,
+/// else that Incremental. The files of a directory are in no order in the Full. Of ten rows of an
+/// Incremental one is a deletion, two are of new files, three of files that each Incremental has,
+/// and four of files that only this one has.
 fn change_at(size: Size, job: u32, place: u32) -> Change {
     let index = place.saturating_add(1);
     if job == 0 {
@@ -139,7 +140,7 @@ fn job_of(alloc: Global, size: Size, job: u32) -> Option<JobRows> {
     .ok()
 }
 
-/// Makes the history of this size, if memory is there for it.
+/// Makes the history of this size.
 pub(crate) fn history_of(alloc: Global, size: Size) -> Option<History> {
     let mut history = History::new(alloc);
     for job in 0..=size.jobs {

@@ -1,8 +1,8 @@
-//! What the words of the command line ask for.
+//! The request of the words of the command line.
 
 use crate::making::Size;
 
-/// Up to where the steps of a selection go.
+/// The last step of a selection to run.
 #[derive(Clone, Copy, PartialEq, PartialOrd)]
 pub(crate) enum Stage {
     History,

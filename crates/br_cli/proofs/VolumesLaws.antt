@@ -29,7 +29,7 @@ as_many : (drives : List InFolder) → length (map shown_in drives) ≡ length d
 as_many [] = refl
 as_many (d ∷ drives) = ap (λ n. suc n) (as_many drives)
 
--- a restore by drives over a folder of the system, which tell no volumes
+-- a restore by drives over a folder of the system, which report no volumes
 pub restored_untold : (wanted : DrivenRestore) (before after : Option (List ℕ)) (result : Result RestoreEnd ExtractFault) (drives : List InFolder)
     → length drives ≡ wanted.drives → AreUntold drives → RestoredBy (map shown_in drives) wanted before after result → RestoresWanted None wanted before after result
 restored_untold wanted before after result drives many untold by = record {
@@ -41,7 +41,7 @@ restored_untold wanted before after result drives many untold by = record {
   delivers = by.delivers;
 }
 
--- so many drives that tell no volumes
+-- this number of drives that report no volumes
 abbrev nothing_told : ℕ → Told
 nothing_told zero = []
 nothing_told (suc n) = None ∷ nothing_told n

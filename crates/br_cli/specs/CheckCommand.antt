@@ -1,4 +1,4 @@
--- What a check of a bootstrap prints, and how it ends.
+-- The output of a check of a bootstrap, and its end.
 use Rattle.std.specs.Prelude.{◌≡◌, ℕ, List, [], Option, Result, Ok, Err, if◌then◌else◌}
 use Rattle.std.specs.Io.KnownBytes.{Appends}
 use Rattle.std.specs.declared.io.Write as write
@@ -23,23 +23,24 @@ use Rattle.br_cli.specs.declared.check_command.CheckTask.{CheckTask}
 abbrev pub checked_status : Checked → ℕ
 checked_status checked = if is_empty checked.findings.items then 0 else 1
 
--- what was said of the checksums of some pieces was added to what was found
+-- what the check reports about the checksums of some pieces was added to the findings
 pub record HasSums {D : Type 0} (shows : D → Option (List Volume)) (failures : D → ℕ) (earlier later : D) (pieces : List Piece) (first checked : Checked) : Type 0 where
   pub findings : SumsOver shows failures earlier later pieces first.findings.items checked.findings.items
   pub files : checked.files ≡ first.files
   pub bytes : checked.bytes ≡ first.bytes
   pub memory : checked.memory ≡ first.memory
 
--- what a check of a bootstrap finds over the drive for a restore which holds so many bytes of data; then, if checksums are compared, what is said
--- of those
+-- what a check of a bootstrap finds over the drive for a restore that holds this number of bytes of
+-- data; then, if checksums are compared, the report about those
 abbrev pub ChecksFor : {D : Type 0} → Ghosts D → D → D → ReadBootstrap → ℕ → Checksums → Checked → Type 0
 ChecksFor drives earlier later read budget Passed checked = ChecksOver drives.shows drives.failures earlier later read.bootstrap read.counts.items budget checked
 ChecksFor {D} drives earlier later read budget Compared checked =
     (between : D) × (first : Checked) × ChecksOver drives.shows drives.failures earlier between read.bootstrap read.counts.items budget first
     × HasSums drives.shows drives.failures between later (pieces_of read.bootstrap) first checked
 
--- What a check of a bootstrap finds over the drive was written after what the writer held, and the status is that of what was found. Else memory
--- ran out, or the writer failed. If the text of the bootstrap is refused, that is returned, and nothing was read or written.
+-- The findings of a check of a bootstrap over the drive were appended to what the writer held, and
+-- the status is that of the findings. Else memory ran out, or the writer failed. If the text of the
+-- bootstrap is refused, the refusal is returned, and nothing was read or written.
 abbrev pub ChecksRead : {D W : Type 0} → Ghosts D → write.Ghosts W → Result ReadBootstrap BsrFault → CheckTask D × W → CheckTask D × W → Result ℕ ExtractFault → Type 0
 ChecksRead drives writer (Ok read) before after (Ok status) =
     (checked : Checked) × ChecksFor drives before.0.drive after.0.drive read before.0.memory before.0.checksums checked
@@ -47,11 +48,11 @@ ChecksRead drives writer (Ok read) before after (Ok status) =
 ChecksRead drives writer (Ok read) before after (Err fault) = IsFree fault
 ChecksRead drives writer (Err line) before after result = (result ≡ Err (Bootstrap line)) × (after ≡ before)
 
--- the bootstrap of a task was checked so over its drive
+-- the bootstrap of a task was checked like this over its drive
 abbrev pub ChecksTask : {D W : Type 0} → Ghosts D → write.Ghosts W → CheckTask D × W → CheckTask D × W → Result ℕ ExtractFault → Type 0
 ChecksTask drives writer before after result = ChecksRead drives writer before.0.bootstrap.read before after result
 
--- the status by what was found; 3 if reading or writing failed, 1 for any other fault
+-- the status from the findings; 3 if reading or writing failed, 1 for any other fault
 abbrev pub run_status : Result ℕ ExtractFault → ℕ
 run_status (Ok status) = status
 run_status (Err fault) = fault_status fault

@@ -1,4 +1,4 @@
--- How a run ends that extracts files.
+-- The end of a run that extracts files.
 use Rattle.std.specs.Prelude.{ℕ, Bool, ◌&&◌, List, [], map, Option, Some, None, Result, Ok, Err, if◌then◌else◌}
 use Rattle.br_model.specs.File.{Item}
 use Rattle.br_model.specs.Text.{is_empty}
@@ -24,7 +24,8 @@ end_status AllFiles = 0
 end_status SomeFaults = 1
 end_status (Stopped stop) = 1
 
--- nothing is reported as missing, and no file is left out, neither for its path nor of those at which the sink failed
+-- nothing is reported as missing, and no file is left out, neither for its path nor since the sink
+-- failed at it
 abbrev pub is_whole : Extracted → List (List ℕ) → Bool
 is_whole done failed = is_empty done.missing.items && is_empty done.left.items && is_empty failed
 
@@ -42,13 +43,13 @@ abbrev pub run_status : Result Extracted ExtractFault → List (List ℕ) → �
 run_status (Ok done) failed = done_status done failed
 run_status (Err fault) failed = fault_status fault
 
--- how many of the files a restore that ended so put into its sink
+-- the number of files that a restore with this end put into its sink
 abbrev pub extent_by : RestoreEnd → Extent
 extent_by AllFiles = All
 extent_by SomeFaults = All
 extent_by (Stopped stop) = Part
 
--- how many of the wanted files a run put into its sink
+-- the number of wanted files that a run put into its sink
 abbrev pub extent : Result Extracted ExtractFault → Extent
 extent (Ok done) = extent_by done.end
 extent (Err fault) = Part

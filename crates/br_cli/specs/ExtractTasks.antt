@@ -1,4 +1,4 @@
--- What `extract` carries out: a bootstrap, over drives, a writer and a sink.
+-- The task of `extract`: a bootstrap, over drives, a writer and a sink.
 use Rattle.std.specs.Prelude.{◌≡◌, ℕ, List, map, Option, None, option_map, Result, Ok, Err}
 use Rattle.std.specs.declared.io.Write as write
 use Rattle.br_volume.specs.declared.drive.Drive as drive
@@ -20,24 +20,25 @@ use Rattle.br_cli_target.specs.TarEnding.{StreamHolds, told_inside}
 use Rattle.br_cli_target.specs.declared.target_tar.Streamed.{Streamed}
 use Rattle.br_cli.specs.declared.extract_command.Extraction.{Extraction}
 
--- The manifest of the files that the bootstrap gives over the drives, what became of those of them that are wanted in the sink, and what is
--- reported as missing; or why there is none. If the text of the bootstrap is refused, that is returned, and nothing was read or written.
+-- The manifest of the files that the bootstrap gives over the drives, the delivery of the wanted
+-- ones into the sink, and the report of what is missing; or why there is none. If the text of the
+-- bootstrap is refused, the refusal is returned, and nothing was read or written.
 abbrev pub ExtractsRead : Result ReadBootstrap BsrFault → Wanted → Change → Result Extracted ExtractFault → Type 0
 ExtractsRead (Ok read) wanted seen result =
     Extracts wanted (λ holds. OverVolumes seen.old.told seen.new.told read.bootstrap None holds) (λ rs lines. lines ≡ reported wanted.gaps read.bootstrap read.counts.items rs)
     seen.old.written seen.new.written seen.old.has seen.new.has result
 ExtractsRead (Err fault) wanted seen result = (result ≡ Err (Bootstrap fault)) × (seen.new ≡ seen.old)
 
--- the same of an extraction
+-- the same for an extraction
 abbrev pub ExtractsTo : Extraction → Change → Result Extracted ExtractFault → Type 0
 ExtractsTo e seen result = ExtractsRead e.bootstrap.read e.wanted seen result
 
--- what is seen of a restore into a tar stream, and of its writer, where the sink has these files
+-- what a restore into a tar stream and its writer show, if the sink has these files
 abbrev pub with_stream : {D W : Type 0} → drive.Ghosts D → write.Ghosts W → Restore D (WatchedSink InTar) × W → InSink → Seen
 with_stream drives writer at has = record { told = map drives.shows at.0.drives.items; written = writer.contents at.1; has = has }
 
--- The extraction was carried out, with what the sink was told of the files. The stream of the sink is that of what it was told, and has an
--- end if all files were put and it could be written.
+-- The extraction was carried out, with the files that were reported to the sink. The sink's stream
+-- is that of the reported files. It has an end if all files were put and the end could be written.
 abbrev pub StreamsTo : {D W T : Type 0} → drive.Ghosts D → write.Ghosts W → (T → Option (List ℕ)) → Extraction
     → Restore D (WatchedSink InTar) × W → Restore D (WatchedSink InTar) × W → Streamed (Result Extracted ExtractFault) T → Type 0
 StreamsTo drives writer holds e before after s =

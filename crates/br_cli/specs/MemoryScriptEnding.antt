@@ -1,4 +1,4 @@
--- How a script ends.
+-- The end of a script.
 use Rattle.std.specs.Prelude.{◌≡◌, ◌⊎◌, ℕ, Result, Ok}
 use Rattle.br_console.specs.declared.script.ScriptEnd.{ScriptEnd}
 use Rattle.br_console.specs.declared.script.ScriptEnd.TheVariants.{Clean, Refused}
@@ -9,7 +9,7 @@ abbrev pub script_status : ScriptEnd → ℕ
 script_status Clean = 0
 script_status Refused = 1
 
--- this is the exit status of a script that ended so
+-- this is the exit status of a script with this end
 abbrev pub IsStatusOf : Result ScriptEnd ScriptFault → ℕ → Type 0
 IsStatusOf end status = (e : ScriptEnd) × (end ≡ Ok e) × (status ≡ script_status e)
 

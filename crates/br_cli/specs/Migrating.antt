@@ -1,4 +1,4 @@
--- What the command `migrate` prints.
+-- The output of the command `migrate`.
 use Rattle.std.specs.Prelude.{ℕ, List, [], ◌∷◌, ◌++◌, codes, decimal}
 
 -- the line `migrated N`

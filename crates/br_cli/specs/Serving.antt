@@ -1,4 +1,4 @@
--- What a script over files runs on, and why it did not begin.
+-- The means of a script over files, and why it did not begin.
 use Rattle.std.specs.Prelude.{◌≡◌, ℕ, List, [], Result, Ok, string_bytes, ⊤}
 use Rattle.br_model.specs.Job.{JobRows}
 use Rattle.br_keeper.specs.Publishing.{publishing}
@@ -17,14 +17,14 @@ start_number Memory = 1
 start_number (Catalogue fault) = catalogue_number fault
 start_number (Keeper fault) = keeper.fault_number fault
 
--- The keeper begins with the jobs that a catalogue which was opened so loads. None is added yet, and it
--- vouches for no other lengths than theirs.
+-- The keeper begins with the jobs that an opened catalogue loads. None is added yet, and it vouches
+-- for no other lengths than theirs.
 abbrev pub IsLoaded : {C W : Type 0} → (C → C → Result (List JobRows) JobStoreFault → Type 0) → (C → Type 0) → Keeping C W → Type 0
 IsLoaded {C} loads opens k =
     ((opened : C) × opens opened × loads opened k.catalogue (Ok k.list.opening))
     × (k.list ≡ publishing k.list.book k.list.opening [] []) × (k.vouches ≡ [])
 
--- the jobs of a catalogue that was opened so were not loaded, if that is why
+-- the jobs of an opened catalogue were not loaded, if that is the reason
 abbrev pub IsNotBegun : {C : Type 0} → (C → C → Result (List JobRows) JobStoreFault → Type 0) → (C → Type 0) → ServeStartFault → Type 0
 IsNotBegun loads opens Memory = ⊤
 IsNotBegun loads opens (Catalogue fault) = ⊤

@@ -17,14 +17,14 @@ use br_volume::{Drive, FolderDrive, HostDrive};
 use std::alloc::{AllocError, Global};
 use std::io;
 
-/// Returns the exit status by what was found.
+/// Returns the exit status from the findings.
 fn status_of(checked: &Checked) -> u8
     ensures { result ≡ checked_status checked.now }
 {
     if checked.is_clean() { CLEAN } else { REFUSED }
 }
 
-/// Writes what a check found and flushes it.
+/// Writes the findings of a check and flushes them.
 fn show_checked<W: Flush>(
     alloc: Global,
     writer: &mut W,
@@ -40,7 +40,7 @@ fn show_checked<W: Flush>(
     Ok(())
 }
 
-/// Returns what was found, and the lines of the blocks whose checksums differ.
+/// Returns the findings, and the lines of the blocks whose checksums differ.
 fn with_checksums<D: Drive>(
     alloc: Global,
     checked: Checked,
@@ -65,8 +65,8 @@ fn with_checksums<D: Drive>(
     })
 }
 
-/// Checks a bootstrap over the volumes of a drive, and the checksums of its blocks if they are to be
-/// compared. The memory is that of a restore which holds at most `budget` bytes of data.
+/// Checks a bootstrap over the volumes of a drive, and the checksums of its blocks if they are to
+/// be compared. The memory is that of a restore that holds at most `budget` bytes of data.
 fn checked_for<D: Drive>(
     alloc: Global,
     read: &ReadBootstrap,
@@ -84,8 +84,8 @@ fn checked_for<D: Drive>(
     }
 }
 
-/// The bootstrap to check, the drive to read its volumes by, the number of bytes of data that a restore
-/// would hold in memory, and what to do with the checksums of blocks.
+/// The bootstrap to check, the drive that reads its volumes, the number of bytes of data that a
+/// restore would hold in memory, and whether to compare the checksums of blocks.
 #[derive(Drop)]
 pub struct CheckTask<'p, D> {
     bootstrap: BootstrapFile<'p>,
@@ -114,9 +114,9 @@ pub fn set_up_check<'r, 'p>(
     })
 }
 
-/// Carries out a task: checks the bootstrap over the volumes of the drive, and writes a line for each finding,
-/// the memory that a restore asks for, and then the number of files that would be restored and of their
-/// bytes. Returns the exit status.
+/// Carries out a task: checks the bootstrap over the volumes of the drive, and writes a line for
+/// each finding, the memory that a restore needs, and then the number of files that would be
+/// restored and of their bytes. Returns the exit status.
 ///
 /// # Errors
 ///
@@ -157,7 +157,7 @@ pub fn check_ending(alloc: Global, run: &Result<u8, ExtractFault>) -> Result<End
     Ok(Ending { status, refusal })
 }
 
-/// Prints how a check ended to standard error. Returns the exit status.
+/// Prints the end of a check to standard error. Returns the exit status.
 fn report(rt: &HostRuntime, run: Result<u8, ExtractFault>) -> io::Result<u8> {
     let ending = check_ending(rt.alloc(), &run)?;
     if let Err(fault) = &run {
@@ -166,9 +166,9 @@ fn report(rt: &HostRuntime, run: Result<u8, ExtractFault>) -> io::Result<u8> {
     ending.print(rt)
 }
 
-/// Checks the bootstrap in a file over the volumes in a folder. Prints a line for each finding, the memory
-/// that a restore asks for, and then the number of files that would be restored and of their bytes. Restores
-/// nothing.
+/// Checks the bootstrap in a file over the volumes in a folder. Prints a line for each finding, the
+/// memory that a restore needs, and then the number of files that would be restored and of their
+/// bytes. Restores nothing.
 ///
 /// Returns the exit status: 0 if nothing was found; 1 if something was found or a line of the bootstrap was
 /// refused; 3 if the bootstrap could not be read or standard output failed.

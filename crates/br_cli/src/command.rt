@@ -1,4 +1,4 @@
-//! The commands by their options.
+//! The commands, carried out from their options.
 ghost use Rattle.br_cli_common.specs.Options.{HasDrives};
 
 use crate::check_command::check_files;
@@ -14,13 +14,13 @@ use std::io;
 use std::sync::Wait;
 use std::thread::Threads;
 
-/// What an operator at a terminal reads who gives no command.
+/// The text for an operator at a terminal who gives no command.
 const SCRIPT_AWAITED: &str =
     "brestore: reads a script from standard input. `brestore --help` lists the commands; Ctrl-D ends the input.";
 
-/// Does what a command asks for, in as many threads as `threads` starts. Returns the exit status: 0 if
-/// nothing was refused and every outcome is a file; 1 otherwise; 3 if the program's own files or streams
-/// failed.
+/// Carries out a command, in as many threads as `threads` starts. Returns the exit status: 0 if
+/// nothing was refused and every outcome is a file; 1 otherwise; 3 if the program's own files or
+/// streams failed.
 ///
 /// # Errors
 ///

@@ -35,7 +35,7 @@ use std::sync::Wait;
 use std::thread::Threads;
 use thiserror::Error;
 
-/// Returns if nothing is reported as missing, and no file is left out.
+/// Returns true if nothing is reported as missing, and no file is left out.
 fn is_whole(done: &Extracted, failed: &[Path]) -> bool
     ensures { result ≡ is_whole done.now failed.now }
 {
@@ -52,8 +52,8 @@ fn status_of(done: &Extracted, failed: &[Path]) -> u8
     }
 }
 
-/// Returns the exit status and the lines of what is missing, left out or refused for this result. The sink
-/// failed at the files with the paths `failed`, which are left out.
+/// Returns the exit status and the lines of what is missing, left out or refused for this result.
+/// `failed` are the paths of the files at which the sink failed and which are left out.
 pub fn extract_ending(
     alloc: Global,
     run: &Result<Extracted, ExtractFault>,
@@ -77,7 +77,7 @@ pub fn extract_ending(
     Ok(Ending { status, refusal })
 }
 
-/// Prints to standard error that a stream failed, if one did. An error for memory is returned.
+/// Prints to standard error that a stream failed, if one did. If memory ran out, returns the error.
 pub(crate) fn report_stream<R: Eprint>(rt: &R, fault: &ExtractFault) -> io::Result<()> {
     match fault {
         ExtractFault::Io(e) if e.kind() == ErrorKind::OutOfMemory => {
@@ -92,7 +92,7 @@ pub(crate) fn report_stream<R: Eprint>(rt: &R, fault: &ExtractFault) -> io::Resu
     }
 }
 
-/// Tells a terminal and the log why files are left out and why the delivery stopped.
+/// Reports to a terminal and the log why files are left out and why the delivery stopped.
 fn say_done(
     rt: &HostRuntime,
     gauge: &Gauge<'_>,
@@ -119,8 +119,8 @@ fn tell_stream(rt: &HostRuntime, gauge: &Gauge<'_>, fault: &ExtractFault) -> io:
     }
 }
 
-/// Prints how a run ended to standard error, and tells a terminal and the log what it means. Returns the exit
-/// status.
+/// Prints the end of a run to standard error, and explains it to a terminal and the log. Returns
+/// the exit status.
 fn report(
     rt: &HostRuntime,
     gauge: &Gauge<'_>,
@@ -187,7 +187,7 @@ impl<'p> BootstrapFile<'p> {
     }
 }
 
-/// Why no restore began.
+/// The reason why no restore began.
 #[derive(Debug, Drop, Error)]
 pub enum ExtractStartFault {
     /// The folder to deliver into was refused.
@@ -232,18 +232,19 @@ impl From<AllocError> for ExtractStartFault {
     }
 }
 
-/// What `extract` restores: the bootstrap, and what is wanted of it beside the plain restore.
+/// The order of `extract`: the bootstrap, and what is wanted besides the plain restore.
 #[derive(Drop)]
 pub struct Extraction<'p> {
     bootstrap: BootstrapFile<'p>,
     wanted: Wanted,
 }
 
-/// What `extract` restores, and by what means.
+/// The order of `extract`, and its means of restoring.
 type ExtractSetup<'r, 'p, S> = (Extraction<'p>, Restore<HostDrive<'r>, S>);
 
-/// Makes all that is there before a drive is asked, to deliver into a folder if there is one. The folder
-/// is tested (81) before the bootstrap is read. The gauge is told of the files that are put.
+/// Makes what a restore into a folder, or without a target, needs before a drive is used. The
+/// folder is tested (81) before the bootstrap is read. The files that are put are reported to the
+/// gauge.
 pub fn set_up_extract<'g, 'r, 'p>(
     rt: &'r HostRuntime,
     gauge: &'g Gauge<'r>,
@@ -263,7 +264,7 @@ pub fn set_up_extract<'g, 'r, 'p>(
     set_up_over(rt, given, sink)
 }
 
-/// Makes what else is there before a drive is asked, beside the sink.
+/// Makes the rest of what a restore needs before a drive is used, besides the sink.
 fn set_up_over<'r, 'p, S: Drop>(
     rt: &'r HostRuntime,
     given: &ExtractOptions<'p>,
@@ -302,8 +303,8 @@ pub(crate) fn refuse(rt: &HostRuntime, bsr: &str, fault: ExtractStartFault) -> i
     }
 }
 
-/// Prints why no restore began to standard error, and tells a terminal and the log what it means. Returns the
-/// exit status.
+/// Prints why no restore began to standard error, and explains it to a terminal and the log.
+/// Returns the exit status.
 fn refuse_told(
     rt: &HostRuntime,
     gauge: &Gauge<'_>,
@@ -322,7 +323,7 @@ fn refuse_told(
     }
 }
 
-/// Returns the paths of the files that a sink failed at and left out, if there is a sink.
+/// Returns the paths of the files that a sink left out since it failed at them, if there is a sink.
 fn left_out<S: Sink + Drop>(sink: &Option<Leaving<S>>) -> &[Path]
     ensures { result.now ≡ failed_paths sink.now }
 {
@@ -332,8 +333,8 @@ fn left_out<S: Sink + Drop>(sink: &Option<Leaving<S>>) -> &[Path]
     }
 }
 
-/// Restores. The manifest goes to the writer, and then the files that are wanted into the sink, if there
-/// is one. If the text of the bootstrap is refused, nothing is read.
+/// Restores. The manifest goes to the writer; then the wanted files go into the sink, if there is
+/// one. If the text of the bootstrap is refused, nothing is read.
 pub fn extract_over<D: Drive + Send, W: Flush, S: Sink>(
     threads: &(impl Threads + Wait + Sync),
     extraction: &Extraction<'_>,
@@ -357,7 +358,7 @@ pub fn extract_over<D: Drive + Send, W: Flush, S: Sink>(
     }
 }
 
-/// Returns how many of the wanted files a run put into its sink.
+/// Returns the number of wanted files that a run put into its sink.
 fn extent_of(run: &Result<Extracted, ExtractFault>) -> Extent
     ensures { result ≡ extent run.now }
 {
@@ -391,7 +392,7 @@ fn extract_stream<D: Drive + Send, W: Flush, T: Flush + Drop>(
     Streamed { run, end, writer }
 }
 
-/// Names what else is in the folder of a restore that is resumed, if it wrote its manifest.
+/// Prints what else is in the folder of a resumed restore, if the restore wrote its manifest.
 fn name_others(
     rt: &HostRuntime,
     gauge: &Gauge<'_>,
@@ -406,14 +407,14 @@ fn name_others(
     }
 }
 
-/// Tells the gauge what is to be read, if there is a bootstrap.
+/// Reports to the gauge what is to be read, if there is a bootstrap.
 fn expect(gauge: &Gauge<'_>, bootstrap: Option<&Bootstrap>) {
     if let Some(bootstrap) = bootstrap {
         gauge.expect_volumes(bootstrap);
     }
 }
 
-/// Restores into a folder, or prints the manifest alone if there is none.
+/// Restores into a folder, or only prints the manifest if there is none.
 fn extract_into(
     rt: &HostRuntime,
     threads: &(impl Threads + Wait + Sync),
@@ -446,8 +447,8 @@ fn extract_into(
     )
 }
 
-/// Restores into the tar stream of a sink, with the manifest to this writer: standard output, or something
-/// else if the stream goes there.
+/// Restores into the tar stream of a sink. The manifest goes to this writer: standard output, or
+/// another one if the stream goes there.
 fn extract_onto<T: Channel + Drop, W: Channel + Drop>(
     rt: &HostRuntime,
     threads: &(impl Threads + Wait + Sync),
@@ -483,13 +484,14 @@ fn extract_onto<T: Channel + Drop, W: Channel + Drop>(
 }
 
 /// Restores by the bootstrap in a file over the volumes in a folder. The manifest goes to standard
-/// output, and what is refused to standard error. Then the restored files are put where they are to go:
-/// into a folder, or as a tar stream into a file or to standard output. In the last case the manifest
-/// goes to standard error. What becomes of the files is told a terminal in words, and appended to a log if
+/// output, and refusals to standard error. Then the restored files are put into their target: a
+/// folder, or a tar stream in a file or on standard output. In the last case the manifest goes to
+/// standard error. What becomes of the files is reported in words to a terminal, and to a log if
 /// one is given.
 ///
-/// A folder has to exist and be empty unless the restore is resumed, and a file must not be there, else it
-/// is refused (81) before anything is read. The manifest is printed before any file is put.
+/// A folder has to exist and be empty unless the restore is resumed, and a file must not exist;
+/// else the target is refused (81) before anything is read. The manifest is printed before any file
+/// is put.
 ///
 /// Returns the exit status: 0 if nothing was refused and each outcome is a file; 1 if something was
 /// refused, left out or is reported as missing, or some outcome is not a file; 3 if the bootstrap could not
@@ -511,7 +513,7 @@ pub fn extract_files(
     }
 }
 
-/// Restores as `extract_files`, with what watches the restore.
+/// Restores as `extract_files` does, and watches the restore.
 fn extract_told(
     rt: &HostRuntime,
     threads: &(impl Threads + Wait + Sync),

@@ -1,4 +1,4 @@
-//! The volumes in a folder of the system, to which jobs are appended and which restores read.
+//! The volumes in a folder of the system. Jobs are appended to them, and restores read them.
 ghost use Rattle.std.specs.Prelude.{◌≡◌, length, string_bytes, IfOk};
 ghost use Rattle.br_pool.specs.Pool.{AreDrives};
 ghost use Rattle.br_volume.specs.HostDrives.{AreOver, AreUntold};

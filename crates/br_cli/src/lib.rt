@@ -1,10 +1,10 @@
 //! The commands of the program: what each reads, does and prints, and its exit status.
 //!
-//! `run_command` carries out a command by its options. `extract` and `check` restore and check by a
-//! bootstrap. `serve` runs scripts that commit jobs and restore, over a catalogue in a file and
+//! `run_command` carries out a command from its options. `extract` and `check` restore and check by
+//! a bootstrap. `serve` runs scripts that commit jobs and restore, over a catalogue in a file and
 //! volumes in a folder, or in memory: `set_up_serve` makes a keeper of both, `serve_over` runs a
 //! script over it, and `FolderVolumes` are the volumes. `console` and `jobs` are in br_cli_console.
-//! Where the jobs of a catalogue come from is the caller's, as a `Catalogue` of br_keeper.
+//! The caller provides the jobs of a catalogue, as a `Catalogue` of br_keeper.
 #![tactic(auto)]
 
 mod check_command;

@@ -1,4 +1,4 @@
-//! The command `serve` over memory, which is also what the program does without a command.
+//! The command `serve` in memory, which the program also runs without a command.
 ghost use Rattle.std.specs.Prelude.{◌≡◌, IfOk};
 ghost use Rattle.br_cli.specs.MemoryScriptEnding.{IsStatus, IsStatusOf, script_status};
 
@@ -9,7 +9,7 @@ use std::io::{self, BufRead, BufReader, BufWriter, ErrorKind};
 use std::sync::Wait;
 use std::thread::Threads;
 
-/// Returns the exit status of a script that ended so.
+/// Returns the exit status of a script with this end.
 fn status_of(end: ScriptEnd) -> u8
     ensures { result ≡ script_status end }
 {
@@ -19,7 +19,7 @@ fn status_of(end: ScriptEnd) -> u8
     }
 }
 
-/// Flushes what a script wrote that ended so. Returns the exit status.
+/// Flushes the answers of a script with this end. Returns the exit status.
 pub(crate) fn flushed_end<W: Flush>(
     end: Result<ScriptEnd, ScriptFault>,
     writer: &mut W,
@@ -63,8 +63,8 @@ fn run_input<R: Input + Print + AllocGlobal>(
     answer(threads, budget, &mut reader, &mut writer)
 }
 
-/// Returns the exit status of a script. An error for memory is a refusal of the script: it is printed as its
-/// last line.
+/// Returns the exit status of a script. An error for memory is a refusal of the script; it is
+/// printed as the last line.
 pub(crate) fn refuse_memory<R: Print>(rt: &R, status: io::Result<u8>) -> io::Result<u8>
     requires { IfOk status IsStatus }
     ensures { IfOk result IsStatus }
@@ -78,7 +78,7 @@ pub(crate) fn refuse_memory<R: Print>(rt: &R, status: io::Result<u8>) -> io::Res
     }
 }
 
-/// Runs the script of standard input over memory. Returns the exit status.
+/// Runs the script of standard input in memory. Returns the exit status.
 pub fn serve_memory<R: Input + Print + AllocGlobal>(
     rt: &R,
     threads: &(impl Threads + Wait + Sync),

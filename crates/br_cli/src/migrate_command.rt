@@ -34,8 +34,8 @@ fn show_migrated<W: Flush>(mut text: Vec<u8>, writer: &mut W, jobs: u64) -> io::
     show(writer, &text)
 }
 
-/// Makes the catalogue of version 1 in a file one of version 2, if the file is there. Returns the number of
-/// its jobs.
+/// Changes the catalogue of version 1 in a file to version 2, if the file exists. Returns the
+/// number of its jobs.
 fn migrate_file<C: Catalogue>(
     rt: &HostRuntime,
     catalogue: &C,
@@ -43,15 +43,16 @@ fn migrate_file<C: Catalogue>(
 ) -> Result<u64, CatalogueFault>
     ensures jobs { IfOk result (C.migrates catalogue.now db.now) }
 {
-    // A file that is not there would be made.
+    // A file that does not exist would be made.
     if fs::metadata(rt, db).is_err() {
         return Err(CatalogueFault::Unreadable);
     }
     catalogue.migrate(db)
 }
 
-/// Makes the catalogue of version 1 in a file one of version 2, and prints `migrated N`, the number of its
-/// jobs. What is refused (45, 47) goes to standard error. Returns the exit status, 1 if it was refused.
+/// Changes the catalogue of version 1 in a file to version 2, and prints `migrated N`, the number
+/// of its jobs. A refusal (45, 47) goes to standard error. Returns the exit status, 1 if there was
+/// a refusal.
 ///
 /// # Errors
 ///
@@ -63,7 +64,7 @@ pub(crate) fn migrate_catalogue<C: Catalogue>(
 ) -> io::Result<u8>
     ensures status { IfOk result IsStatus }
 {
-    // Memory for the line is taken first, so that none is refused once the file is migrated.
+    // Memory for the line is taken first, so that nothing is refused after the file was migrated.
     let text = Vec::with_capacity(rt.alloc(), MOST_BYTES)?;
     match migrate_file(rt, catalogue, db) {
         Ok(jobs) => {

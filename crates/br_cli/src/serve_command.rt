@@ -18,7 +18,7 @@ use std::sync::Wait;
 use std::thread::Threads;
 use thiserror::Error;
 
-/// Why no script began.
+/// The reason why no script began.
 #[derive(Clone, Copy, Debug, PartialEq, Eq, Error)]
 pub enum ServeStartFault {
     #[error("out of memory")]
@@ -69,7 +69,8 @@ impl ServeStartFault {
     }
 }
 
-/// What a script over files runs on: a keeper of the catalogue and the volumes, and a session of it.
+/// The means of a script over files: a keeper of the catalogue and the volumes, and a session of
+/// it.
 pub struct ServeSetup<C: JobStore, V: VolumeStore> {
     keeper: Keeper<C, V>,
     session: Session,
@@ -102,8 +103,8 @@ pub fn set_up_serve<'r, C: Catalogue>(
     Ok(ServeSetup { keeper, session })
 }
 
-/// Runs a script over what was set up, and writes and flushes its answers. Returns the keeper, and the
-/// exit status.
+/// Runs a script over the prepared keeper, and writes and flushes its answers. Returns the keeper,
+/// and the exit status.
 pub fn serve_over<C: JobStore, V: DrivenStore, R: BufRead, W: Flush>(
     threads: &(impl Threads + Wait + Sync),
     budget: Budget,
@@ -121,8 +122,9 @@ pub fn serve_over<C: JobStore, V: DrivenStore, R: BufRead, W: Flush>(
     (keeper, flushed_end(end, writer))
 }
 
-/// Puts all jobs into the file of the catalogue, after a script that ended with this status. Returns the exit
-/// status of the command, which is that of the script unless the catalogue refuses.
+/// Writes all jobs into the file of the catalogue, after a script that ended with this status.
+/// Returns the exit status of the command, which is that of the script unless the catalogue
+/// refuses.
 ///
 /// # Errors
 ///
@@ -146,10 +148,11 @@ fn end_serve<C: Catalogue>(
     }
 }
 
-/// Runs the lines of a reader as a script over a catalogue in a file and volumes in a folder, and writes
-/// its answers to standard output, each line as soon as it is whole. A catalogue that can't be opened
-/// (45) or loaded (47) is refused on standard error before a line is read. After the last line all jobs
-/// are put into the catalogue's file; if that fails, it is refused on standard error too.
+/// Runs the lines of a reader as a script over a catalogue in a file and volumes in a folder, and
+/// writes its answers to standard output, each line as soon as it is complete. A catalogue that
+/// can't be opened (45) or loaded (47) is refused on standard error before a line is read. After
+/// the last line all jobs are written into the catalogue's file; if that fails, it is refused on
+/// standard error too.
 ///
 /// Returns the exit status: 0 if nothing was refused and each outcome is a file; 1 otherwise.
 ///
@@ -180,7 +183,7 @@ pub fn serve_by_lines<C: Catalogue, R: BufRead + Drop>(
     }
 }
 
-/// Runs the script of standard input, as `serve_by_lines`.
+/// Runs the script of standard input, as `serve_by_lines` does.
 pub fn serve_files<C: Catalogue>(
     rt: &HostRuntime,
     threads: &(impl Threads + Wait + Sync),

@@ -5,7 +5,7 @@ use Rattle.clap.specs.Walk.{Rule, Text}
 use Rattle.clap.specs.declared.builder.action.ArgAction.TheVariants.{Set, SetTrue}
 use Rattle.clap.specs.declared.builder.value_parser.ValueParser.TheVariants.{NonEmptyString, Unsigned}
 
--- an option `--name VALUE` whose value may not be empty, and whether it is required
+-- an option `--name VALUE`; its value may not be empty, and the option may be required
 abbrev pub value_rule : Text → Bool → Rule
 value_rule name is_required = record (new_rule name) {
   long = Some name;
@@ -19,15 +19,15 @@ value_rule name is_required = record (new_rule name) {
 abbrev pub flag_rule : Text → Rule
 flag_rule name = record (new_rule name) { long = Some name; action = Some SetTrue }
 
--- an option `--name N`, a number from 1 to 16, which is 1 if the option is left out
+-- an option `--name N`, a number from 1 to 16, which is 1 if the option is omitted
 abbrev pub drives_rule : Text → Rule
 drives_rule name = record (value_rule name false) { parser = Some (Unsigned 1 16); defaults = codes "1" ∷ [] }
 
--- an option `--name SIZE`, which is 1 GiB if the option is left out
+-- an option `--name SIZE`, which is 1 GiB if the option is omitted
 abbrev pub memory_rule : Text → Rule
 memory_rule name = record (value_rule name false) { defaults = codes "1G" ∷ [] }
 
--- a number after the command, which may be left out
+-- a number after the command, which may be omitted
 abbrev pub number_rule : Text → Rule
 number_rule name = record (new_rule name) { action = Some Set; value_names = 1; parser = Some (Unsigned 0 4294967295) }
 
@@ -35,7 +35,8 @@ number_rule name = record (new_rule name) { action = Some Set; value_names = 1; 
 abbrev pub command_with : Text → List Rule → App
 command_with name rules = fold with_rule (new_app name) rules
 
--- `--into DIR`, `--tar FILE`, `--drives N`, `--memory SIZE`, `--quiet` and `--log FILE`, which may be left out
+-- `--into DIR`, `--tar FILE`, `--drives N`, `--memory SIZE`, `--quiet` and `--log FILE`, all
+-- optional
 abbrev pub with_restoring : App → App
 with_restoring app =
     fold with_rule app
@@ -47,18 +48,19 @@ with_restoring app =
     value_rule (codes "log") false ∷
     [])
 
--- `--newest`, `--complete`, `--keep-going` and `--resume`, which may be left out
+-- `--newest`, `--complete`, `--keep-going` and `--resume`, all optional
 abbrev pub with_choices : App → App
 with_choices app =
     fold with_rule app
     (flag_rule (codes "newest") ∷ flag_rule (codes "complete") ∷ flag_rule (codes "keep-going") ∷ flag_rule (codes "resume") ∷ [])
 
--- `extract --bsr FILE --volumes DIR`, and the options that may be left out
+-- `extract --bsr FILE --volumes DIR`, and the optional ones
 unfoldable pub extract_app : App
 extract_app =
     with_choices (with_restoring (command_with (codes "extract") (value_rule (codes "bsr") true ∷ value_rule (codes "volumes") true ∷ [])))
 
--- `console --db FILE --volumes DIR --client NAME --fileset NAME --before MOMENT`, and the options that may be left out
+-- `console --db FILE --volumes DIR --client NAME --fileset NAME --before MOMENT`, and the optional
+-- ones
 unfoldable pub console_app : App
 console_app =
     with_restoring
@@ -70,7 +72,7 @@ console_app =
     value_rule (codes "before") true ∷
     []))
 
--- `check --bsr FILE --volumes DIR` with `--checksums` and `--memory SIZE`, which may be left out
+-- `check --bsr FILE --volumes DIR` with the optional `--checksums` and `--memory SIZE`
 unfoldable pub check_app : App
 check_app =
     command_with (codes "check")
@@ -80,7 +82,8 @@ check_app =
     memory_rule (codes "memory") ∷
     [])
 
--- `jobs --db FILE` with `--client NAME`, `--fileset NAME`, `--before MOMENT` and `--local`, which may be left out
+-- `jobs --db FILE` with the optional `--client NAME`, `--fileset NAME`, `--before MOMENT` and
+-- `--local`
 unfoldable pub jobs_app : App
 jobs_app =
     command_with (codes "jobs")
@@ -95,7 +98,7 @@ jobs_app =
 unfoldable pub explain_app : App
 explain_app = command_with (codes "explain") (number_rule (codes "number") ∷ [])
 
--- `serve` with `--db FILE`, `--volumes DIR` and `--memory SIZE`, which may be left out
+-- `serve` with the optional `--db FILE`, `--volumes DIR` and `--memory SIZE`
 unfoldable pub serve_app : App
 serve_app =
     command_with (codes "serve") (value_rule (codes "db") false ∷ value_rule (codes "volumes") false ∷ memory_rule (codes "memory") ∷ [])

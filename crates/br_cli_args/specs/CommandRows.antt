@@ -1,4 +1,4 @@
--- The commands and options that rows say, by the definitions of clap.
+-- The commands and options of rows, by the definitions of clap.
 use Rattle.std.specs.Prelude.{List, fold, false, true}
 use Rattle.clap.specs.Simple.{App, new_app, with_rule, with_subcommand}
 use Rattle.clap.specs.Walk.{Rule, Text}

@@ -1,4 +1,4 @@
--- What the words of a command line ask for, by the definitions of clap.
+-- The command that the words of a command line ask for, by the definitions of clap.
 use Rattle.std.specs.Prelude.{◌≡◌, if◌then◌else◌, ℕ, ◌^◌, not, List, [], ◌∷◌, Bool, bytes_eq, codes, is_some, Option, Some, None, option_and_then, option_map, false, true}
 use Rattle.std.specs.Borrow.{Bor}
 use Rattle.std.specs.Str.Parse.{digits_value, without_leading_plus}
@@ -33,19 +33,22 @@ use Rattle.br_cli_common.specs.declared.options.Invocation.TheVariants as comman
 use Rattle.br_cli_common.specs.declared.options.Target.{Target}
 use Rattle.br_cli_common.specs.declared.options.Target.TheVariants as targets
 
--- where the restored files go: nowhere, into a folder, and as a tar stream into a file or to standard output
+-- the target of the restored files: none, a folder, a tar stream in a file or on standard output
 pub data Goal : Type 0 where
   Nowhere : Goal
   Folder : Text → Goal
   TarFile : Text → Goal
   TarOutput : Goal
 
--- a command of the program: a script, and the memory for data; a script, a catalogue's file, the folder of the volumes and the memory; a
--- bootstrap's file, the folder of the volumes, where the files go, the number of drives, the memory, what else is done, what the folder may
--- hold, if progress is shown, and the file of a log if there is one; a catalogue's file, the folder of the volumes, client, file set and
--- moment, where the files go, the number of drives, the memory, if progress is shown, and the file of a log if there is one; a bootstrap's
--- file, the folder of the volumes, what is done with checksums and the memory; a catalogue's file, client, file set and moment of jobs, each
--- if it is given, and in which time moments are shown; a catalogue's file; a number; all numbers
+-- A command of the program. A script, and the memory for data. A script, a catalogue's file, the
+-- folder of the volumes and the memory. A bootstrap's file, the folder of the volumes, the target
+-- of the files, the number of drives, the memory, the further wishes, what the folder may hold,
+-- whether progress is shown, and the file of a log, if there is one. A catalogue's file, the folder
+-- of the volumes, client, file set and moment, the target of the files, the number of drives, the
+-- memory, whether progress is shown, and the file of a log, if there is one. A bootstrap's file,
+-- the folder of the volumes, what is done with checksums, and the memory. A catalogue's file;
+-- client, file set and moment of jobs, each if it is given; and the zones in which moments are
+-- shown. A catalogue's file. A number. All numbers.
 pub data Asked : Type 0 where
   Serve : ℕ → Asked
   ServeFiles : Text → Text → ℕ → Asked
@@ -57,7 +60,7 @@ pub data Asked : Type 0 where
   Explain : ℕ → Asked
   ExplainAll : Asked
 
--- where the program has the restored files go
+-- the program's target of the restored files
 abbrev pub target : Target → Goal
 target targets.Nowhere = Nowhere
 target (targets.Folder folder) = Folder folder.now
@@ -68,7 +71,7 @@ target targets.TarOutput = TarOutput
 abbrev pub text_of : Option (Bor Text) → Option Text
 text_of value = option_map (λ s. s.now) value
 
--- what the program holds of a command line
+-- the program's command for a command line
 abbrev pub asked : Invocation → Asked
 asked (commands.Serve memory) = Serve memory
 asked (commands.ServeFiles o) = ServeFiles o.db.now o.volumes.now o.memory
@@ -81,7 +84,7 @@ asked (commands.Migrate db) = Migrate db.now
 asked (commands.Explain number) = Explain number
 asked commands.ExplainAll = ExplainAll
 
--- the number that a text is, if it is one from `low` to `high`
+-- the number in a text, if it is from `low` to `high`
 abbrev pub number_in : ℕ → ℕ → Text → Option ℕ
 number_in low high text = if is_unsigned_in low high text then Some (digits_value 10 (without_leading_plus text)) else None
 
@@ -93,7 +96,7 @@ drives_asked rows = option_and_then (number_in 1 16) (one_of (codes "drives") ro
 unfoldable pub memory_asked : List Row → Option ℕ
 memory_asked rows = option_and_then size_spelled (first_of (codes "memory") rows)
 
--- the memory for data, if nothing is asked for
+-- the memory for data, if none is given
 abbrev pub default_memory : ℕ
 default_memory = 2 ^ 30
 
@@ -101,11 +104,11 @@ default_memory = 2 ^ 30
 unfoldable pub number_asked : List Row → Option ℕ
 number_asked rows = option_and_then (number_in 0 4294967295) (one_of (codes "number") rows)
 
--- where a tar stream goes: - is standard output
+-- the target of a tar stream: - is standard output
 abbrev pub tar_target : Text → Goal
 tar_target file = if bytes_eq file (codes "-") then TarOutput else TarFile file
 
--- where the restored files go by the values of `--into` and `--tar`, of which one may be given
+-- the target of the restored files by the values of `--into` and `--tar`; only one may be given
 abbrev pub target_by : Option Text → Option Text → Option Goal
 target_by None None = Some Nowhere
 target_by (Some folder) None = Some (Folder folder)
@@ -116,7 +119,7 @@ target_by (Some folder) (Some file) = None
 unfoldable pub target_asked : List Row → Option Goal
 target_asked rows = target_by (first_of (codes "into") rows) (first_of (codes "tar") rows)
 
--- whether a value is that of an option that was given
+-- whether a value is that of a given option
 abbrev pub is_true : Option Text → Bool
 is_true None = false
 is_true (Some value) = bytes_eq value (codes "true")
@@ -141,7 +144,7 @@ gaps_by is_complete = if is_complete then gaps.Reported else gaps.Unreported
 unfoldable pub gaps_asked : List Row → Gaps
 gaps_asked rows = gaps_by (is_given (codes "complete") rows)
 
--- what the delivery does at a file that can't be put: with `--keep-going` it goes on
+-- what the delivery does at a file that can't be put: it goes on with `--keep-going`
 abbrev pub stops_by : Bool → Stops
 stops_by goes_on = if goes_on then stops.Never else stops.AtFirst
 
@@ -149,11 +152,11 @@ stops_by goes_on = if goes_on then stops.Never else stops.AtFirst
 unfoldable pub stops_asked : List Row → Stops
 stops_asked rows = stops_by (is_given (codes "keep-going") rows)
 
--- what else `extract` does
+-- the further wishes of `extract`
 abbrev pub wanted_asked : List Row → Wanted
 wanted_asked rows = record { copies = copies_asked rows; gaps = gaps_asked rows; stops = stops_asked rows }
 
--- if a terminal is told how far a restore is: unless `--quiet` is given
+-- whether a terminal shows the progress of a restore: unless `--quiet` is given
 abbrev pub progress_by : Bool → Progress
 progress_by is_quiet = if is_quiet then progress.Quiet else progress.Shown
 
@@ -165,7 +168,7 @@ progress_asked rows = progress_by (is_given (codes "quiet") rows)
 abbrev pub log_asked : List Row → Option Text
 log_asked rows = first_of (codes "log") rows
 
--- what `check` does with checksums: with `--checksums` it compares them
+-- what `check` does with checksums: it compares them with `--checksums`
 abbrev pub checksums_by : Bool → Checksums
 checksums_by is_compared = if is_compared then checksums.Compared else checksums.Passed
 
@@ -173,13 +176,13 @@ checksums_by is_compared = if is_compared then checksums.Compared else checksums
 unfoldable pub checksums_asked : List Row → Checksums
 checksums_asked rows = checksums_by (is_given (codes "checksums") rows)
 
--- the command `explain` by the value that was found, if any
+-- the command `explain` by the value that was found, if there is one
 unfoldable pub explain_asked : List Row → Option Asked
 explain_asked rows =
     if is_some (first_of (codes "number") rows) then option_map Explain (number_asked rows)
     else Some ExplainAll
 
--- what the folder of a restore may hold: with `--resume` what a restore that was cut off has put there
+-- what the folder of a restore may hold: with `--resume`, what an interrupted restore has put there
 abbrev pub start_by : Bool → Start
 start_by is_resumed = if is_resumed then starts.Resumed else starts.Empty
 
@@ -187,7 +190,7 @@ start_by is_resumed = if is_resumed then starts.Resumed else starts.Empty
 unfoldable pub start_asked : List Row → Start
 start_asked rows = start_by (is_given (codes "resume") rows)
 
--- the same by where the files go: only a folder may hold something
+-- the same by the target: only a folder may hold something
 abbrev pub start_for : Goal → Start → Option Start
 start_for (Folder folder) start = Some start
 start_for Nowhere starts.Empty = Some starts.Empty
@@ -240,7 +243,7 @@ check_asked rows =
     (first_of (codes "volumes") rows))
     (first_of (codes "bsr") rows)
 
--- in which time moments are shown: with `--local` in that of the system, too
+-- the zones in which moments are shown: with `--local` also that of the system
 abbrev pub clock_by : Bool → Clock
 clock_by is_local = if is_local then clocks.UtcAndLocal else clocks.Utc
 
@@ -255,7 +258,8 @@ jobs_asked rows =
     (λ db. Jobs db (first_of (codes "client") rows) (first_of (codes "fileset") rows) (first_of (codes "before") rows) (clock_asked rows))
     (first_of (codes "db") rows)
 
--- the command `serve` by the values of `--db` and `--volumes`, which go together, and the memory
+-- the command `serve` by the values of `--db` and `--volumes`, which have to be given together, and
+-- the memory
 abbrev pub serve_by : Option Text → Option Text → ℕ → Option Asked
 serve_by None None memory = Some (Serve memory)
 serve_by (Some db) (Some volumes) memory = Some (ServeFiles db volumes memory)
@@ -283,7 +287,7 @@ asked_by (Some (name, rows)) =
     else if bytes_eq name (codes "migrate") then migrate_asked rows
     else None
 
--- the command that words ask for, the first of which is the program's name
+-- the command that words ask for; the first word is the program's name
 unfoldable pub words_asked : List Text → Option Asked
 words_asked words = asked_by (subcommand_of program_app words)
 
@@ -291,19 +295,20 @@ words_asked words = asked_by (subcommand_of program_app words)
 abbrev pub AsksFor : List Text → ArgMatches → Type 0
 AsksFor words found = words_asked words ≡ asked_by (subcommand_rows_of found)
 
--- whether a value is no size
+-- whether a value is not a size
 abbrev pub is_no_size : Option Text → Bool
 is_no_size None = false
 is_no_size (Some value) = not (is_some (size_spelled value))
 
--- the kind of fault of options that ask for no command: two that exclude each other, a value that is no size, or one that is missing
+-- the kind of fault of options that ask for no command: two that exclude each other, a value that
+-- is not a size, or a missing one
 abbrev pub kind_in : List Row → ErrorKind
 kind_in rows =
     if not (is_some (target_asked rows)) then ArgumentConflict
     else if is_no_size (first_of (codes "memory") rows) then ValueValidation
     else MissingRequiredArgument
 
--- the same by the subcommand that was found, if any
+-- the same by the subcommand that was found, if there is one
 unfoldable pub kind_by : Option (Text × List Row) → ErrorKind
 kind_by None = MissingRequiredArgument
 kind_by (Some (name, rows)) = kind_in rows
@@ -312,11 +317,11 @@ kind_by (Some (name, rows)) = kind_in rows
 unfoldable pub words_kind : List Text → ErrorKind
 words_kind words = kind_by (subcommand_of program_app words)
 
--- this is the kind of fault by what was found in the words
+-- this is the kind of fault, by what was found in the words
 abbrev pub MissesBy : List Text → ArgMatches → Type 0
 MissesBy words found = words_kind words ≡ kind_by (subcommand_rows_of found)
 
--- the kinds of fault that words have, none if they are taken
+-- the kinds of fault of words; none if they are accepted
 unfoldable pub words_fault : List Text → Kinds
 words_fault words =
     or_else (fault_of program_app words)

@@ -1,10 +1,10 @@
-//! Sizes in bytes, as words spell them.
+//! Sizes in bytes, as words give them.
 ghost use Rattle.std.specs.Prelude.{◌≡◌};
 ghost use Rattle.br_cli_args.specs.ByteSize.{in_units, size_spelled, sized, unit_of};
 
 use br_types::read_number;
 
-/// Returns the number of bytes of a unit: K, M or G, each 1,024 times the one before.
+/// Returns the number of bytes of a unit: K, M or G, each 1,024 times the previous one.
 fn unit_of(letter: u8) -> Option<u64>
     ensures { result ≡ unit_of letter }
 {
@@ -34,7 +34,7 @@ fn sized(text: &[u8], last: u8) -> Option<u64>
     }
 }
 
-/// Returns the size that a text spells: a number of bytes in decimal, or of the unit K, M or G after it.
+/// Returns the size in a text: a number of bytes in decimal, or of the unit K, M or G after it.
 #[tactic(auto, unfolding(crate::specs::ByteSize::size_spelled))]
 pub(crate) fn read_size(text: &[u8]) -> Option<u64>
     ensures { result ≡ size_spelled text.now }

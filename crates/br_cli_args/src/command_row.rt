@@ -1,4 +1,4 @@
-//! A command, as a row and as clap takes it.
+//! A command, as a row and in clap's form.
 ghost use Rattle.std.specs.Prelude.{◌≡◌, false, IfOk};
 ghost use Rattle.clap.specs.Words.{app_of};
 ghost use Rattle.clap.specs.declared.builder.command.Command.TheViews.{out-Command as fields_of};
@@ -8,7 +8,8 @@ use crate::option_row::{OptionRow, with_options};
 use clap::Command;
 use std::alloc::{AllocError, Global};
 
-/// A command with its options: its own, those of each restore, and those of a restore by a bootstrap.
+/// A command with its options: its own, those of every restore, and those of a restore by a
+/// bootstrap.
 #[derive(Clone, Copy)]
 pub(crate) struct CommandRow {
     pub(crate) name: &'static str,
@@ -29,7 +30,7 @@ fn command_of<'a>(alloc: Global, row: &CommandRow) -> Result<Command<'a>, AllocE
     with_options(alloc, restoring, row.by_bootstrap)
 }
 
-/// Returns the program with the commands of these rows more.
+/// Returns the program with the commands of these rows added.
 pub(crate) fn with_commands<'a>(
     alloc: Global,
     program: Command<'a>,

@@ -41,7 +41,7 @@ const MEMORY: OptionRow = OptionRow {
     help: "The memory for data: bytes, or a number with K, M or G; what is beyond it is read again",
 };
 
-/// The options of each restore.
+/// The options of every restore.
 const RESTORING: [OptionRow; 6] = [
     OptionRow {
         name: "into",
@@ -76,7 +76,7 @@ const RESTORING: [OptionRow; 6] = [
     },
 ];
 
-/// The options for what a restore by a bootstrap does beside.
+/// The options for the further wishes of a restore by a bootstrap.
 const CHOICES: [OptionRow; 4] = [
     OptionRow {
         name: "newest",
@@ -104,10 +104,10 @@ const CHOICES: [OptionRow; 4] = [
     },
 ];
 
-/// The options of `extract` alone.
+/// The options that only `extract` has.
 const EXTRACT: [OptionRow; 2] = [BSR, VOLUMES];
 
-/// The options of `console` alone.
+/// The options that only `console` has.
 const CONSOLE: [OptionRow; 5] = [
     DB,
     VOLUMES,
@@ -265,11 +265,11 @@ fn with_table<'a>(alloc: Global, program: Command<'a>) -> Result<Command<'a>, Al
     with_commands(alloc, program, &COMMANDS)
 }
 
-/// Returns the program with its commands and options, as clap takes them.
+/// Returns the program with its commands and options, in clap's form.
 ///
 /// # Errors
 ///
-/// Out of memory.
+/// `AllocError` if memory runs out.
 pub(crate) fn program<'a>(alloc: Global) -> Result<Command<'a>, AllocError>
     ensures { IfOk result (λ command. app_of command ≡ program_app) }
 {

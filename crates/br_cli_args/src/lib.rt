@@ -1,5 +1,5 @@
-//! The command line: a table of the commands and their options, and what the words of a command line
-//! ask for, read by clap.
+//! The command line: a table of the commands and their options, and the command that the words of a
+//! command line ask for. The words are read by clap.
 #![tactic(auto)]
 
 mod byte_size;

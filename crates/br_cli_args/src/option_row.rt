@@ -1,4 +1,4 @@
-//! An option of a command, as a row and as clap takes it.
+//! An option of a command, as a row and in clap's form.
 ghost use Rattle.std.specs.Prelude.{◌≡◌, false, fold, IfOk};
 ghost use Rattle.clap.specs.Simple.{with_rule};
 ghost use Rattle.clap.specs.Words.{app_of, rule_of};
@@ -10,23 +10,23 @@ use clap::builder::ValueParser;
 use clap::{Arg, ArgAction, Command};
 use std::alloc::{AllocError, Global};
 
-/// The greatest number that `explain` takes.
+/// The greatest number that `explain` accepts.
 const GREATEST_NUMBER: u64 = 4_294_967_295;
 
-/// What an option takes.
+/// The kind of value of an option.
 #[derive(Clone, Copy)]
 pub(crate) enum Takes {
     /// No value.
     Nothing,
-    /// A value that is not empty. The option may be left out.
+    /// A value that is not empty. The option may be omitted.
     Value,
     /// A value that is not empty. The option is required.
     Needed,
-    /// The number of drives, 1 to 16; 1 if the option is left out.
+    /// The number of drives, 1 to 16; 1 if the option is omitted.
     Drives,
-    /// The size of the memory for data, 1 GiB if the option is left out.
+    /// The size of the memory for data; 1 GiB if the option is omitted.
     Memory,
-    /// The number to explain, without a name before it. It may be left out.
+    /// The number to explain, without a name before it. It may be omitted.
     Number,
 }
 
@@ -65,7 +65,7 @@ fn flag_option<'a>(alloc: Global, row: &OptionRow) -> Arg<'a>
         .help(row.help)
 }
 
-/// Returns the option for the number of drives, which is 1 if it is left out.
+/// Returns the option for the number of drives, which is 1 if it is omitted.
 fn drives_option<'a>(alloc: Global, row: &OptionRow) -> Arg<'a>
     ensures rule { rule_of result ≡ drives_rule row.now.name.now }
     ensures local { result.global ≡ false }
@@ -107,7 +107,7 @@ fn option_of<'a>(alloc: Global, row: &OptionRow) -> Arg<'a>
     }
 }
 
-/// Returns the command with the options of these rows more.
+/// Returns the command with the options of these rows added.
 pub(crate) fn with_options<'a>(
     alloc: Global,
     command: Command<'a>,

@@ -1,4 +1,4 @@
-//! What the words of a command line ask for.
+//! The command that the words of a command line ask for.
 ghost use Rattle.std.specs.Prelude.{◌≡◌, codes, Some, true, false, map, option_map, string_bytes, IfOk, IfSome};
 ghost use Rattle.clap.specs.Walk.{first_of};
 ghost use Rattle.clap.specs.Words.{FailsBy, app_of, fault_of, found_of, rows_of, subcommand_rows_of};
@@ -24,7 +24,7 @@ use clap::error::ErrorKind;
 use clap::{ArgMatches, Command, Error};
 use std::alloc::Global;
 
-/// The memory for data if nothing is asked for.
+/// The memory for data if none is given.
 const DEFAULT_MEMORY: u64 = 1 << 30;
 
 /// Returns what was found for an option.
@@ -34,7 +34,7 @@ fn value_of<'a>(found: &ArgMatches<'a>, name: &str) -> Option<&'a str>
     found.get_str(name)
 }
 
-/// Returns where a tar stream goes: `-` is standard output.
+/// Returns the target of a tar stream: `-` is standard output.
 fn tar_target(file: &str) -> Target<'_>
     ensures { target result ≡ tar_target file.now }
 {
@@ -44,7 +44,8 @@ fn tar_target(file: &str) -> Target<'_>
     Target::TarFile(file)
 }
 
-/// Returns where the restored files go by the values of `--into` and `--tar`, of which one may be given.
+/// Returns the target of the restored files by the values of `--into` and `--tar`; only one may be
+/// given.
 fn target_by<'a>(into: Option<&'a str>, tar: Option<&'a str>) -> Option<Target<'a>>
     ensures { option_map target result ≡ target_by (option_map (λ s. s.now) into.entry) (option_map (λ s. s.now) tar.entry) }
 {
@@ -56,7 +57,7 @@ fn target_by<'a>(into: Option<&'a str>, tar: Option<&'a str>) -> Option<Target<'
     }
 }
 
-/// Returns where the restored files go, unless two places were found.
+/// Returns the target of the restored files, unless two were found.
 #[tactic(auto, unfolding(crate::specs::Words::target_asked))]
 fn target_of<'a>(found: &ArgMatches<'a>) -> Option<Target<'a>>
     ensures { option_map target result ≡ target_asked (rows_of (found_of found.now)) }
@@ -85,7 +86,7 @@ fn memory_of(found: &ArgMatches<'_>) -> Option<u64>
     read_size(value_of(found, "memory")?.as_bytes())
 }
 
-/// Returns if an option without a value was found.
+/// Returns true if an option without a value was found.
 fn is_found(found: &ArgMatches<'_>, name: &str) -> bool
     ensures { result ≡ is_given name.now (rows_of (found_of found.now)) }
 {
@@ -95,7 +96,7 @@ fn is_found(found: &ArgMatches<'_>, name: &str) -> bool
     }
 }
 
-/// Returns which files are to be delivered, by whether `--newest` was given.
+/// Returns which files are to be delivered; `--newest` decides.
 fn copies_by(is_newest: bool) -> Copies
     ensures { result ≡ copies_by is_newest }
 {
@@ -114,7 +115,7 @@ fn copies_of(found: &ArgMatches<'_>) -> Copies
     copies_by(is_found(found, "newest"))
 }
 
-/// Returns if missing indexes are to be reported, by whether `--complete` was given.
+/// Returns true if missing indexes are to be reported; `--complete` decides.
 fn gaps_by(is_complete: bool) -> Gaps
     ensures { result ≡ gaps_by is_complete }
 {
@@ -125,7 +126,7 @@ fn gaps_by(is_complete: bool) -> Gaps
     }
 }
 
-/// Returns if missing indexes are to be reported.
+/// Returns true if missing indexes are to be reported.
 #[tactic(auto, unfolding(crate::specs::Words::gaps_asked))]
 fn gaps_of(found: &ArgMatches<'_>) -> Gaps
     ensures { result ≡ gaps_asked (rows_of (found_of found.now)) }
@@ -133,7 +134,7 @@ fn gaps_of(found: &ArgMatches<'_>) -> Gaps
     gaps_by(is_found(found, "complete"))
 }
 
-/// Returns what the delivery does at a file that can't be put, by whether `--keep-going` was given.
+/// Returns what the delivery does at a file that can't be put; `--keep-going` decides.
 fn stops_by(goes_on: bool) -> Stops
     ensures { result ≡ stops_by goes_on }
 {
@@ -152,7 +153,7 @@ fn stops_of(found: &ArgMatches<'_>) -> Stops
     stops_by(is_found(found, "keep-going"))
 }
 
-/// Returns what a folder may hold, by whether `--resume` was given.
+/// Returns what a folder may hold; `--resume` decides.
 fn start_by(is_resumed: bool) -> Start
     ensures { result ≡ start_by is_resumed }
 {
@@ -171,7 +172,7 @@ fn start_of(found: &ArgMatches<'_>) -> Start
     start_by(is_found(found, "resume"))
 }
 
-/// Returns what the target may hold, unless `--resume` was given and it is no folder.
+/// Returns what the target may hold, unless `--resume` was given and the target is no folder.
 fn start_for(to: Target<'_>, start: Start) -> Option<Start>
     ensures { result ≡ start_for (target to.entry) start }
 {
@@ -184,7 +185,7 @@ fn start_for(to: Target<'_>, start: Start) -> Option<Start>
     }
 }
 
-/// Returns what else the restore is to do.
+/// Returns the further wishes for the restore.
 fn wanted_of(found: &ArgMatches<'_>) -> Wanted
     ensures { result ≡ wanted_asked (rows_of (found_of found.now)) }
 {
@@ -195,7 +196,7 @@ fn wanted_of(found: &ArgMatches<'_>) -> Wanted
     }
 }
 
-/// Returns if a terminal is told how far the restore is, by whether `--quiet` was given.
+/// Returns true if a terminal shows the progress of the restore; `--quiet` decides.
 fn progress_by(is_quiet: bool) -> Progress
     ensures { result ≡ progress_by is_quiet }
 {
@@ -206,7 +207,7 @@ fn progress_by(is_quiet: bool) -> Progress
     }
 }
 
-/// Returns if a terminal is told how far the restore is.
+/// Returns true if a terminal shows the progress of the restore.
 #[tactic(auto, unfolding(crate::specs::Words::progress_asked))]
 fn progress_of(found: &ArgMatches<'_>) -> Progress
     ensures { result ≡ progress_asked (rows_of (found_of found.now)) }
@@ -214,7 +215,7 @@ fn progress_of(found: &ArgMatches<'_>) -> Progress
     progress_by(is_found(found, "quiet"))
 }
 
-/// Returns what a check does with checksums, by whether `--checksums` was given.
+/// Returns what a check does with checksums; `--checksums` decides.
 fn checksums_by(is_compared: bool) -> Checksums
     ensures { result ≡ checksums_by is_compared }
 {
@@ -233,7 +234,7 @@ fn checksums_of(found: &ArgMatches<'_>) -> Checksums
     checksums_by(is_found(found, "checksums"))
 }
 
-/// Returns in which time moments are shown, by whether `--local` was given.
+/// Returns the zones in which moments are shown; `--local` decides.
 fn clock_by(is_local: bool) -> Clock
     ensures { result ≡ clock_by is_local }
 {
@@ -244,7 +245,7 @@ fn clock_by(is_local: bool) -> Clock
     }
 }
 
-/// Returns in which time moments are shown.
+/// Returns the zones in which moments are shown.
 #[tactic(auto, unfolding(crate::specs::Words::clock_asked))]
 fn clock_of(found: &ArgMatches<'_>) -> Clock
     ensures { result ≡ clock_asked (rows_of (found_of found.now)) }
@@ -263,7 +264,7 @@ fn number_of(found: &ArgMatches<'_>) -> Option<u32>
     }
 }
 
-/// Returns `extract` with the options that were found, if all that are required were.
+/// Returns `extract` with the options that were found, if all required ones were.
 #[tactic(auto, unfolding(crate::specs::Words::extract_asked))]
 fn extract_found<'a>(found: &ArgMatches<'a>) -> Option<Invocation<'a>>
     ensures asked { option_map asked result ≡ extract_asked (rows_of (found_of found.now)) }
@@ -285,7 +286,7 @@ fn extract_found<'a>(found: &ArgMatches<'a>) -> Option<Invocation<'a>>
     }))
 }
 
-/// Returns `console` with the options that were found, if all that are required were.
+/// Returns `console` with the options that were found, if all required ones were.
 #[tactic(auto, unfolding(crate::specs::Words::console_asked))]
 fn console_found<'a>(found: &ArgMatches<'a>) -> Option<Invocation<'a>>
     ensures asked { option_map asked result ≡ console_asked (rows_of (found_of found.now)) }
@@ -305,7 +306,7 @@ fn console_found<'a>(found: &ArgMatches<'a>) -> Option<Invocation<'a>>
     }))
 }
 
-/// Returns `check` with the options that were found, if all that are required were.
+/// Returns `check` with the options that were found, if all required ones were.
 #[tactic(auto, unfolding(crate::specs::Words::check_asked))]
 fn check_found<'a>(found: &ArgMatches<'a>) -> Option<Invocation<'a>>
     ensures asked { option_map asked result ≡ check_asked (rows_of (found_of found.now)) }
@@ -323,7 +324,7 @@ fn check_found<'a>(found: &ArgMatches<'a>) -> Option<Invocation<'a>>
     }))
 }
 
-/// Returns `jobs` with the options that were found, if all that are required were.
+/// Returns `jobs` with the options that were found, if all required ones were.
 #[tactic(auto, unfolding(crate::specs::Words::jobs_asked))]
 fn jobs_found<'a>(found: &ArgMatches<'a>) -> Option<Invocation<'a>>
     ensures asked { option_map asked result ≡ jobs_asked (rows_of (found_of found.now)) }
@@ -338,7 +339,7 @@ fn jobs_found<'a>(found: &ArgMatches<'a>) -> Option<Invocation<'a>>
     }))
 }
 
-/// Returns `explain` with the number that was found, if any.
+/// Returns `explain` with the number that was found, if there is one.
 #[tactic(auto, unfolding(crate::specs::Words::explain_asked))]
 fn explain_found<'a>(found: &ArgMatches<'a>) -> Option<Invocation<'a>>
     ensures asked { option_map asked result ≡ explain_asked (rows_of (found_of found.now)) }
@@ -350,8 +351,8 @@ fn explain_found<'a>(found: &ArgMatches<'a>) -> Option<Invocation<'a>>
     }
 }
 
-/// Returns `serve` by the values of `--db` and `--volumes`, unless one was given without the other, and by
-/// the memory for data.
+/// Returns `serve` by the values of `--db` and `--volumes`, unless one was given without the other,
+/// and the memory for data.
 fn serve_by<'a>(
     db: Option<&'a str>,
     volumes: Option<&'a str>,
@@ -382,7 +383,7 @@ fn serve_found<'a>(found: &ArgMatches<'a>) -> Option<Invocation<'a>>
     serve_by(value_of(found, "db"), value_of(found, "volumes"), memory)
 }
 
-/// Returns `migrate` with the file that was found, if it was.
+/// Returns `migrate` with the file that was found, if there is one.
 #[tactic(auto, unfolding(crate::specs::Words::migrate_asked))]
 fn migrate_found<'a>(found: &ArgMatches<'a>) -> Option<Invocation<'a>>
     ensures asked { option_map asked result ≡ migrate_asked (rows_of (found_of found.now)) }
@@ -417,7 +418,7 @@ fn invocation_of<'a>(matches: &ArgMatches<'a>) -> Option<Invocation<'a>>
     }
 }
 
-/// Returns if a value is no size.
+/// Returns true if a value is not a size.
 fn is_no_size(value: Option<&str>) -> bool
     ensures { result ≡ is_no_size (option_map (λ s. s.now) value.entry) }
 {
@@ -427,8 +428,8 @@ fn is_no_size(value: Option<&str>) -> bool
     }
 }
 
-/// Returns the kind of fault of options that ask for no command: two that exclude each other, a value that is no size, or one
-/// that is missing.
+/// Returns the kind of fault of options that ask for no command: two that exclude each other, a
+/// value that is not a size, or a missing one.
 fn kind_in(found: &ArgMatches<'_>) -> ErrorKind
     ensures { result ≡ kind_in (rows_of (found_of found.now)) }
 {
@@ -452,7 +453,7 @@ fn kind_of_fault(matches: &ArgMatches<'_>) -> ErrorKind
     }
 }
 
-/// Returns if `--resume` was given.
+/// Returns true if `--resume` was given.
 fn is_resumed(matches: &ArgMatches<'_>) -> bool {
     match found_command(matches) {
         None => false,
@@ -460,7 +461,7 @@ fn is_resumed(matches: &ArgMatches<'_>) -> bool {
     }
 }
 
-/// Returns what to tell of a fault of this kind.
+/// Returns the message for a fault of this kind.
 fn text_of_fault(matches: &ArgMatches<'_>, kind: ErrorKind) -> &'static str {
     match kind {
         ErrorKind::ArgumentConflict => {
@@ -474,8 +475,8 @@ fn text_of_fault(matches: &ArgMatches<'_>, kind: ErrorKind) -> &'static str {
     }
 }
 
-/// Returns the command that was found, if all its required options were, and the kind of fault and what to tell of it
-/// if not.
+/// Returns the command that was found, if all its required options were; else the kind of fault and
+/// its message.
 fn found_in<'a>(matches: &ArgMatches<'a>) -> (Option<Invocation<'a>>, ErrorKind, &'static str)
     ensures asked { option_map asked result.0 ≡ asked_by (subcommand_rows_of matches.now) }
     ensures drives { IfSome result.0 HasDrives }
@@ -509,18 +510,21 @@ fn read_by<'a>(command: &mut Command<'a>, words: &'a [String]) -> Result<Invocat
     }
 }
 
-/// Reads the words of a command line, of which the first is the program's name.
+/// Reads the words of a command line; the first is the program's name.
 ///
-/// The commands are `extract --bsr FILE --volumes DIR`, `console --db FILE --volumes DIR --client NAME --fileset NAME
-/// --before MOMENT`, `check --bsr FILE --volumes DIR [--checksums]`, `jobs --db FILE [--client NAME] [--fileset NAME] [--before MOMENT] [--local]`,
-/// `migrate --db FILE`, `explain [N]` and `serve`. The first two also take `--into DIR` or `--tar FILE`, `--drives N`, `--quiet` and
-/// `--log FILE`; the first takes `--newest`, `--complete`, `--keep-going` and, with `--into`, `--resume`; the last takes `--db FILE` and
-/// `--volumes DIR`, both or neither. All that restore, and `check`, take `--memory SIZE`: bytes, or a number with K, M or G. No command is
-/// the same as `serve`.
+/// The commands are `extract --bsr FILE --volumes DIR`, `console --db FILE --volumes DIR --client
+/// NAME --fileset NAME --before MOMENT`, `check --bsr FILE --volumes DIR [--checksums]`, `jobs --db
+/// FILE [--client NAME] [--fileset NAME] [--before MOMENT] [--local]`, `migrate --db FILE`,
+/// `explain [N]` and `serve`. The first two also take `--into DIR` or `--tar FILE`, `--drives N`,
+/// `--quiet` and `--log FILE`. The first takes `--newest`, `--complete`, `--keep-going` and, with
+/// `--into`, `--resume`. The last takes `--db FILE` and `--volumes DIR`, both or neither. All that
+/// restore, and `check`, take `--memory SIZE`: bytes, or a number with K, M or G. No command is the
+/// same as `serve`.
 ///
 /// # Errors
 ///
-/// A fault of the command line, with its text for the operator; a call for help or for the version; `OutOfMemory`.
+/// A fault of the command line, with its text for the operator; a request for help or for the
+/// version; `OutOfMemory`.
 pub fn read_words<'a>(alloc: Global, words: &'a [String]) -> Result<Invocation<'a>, Error>
     ensures asks { IfOk result (λ invocation. words_asked (map string_bytes words.entry.now) ≡ Some (asked invocation)) }
     ensures fails { FailsBy (words_fault (map string_bytes words.entry.now)) result }

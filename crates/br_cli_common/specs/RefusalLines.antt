@@ -1,4 +1,4 @@
--- What stands beside a refusal at a terminal.
+-- The lines beside a refusal at a terminal.
 use Rattle.std.specs.Prelude.{◌==◌, ℕ, List, [], ◌++◌, Option, Some, None, codes, find}
 use Rattle.br_cli_common.specs.RefusalRows.{Row, all_rows}
 
@@ -10,6 +10,6 @@ abbrev pub words_or_none : Option Row → List ℕ
 words_or_none None = []
 words_or_none (Some row) = words row
 
--- those of a number, if it is in the table
+-- the lines of a number, if it is in the table
 abbrev pub words_of : ℕ → List ℕ
 words_of number = words_or_none (find (λ row. row.number == number) all_rows)

@@ -9,7 +9,7 @@ pub record Row : Type 0 where
   pub meaning : List ℕ
   pub next : List ℕ
 
--- the row that a refusal of the program is
+-- the row of a refusal of the program
 abbrev pub row_of : Refusal → Row
 row_of r = record { number = r.number; name = r.name.now; meaning = r.meaning.now; next = r.next.now }
 

@@ -8,6 +8,6 @@ explained =
     34 ∷ 40 ∷ 41 ∷ 42 ∷ 43 ∷ 44 ∷ 45 ∷ 46 ∷ 47 ∷ 48 ∷ 50 ∷ 51 ∷ 52 ∷ 53 ∷ 54 ∷ 55 ∷ 56 ∷ 57 ∷
     58 ∷ 59 ∷ 60 ∷ 61 ∷ 62 ∷ 63 ∷ 64 ∷ 65 ∷ 66 ∷ 67 ∷ 68 ∷ 69 ∷ 70 ∷ 71 ∷ 80 ∷ 81 ∷ 90 ∷ []
 
--- the number of an outcome of a file, and not of a refusal
+-- the number of an outcome of a file, not of a refusal
 abbrev pub is_outcome : ℕ → Bool
 is_outcome number = nat_le 60 number && nat_le number 69

@@ -12,7 +12,7 @@ place_or all (Some at) = at
 unfoldable pub word_len : List ℕ → ℕ
 word_len text = place_or (length text) (position is_space text)
 
--- a space is a new line if the word after it would end after column 79
+-- a space becomes a new line if the word after it would end after column 79
 abbrev pub is_break : ℕ → ℕ → List ℕ → Bool
 is_break column byte rest = is_space byte && nat_le 79 (column + word_len rest)
 

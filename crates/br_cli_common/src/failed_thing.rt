@@ -1,4 +1,4 @@
-//! What is the matter with a path, and what to do next.
+//! What is wrong with a path, and what to do next.
 
 use std::fmt;
 use std::io::{self, ErrorKind};
@@ -24,28 +24,28 @@ impl fmt::Display for Thing {
     }
 }
 
-/// What is the matter with a path.
+/// What is wrong with a path.
 #[derive(Drop)]
 pub enum Matter {
-    /// It is no UTF-8, and has no name in a folder.
+    /// The path is not UTF-8, and has no name in a folder.
     NotText,
-    /// This is there, and a folder has to be.
+    /// This is there instead of a folder.
     NotFolder(Thing),
-    /// This is there, and a file has to be.
+    /// This is there instead of a file.
     NotFile(Thing),
     /// A file is there that can't be read or replaced.
     Kept,
-    /// This is there, and nothing may be.
+    /// This is there, but nothing may be.
     Taken(Thing),
-    /// A folder is there that has something in it.
+    /// A folder is there that is not empty.
     NotEmpty,
-    /// The system refuses it.
+    /// The system refuses the path.
     Refused(io::Error),
-    /// The system refuses to read it.
+    /// The system refuses to read the path.
     Unread(io::Error),
     /// A file can be made there, so its bytes could not be written.
     Unwritten,
-    /// Nothing that can still be seen.
+    /// Nothing that can still be seen is wrong.
     Gone,
 }
 
@@ -117,7 +117,7 @@ impl Matter {
     }
 }
 
-/// A path, and what is the matter with it.
+/// A path, and what is wrong with it.
 #[derive(Drop)]
 pub struct Reason {
     pub path: String,

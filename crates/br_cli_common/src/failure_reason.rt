@@ -8,7 +8,7 @@ use std::io::{self, ErrorKind, Read};
 use std::os::unix::fs::{DirBuilderExt, OpenOptionsExt};
 use std::str;
 
-/// Returns what a thing of this type is.
+/// Returns what has this type.
 fn thing_of(kind: FileType) -> Thing {
     if kind.is_file() {
         Thing::File
@@ -21,7 +21,7 @@ fn thing_of(kind: FileType) -> Thing {
     }
 }
 
-/// Returns what is at a path, if something is. A link is not followed.
+/// Returns what is at a path, if anything is. A link is not followed.
 fn thing_at(rt: &HostRuntime, path: &str) -> io::Result<Option<Thing>> {
     match fs::symlink_metadata(rt, path) {
         Ok(metadata) => Ok(Some(thing_of(metadata.file_type()))),
@@ -30,7 +30,7 @@ fn thing_at(rt: &HostRuntime, path: &str) -> io::Result<Option<Thing>> {
     }
 }
 
-/// Makes a file at a path for a moment, at which nothing is.
+/// Makes a file for a moment, at a path where nothing is.
 fn try_file(rt: &HostRuntime, path: &str) -> io::Result<()> {
     let mut how = OpenOptions::new();
     how.mode(0o600).write(true).create_new(true);
@@ -39,7 +39,7 @@ fn try_file(rt: &HostRuntime, path: &str) -> io::Result<()> {
     fs::remove_file(rt, path)
 }
 
-/// Makes a folder at a path for a moment, at which nothing is.
+/// Makes a folder for a moment, at a path where nothing is.
 fn try_folder(rt: &HostRuntime, path: &str) -> io::Result<()> {
     let mut how = DirBuilder::new();
     how.mode(0o700);
@@ -47,7 +47,7 @@ fn try_folder(rt: &HostRuntime, path: &str) -> io::Result<()> {
     fs::remove_dir(rt, path)
 }
 
-/// Returns what is the matter with the path of a folder on the way of a file, if that is not a folder.
+/// Returns what is wrong with a folder on the way to a file, if it is not a folder.
 fn matter_on_way(rt: &HostRuntime, path: &str) -> Option<Matter> {
     match thing_at(rt, path) {
         Ok(Some(Thing::Folder)) => None,
@@ -60,7 +60,7 @@ fn matter_on_way(rt: &HostRuntime, path: &str) -> Option<Matter> {
     }
 }
 
-/// Returns what is the matter with the path of a file, of which the way is there.
+/// Returns what is wrong with the path of a file; the folders on its way are there.
 fn matter_of_file(rt: &HostRuntime, path: &str) -> Matter {
     match thing_at(rt, path) {
         Ok(Some(Thing::File)) => Matter::Kept,
@@ -81,8 +81,8 @@ fn reason_at(rt: &HostRuntime, path: &[u8], matter: Matter) -> Result<Reason, Al
     Ok(Reason { path, matter })
 }
 
-/// Returns the reason why the folder of this way below a folder can't be made, if there is one. The path goes on to the end
-/// of the way, or to the name at which it ends.
+/// Returns the reason why the folder at the end of this way below a folder can't be made, if there
+/// is one. Extends the path to the end of the way, or to the name that fails.
 fn reason_on_way(
     rt: &HostRuntime,
     path: &mut String,
@@ -100,7 +100,8 @@ fn reason_on_way(
     Ok(None)
 }
 
-/// Returns the reason why the file of this path is not below a folder. One that ends in `/` is a folder.
+/// Returns the reason why the file of this path is not below a folder. A path that ends in `/` is a
+/// folder's.
 fn reason_below(rt: &HostRuntime, folder: &str, text: &str) -> Result<Reason, AllocError> {
     let mut path = String::from_str(rt.alloc(), folder)?;
     let (way, name) = text.rsplit_once('/').unwrap_or(("", text));
@@ -124,7 +125,7 @@ pub fn reason_of_file(rt: &HostRuntime, folder: &str, path: &[u8]) -> Result<Rea
     }
 }
 
-/// Returns what is the matter with a folder to write into.
+/// Returns what is wrong with a folder to write into.
 fn matter_of_folder(rt: &HostRuntime, path: &str) -> Matter {
     match fs::read_dir(rt, path) {
         Err(error) => Matter::Refused(error),
@@ -135,12 +136,12 @@ fn matter_of_folder(rt: &HostRuntime, path: &str) -> Matter {
     }
 }
 
-/// Returns the reason why a folder is not taken to write into.
+/// Returns the reason why a folder to write into is refused.
 pub fn reason_of_folder(rt: &HostRuntime, path: &str) -> Result<Reason, AllocError> {
     reason_at(rt, path.as_bytes(), matter_of_folder(rt, path))
 }
 
-/// Returns what is the matter with the path of a new file.
+/// Returns what is wrong with the path of a new file.
 fn matter_of_new_file(rt: &HostRuntime, path: &str) -> Matter {
     match thing_at(rt, path) {
         Ok(Some(thing)) => Matter::Taken(thing),
@@ -165,7 +166,7 @@ fn try_reading(rt: &HostRuntime, path: &str) -> io::Result<()> {
     Ok(())
 }
 
-/// Returns what is the matter with the path of a file to read, if something is. A link is followed.
+/// Returns what is wrong with the path of a file to read, if anything is. A link is followed.
 fn matter_of_read(rt: &HostRuntime, path: &str) -> Option<Matter> {
     match fs::metadata(rt, path) {
         Err(error) => Some(Matter::Unread(error)),

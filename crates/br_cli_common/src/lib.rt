@@ -1,15 +1,15 @@
 //! What the commands have in common: their options as plain values, the exit statuses, and what
-//! they say at a terminal beside what the formats fix.
+//! they print at a terminal besides what the formats fix.
 //!
 //! `REFUSALS` is the table of the refusal numbers and the numbers of outcomes: for each its name,
 //! what it means and what to do next. `explain` looks up a number, `push_refusals` writes rows as
 //! text, and `push_words` the two lines that are printed beside a refusal. `specs/RefusalRows.antt`
 //! and the table of docs/RESTORING.md have the same words.
 //!
-//! `reason_of_file` and what is like it say in words why a file or a folder could not be written or
-//! read, as a look at the disk shows it after the refusal. A sink says only that it failed at a
-//! file. So the steps that it took are tried once more, one call of the system each, and what was
-//! made is removed again. A caller asks for few files, and only if somebody reads it.
+//! `reason_of_file` and similar functions say in words why a file or a folder could not be written
+//! or read, as the disk shows it after the refusal. A sink reports only the file at which it
+//! failed. So the steps that it took are tried once more, one system call each, and what was made
+//! is removed again. A caller asks for few files, and only if somebody reads the answer.
 #![tactic(auto)]
 
 mod failed_thing;

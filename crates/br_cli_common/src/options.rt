@@ -1,9 +1,9 @@
 use br_types::{Start, Wanted};
 
-/// Where the restored files go.
+/// The target of the restored files.
 #[derive(Clone, Copy)]
 pub enum Target<'a> {
-    /// Nowhere: the manifest alone is printed.
+    /// No target: only the manifest is printed.
     Nowhere,
     /// Into this folder.
     Folder(&'a str),
@@ -13,12 +13,12 @@ pub enum Target<'a> {
     TarOutput,
 }
 
-/// If a terminal on standard error is told how far a restore is.
+/// Whether a terminal on standard error shows the progress of a restore.
 #[derive(Clone, Copy)]
 pub enum Progress {
-    /// A line tells it while the restore runs.
+    /// A line shows it while the restore runs.
     Shown,
-    /// Nothing tells it.
+    /// Nothing shows it.
     Quiet,
 }
 
@@ -35,7 +35,7 @@ pub struct ExtractOptions<'a> {
     /// The number of bytes of data that are held in memory.
     pub memory: u64,
     pub wanted: Wanted,
-    /// What the folder of the target may hold. Other targets are new.
+    /// What the target folder may hold. Other targets are new.
     pub start: Start,
     pub progress: Progress,
     /// The file that a log of the restore is appended to, if there is one.
@@ -45,9 +45,9 @@ pub struct ExtractOptions<'a> {
 /// What `check` does with the checksums of blocks.
 #[derive(Clone, Copy)]
 pub enum Checksums {
-    /// It passes over them.
+    /// Skips the checksums.
     Passed,
-    /// It reads whole blocks and compares the checksum of each.
+    /// Reads whole blocks and compares the checksum of each.
     Compared,
 }
 
@@ -95,7 +95,7 @@ pub struct ServeOptions<'a> {
     pub memory: u64,
 }
 
-/// In which time the moments of jobs are shown.
+/// The time zones in which the moments of jobs are shown.
 #[derive(Clone, Copy)]
 pub enum Clock {
     /// In UTC.
@@ -104,8 +104,8 @@ pub enum Clock {
     UtcAndLocal,
 }
 
-/// The options of `jobs`. A job is listed if it is of the client and of the file set and began before the moment, of those
-/// that are given.
+/// The options of `jobs`. A job is listed if it has the given client and file set, and began before
+/// the given moment. What is not given does not matter.
 #[derive(Clone, Copy)]
 pub struct JobsOptions<'a> {
     /// The file of the catalogue.

@@ -15,14 +15,14 @@ pub fn greet(rt: &HostRuntime, line: &str) -> io::Result<()> {
     Ok(())
 }
 
-/// A reader that prints a prompt to standard error before each read, if somebody attends to it. A terminal
-/// gives one line to each read.
+/// A reader that prints a prompt to standard error before each read, if an operator attends. A
+/// terminal gives one line to each read.
 #[derive(Drop)]
 pub struct Prompted<'r, I> {
     rt: &'r HostRuntime,
     input: I,
     is_attended: bool,
-    /// What is printed before the first prompt.
+    /// The line that is printed before the first prompt.
     greeting: Option<&'static str>,
 }
 

@@ -5,7 +5,7 @@ ghost use Rattle.br_cli_common.specs.RefusalTable.{explained, is_outcome};
 
 use crate::refusal_table::REFUSALS;
 
-/// What an operator should know of a refusal, or of an outcome of a file, by its number.
+/// What an operator should know of a refusal or of an outcome of a file, by its number.
 #[derive(Clone, Copy, PartialEq, Eq)]
 pub struct Refusal {
     pub number: u32,
@@ -31,7 +31,7 @@ fn find_in(refusals: &'static [Refusal], number: u32) -> Option<&'static Refusal
     refusals.iter().find(|refusal| refusal.number == number)
 }
 
-/// Returns the same row, which has the number.
+/// Returns the same row; it has the number.
 fn row_in(refusals: &'static [Refusal], number: u32) -> Option<&'static Refusal>
     ensures row { option_map (λ r. row_of r.now) result ≡ find (λ r. r.number == number) (map row_of refusals.now) }
     ensures known { is_some result ≡ list_any (λ n. n == number) (map (λ row. row.number) refusals.now) }
@@ -40,7 +40,7 @@ fn row_in(refusals: &'static [Refusal], number: u32) -> Option<&'static Refusal>
     find_in(refusals, number)
 }
 
-/// Returns the row of the table with this number, or `None` if no refusal and no outcome has it.
+/// Returns the row of the table with this number; `None` if no refusal and no outcome has it.
 pub fn explain(number: u32) -> Option<&'static Refusal>
     ensures row { option_map (λ r. row_of r.now) result ≡ find (λ r. r.number == number) all_rows }
     ensures known { is_some result ≡ list_any (λ n. n == number) explained }

@@ -30,7 +30,7 @@ pub fn push_words(text: &mut Vec<u8>, number: u32) -> Result<(), AllocError>
     }
 }
 
-/// Returns the number of a line `refused N`, or of one that goes on after it.
+/// Returns the number in a line `refused N`, which may have more fields.
 pub fn refused_number(line: &[u8]) -> Option<u32> {
     let rest = line.strip_prefix(b"refused ")?;
     let digits = rest.split(|byte| *byte == b' ').next()?;

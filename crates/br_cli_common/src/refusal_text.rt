@@ -6,7 +6,7 @@ use crate::refusal::Refusal;
 use br_types::push_number;
 use std::alloc::AllocError;
 
-/// The most columns of a line that ends between two words.
+/// The greatest number of columns of a line that ends between two words.
 const MAX_COLUMN: usize = 79;
 
 /// The column at which the words of a field begin.
@@ -32,7 +32,7 @@ fn first_word_len(text: &[u8]) -> usize
     }
 }
 
-/// Returns true if a new line is written in place of this byte, with `rest` after it.
+/// Returns true if a new line replaces this byte; `rest` comes after it.
 fn is_break(column: usize, byte: u8, rest: &[u8]) -> bool
     requires { column + length rest.now ≤ usize.MAX }
     ensures { result ≡ is_break column byte rest.now }
@@ -50,7 +50,8 @@ fn first_of(text: &[u8]) -> Option<(u8, &[u8])>
     }
 }
 
-/// Appends words from column 9 on. A word that would end after column 79 begins a new line, at column 9 too.
+/// Appends words from column 9 on. A word that would end after column 79 begins a new line, also at
+/// column 9.
 fn push_wrapped(text: &mut Vec<u8>, words: &[u8]) -> Result<(), AllocError>
     ensures { OnOk result (text.new.items ≡ text.old.items ++ wrapped 9 words.now) }
 {
@@ -101,7 +102,8 @@ fn push_refusal(text: &mut Vec<u8>, refusal: &Refusal) -> Result<(), AllocError>
     push_field(text, b"  next:  ", refusal.next)
 }
 
-/// Appends rows: for each a line with its number and name, then what it means and what to do next, in lines of at most 79 columns.
+/// Appends rows: for each a line with its number and name, then what it means and what to do next,
+/// in lines of at most 79 columns.
 pub fn push_refusals(text: &mut Vec<u8>, refusals: &[Refusal]) -> Result<(), AllocError>
     ensures { OnOk result (text.new.items ≡ text.old.items ++ flat_map refusal_text refusals.now) }
 {

@@ -1,4 +1,4 @@
-//! Words beside a refusal.
+//! Explanations of a refusal at a terminal.
 
 use crate::refusal_lines::{push_words, refused_number};
 use std::io::{self, IsTerminal, Write};
@@ -8,8 +8,8 @@ pub fn is_shown(rt: &HostRuntime) -> bool {
     rt.stderr().is_terminal()
 }
 
-/// Prints what the refusal with this number means and what to do next to standard error, if that is a
-/// terminal.
+/// Prints to standard error what the refusal with this number means and what to do next, if that is
+/// a terminal.
 pub fn tell_refusal(rt: &HostRuntime, number: u32) -> io::Result<()> {
     if !is_shown(rt) {
         return Ok(());
@@ -19,8 +19,8 @@ pub fn tell_refusal(rt: &HostRuntime, number: u32) -> io::Result<()> {
     rt.stderr().write_all(&text)
 }
 
-/// Prints of each line `refused N` of a text what it means and what to do next to standard error, if that
-/// is a terminal.
+/// Prints to standard error, for each line `refused N` of a text, what it means and what to do
+/// next, if that is a terminal.
 pub fn tell_refusals(rt: &HostRuntime, text: &[u8]) -> io::Result<()> {
     for line in text.split(|byte| *byte == b'\n') {
         if let Some(number) = refused_number(line) {

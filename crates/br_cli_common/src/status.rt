@@ -11,8 +11,8 @@ pub const CLEAN: u8 = 0;
 /// The exit status if something was refused, or some outcome is not a file.
 pub const REFUSED: u8 = 1;
 
-/// Prints a refusal before a line was read to standard error, and to a terminal what it means. Returns the
-/// exit status.
+/// Prints a refusal to standard error before any line is read, and explains it to a terminal.
+/// Returns the exit status.
 ///
 /// # Errors
 ///

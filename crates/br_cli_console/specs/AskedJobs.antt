@@ -1,4 +1,4 @@
--- What the options of the commands ask for.
+-- The requests in the options of the commands.
 use Rattle.std.specs.Prelude.{ℕ, Result}
 use Rattle.br_model.specs.Choice.{Request}
 use Rattle.br_cli_common.specs.declared.options.ConsoleOptions.{ConsoleOptions}

@@ -1,4 +1,4 @@
--- How a run of the console ends.
+-- The end of a run of the console.
 use Rattle.std.specs.Prelude.{ℕ, List, [], Result, Ok, Err}
 use Rattle.br_engine.specs.Outputs.{end_text}
 use Rattle.br_engine.specs.declared.restore_end.RestoreEnd.TheVariants.{AllFiles, SomeFaults, Stopped}
@@ -30,7 +30,7 @@ status_by lines (Done AllFiles) = lines_status lines
 status_by lines (Done SomeFaults) = 1
 status_by lines (Done (Stopped stop)) = 1
 
--- how many of the marked files a session put into its sink; if it was quit, there are none
+-- the number of marked files that a session put into its sink; if it was quit, there are none
 abbrev pub extent_by : End → Extent
 extent_by Quit = All
 extent_by (Done AllFiles) = All

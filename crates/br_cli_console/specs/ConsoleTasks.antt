@@ -1,4 +1,4 @@
--- What `console` carries out into a tar stream: a session, over drives, a writer and a sink.
+-- The tar task of `console`: a session, over drives, a writer and a sink.
 use Rattle.std.specs.Prelude.{ℕ, List, map, Option, option_map, Result}
 use Rattle.std.specs.declared.io.Write as write
 use Rattle.br_volume.specs.declared.drive.Drive as drive
@@ -14,8 +14,9 @@ use Rattle.br_cli_target.specs.TarEnding.{StreamHolds, told_inside}
 use Rattle.br_cli_target.specs.declared.target_tar.Streamed.{Streamed}
 use Rattle.br_cli_console.specs.declared.console_command.ConsoleJobs.{ConsoleJobs}
 
--- The session of the lines over the history and the request, and what the sink was told of the planned files. The stream of the sink is that
--- of what it was told, and has an end if all files were put and it could be written.
+-- The session of the lines over the history and the request, with the planned files that were
+-- reported to the sink. The sink's stream is that of the reported files. It has an end if all files
+-- were put and the end could be written.
 abbrev pub StreamsOver : {D W T : Type 0} → Option (List ℕ) → drive.Ghosts D → write.Ghosts W → (T → Option (List ℕ))
     → ConsoleJobs → Restore D (WatchedSink InTar) × W → Restore D (WatchedSink InTar) × W → Streamed (Result ConsoleRun ConsoleFault) T → Type 0
 StreamsOver lines drives writer holds jobs before after s =

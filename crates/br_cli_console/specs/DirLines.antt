@@ -3,16 +3,16 @@ use Rattle.std.specs.Prelude.{◌≡◌, ◌-◌, ℕ, List, ◌∷◌, ◌++◌
 use Rattle.br_model.specs.Text.{escaped, line}
 use Rattle.br_jobs.specs.ListingLine.{IsMoment}
 
--- a field at the end of a column of blanks; a longer one is whole
+-- a field at the end of a column of blanks; a longer field is written in full
 abbrev pub at_end : List ℕ → List ℕ → List ℕ
 at_end blanks field = take (length blanks - length field) blanks ++ field
 
--- a size in bytes, - if there is none
+-- a size in bytes; - if it is not known
 abbrev pub size_text : Option ℕ → List ℕ
 size_text None = codes "-"
 size_text (Some size) = decimal size
 
--- a moment, - if there is none
+-- a moment; - if it is not known
 abbrev pub IsMomentText : Option ℕ → List ℕ → Type 0
 IsMomentText None text = text ≡ codes "-"
 IsMomentText (Some seconds) text = IsMoment seconds text

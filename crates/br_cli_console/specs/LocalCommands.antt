@@ -1,15 +1,15 @@
--- What a line asks of the terminal, and not of the console.
+-- The lines for the terminal, which the console does not get.
 use Rattle.std.specs.Prelude.{ℕ, List, bytes_eq, codes, if◌then◌else◌}
 use Rattle.std.specs.Io.BufRead.{strip_last}
 use Rattle.br_model.specs.Text.{is_blank, trim_by}
 use Rattle.br_cli_console.specs.declared.local_command.LocalCommand.{LocalCommand}
 use Rattle.br_cli_console.specs.declared.local_command.LocalCommand.TheVariants.{Dir, Help, Other}
 
--- a line without its line feed, and without the blanks at its ends
+-- a line without its line feed and without blanks at its ends
 abbrev pub word_of : List ℕ → List ℕ
 word_of line = trim_by is_blank (strip_last 10 line)
 
--- `help` and `dir` alone are asked of the terminal
+-- only `help` and `dir` are for the terminal
 abbrev pub asked_by : List ℕ → LocalCommand
 asked_by word =
     if bytes_eq word (codes "help") then Help

@@ -1,4 +1,4 @@
-//! The chosen jobs, as the console shows them at a terminal.
+//! The chosen jobs, as a terminal shows them before a session.
 
 use br_cli_common::is_shown;
 use br_history::History;
@@ -28,8 +28,8 @@ fn tell_job(rt: &HostRuntime, line: &[u8]) -> io::Result<()> {
     Ok(())
 }
 
-/// Prints the jobs that a request chooses to standard error, if that is a terminal, in the form of the command
-/// `jobs`.
+/// Prints the jobs that a request chooses to standard error, if that is a terminal, in the format
+/// of the command `jobs`.
 ///
 /// # Errors
 ///
@@ -47,7 +47,7 @@ pub fn tell_chosen(rt: &HostRuntime, history: &History, request: &Request) -> io
         fileset: Some(fileset),
         before: Some(request.moment),
     };
-    // Why nothing is chosen is told when the session begins.
+    // When the session begins, it reports why nothing is chosen.
     let Ok(text) = marked_lines(rt.alloc(), history, &filter) else {
         return Ok(());
     };

@@ -41,7 +41,7 @@ use std::sync::Wait;
 use std::thread::Threads;
 use thiserror::Error;
 
-/// What an operator at a terminal reads before the first line.
+/// The text for an operator at a terminal before the first line.
 const GREETING: &str =
     "Mark files with `mark NAME`, or all with `mark *`. `ls` lists, `cd NAME` goes into a folder.
 `done` restores what is marked, and `quit` restores nothing. `help` lists all commands.";
@@ -92,7 +92,7 @@ pub fn console_ending(
     Ok(Ending { status, refusal })
 }
 
-/// Prints to standard error that a stream failed, if one did.
+/// Prints to standard error that a stream failed, if one did. Returns an error for memory.
 fn report_stream<R: Eprint>(rt: &R, fault: &ConsoleFault) -> io::Result<()> {
     match fault {
         ConsoleFault::Io(e) if e.kind() == ErrorKind::InvalidData => {
@@ -118,7 +118,7 @@ fn tell_stream(rt: &HostRuntime, gauge: &Gauge<'_>, fault: &ConsoleFault) -> io:
     }
 }
 
-/// Tells a terminal, unless it is to be quiet, that nothing was restored.
+/// Reports to a terminal, unless it is to be quiet, that nothing was restored.
 fn say_quit(gauge: &Gauge<'_>) -> io::Result<()> {
     if gauge.is_shown() {
         return gauge.say("nothing was restored. `done` restores what is marked.");
@@ -126,8 +126,8 @@ fn say_quit(gauge: &Gauge<'_>) -> io::Result<()> {
     Ok(())
 }
 
-/// Tells a terminal and the log why the delivery stopped, if it did, or that nothing was written. The sink failed at a
-/// file with the first of the paths.
+/// Reports to a terminal and the log why the delivery stopped, if it did, or that nothing was
+/// written. The first of the paths is that of a file at which the sink failed.
 fn say_end(
     rt: &HostRuntime,
     gauge: &Gauge<'_>,
@@ -144,8 +144,8 @@ fn say_end(
     }
 }
 
-/// Prints how a run ended to standard error, and tells a terminal and the log what it means. The ending has what
-/// else is refused. Returns the exit status.
+/// Prints the end of a run to standard error, and explains it to a terminal and the log. The ending
+/// contains the other refusals. Returns the exit status.
 fn report(
     rt: &HostRuntime,
     gauge: &Gauge<'_>,
@@ -171,7 +171,7 @@ fn report(
     Ok(status)
 }
 
-/// Why no session began.
+/// The reason why no session began.
 #[derive(Debug, Drop, Error)]
 pub enum ConsoleStartFault {
     #[error("out of memory")]
@@ -257,14 +257,14 @@ fn jobs_in<C: Catalogue>(
 ) -> Result<History, ConsoleStartFault>
     ensures jobs { IfOk result (λ history. AreJobs (C.jobs_at catalogue.now db.now) history) }
 {
-    // No catalogue is asked for a file that is not there.
+    // No catalogue is opened for a file that does not exist.
     if fs::metadata(rt, db).is_err() {
         return Err(ConsoleStartFault::NoCatalogue);
     }
     Ok(catalogue.load(db)?)
 }
 
-/// The jobs of a catalogue, and which of them to choose.
+/// The jobs of a catalogue, and the request that chooses among them.
 #[derive(Drop)]
 pub struct ConsoleJobs {
     history: History,
@@ -272,7 +272,7 @@ pub struct ConsoleJobs {
 }
 
 impl ConsoleJobs {
-    /// Returns what a session is over.
+    /// Returns the jobs and the request of a session.
     fn selection(&self) -> JobSelection<'_>
         ensures history { result.history.now ≡ self.now.history }
         ensures request { result.request.now ≡ self.now.request }
@@ -284,7 +284,7 @@ impl ConsoleJobs {
     }
 }
 
-/// What a session is over, and by what means it restores.
+/// The jobs and the request of a session, and its means of restoring.
 type ConsoleSetup<'r, S> = (ConsoleJobs, Restore<HostDrive<'r>, S>);
 
 /// Reads the client, the file set and the moment that were given.
@@ -294,8 +294,9 @@ fn request_of(alloc: Global, given: &ConsoleOptions<'_>) -> Result<Request, Requ
     read_request(alloc, given.client, given.fileset, given.before)
 }
 
-/// Makes all that is there before a line is read, to deliver into a folder if there is one: client and file
-/// set (2), moment (52), the folder (81), and the catalogue (45, 47) are tested in this order.
+/// Makes what a session into a folder, or without a target, needs before it reads a line. Client
+/// and file set (2), moment (52), the folder (81), and the catalogue (45, 47) are tested in this
+/// order.
 pub fn set_up_console<'r, C: Catalogue>(
     rt: &'r HostRuntime,
     catalogue: &C,
@@ -313,7 +314,7 @@ pub fn set_up_console<'r, C: Catalogue>(
     set_up_over(rt, catalogue, given, request, sink)
 }
 
-/// Makes what else is there before a line is read, beside the request and the sink.
+/// Makes the rest of what a session needs before it reads a line, besides the request and the sink.
 fn set_up_over<'r, C: Catalogue, S: Drop>(
     rt: &'r HostRuntime,
     catalogue: &C,
@@ -333,7 +334,7 @@ fn set_up_over<'r, C: Catalogue, S: Drop>(
     Ok((ConsoleJobs { history, request }, restore))
 }
 
-/// Returns how many of the marked files a run put into its sink.
+/// Returns the number of marked files that a run put into its sink.
 fn extent_of(run: &Result<ConsoleRun, ConsoleFault>) -> Extent
     ensures { result ≡ extent run.now }
 {
@@ -343,7 +344,7 @@ fn extent_of(run: &Result<ConsoleRun, ConsoleFault>) -> Extent
     }
 }
 
-/// Returns the same by the end of a session. One that was quit has no files to put.
+/// Returns the same from the end of a session. A session that was quit has no files to put.
 fn extent_by(end: &End) -> Extent
     ensures { result ≡ extent_by end.now }
 {
@@ -373,7 +374,7 @@ fn console_stream<R: BufRead + Drop, D: Drive + Send, W: Flush + Drop, T: Flush 
     Streamed { run, end, writer }
 }
 
-/// Returns the path of the first file that a watched sink failed at, if it did.
+/// Returns the path of the first file at which a watched sink failed, if it did.
 fn failed_at<'s, S>(sink: &'s Option<WatchedSink<'_, '_, S>>) -> Option<&'s Path> {
     match sink {
         Some(sink) => sink.failed().first(),
@@ -381,7 +382,7 @@ fn failed_at<'s, S>(sink: &'s Option<WatchedSink<'_, '_, S>>) -> Option<&'s Path
     }
 }
 
-/// Restores by lines into a folder, or prints the manifest alone if there is none.
+/// Restores by lines into a folder, or only prints the manifest if there is none.
 fn restore_into<C: Catalogue, R: BufRead + Drop>(
     rt: &HostRuntime,
     threads: &(impl Threads + Wait + Sync),
@@ -415,8 +416,8 @@ fn restore_into<C: Catalogue, R: BufRead + Drop>(
     report(rt, gauge, given, (&told, failed), &run, &ending)
 }
 
-/// Makes all that is there before a line is read, to deliver into a new file as a tar stream. The file is
-/// tested where a folder would be.
+/// Makes what a session needs before it reads a line, to deliver into a new file as a tar stream.
+/// The file is tested in the place of a folder.
 fn set_up_tar_file<'r, C: Catalogue>(
     rt: &'r HostRuntime,
     catalogue: &C,
@@ -435,7 +436,8 @@ fn set_up_tar_file<'r, C: Catalogue>(
     set_up_over(rt, catalogue, given, request, sink)
 }
 
-/// Makes all that is there before a line is read, to deliver to standard output as a tar stream.
+/// Makes what a session needs before it reads a line, to deliver to standard output as a tar
+/// stream.
 fn set_up_tar_output<'r, C: Catalogue>(
     rt: &'r HostRuntime,
     catalogue: &C,
@@ -453,8 +455,8 @@ fn set_up_tar_output<'r, C: Catalogue>(
     set_up_over(rt, catalogue, given, request, sink)
 }
 
-/// Restores by lines into the tar stream that was set up, with the answers to its writer: standard output,
-/// or something else if the stream goes there. Returns the exit status.
+/// Restores by lines into the prepared tar stream. The answers go to its writer: standard output,
+/// or another one if the stream goes there. Returns the exit status.
 fn restore_onto<'r, R: BufRead + Drop, T: Channel + Drop, W: Channel + Drop>(
     threads: &(impl Threads + Wait + Sync),
     watch: (&'r HostRuntime, &'r Gauge<'r>),
@@ -482,13 +484,13 @@ fn restore_onto<'r, R: BufRead + Drop, T: Channel + Drop, W: Channel + Drop>(
 }
 
 /// Reads lines and answers them on standard output, over the jobs of a client's file set before a
-/// moment in a catalogue. After `done` prints the bootstrap and the manifest, and puts the restored files
-/// where they are to go: into a folder, or as a tar stream into a file or to standard output. In the last
-/// case all that is printed goes to standard error. What is refused of a line is part of the answers; any
-/// other refusal goes to standard error, and so does the stop of a delivery.
+/// moment in a catalogue. After `done` prints the bootstrap and the manifest, and puts the restored
+/// files into their target: a folder, or a tar stream in a file or on standard output. In the last
+/// case all that is printed goes to standard error. Refusals of a line are part of the answers; any
+/// other refusal, and the stop of a delivery, goes to standard error.
 ///
-/// Client and file set (2), moment (52), the folder, which has to exist and be empty, or the file, which
-/// must not be there (81), and the catalogue (45, 47) are tested in this order before a line is read. The
+/// Client and file set (2), moment (52), the target (81: a folder has to exist and be empty, a file
+/// must not exist), and the catalogue (45, 47) are tested in this order before a line is read. The
 /// manifest is printed before any file is put.
 ///
 /// Returns the exit status: 0 if nothing was refused and each outcome is a file; 1 if something was
@@ -513,7 +515,7 @@ pub fn restore_by_lines<C: Catalogue, R: BufRead + Drop>(
     }
 }
 
-/// Restores as `restore_by_lines`, with what watches the restore.
+/// Restores as `restore_by_lines` does, and watches the restore.
 fn restore_told<C: Catalogue, R: BufRead + Drop>(
     rt: &HostRuntime,
     threads: &(impl Threads + Wait + Sync),
@@ -545,7 +547,7 @@ fn restore_told<C: Catalogue, R: BufRead + Drop>(
     }
 }
 
-/// Restores by the lines of standard input, as `restore_by_lines`.
+/// Restores by the lines of standard input, as `restore_by_lines` does.
 pub fn restore_marked<C: Catalogue>(
     rt: &HostRuntime,
     threads: &(impl Threads + Wait + Sync),

@@ -6,7 +6,7 @@ use br_jobs::moment_text;
 use br_types::{push_escaped, push_number};
 use std::alloc::{AllocError, Global};
 
-/// The columns of a size, and those of a moment.
+/// The number of columns of a size, and of a moment.
 const SIZE: &[u8] = b"            ";
 
 const MOMENT: &[u8] = b"                   ";
@@ -14,7 +14,7 @@ const MOMENT: &[u8] = b"                   ";
 /// A name of a folder, with what is known of it.
 #[derive(Clone, Copy)]
 pub struct Named<'n> {
-    /// As it is in the catalogue.
+    /// Its bytes as they are in the catalogue.
     pub name: &'n [u8],
     /// In bytes.
     pub size: Option<u64>,
@@ -22,7 +22,7 @@ pub struct Named<'n> {
     pub moment: Option<u64>,
 }
 
-/// Returns a size, `-` if there is none.
+/// Returns a size; `-` if it is not known.
 fn size_text(alloc: Global, size: Option<u64>) -> Result<Vec<u8>, AllocError>
     ensures { IfOk result (λ text. text.items ≡ size_text size) }
 {
@@ -34,7 +34,7 @@ fn size_text(alloc: Global, size: Option<u64>) -> Result<Vec<u8>, AllocError>
     Ok(text)
 }
 
-/// Returns a moment, `-` if there is none.
+/// Returns a moment; `-` if it is not known.
 fn moment_or_none(alloc: Global, moment: Option<u64>) -> Result<Vec<u8>, AllocError>
     ensures { IfOk result (λ text. IsMomentText moment text.items) }
 {

@@ -11,26 +11,26 @@ use std::alloc::AllocError;
 use std::cell::OnceCell;
 use std::io::{self, Read, Write};
 
-/// Where the console is, as far as it was followed.
+/// The folder of the console, as far as it was followed.
 #[derive(Drop)]
 enum Way<'j> {
-    /// The lines that lead there from `/`, as long as nobody asked for it.
+    /// The lines that lead there from `/`, before anybody asked for it.
     Noted(Vec<Command>),
     Followed(ConsoleFolder<'j>),
 }
 
-/// A reader of the lines of a console session. If somebody attends to it, it takes out the lines `help` and
-/// `dir` and answers them on standard error. A terminal gives one line to each read.
+/// A reader of the lines of a console session. If an operator attends, it takes out the lines
+/// `help` and `dir` and answers them on standard error. A terminal gives one line to each read.
 #[derive(Drop)]
 pub struct Helped<'j, 'r, C, I> {
     rt: &'r HostRuntime,
     catalogue: &'j C,
     given: &'j ConsoleOptions<'j>,
-    /// The jobs of the session, once they are asked for.
+    /// The jobs of the session, after they were first needed.
     jobs: &'j OnceCell<Jobs>,
     input: I,
     is_attended: bool,
-    /// True if what is read next begins a line.
+    /// True if the next read begins a line.
     is_at_start: bool,
     way: Way<'j>,
 }
@@ -57,7 +57,7 @@ pub fn with_help<'j, 'r, C: Catalogue, I: Read>(
 }
 
 impl<'j, C: Catalogue, I: Read> Helped<'j, '_, C, I> {
-    /// Notes where a line leads, if it is a `cd`.
+    /// Notes a line that is a `cd`.
     fn note(&mut self, line: &[u8]) -> Result<(), AllocError> {
         let Ok(command) = Command::read(self.rt.alloc(), line) else {
             return Ok(());
@@ -71,7 +71,7 @@ impl<'j, C: Catalogue, I: Read> Helped<'j, '_, C, I> {
         Ok(())
     }
 
-    /// Returns where the noted lines lead.
+    /// Returns the console in the folder to which the noted lines lead.
     fn follow(&self, commands: &[Command]) -> Result<ConsoleFolder<'j>, DirFault> {
         let (rt, catalogue, given) = (self.rt, self.catalogue, self.given);
         let jobs = self
@@ -96,7 +96,7 @@ impl<'j, C: Catalogue, I: Read> Helped<'j, '_, C, I> {
         }
     }
 
-    /// Answers a line if it is `help` or `dir`. Returns false if it is for the console.
+    /// Answers a line if it is `help` or `dir`. Returns false if the line is for the console.
     fn answer(&mut self, line: &[u8]) -> io::Result<bool> {
         match asked_of(line) {
             LocalCommand::Help => self.rt.stderr().write_all(HELP)?,

@@ -10,7 +10,7 @@ use br_plan::{BadMoment, read_moment};
 use std::fs;
 use std::io::{self, Write};
 
-/// Returns which jobs are listed by these options.
+/// Returns the choice of jobs in these options.
 fn filter_of<'a>(given: &JobsOptions<'a>) -> Result<Filter<'a>, BadMoment> {
     let before = match given.before {
         Some(text) => Some(read_moment(text.as_bytes())?),
@@ -31,7 +31,7 @@ fn jobs_in<C: Catalogue>(
 ) -> Result<History, CatalogueFault>
     ensures jobs { IfOk result (λ history. AreJobs (C.jobs_at catalogue.now db.now) history) }
 {
-    // No catalogue is asked for a file that is not there.
+    // No catalogue is opened for a file that does not exist.
     if fs::metadata(rt, db).is_err() {
         return Err(CatalogueFault::Unreadable);
     }
@@ -45,12 +45,13 @@ fn print_lines(rt: &HostRuntime, text: &[u8]) -> io::Result<()> {
     writer.flush()
 }
 
-/// Returns whether each job is asked for.
+/// Returns true if all jobs are asked for.
 fn asks_for_all(filter: &Filter<'_>) -> bool {
     filter.client.is_none() && filter.fileset.is_none() && filter.before.is_none()
 }
 
-/// Prints to standard error why no job is listed, if there is no line and standard error is a terminal.
+/// Prints to standard error why no job is listed, if there is no line and standard error is a
+/// terminal.
 fn tell_if_none(rt: &HostRuntime, lines: &[u8], filter: &Filter<'_>) -> io::Result<()> {
     if !lines.is_empty() || !is_shown(rt) {
         return Ok(());

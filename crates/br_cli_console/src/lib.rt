@@ -1,12 +1,11 @@
 //! The commands `console` and `jobs`: what they read, do and print, and their exit status.
 //!
-//! An operator at a terminal may ask beside the console for `help`, and by `dir` for the names of
-//! the folder with size and moment. A reader around that of the console takes these lines out and
-//! answers them on standard error. So the console sees none of them, and standard output has no
-//! word of them.
+//! An operator at a terminal may also enter `help`, and `dir` for the names of the folder with size
+//! and moment. A reader around that of the console takes these lines out and answers them on
+//! standard error. So the console sees none of them, and standard output has nothing of them.
 //!
-//! `jobs` lists the jobs of a catalogue, and marks those that `console` would choose. Where the
-//! jobs of a catalogue come from is the caller's, as a `Catalogue` of br_keeper.
+//! `jobs` lists the jobs of a catalogue, and marks those that `console` would choose. The caller
+//! provides the jobs of a catalogue, as a `Catalogue` of br_keeper.
 #![tactic(auto)]
 
 mod chosen_jobs;

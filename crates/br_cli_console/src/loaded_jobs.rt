@@ -1,4 +1,4 @@
-//! The jobs of a console session, loaded once more when they are first asked for.
+//! The jobs of a console session, loaded once more when they are first needed.
 
 use br_choose::ChooseFault;
 use br_cli_common::ConsoleOptions;
@@ -45,7 +45,7 @@ impl From<ChooseFault> for DirFault {
     }
 }
 
-/// All jobs of a catalogue, and which of them to choose.
+/// All jobs of a catalogue, and the request that chooses among them.
 #[derive(Drop)]
 pub struct Jobs {
     pub(crate) history: History,
@@ -53,7 +53,7 @@ pub struct Jobs {
 }
 
 impl Jobs {
-    /// Loads the jobs that a session is over.
+    /// Loads the jobs of a session.
     pub(crate) fn load<C: Catalogue>(
         rt: &HostRuntime,
         catalogue: &C,

@@ -4,7 +4,7 @@ ghost use Rattle.br_cli_console.specs.LocalCommands.{asked_by, asked_of};
 
 use br_mark::trimmed;
 
-/// What a line asks for.
+/// The request of a line.
 #[derive(Clone, Copy, Debug, PartialEq, Eq)]
 pub enum LocalCommand {
     /// The commands of the console.
@@ -25,7 +25,7 @@ pub(crate) fn without_feed(line: &[u8]) -> &[u8]
     }
 }
 
-/// Returns what a word asks for.
+/// Returns the request of a word.
 fn asked_by(word: &[u8]) -> LocalCommand
     ensures { result ≡ asked_by word.now }
 {
@@ -38,7 +38,8 @@ fn asked_by(word: &[u8]) -> LocalCommand
     }
 }
 
-/// Returns what a line asks for: `help` and `dir` are alone in it, with or without blanks around them.
+/// Returns the request of a line. `help` and `dir` have to be alone in it, with or without blanks
+/// around them.
 pub fn asked_of(line: &[u8]) -> LocalCommand
     ensures { result ≡ asked_of line.now }
 {

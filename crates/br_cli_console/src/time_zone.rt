@@ -5,14 +5,15 @@ use jiff::tz::{SystemTimeZone, TimeZone, TimeZoneDatabase};
 use std::alloc::AllocError;
 use std::io;
 
-/// The time zones of the system, and the name or the rules of its own. Each is there if it can be read.
+/// The time zones of the system, and the name or the rules of its own zone. Each is present if it
+/// can be read.
 #[derive(Drop)]
 pub(crate) struct SystemZones {
     own: Option<SystemTimeZone>,
     database: Option<TimeZoneDatabase>,
 }
 
-/// Returns a value that was read, or nothing if it can't be read.
+/// Returns a value that was read; nothing if it can't be read.
 fn known<T: Drop>(read: Result<T, Error>) -> io::Result<Option<T>> {
     match read {
         Ok(value) => Ok(Some(value)),

@@ -26,7 +26,7 @@ fn is_in(entry: &Entry, job: &JobRows, row: &FileRow) -> bool {
     entry.job == job.row().id && FileIndex::new(row.index) == Some(entry.index)
 }
 
-/// Returns when the file of a row was written, if its numbers tell it.
+/// Returns when the file of a row was written, if its numbers can be read.
 fn moment_in(row: &FileRow) -> Option<u64> {
     let stat = Stat::read(row.lstat.as_bytes()).ok()?;
     u64::try_from(stat.mtime()).ok()
@@ -49,7 +49,7 @@ fn note_moment(
     }
 }
 
-/// Notes for each newest copy in a job when it was written.
+/// Notes for the newest copies in a job when they were written.
 fn note_moments(job: &JobRows, entries: &[Shown<'_>], moments: &mut Vec<Option<u64>>) {
     for row in job.files() {
         note_moment(job, row, entries, moments);
@@ -70,7 +70,7 @@ fn moments_of(
     Ok(moments)
 }
 
-/// Returns the folder that the answer to `cd` names.
+/// Returns the folder in the answer to `cd`.
 fn folder_in(alloc: Global, answer: &[u8]) -> Option<Vec<u8>> {
     let line = answer.strip_prefix(b"cwd is: ")?.strip_suffix(b"\n")?;
     unescape(alloc, line).ok()
@@ -103,7 +103,7 @@ impl<'h> ConsoleFolder<'h> {
         })
     }
 
-    /// Goes where a command leads, if it is a `cd` that leads somewhere.
+    /// Follows a command, if it is a `cd` that leads to a folder.
     pub(crate) fn follow(&mut self, command: &Command) {
         if let Ok(Answer::Text(answer)) = self.console.apply(command) {
             if let Some(folder) = folder_in(self.alloc, &answer) {
@@ -112,7 +112,8 @@ impl<'h> ConsoleFolder<'h> {
         }
     }
 
-    /// Returns size and moment of a path, as far as its row has them. A folder without a row has neither.
+    /// Returns size and moment of a path, as far as its row has them. A folder without a row has
+    /// neither.
     fn facts(&self, path: &[u8]) -> (Option<u64>, Option<u64>) {
         let entries = self.console.tree().entries();
         let Some(place) = place_of(entries, path) else {

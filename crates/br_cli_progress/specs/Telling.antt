@@ -1,4 +1,4 @@
--- What is told of a restore beside the manifest.
+-- What is reported of a restore besides the manifest.
 use Rattle.std.specs.Prelude.{ℕ, ◌==◌, List, [], ◌++◌, ◌∷◌, codes, decimal, if◌then◌else◌}
 use Rattle.br_model.specs.Name.{FileKey}
 use Rattle.br_model.specs.Text.{escaped, line}
@@ -12,22 +12,23 @@ put_line path = line (codes "put " ++ escaped path)
 abbrev pub failed_line : List ℕ → List ℕ
 failed_line path = line (codes "failed " ++ escaped path)
 
--- a text and a number, or nothing if the number is 0
+-- a text and a number; nothing if the number is 0
 abbrev pub noted_text : List ℕ → ℕ → List ℕ
 noted_text front count = if count == 0 then [] else front ++ decimal count
 
--- what comes before the number of older copies that were left out, and before that of outcomes that are no files
+-- the texts before the number of older copies that were left out, and before that of outcomes that
+-- are no files
 unfoldable pub older_front : List ℕ
 older_front = codes ", older copies left out: "
 
 unfoldable pub lost_front : List ℕ
 lost_front = codes ", not restored: "
 
--- how many files of how many were put
+-- the number of files that were put, of all
 abbrev pub put_of : ℕ → ℕ → List ℕ
 put_of put files = decimal put ++ codes " of " ++ decimal files ++ codes " files were put"
 
--- the line that tells what became of the files
+-- the line about what became of the files
 abbrev pub count_line : Count → List ℕ
 count_line count = line (put_of count.put count.files ++ noted_text older_front count.older ++ noted_text lost_front count.lost)
 

@@ -1,10 +1,10 @@
-//! How many bytes a restore reads.
+//! The number of bytes that a restore reads.
 
 use br_bsr::Bootstrap;
 use br_piece::split;
 use br_volume::{FolderStore, VolumeStore};
 
-/// Returns the number of bytes of the volumes in a folder that a bootstrap names, if it can be told.
+/// Returns the number of bytes in the volumes of a folder that a bootstrap names, if it is known.
 pub(crate) fn len_of_volumes(rt: &HostRuntime, folder: &str, bootstrap: &Bootstrap) -> Option<u64> {
     let pieces = split(rt.alloc(), bootstrap).ok()?;
     let mut store = FolderStore::new(rt.alloc(), rt, folder).ok()?;

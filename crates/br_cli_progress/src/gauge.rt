@@ -1,4 +1,4 @@
-//! What is counted while a restore runs, and when and where it is told.
+//! The counters of a running restore, and when and where they are shown.
 
 use crate::expecting::len_of_volumes;
 use crate::log::Log;
@@ -13,8 +13,9 @@ use std::time::Instant;
 /// The shortest time between two lines, in milliseconds.
 const INTERVAL: u64 = 500;
 
-/// Counts how far a restore is, and shows it in a line on standard error, at most twice a second. It tells a
-/// terminal and a log in words what became of the files. All that take part in the restore share it.
+/// Counts the progress of a restore, and shows it in a line on standard error, at most twice a
+/// second. Reports to a terminal and a log in words what became of the files. All that take part in
+/// the restore share it.
 #[derive(Drop)]
 pub struct Gauge<'r> {
     rt: &'r HostRuntime,
@@ -24,31 +25,31 @@ pub struct Gauge<'r> {
     pub(crate) log: Option<Log>,
     /// The path of the folder with the volumes.
     volumes: &'r str,
-    /// When the gauge was made, if it shows how far the restore is.
+    /// The moment at which the gauge was made, if it shows the progress.
     begun: Option<Instant>,
     to_read: AtomicU64,
     read: AtomicU64,
     files: AtomicU64,
     put: AtomicU64,
-    /// The number of files of the manifest that are older copies and are left out.
+    /// The number of files of the manifest that are left out as older copies.
     older: AtomicU64,
     /// The number of outcomes that are no files.
     lost: AtomicU64,
-    /// True once files are put.
+    /// True after the first file was put.
     is_putting: AtomicBool,
-    /// When the reading began, and later when files were first put, in milliseconds since the gauge was
-    /// made; 0 before.
+    /// When the reading began, and later when the first files were put, in milliseconds since the
+    /// gauge was made; 0 before.
     step: AtomicU64,
-    /// When the last line was shown or, before there was one, something was first counted, in milliseconds
-    /// since the gauge was made; 0 before.
+    /// When the last line was shown or, before the first line, something was first counted, in
+    /// milliseconds since the gauge was made; 0 before.
     told: AtomicU64,
     /// True while a line is on the terminal.
     is_up: AtomicBool,
 }
 
 impl<'r> Gauge<'r> {
-    /// Creates a gauge without a log, of a restore from volumes in the folder with this path. It shows how far the
-    /// restore is, or does not.
+    /// Creates a gauge without a log, for a restore from volumes in the folder with this path. It
+    /// may show the progress or not.
     pub fn new(rt: &'r HostRuntime, volumes: &'r str, is_shown: bool) -> Gauge<'r> {
         let begun = if is_shown {
             Instant::now(rt).ok()
@@ -84,18 +85,18 @@ impl<'r> Gauge<'r> {
         self.rt.alloc()
     }
 
-    /// Returns true if the gauge has something to show or to tell.
+    /// Returns true if the gauge has something to show or to report.
     pub fn is_watching(&self) -> bool {
         self.is_terminal || self.is_shown() || self.log.is_some()
     }
 
-    /// Returns true if the gauge shows how far the restore is.
+    /// Returns true if the gauge shows the progress.
     pub fn is_shown(&self) -> bool {
         self.begun.is_some()
     }
 
-    /// Notes the number of bytes of the volumes that a bootstrap names, as those that will be read, if how far the
-    /// restore is is shown. It is 0 if it can't be told.
+    /// Notes the number of bytes of the volumes that a bootstrap names, as those that will be read,
+    /// if the progress is shown. It is 0 if it is not known.
     pub fn expect_volumes(&self, bootstrap: &Bootstrap) {
         if self.is_shown() {
             let len = len_of_volumes(self.rt, self.volumes, bootstrap);
@@ -103,13 +104,13 @@ impl<'r> Gauge<'r> {
         }
     }
 
-    /// Notes that this number of bytes were passed.
+    /// Notes that this number of bytes was passed.
     pub(crate) fn note_read(&self, bytes: u64) {
         self.read.fetch_add(bytes, Ordering::SeqCst);
         self.tell();
     }
 
-    /// Notes that this number of files more are to be put.
+    /// Notes that this number of further files is to be put.
     pub(crate) fn note_files(&self, count: u64) {
         self.files.fetch_add(count, Ordering::SeqCst);
     }
@@ -140,7 +141,7 @@ impl<'r> Gauge<'r> {
         self.lost.fetch_add(1, Ordering::SeqCst);
     }
 
-    /// Notes that the files of the manifest are older copies that are left out, but for this number of others.
+    /// Notes that all files of the manifest except this number are older copies that are left out.
     pub fn note_others(&self, others: u64) {
         let files = self.files.load(Ordering::SeqCst);
         self.older
@@ -166,14 +167,14 @@ impl<'r> Gauge<'r> {
         }
     }
 
-    /// Notes that this number of files more were put.
+    /// Notes that this number of further files was put.
     pub fn note_put(&self, count: u64) {
         self.is_putting.store(true, Ordering::SeqCst);
         self.put.fetch_add(count, Ordering::SeqCst);
         self.tell();
     }
 
-    /// Takes the line from the terminal, if it is there.
+    /// Removes the line from the terminal, if it is there.
     pub fn clear(&self) {
         if self.is_up.swap(false, Ordering::SeqCst) {
             let cleared = eprint!(self.rt; "\r\x1b[K");
@@ -188,7 +189,7 @@ impl<'r> Gauge<'r> {
         Some(now.max(1))
     }
 
-    /// Returns how far the restore is.
+    /// Returns the progress of the restore.
     fn standing(&self, elapsed: u64) -> Standing {
         let read = self.read.load(Ordering::SeqCst);
         let to_read = self.to_read.load(Ordering::SeqCst);
@@ -208,7 +209,7 @@ impl<'r> Gauge<'r> {
         }
     }
 
-    /// Returns when the step began that is measured. The first call of a step begins it.
+    /// Returns when the current step began. The first call in a step begins it.
     fn step_at(&self, now: u64) -> u64 {
         let step = &self.step;
         match step.compare_exchange(0, now, Ordering::SeqCst, Ordering::SeqCst) {
@@ -217,8 +218,8 @@ impl<'r> Gauge<'r> {
         }
     }
 
-    /// Returns true if the last line is half a second old. Of several threads that ask at once, it is true
-    /// for one.
+    /// Returns true if the last line is half a second old. If several threads ask at once, it is
+    /// true for only one.
     fn is_due(&self, now: u64) -> bool {
         let told = self.told.load(Ordering::SeqCst);
         if told != 0 && now < told.saturating_add(INTERVAL) {
@@ -230,7 +231,7 @@ impl<'r> Gauge<'r> {
         told != 0 && turn.is_ok()
     }
 
-    /// Shows how far the restore is, unless that was done in the last half second.
+    /// Shows the progress of the restore, unless that was done in the last half second.
     fn tell(&self) {
         let Some(now) = self.now() else {
             return;

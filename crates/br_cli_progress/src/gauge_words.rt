@@ -1,4 +1,4 @@
-//! What a gauge tells in words at a terminal and in its log.
+//! What a gauge reports in words to a terminal and to its log.
 
 use crate::gauge::Gauge;
 use crate::passed_faults::Faults;
@@ -40,7 +40,7 @@ fn refusal_lines(alloc: Global, number: u32) -> Result<Vec<u8>, AllocError> {
 }
 
 impl<'r> Gauge<'r> {
-    /// Appends lines to the log, if there is one. For lines for which memory ran out the log is torn.
+    /// Appends lines to the log, if there is one. If memory ran out for the lines, the log is torn.
     fn log_lines(&self, lines: Result<Vec<u8>, AllocError>) {
         if let Some(log) = &self.log {
             match lines {
@@ -57,7 +57,7 @@ impl<'r> Gauge<'r> {
         }
     }
 
-    /// Notes that the first files among the outcomes were put, as many as `count`.
+    /// Notes that the first `count` files among the outcomes were put.
     pub(crate) fn note_files_put(&self, outcomes: &[(FileKey, Outcome)], count: u64) {
         if self.log.is_some() {
             self.log_lines(put_lines(self.alloc(), outcomes, count));
@@ -80,8 +80,8 @@ impl<'r> Gauge<'r> {
         }
     }
 
-    /// Tells a terminal what the refusal of a line means, and the log the refusal too. A terminal that takes
-    /// nothing stops nothing.
+    /// Explains the refusal in a line to a terminal, and writes line and explanation to the log. A
+    /// failing terminal stops nothing.
     pub(crate) fn explain(&self, number: u32) {
         let mut words = Vec::new(self.alloc());
         if push_words(&mut words, number).is_ok() {
@@ -92,8 +92,8 @@ impl<'r> Gauge<'r> {
         }
     }
 
-    /// Appends lines to the log, if there is one, and after each line `refused N` what it means and what to do
-    /// next.
+    /// Appends lines to the log, if there is one, and after each line `refused N` what it means and
+    /// what to do next.
     pub fn log_refusals(&self, lines: &[u8]) {
         if self.log.is_some() {
             let mut text = Vec::new(self.alloc());
@@ -102,7 +102,7 @@ impl<'r> Gauge<'r> {
         }
     }
 
-    /// Tells a line to a terminal and to the log.
+    /// Writes a line to a terminal and to the log.
     ///
     /// # Errors
     ///
@@ -111,9 +111,9 @@ impl<'r> Gauge<'r> {
         self.tell_lines(ended(self.alloc(), line.as_bytes())?)
     }
 
-    /// Returns the line that tells how many files were put if some were to be put, and if it is told to a
-    /// terminal: one that is not told how far the restore is reads it only if a file was neither put nor an older copy that is
-    /// left out.
+    /// Returns the line with the number of files that were put, if some were to be put and a
+    /// terminal is to show it. A terminal without progress shows it only if a file was neither put
+    /// nor left out as an older copy.
     fn count_text(&self) -> Result<(Vec<u8>, bool), AllocError> {
         let mut text = Vec::new(self.alloc());
         let Some(count) = self.count() else {
@@ -124,7 +124,7 @@ impl<'r> Gauge<'r> {
         Ok((text, self.is_shown() || done < count.files))
     }
 
-    /// Tells a terminal and the log the outcomes that are no files, in words.
+    /// Reports the outcomes that are no files in words, to a terminal and the log.
     ///
     /// # Errors
     ///
@@ -135,7 +135,7 @@ impl<'r> Gauge<'r> {
         self.tell_lines(text)
     }
 
-    /// Tells lines to a terminal and to the log.
+    /// Writes lines to a terminal and to the log.
     ///
     /// # Errors
     ///
@@ -146,8 +146,8 @@ impl<'r> Gauge<'r> {
         Ok(())
     }
 
-    /// Tells a terminal and the log how many files were put. If the log could not be written, a line on standard
-    /// error says so.
+    /// Reports to a terminal and the log the number of files that were put. If the log could not be
+    /// written, a line on standard error says so.
     ///
     /// # Errors
     ///

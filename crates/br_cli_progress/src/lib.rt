@@ -1,5 +1,5 @@
-//! How far a restore is, in one line on a terminal that is rewritten while the restore runs, and
-//! what became of its files, in words at a terminal and in a log.
+//! The progress of a restore, in one line on a terminal that is rewritten while the restore runs,
+//! and what became of its files, in words at a terminal and in a log.
 //!
 //! A `WatchedDrive`, a `WatchedWriter` and a `WatchedSink` do what the drive, the writer and the sink
 //! inside them do, and report it to the `Gauge` that they share.

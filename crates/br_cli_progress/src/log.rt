@@ -4,17 +4,17 @@ use std::fs::{File, OpenOptions};
 use std::io::{self, Write};
 use std::sync::atomic::{AtomicBool, Ordering};
 
-/// A file to which lines are appended while a restore runs. Each part is written at once, so that the file
-/// has it even if the program is killed after that.
+/// A file to which lines are appended while a restore runs. Each part is written at once, so that
+/// it is in the file even if the program is killed afterwards.
 #[derive(Drop)]
 pub struct Log {
     file: File,
-    /// True once a part was lost.
+    /// True after a part was lost.
     is_torn: AtomicBool,
 }
 
 impl Log {
-    /// Opens the file at a path to append to it, and makes it if it is not there.
+    /// Opens the file at a path to append to it. Makes it if it is not there.
     pub fn open(rt: &HostRuntime, path: &str) -> io::Result<Log> {
         let mut how = OpenOptions::new();
         how.append(true).create(true);
@@ -25,7 +25,7 @@ impl Log {
         })
     }
 
-    /// Appends lines. A log that can't be written stops nothing: it is torn then.
+    /// Appends lines. A log that can't be written stops nothing: it is then torn.
     pub(crate) fn append(&self, lines: &[u8]) {
         let mut file = &self.file;
         if file.write_all(lines).is_err() {

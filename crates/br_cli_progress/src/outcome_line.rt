@@ -9,15 +9,15 @@ const NUMBERS: (u64, u64) = (60, 69);
 #[derive(Clone, Copy)]
 pub(crate) struct Why {
     pub(crate) number: u32,
-    /// The stream that is not supported, of 65.
+    /// The stream that is not supported, for 65.
     pub(crate) stream: Option<u32>,
 }
 
-/// What a line of the manifest says of an outcome.
+/// The outcome in a line of the manifest.
 #[derive(Clone, Copy)]
 pub(crate) struct OutcomeLine {
     pub(crate) key: FileKey,
-    /// Nothing of a file.
+    /// Not about a file.
     pub(crate) why: Option<Why>,
 }
 

@@ -8,7 +8,7 @@ use br_cli_common::push_words;
 use br_types::{FileKey, push_number};
 use std::alloc::{AllocError, Global};
 
-/// The most outcomes of one number that its line names.
+/// The greatest number of outcomes that the line of one number names.
 const TOLD_LEN: usize = 8;
 
 /// An outcome that is no file, and the stream that is not supported.
@@ -49,12 +49,12 @@ struct Kind {
     count: u64,
     /// The first of them.
     told: Vec<Told>,
-    /// The keys of all of them, but for those for which memory ran out.
+    /// The keys of all of them, except those for which memory ran out.
     keys: Vec<FileKey>,
 }
 
 impl Kind {
-    /// Notes an outcome. It counts also if memory runs out for its key.
+    /// Notes an outcome. It is counted even if memory runs out for its key.
     fn note(&mut self, told: Told) -> Result<(), AllocError> {
         self.count = self.count.saturating_add(1);
         self.keys.push(told.key)?;
@@ -75,7 +75,7 @@ impl Kind {
         Ok(())
     }
 
-    /// Appends how many there are and the first of them, and what the number means.
+    /// Appends the count and the first of them, and what the number means.
     fn push(&self, text: &mut Vec<u8>) -> Result<(), AllocError> {
         text.extend_from_slice(b"outcome ")?;
         push_number(text, u64::from(self.number))?;
@@ -95,21 +95,22 @@ impl Kind {
     }
 }
 
-/// The outcomes that are no files: of each number how many there are, the first eight of them, and the keys of all.
+/// The outcomes that are no files: for each number the count, the first eight of them, and the keys
+/// of all.
 #[derive(Drop)]
 pub struct Faults {
     kinds: Vec<Kind>,
 }
 
 impl Faults {
-    /// Creates it without outcomes.
+    /// Creates the notes without outcomes.
     pub(crate) fn new(alloc: Global) -> Faults {
         Faults {
             kinds: Vec::new(alloc),
         }
     }
 
-    /// Notes an outcome that is no file. It counts also if memory runs out for its key.
+    /// Notes an outcome that is no file. It is counted even if memory runs out for its key.
     pub(crate) fn note(&mut self, alloc: Global, key: FileKey, why: Why) -> Result<(), AllocError> {
         let told = Told {
             key,
@@ -137,8 +138,8 @@ impl Faults {
         self.kinds.is_empty()
     }
 
-    /// Returns the keys of the outcomes: those of one number after those of another, the numbers in the order in which
-    /// each was first noted, and the keys of one number in the order in which they were noted.
+    /// Returns the keys of the outcomes, number by number. The numbers, and the keys of each, are
+    /// in the order in which they were first noted.
     pub fn keys(&self, alloc: Global) -> Result<Vec<FileKey>, AllocError> {
         let mut keys = Vec::new(alloc);
         for kind in &self.kinds {
@@ -147,7 +148,7 @@ impl Faults {
         Ok(keys)
     }
 
-    /// Appends for each number how many outcomes have it and which, what it means and what to do next.
+    /// Appends for each number the count and the first outcomes, what it means and what to do next.
     pub fn push(&self, text: &mut Vec<u8>) -> Result<(), AllocError> {
         for kind in &self.kinds {
             kind.push(text)?;

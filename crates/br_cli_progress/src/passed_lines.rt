@@ -7,14 +7,14 @@ use br_cli_common::refused_number;
 use br_types::FileKey;
 use std::alloc::Global;
 
-/// The most bytes of a line that are looked at: a line of an outcome that is no file is shorter, and the numbers of
-/// any other outcome are among them.
+/// The greatest number of bytes of a line that are kept. A line of an outcome that is no file is
+/// shorter, and these bytes contain the numbers of any other outcome.
 const START_LEN: usize = 64;
 
-/// What has passed of a line.
+/// The part of a line that has passed.
 #[derive(Clone, Copy)]
 struct LineStart {
-    /// Its first bytes, and others after them.
+    /// Its first bytes; others may follow them.
     bytes: [u8; START_LEN],
     len: usize,
 }
@@ -37,7 +37,8 @@ impl LineStart {
     }
 }
 
-/// What is noted of the lines that pass a writer: answers of the console, a bootstrap and the manifest.
+/// What is noted of the lines that pass a writer: replies of the console, a bootstrap and the
+/// manifest.
 #[derive(Drop)]
 pub(crate) struct Lines {
     start: LineStart,
@@ -45,11 +46,11 @@ pub(crate) struct Lines {
     pub(crate) faults: Faults,
     /// The keys of the outcomes, unless memory ran out.
     pub(crate) keys: Option<Vec<FileKey>>,
-    /// The number of the last line `refused N`, until it is taken.
+    /// The number in the last line `refused N`, until it is taken.
     pub(crate) refused: Option<u32>,
 }
 
-/// Adds a key, or lets all go if memory runs out.
+/// Adds a key, or drops all keys if memory runs out.
 fn add_key(keys: &mut Option<Vec<FileKey>>, key: FileKey) {
     let is_added = match keys {
         Some(keys) => keys.push(key).is_ok(),
@@ -61,7 +62,7 @@ fn add_key(keys: &mut Option<Vec<FileKey>>, key: FileKey) {
 }
 
 impl Lines {
-    /// Creates it before the first line.
+    /// Creates the notes before the first line.
     pub(crate) fn new(alloc: Global) -> Lines {
         Lines {
             start: LineStart {
@@ -74,7 +75,8 @@ impl Lines {
         }
     }
 
-    /// Notes an outcome. Tells the gauge a file of the manifest, and a line of an outcome that is no file.
+    /// Notes an outcome. Reports a file of the manifest, or a line of an outcome that is no file,
+    /// to the gauge.
     fn note_outcome(&mut self, gauge: &Gauge<'_>, outcome: &OutcomeLine) {
         add_key(&mut self.keys, outcome.key);
         match outcome.why {
@@ -82,7 +84,7 @@ impl Lines {
             Some(why) => {
                 gauge.note_lost();
                 gauge.log_fault(self.start.text());
-                // An outcome for which memory runs out is not told at the end.
+                // If memory runs out for an outcome, it is not reported at the end.
                 let _noted = self.faults.note(gauge.alloc(), outcome.key, why);
             }
         }

@@ -1,4 +1,4 @@
-//! What is told of a restore beside the manifest, as text.
+//! The report of a restore besides the manifest, as text.
 ghost use Rattle.std.specs.Prelude.{◌≡◌, ◌++◌, OnOk};
 ghost use Rattle.br_cli_progress.specs.Telling.{count_line, failed_line, lost_front, noted_text, older_front, put_line, put_of};
 
@@ -6,14 +6,14 @@ use br_join::Outcome;
 use br_types::{FileKey, Path, push_escaped, push_number};
 use std::alloc::{AllocError, Global};
 
-/// What became of the files of a restore.
+/// The numbers of files of a restore, by what became of them.
 #[derive(Clone, Copy)]
 pub(crate) struct Count {
     /// Those that were put.
     pub(crate) put: u64,
-    /// Those of the manifest, but for those that are lost.
+    /// Those of the manifest, except the lost ones.
     pub(crate) files: u64,
-    /// Those of these that are older copies and are left out.
+    /// Those of the manifest that are left out as older copies.
     pub(crate) older: u64,
     /// The outcomes that are no files.
     pub(crate) lost: u64,
@@ -37,7 +37,7 @@ pub(crate) fn push_failed(text: &mut Vec<u8>, path: &Path) -> Result<(), AllocEr
     text.extend_from_slice(b"\n")
 }
 
-/// Appends a text and a number, or nothing if the number is 0.
+/// Appends a text and a number; nothing if the number is 0.
 fn push_noted(text: &mut Vec<u8>, front: &[u8], count: u64) -> Result<(), AllocError>
     ensures { OnOk result (text.new.items ≡ text.old.items ++ noted_text front.now count) }
 {
@@ -48,7 +48,7 @@ fn push_noted(text: &mut Vec<u8>, front: &[u8], count: u64) -> Result<(), AllocE
     push_number(text, count)
 }
 
-/// Appends how many older copies were left out, if some were.
+/// Appends the number of older copies that were left out, if there are any.
 #[tactic(auto, unfolding(crate::specs::Telling::older_front))]
 fn push_older(text: &mut Vec<u8>, older: u64) -> Result<(), AllocError>
     ensures { OnOk result (text.new.items ≡ text.old.items ++ noted_text older_front older) }
@@ -56,7 +56,7 @@ fn push_older(text: &mut Vec<u8>, older: u64) -> Result<(), AllocError>
     push_noted(text, b", older copies left out: ", older)
 }
 
-/// Appends how many files can't be restored, if there are some.
+/// Appends the number of files that can't be restored, if there are any.
 #[tactic(auto, unfolding(crate::specs::Telling::lost_front))]
 fn push_lost(text: &mut Vec<u8>, lost: u64) -> Result<(), AllocError>
     ensures { OnOk result (text.new.items ≡ text.old.items ++ noted_text lost_front lost) }
@@ -64,7 +64,7 @@ fn push_lost(text: &mut Vec<u8>, lost: u64) -> Result<(), AllocError>
     push_noted(text, b", not restored: ", lost)
 }
 
-/// Appends how many files of how many were put.
+/// Appends the number of files that were put, of all.
 fn push_put_of(text: &mut Vec<u8>, put: u64, files: u64) -> Result<(), AllocError>
     ensures { OnOk result (text.new.items ≡ text.old.items ++ put_of put files) }
 {
@@ -74,7 +74,7 @@ fn push_put_of(text: &mut Vec<u8>, put: u64, files: u64) -> Result<(), AllocErro
     text.extend_from_slice(b" files were put")
 }
 
-/// Appends the line that tells what became of the files.
+/// Appends the line about what became of the files.
 pub(crate) fn push_count(text: &mut Vec<u8>, count: Count) -> Result<(), AllocError>
     ensures { OnOk result (text.new.items ≡ text.old.items ++ count_line count) }
 {
@@ -85,7 +85,7 @@ pub(crate) fn push_count(text: &mut Vec<u8>, count: Count) -> Result<(), AllocEr
     Ok(())
 }
 
-/// Returns the lines of the first files among the outcomes, as many as `count`.
+/// Returns the lines of the first `count` files among the outcomes.
 pub(crate) fn put_lines(
     alloc: Global,
     outcomes: &[(FileKey, Outcome)],

@@ -1,4 +1,4 @@
-//! The line that tells how far a restore is.
+//! The line that shows the progress of a restore.
 
 use std::fmt;
 
@@ -8,22 +8,23 @@ const MIB: u64 = 1_048_576;
 /// The number of bytes of a GiB.
 const GIB: u64 = 1_073_741_824;
 
-/// How far a restore is.
+/// The progress of a restore.
 #[derive(Clone, Copy, PartialEq, Eq)]
 pub struct Standing {
-    /// The number of bytes of the volumes that were passed. Those that are read again are counted again.
+    /// The number of bytes of the volumes that were passed. Bytes that are read again are counted
+    /// again.
     pub read: u64,
-    /// The number of bytes of the volumes that are read, 0 if it is not known.
+    /// The number of bytes of the volumes that are read; 0 if it is not known.
     pub to_read: u64,
     /// The number of files that were put.
     pub put: u64,
-    /// The number of files that are put in all, 0 until it is known.
+    /// The number of files to put in all; 0 until it is known.
     pub files: u64,
-    /// The seconds that are left of what is done now, if that can be told.
+    /// The seconds that are left for the current step, if they are known.
     pub left: Option<u64>,
 }
 
-/// A number of bytes in MiB or GiB, with one digit after the point.
+/// A number of bytes in MiB or GiB, with one decimal.
 #[derive(Clone, Copy)]
 struct Size {
     bytes: u64,
@@ -42,7 +43,7 @@ impl fmt::Display for Size {
     }
 }
 
-/// A number with a comma before each three digits that follow others.
+/// A number with a comma before each group of three digits that follows others.
 #[derive(Clone, Copy)]
 struct Grouped {
     number: u64,
@@ -81,7 +82,7 @@ impl fmt::Display for Time {
 }
 
 impl Standing {
-    /// Writes what was read.
+    /// Writes the number of bytes that were read.
     fn write_read<W: fmt::Write>(&self, f: &mut fmt::Formatter<W>) -> fmt::Result {
         let read = Size { bytes: self.read };
         if self.to_read == 0 {
@@ -96,7 +97,7 @@ impl Standing {
         write!(f, "{read} of {all} read")
     }
 
-    /// Writes how many files were put, if it is known how many there are.
+    /// Writes the number of files that were put, if the number of all files is known.
     fn write_put<W: fmt::Write>(&self, f: &mut fmt::Formatter<W>) -> fmt::Result {
         if self.files == 0 {
             return Ok(());
@@ -118,11 +119,11 @@ impl fmt::Display for Standing {
     }
 }
 
-/// The shortest time in milliseconds after which the time that is left is told.
+/// The shortest time in milliseconds after which the time that is left is shown.
 const FIRST_ESTIMATE: u64 = 2000;
 
-/// Returns the seconds that are left of something of which so much was done in this many milliseconds, if
-/// something was done, something is left, and two seconds are over.
+/// Returns the seconds that are left for a task of which `done` of `all` is done after this many
+/// milliseconds, if something is done, something is left, and two seconds are over.
 pub fn seconds_left(elapsed: u64, done: u64, all: u64) -> Option<u64> {
     if elapsed < FIRST_ESTIMATE || done == 0 || all <= done {
         return None;

@@ -1,4 +1,4 @@
-//! A drive that is watched.
+//! A drive that reports its progress.
 ghost use Rattle.std.specs.Prelude.{◌≡◌, ◌<◌, ◌≤◌, Err, IfOk};
 ghost use Rattle.br_volume.specs.Drive.{AnswersOver, OnlyGrows, IsSized};
 ghost use Rattle.br_volume.specs.declared.fault.DriveFault.TheVariants.{Fault};
@@ -7,7 +7,7 @@ use crate::gauge::Gauge;
 use br_types::VolName;
 use br_volume::{Drive, DriveFault, Got};
 
-/// A drive that reads as another one does, and tells a gauge how far it is.
+/// A drive that reads as another one does, and reports its progress to a gauge.
 #[derive(Drop)]
 pub struct WatchedDrive<'g, 'r, D> {
     pub inner: D,
@@ -17,7 +17,7 @@ pub struct WatchedDrive<'g, 'r, D> {
 }
 
 impl<'g, 'r, D> WatchedDrive<'g, 'r, D> {
-    /// Creates a drive that reads as this one.
+    /// Creates a drive that reads as this one does.
     pub fn new(inner: D, gauge: &'g Gauge<'r>) -> WatchedDrive<'g, 'r, D>
         ensures { result.inner ≡ inner }
     {
@@ -29,8 +29,8 @@ impl<'g, 'r, D> WatchedDrive<'g, 'r, D> {
     }
 }
 
-/// Returns the number of bytes from an address to the next one of a drive. An address below the one before
-/// is in another volume, or in one that is read again.
+/// Returns the number of bytes from an address to the next one of a drive. An address below the
+/// previous one is in another volume, or in one that is read again.
 fn passed(before: u64, addr: u64) -> u64 {
     if addr < before { addr } else { addr - before }
 }

@@ -1,4 +1,4 @@
-//! A sink that is watched.
+//! A sink that reports its files.
 ghost use Rattle.std.specs.Prelude.{◌≡◌, ◌<◌, ◌≤◌, length, IfErr};
 ghost use Rattle.std.specs.Thread.{IsSync};
 ghost use Rattle.br_sink.specs.Delivery.{IsStopBelow, items_in, items_put};
@@ -13,13 +13,13 @@ use br_types::{FileKey, Path};
 use std::alloc::Global;
 use std::thread::Threads;
 
-/// The number of outcomes after which the gauge is told which files were put.
+/// The number of outcomes after which the files that were put are reported to the gauge.
 const RUN_LEN: usize = 64;
 
-/// The most paths that are kept of files at which the sink failed.
+/// The greatest number of paths that are kept of files at which the sink failed.
 const FAILED_LEN: usize = 8;
 
-/// A sink that puts as another one does, and tells a gauge which files were put.
+/// A sink that puts files as another one does, and reports them to a gauge.
 #[derive(Drop)]
 pub struct WatchedSink<'g, 'r, S> {
     pub inner: S,
@@ -29,7 +29,7 @@ pub struct WatchedSink<'g, 'r, S> {
 }
 
 impl<'g, 'r, S> WatchedSink<'g, 'r, S> {
-    /// Creates a sink that puts as this one.
+    /// Creates a sink that puts files as this one does.
     pub fn new(inner: S, gauge: &'g Gauge<'r>) -> WatchedSink<'g, 'r, S>
         ensures { result.inner ≡ inner }
     {
@@ -48,14 +48,14 @@ impl<'g, 'r, S> WatchedSink<'g, 'r, S> {
         inner
     }
 
-    /// Returns the paths of the first files at which the sink failed, eight at most. Nothing is
-    /// kept if nobody reads what the gauge tells.
+    /// Returns the paths of the first files at which the sink failed, at most eight. Nothing is
+    /// kept if nobody reads what the gauge reports.
     pub fn failed(&self) -> &[Path] {
         &self.failed
     }
 }
 
-/// Notes that the sink failed at a file. A path for which memory runs out is not kept.
+/// Notes that the sink failed at a file. If memory runs out for the path, it is not kept.
 fn note_failed(gauge: &Gauge<'_>, failed: &mut Vec<Path>, item: &Item) {
     gauge.log_failed(item);
     if failed.len() < FAILED_LEN {
@@ -65,8 +65,8 @@ fn note_failed(gauge: &Gauge<'_>, failed: &mut Vec<Path>, item: &Item) {
     }
 }
 
-/// Puts the files among the outcomes into a sink, a run of outcomes after the other, and tells the gauge
-/// after each.
+/// Puts the files among the outcomes into a sink, one run of outcomes after another, and reports to
+/// the gauge after each.
 fn put_runs<S: Sink, R: Threads + Sync>(
     gauge: &Gauge<'_>,
     threads: &R,

@@ -1,4 +1,4 @@
-//! A writer that is watched.
+//! A writer that reports the files of the manifest.
 ghost use Rattle.std.specs.Prelude.{◌≡◌};
 
 use crate::gauge::Gauge;
@@ -8,24 +8,24 @@ use br_bsr::{Bootstrap, read_bootstrap};
 use br_types::FileKey;
 use std::io::{self, Write};
 
-/// What the text of a planned bootstrap begins with.
+/// The first bytes of a planned bootstrap's text.
 const VOLUME: &[u8] = b"Volume=\"";
 
-/// A writer that writes as another one does, and tells a gauge the files of the manifest. It keeps the keys of
-/// the outcomes, those that are no files, and the bootstrap of a console session, and takes the line of the gauge
-/// from the terminal before it writes. A line `refused N`, which is the answer to a line of the console, is
-/// explained once it is flushed.
+/// A writer that writes as another one does, and reports the files of the manifest to a gauge. It
+/// keeps the keys of the outcomes, those that are no files, and the bootstrap of a console session.
+/// It removes the gauge's line from the terminal before it writes. A line `refused N`, a reply to a
+/// line of the console, is explained after it is flushed.
 #[derive(Drop)]
 pub struct WatchedWriter<'g, 'r, W> {
     pub inner: W,
     gauge: &'g Gauge<'r>,
     lines: Lines,
-    /// The last bootstrap that was written at once.
+    /// The last bootstrap that was written in one call.
     plan: Option<Bootstrap>,
 }
 
 impl<'g, 'r, W> WatchedWriter<'g, 'r, W> {
-    /// Creates a writer that writes as this one.
+    /// Creates a writer that writes as this one does.
     pub fn new(inner: W, gauge: &'g Gauge<'r>) -> WatchedWriter<'g, 'r, W>
         ensures { result.inner ≡ inner }
     {
@@ -37,13 +37,13 @@ impl<'g, 'r, W> WatchedWriter<'g, 'r, W> {
         }
     }
 
-    /// Returns the outcomes that are no files, of the manifest as far as it is written.
+    /// Returns the outcomes of the written part of the manifest that are no files.
     pub fn faults(&self) -> &Faults {
         &self.lines.faults
     }
 
-    /// Returns the keys of the outcomes, of the manifest as far as it is written, unless memory ran out. Nothing is
-    /// kept if nobody reads what the gauge tells.
+    /// Returns the keys of the outcomes in the written part of the manifest, unless memory ran out.
+    /// Nothing is kept if nobody reads what the gauge reports.
     pub fn keys(&self) -> Option<&[FileKey]> {
         match &self.lines.keys {
             Some(keys) => Some(keys),
@@ -51,13 +51,15 @@ impl<'g, 'r, W> WatchedWriter<'g, 'r, W> {
         }
     }
 
-    /// Returns the bootstrap that a console session wrote, if it did and somebody reads what the gauge tells.
+    /// Returns the bootstrap that a console session wrote, if it did and somebody reads what the
+    /// gauge reports.
     pub fn plan(&self) -> Option<&Bootstrap> {
         self.plan.as_ref()
     }
 }
 
-/// Returns the bootstrap in a text that was written at once, if it is one. None is returned if memory runs out.
+/// Returns the bootstrap in a text that was written in one call, if it is one; `None` if memory
+/// runs out.
 fn plan_in(gauge: &Gauge<'_>, text: &[u8]) -> Option<Bootstrap> {
     if !text.starts_with(VOLUME) {
         return None;

@@ -1,4 +1,4 @@
--- How many indexes that a bootstrap asks for are missing.
+-- The number of indexes that a bootstrap asks for and that are missing.
 use Rattle.std.specs.Prelude.{ℕ, ◌+◌, ◌-◌, ◌^◌, nat_lt, min, sum_by, List, if◌then◌else◌}
 use Rattle.br_model.specs.Name.{FileKey}
 use Rattle.br_model.specs.Bootstrap.{Group}
@@ -10,7 +10,8 @@ use Rattle.br_piece.specs.declared.lacking.Gap.{Gap}
 abbrev pub capped : ℕ → ℕ
 capped n = min n (2 ^ 64 - 1)
 
--- The number of indexes of a run. One up to the greatest index counts for none: a range that ends there asks for all files from its first on.
+-- The number of indexes of a run. A run up to the greatest index counts for none: its range asks
+-- for all files from its first on.
 abbrev pub size_of : Gap → ℕ
 size_of gap = if nat_lt gap.indexes.high greatest_index then gap.indexes.high - gap.indexes.low + 1 else 0
 

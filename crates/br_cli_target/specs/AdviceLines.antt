@@ -1,25 +1,25 @@
--- What is said of the outcomes of a restore.
+-- The advice on the outcomes of a restore.
 use Rattle.std.specs.Prelude.{ℕ, ◌==◌, List, [], ◌++◌, Option, Some, None, codes, decimal, if◌then◌else◌}
 use Rattle.br_model.specs.Text.{escaped, line}
 use Rattle.br_cli_target.specs.declared.origin.Origin.{Origin}
 use Rattle.br_cli_progress.specs.Telling.{key_text}
 
--- what comes before the number of indexes that have no outcome, and after it
+-- the texts before and after the number of indexes without an outcome
 unfoldable pub absent_front : List ℕ
 absent_front = codes "indexes that the bootstrap asks for and that gave no outcome: "
 
 unfoldable pub absent_end : List ℕ
 absent_end = line (codes ". Next: `--complete` names them.")
 
--- how many indexes have no outcome
+-- the number of indexes without an outcome
 abbrev pub absent_text : ℕ → List ℕ
 absent_text count = absent_front ++ decimal count ++ absent_end
 
--- the same, and nothing of none
+-- the same; nothing if there are none
 abbrev pub absent_line : ℕ → List ℕ
 absent_line count = if count == 0 then [] else absent_text count
 
--- what comes before the number of older copies, between it and that of paths, and after that
+-- the texts before the number of older copies, between it and that of paths, and after that
 unfoldable pub older_front : List ℕ
 older_front = codes "older copies among the files: "
 
@@ -29,11 +29,11 @@ older_middle = codes ", paths at which one is put last: "
 unfoldable pub older_end : List ℕ
 older_end = line (codes ". Next: `check` names them, `--newest` leaves them out.")
 
--- how many files are older copies, and of how many paths such a one is put last
+-- the number of files that are older copies, and the number of paths whose last file is one
 abbrev pub older_text : ℕ → ℕ → List ℕ
 older_text files on_top = older_front ++ decimal files ++ older_middle ++ decimal on_top ++ older_end
 
--- the same, and nothing if no file is one
+-- the same; nothing if no file is one
 abbrev pub older_line : ℕ → ℕ → List ℕ
 older_line files on_top = if files == 0 then [] else older_text files on_top
 
@@ -42,11 +42,11 @@ abbrev pub volume_text : Option (List ℕ) → List ℕ
 volume_text None = []
 volume_text (Some vol) = codes " on " ++ escaped vol
 
--- the path of a file, or that it can't be read
+-- the path of a file, or a text that it can't be read
 abbrev pub path_text : Option (List ℕ) → List ℕ
 path_text None = codes " has no path that can be read"
 path_text (Some path) = codes " is " ++ escaped path
 
--- where a file comes from
+-- the origin of a file
 abbrev pub origin_line : Origin → List ℕ
 origin_line o = line (codes "  " ++ key_text o.key ++ volume_text o.vol ++ path_text o.path)

@@ -13,6 +13,6 @@ abbrev pub path_read : Result Attributes ℕ → Option (List ℕ)
 path_read (Ok attr) = Some attr.path
 path_read (Err number) = None
 
--- the path in a file's attributes, nothing if they can't be read
+-- the path in a file's attributes; nothing if they can't be read
 abbrev pub path_in : FileKey → List ℕ → Option (List ℕ)
 path_in key bytes = path_read (read_attributes bytes key.index)

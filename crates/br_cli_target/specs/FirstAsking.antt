@@ -1,4 +1,5 @@
--- The ranges of indexes that groups ask for of one session, and the first group that asks for a file.
+-- The ranges of indexes that groups ask for in one session, and the first group that asks for a
+-- file.
 use Rattle.std.specs.Prelude.{◌≡◌, ℕ, ◌<◌, ◌^◌, Bool, List, [], ◌∷◌, find, flat_map, map, max, Option, option_map, if◌then◌else◌}
 use Rattle.std.specs.Borrow.{Bor}
 use Rattle.std.specs.Int.{is_in_range}
@@ -12,7 +13,7 @@ use Rattle.br_cli_target.specs.NarrowedGroups.{asks_for}
 abbrev pub AskingGroup : Type 0
 AskingGroup = Range × Group
 
--- the same with the group that is borrowed
+-- the same with a borrowed group
 abbrev pub shown : Range × Bor Group → AskingGroup
 shown a = (a.0, a.1.now)
 
@@ -24,11 +25,11 @@ all_indexes = record { low = 0; high = 18446744073709551615 }
 abbrev pub ranges_of : Group → List Range
 ranges_of g = if is_empty g.indexes then all_indexes ∷ [] else g.indexes
 
--- the ranges that the group asks for of the session
+-- the ranges that the group asks for in the session
 abbrev pub asked_by : SessionKey → Group → List AskingGroup
 asked_by session g = if admits_session g session then map (λ r. (r, g)) (ranges_of g) else []
 
--- the ranges that the groups ask for of the session, in their order
+-- the ranges that the groups ask for in the session, in their order
 unfoldable pub asked_of : SessionKey → List Group → List AskingGroup
 asked_of session groups = flat_map (asked_by session) groups
 
@@ -40,7 +41,7 @@ has_index n a = is_in_range a.0.low a.0.high n
 abbrev pub first_asked : ℕ → List AskingGroup → Option Group
 first_asked n asked = option_map (λ (a : AskingGroup). a.1) (find (has_index n) asked)
 
--- the greatest end of the ranges up to each of them, and of a number
+-- for each range the greatest of a number and the ends up to this range
 abbrev pub reaches_from : ℕ → List AskingGroup → List ℕ
 reaches_from n [] = []
 reaches_from n (a ∷ more) = max n a.0.high ∷ reaches_from (max n a.0.high) more

@@ -1,4 +1,4 @@
--- The groups of a bootstrap that ask for a file, of which each asks for its attributes alone.
+-- The groups of a bootstrap that ask for a file, narrowed to its attributes.
 use Rattle.std.specs.Prelude.{ℕ, Bool, ◌&&◌, ◌==◌, not, List, [], ◌∷◌, if◌then◌else◌}
 use Rattle.br_piece.specs.FileCounts.{got}
 use Rattle.br_model.specs.Name.{FileKey}
@@ -16,10 +16,10 @@ asks_for_any keys g = not (got g keys == 0)
 abbrev pub one : ℕ → List Range
 one n = record { low = n; high = n } ∷ []
 
--- the group that asks for the attributes alone of what this one asks for
+-- the group that asks only for the attributes of what this one asks for
 abbrev pub narrow : Group → Group
 narrow g = record g { streams = one 1 }
 
--- the group that asks for the attributes alone, if this one asks for one of the files
+-- the group that asks only for the attributes, if this one asks for one of the files
 abbrev pub narrow_to : List FileKey → Group → List Group
 narrow_to keys g = if asks_for_any keys g then narrow g ∷ [] else []

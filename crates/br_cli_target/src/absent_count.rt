@@ -1,4 +1,4 @@
-//! How many indexes that a bootstrap asks for are missing.
+//! Counts the indexes that a bootstrap asks for and that are missing.
 ghost use Rattle.std.specs.Prelude.{◌≡◌, sum_by, IfOk};
 ghost use Rattle.br_cli_target.specs.AbsentCount.{absent, capped, size_of};
 
@@ -10,8 +10,8 @@ use std::alloc::{AllocError, Global};
 /// The greatest index that a file can have.
 const GREATEST_INDEX: u64 = 2_147_483_647;
 
-/// Returns the number of indexes of a run; 0 if it goes up to the greatest index, since a range that ends there
-/// asks for all files from its first on, however many there are.
+/// Returns the number of indexes of a run; 0 if it goes up to the greatest index, since such a
+/// range asks for all files from its first on, whatever their number.
 fn size_of(gap: Gap) -> u64
     ensures { result ≡ capped (size_of gap) }
 {
@@ -36,9 +36,9 @@ fn sum_of(gaps: &[Gap]) -> u64
     count
 }
 
-/// Returns the number of indexes that the groups of a bootstrap ask for by bounded ranges of FileIndex, and that
-/// none of these files has, at most 2^64 - 1. An index that two groups ask for, and that neither gets, counts
-/// twice, as each has a line in the report of what is missing.
+/// Returns the number of indexes that the groups of a bootstrap ask for by bounded ranges of
+/// FileIndex and that none of these files has, at most 2^64 - 1. A missing index that two groups
+/// ask for counts twice, since each has a line in the report of what is missing.
 #[tactic(auto, unfolding(crate::specs::AbsentCount::absent))]
 pub fn count_absent(alloc: Global, groups: &[Group], keys: Vec<FileKey>) -> Result<u64, AllocError>
     ensures { IfOk result (λ count. count ≡ capped (absent groups.now keys.items)) }

@@ -1,4 +1,4 @@
-//! The lines of what is said.
+//! The lines of advice.
 ghost use Rattle.std.specs.Prelude.{◌≡◌, ◌++◌, OnOk};
 ghost use Rattle.br_cli_target.specs.AdviceLines.{absent_end, absent_front, absent_line, absent_text};
 ghost use Rattle.br_cli_target.specs.AdviceLines.{older_end, older_front, older_line, older_middle, older_text};
@@ -10,7 +10,7 @@ use br_engine::OlderCopies;
 use br_types::{Path, VolName, push_escaped, push_number};
 use std::alloc::AllocError;
 
-/// Appends what comes before the number of indexes.
+/// Appends the text before the number of indexes.
 #[tactic(auto, unfolding(crate::specs::AdviceLines::absent_front))]
 fn push_absent_front(text: &mut Vec<u8>) -> Result<(), AllocError>
     ensures { OnOk result (text.new.items ≡ text.old.items ++ absent_front) }
@@ -18,7 +18,7 @@ fn push_absent_front(text: &mut Vec<u8>) -> Result<(), AllocError>
     text.extend_from_slice(b"indexes that the bootstrap asks for and that gave no outcome: ")
 }
 
-/// Appends what comes after the number of indexes.
+/// Appends the text after the number of indexes.
 #[tactic(auto, unfolding(crate::specs::AdviceLines::absent_end))]
 fn push_absent_end(text: &mut Vec<u8>) -> Result<(), AllocError>
     ensures { OnOk result (text.new.items ≡ text.old.items ++ absent_end) }
@@ -26,7 +26,7 @@ fn push_absent_end(text: &mut Vec<u8>) -> Result<(), AllocError>
     text.extend_from_slice(b". Next: `--complete` names them.\n")
 }
 
-/// Appends how many indexes gave no outcome and what names them.
+/// Appends the number of indexes without an outcome, and which option names them.
 fn push_absent_text(text: &mut Vec<u8>, count: u64) -> Result<(), AllocError>
     ensures { OnOk result (text.new.items ≡ text.old.items ++ absent_text count) }
 {
@@ -35,7 +35,7 @@ fn push_absent_text(text: &mut Vec<u8>, count: u64) -> Result<(), AllocError>
     push_absent_end(text)
 }
 
-/// Appends how many indexes gave no outcome and what names them, if some did.
+/// Appends the number of indexes without an outcome, and which option names them, if there are any.
 pub fn push_absent(text: &mut Vec<u8>, count: u64) -> Result<(), AllocError>
     ensures { OnOk result (text.new.items ≡ text.old.items ++ absent_line count) }
 {
@@ -46,7 +46,7 @@ pub fn push_absent(text: &mut Vec<u8>, count: u64) -> Result<(), AllocError>
     }
 }
 
-/// Appends what comes before the number of older copies.
+/// Appends the text before the number of older copies.
 #[tactic(auto, unfolding(crate::specs::AdviceLines::older_front))]
 fn push_older_front(text: &mut Vec<u8>) -> Result<(), AllocError>
     ensures { OnOk result (text.new.items ≡ text.old.items ++ older_front) }
@@ -54,7 +54,7 @@ fn push_older_front(text: &mut Vec<u8>) -> Result<(), AllocError>
     text.extend_from_slice(b"older copies among the files: ")
 }
 
-/// Appends what comes between the numbers of older copies and of paths.
+/// Appends the text between the numbers of older copies and of paths.
 #[tactic(auto, unfolding(crate::specs::AdviceLines::older_middle))]
 fn push_older_middle(text: &mut Vec<u8>) -> Result<(), AllocError>
     ensures { OnOk result (text.new.items ≡ text.old.items ++ older_middle) }
@@ -62,7 +62,7 @@ fn push_older_middle(text: &mut Vec<u8>) -> Result<(), AllocError>
     text.extend_from_slice(b", paths at which one is put last: ")
 }
 
-/// Appends what comes after the number of paths.
+/// Appends the text after the number of paths.
 #[tactic(auto, unfolding(crate::specs::AdviceLines::older_end))]
 fn push_older_end(text: &mut Vec<u8>) -> Result<(), AllocError>
     ensures { OnOk result (text.new.items ≡ text.old.items ++ older_end) }
@@ -70,7 +70,8 @@ fn push_older_end(text: &mut Vec<u8>) -> Result<(), AllocError>
     text.extend_from_slice(b". Next: `check` names them, `--newest` leaves them out.\n")
 }
 
-/// Appends how many files are older copies, of how many paths such a one is put last, and what leaves them out.
+/// Appends the number of files that are older copies, that of paths whose last file is one, and
+/// which option leaves them out.
 fn push_older_text(text: &mut Vec<u8>, files: u64, on_top: u64) -> Result<(), AllocError>
     ensures { OnOk result (text.new.items ≡ text.old.items ++ older_text files on_top) }
 {
@@ -81,8 +82,8 @@ fn push_older_text(text: &mut Vec<u8>, files: u64, on_top: u64) -> Result<(), Al
     push_older_end(text)
 }
 
-/// Appends how many files are older copies, of how many paths such a one is put last, and what leaves them out,
-/// if there are some.
+/// Appends the number of files that are older copies, that of paths whose last file is one, and
+/// which option leaves them out, if there are any.
 pub fn push_older(text: &mut Vec<u8>, older: &OlderCopies) -> Result<(), AllocError>
     ensures { OnOk result (text.new.items ≡ text.old.items ++ older_line older.now.files older.now.on_top) }
 {
@@ -106,7 +107,7 @@ fn push_volume(text: &mut Vec<u8>, vol: &Option<VolName>) -> Result<(), AllocErr
     }
 }
 
-/// Appends the path of a file, or that it can't be read.
+/// Appends the path of a file, or a text that it can't be read.
 fn push_path(text: &mut Vec<u8>, path: &Option<Path>) -> Result<(), AllocError>
     ensures { OnOk result (text.new.items ≡ text.old.items ++ path_text path.now) }
 {
@@ -119,7 +120,7 @@ fn push_path(text: &mut Vec<u8>, path: &Option<Path>) -> Result<(), AllocError>
     }
 }
 
-/// Appends where a file comes from.
+/// Appends the origin of a file.
 pub fn push_origin(text: &mut Vec<u8>, origin: &Origin) -> Result<(), AllocError>
     ensures { OnOk result (text.new.items ≡ text.old.items ++ origin_line origin.now) }
 {

@@ -21,7 +21,7 @@ fn push_bytes(bytes: &mut Vec<u8>, hit: &Hit) -> Result<(), AllocError>
     }
 }
 
-/// Returns the bytes of some hits, one after the other.
+/// Returns the bytes of some hits, one after another.
 #[tactic(auto, unfolding(crate::specs::AttributePaths::bytes_in))]
 fn bytes_of(alloc: Global, hits: &[Hit]) -> Result<Vec<u8>, AllocError>
     ensures { IfOk result (λ bytes. bytes.items ≡ bytes_in hits.now) }
@@ -33,7 +33,7 @@ fn bytes_of(alloc: Global, hits: &[Hit]) -> Result<Vec<u8>, AllocError>
     Ok(bytes)
 }
 
-/// Returns the path in a file's attributes, nothing if they can't be read.
+/// Returns the path in a file's attributes; nothing if they can't be read.
 fn path_read(alloc: Global, key: FileKey, bytes: &[u8]) -> Result<Option<Path>, AllocError>
     ensures { IfOk result (λ path. path ≡ path_in key bytes.now) }
 {
@@ -47,8 +47,8 @@ fn path_read(alloc: Global, key: FileKey, bytes: &[u8]) -> Result<Option<Path>, 
     }
 }
 
-/// Returns the path in the attributes of a file, which its hits have one after the other, nothing if they can't be
-/// read.
+/// Returns the path in the attributes of a file, which its hits contain one after another; nothing
+/// if they can't be read.
 pub(crate) fn path_of(alloc: Global, key: FileKey, own: &[Hit]) -> Result<Option<Path>, AllocError>
     ensures { IfOk result (λ path. path ≡ path_in key (bytes_in own.now)) }
 {

@@ -13,8 +13,8 @@ pub struct Ending {
 }
 
 impl Ending {
-    /// Prints the line of the refusal to standard error, and to a terminal what it means. Returns the exit
-    /// status.
+    /// Prints the line of the refusal to standard error, and explains it to a terminal. Returns the
+    /// exit status.
     pub fn print(&self, rt: &HostRuntime) -> io::Result<u8> {
         let refusal = String::from_utf8_lossy(rt.alloc(), &self.refusal)?;
         eprint!(rt; "{refusal}")?;

@@ -1,4 +1,4 @@
-//! The first group that asks for a file, for many files one after the other.
+//! The first group that asks for a file, for many files one after another.
 ghost use Rattle.std.specs.Prelude.{◌≡◌, ◌++◌, ◌≤◌, drop, find, length, map, IfOk, OnOk};
 ghost use Rattle.std.specs.Int.{is_in_range};
 ghost use Rattle.std.specs.Option.{option_copied};
@@ -21,7 +21,7 @@ const ALL: Range = Range {
 /// A range of indexes, and the group that asks for it.
 type AskingGroup<'g> = (Range, &'g Group);
 
-/// Returns if the group admits the number and the time of the session.
+/// Returns true if the group admits the number and the time of the session.
 fn admits_session(group: &Group, session: SessionKey) -> bool
     ensures { result ≡ missing.admits_session group.now session }
 {
@@ -45,7 +45,7 @@ fn push_ranges<'g>(
     Ok(())
 }
 
-/// Appends the ranges that the group asks for of the session.
+/// Appends the ranges that the group asks for in the session.
 fn push_asked<'g>(
     asked: &mut Vec<AskingGroup<'g>>,
     group: &'g Group,
@@ -62,7 +62,7 @@ fn push_asked<'g>(
     push_ranges(asked, group, &group.indexes)
 }
 
-/// Returns the ranges that the groups ask for of the session, in their order.
+/// Returns the ranges that the groups ask for in the session, in their order.
 #[tactic(auto, unfolding(crate::specs::FirstAsking::asked_of))]
 fn asked_of<'g>(
     alloc: Global,
@@ -78,7 +78,7 @@ fn asked_of<'g>(
     Ok(asked)
 }
 
-/// Returns the greatest end of the ranges up to each of them.
+/// Returns for each range the greatest end up to it.
 fn reaches_of(alloc: Global, asked: &[AskingGroup<'_>]) -> Result<Vec<u64>, AllocError>
     ensures { IfOk result (λ reaches. reaches.items ≡ reaches_from 0 (map shown asked.now)) }
 {
@@ -91,7 +91,7 @@ fn reaches_of(alloc: Global, asked: &[AskingGroup<'_>]) -> Result<Vec<u64>, Allo
     Ok(reaches)
 }
 
-/// Returns the number of ranges at the front that end before the index.
+/// Returns the number of first ranges that end before the index.
 fn ended(reaches: &[u64], asked: &[AskingGroup<'_>], index: u64) -> usize
     requires { reaches.now ≡ reaches_from 0 (map shown asked.now) }
     ensures bound { result ≤ length asked.now }
@@ -118,20 +118,20 @@ fn first_in<'g>(asked: &[AskingGroup<'g>], index: u64) -> Option<&'g Group>
     }
 }
 
-/// The ranges of indexes that groups ask for of one session.
+/// The ranges of indexes that groups ask for in one session.
 #[derive(Drop)]
 pub(crate) struct Asking<'g> {
     groups: &'g [Group],
     session: SessionKey,
     asked: Vec<AskingGroup<'g>>,
-    /// The greatest end of the ranges up to each of them.
+    /// For each range the greatest end up to it.
     reaches: Vec<u64>,
     ghost known: { map shown asked.items ≡ model.asked_of session groups.now },
     ghost reached: { reaches.items ≡ reaches_from 0 (map shown asked.items) },
 }
 
 impl<'g> Asking<'g> {
-    /// Returns what the groups ask for of the session.
+    /// Returns what the groups ask for in the session.
     pub(crate) fn of(
         alloc: Global,
         groups: &'g [Group],
@@ -150,7 +150,7 @@ impl<'g> Asking<'g> {
         })
     }
 
-    /// Returns what the groups ask for of another session, or the same.
+    /// Returns what the groups ask for in this session, which may be another one.
     pub(crate) fn turned_to(
         self,
         alloc: Global,

@@ -1,4 +1,4 @@
-//! Restores over the volumes in a folder of the system, and what watches them.
+//! Restores over the volumes in a folder of the system, and their watchers.
 ghost use Rattle.std.specs.Prelude.{◌≡◌, is_some, length, IfOk};
 ghost use Rattle.br_volume.specs.HostDrives.{AreOver};
 

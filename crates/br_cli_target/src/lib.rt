@@ -1,9 +1,8 @@
-//! What the commands deliver to, and what they say beside it: a folder or a tar stream, the gauge
-//! that watches a restore, the words at a terminal and in a log, and the exit status.
-//!
-//! Of outcomes that are no files, `origins` finds the volume and the paths in the attributes. What a
-//! restore leaves unsaid without its options is said at a terminal: copies of paths that are older
-//! than others, indexes without an outcome, and why volumes can't be read.
+//! The targets of the commands, and their reports: a folder or a tar stream, the gauge that watches
+//! a restore, the words at a terminal and in a log, and the exit status.
+//! For outcomes that are no files, `origins` finds the volume and the paths in the attributes. A
+//! terminal is told what a restore does not report without its options: copies of paths that are
+//! older than others, indexes without an outcome, and why volumes can't be read.
 #![tactic(auto)]
 
 mod absent_count;

@@ -22,14 +22,14 @@ fn contains_any(ranges: &[Range], number: u64) -> bool
     ranges.iter().any(|range| range.contains(number))
 }
 
-/// Returns if the ranges admit the number: one of them contains it, or there is none.
+/// Returns true if the ranges admit the number: one of them contains it, or there are no ranges.
 pub(crate) fn admits(ranges: &[Range], number: u64) -> bool
     ensures { result ≡ admits_number ranges.now number }
 {
     ranges.is_empty() || contains_any(ranges, number)
 }
 
-/// Returns if the group asks for one of the files, in time log n beside that of these if the group names one session.
+/// Returns true if the group asks for one of n files. Takes time log n if it names one session.
 fn asks_for_any(alloc: Global, group: &Group, keys: &[FileKey]) -> Result<bool, AllocError>
     requires { IsSorted key_cmp keys.now }
     ensures { IfOk result (λ b. b ≡ is_any_asked keys.now group.now) }
@@ -49,7 +49,7 @@ fn range_of(alloc: Global, number: u64) -> Result<Vec<Range>, AllocError>
     Ok(ranges)
 }
 
-/// Returns the group that asks for the attributes alone of what this one asks for.
+/// Returns the group that asks only for the attributes of what this one asks for.
 fn narrowed(alloc: Global, group: &Group) -> Result<Group, AllocError>
     ensures { IfOk result (λ g. g ≡ narrow group.now) }
 {
@@ -65,7 +65,7 @@ fn narrowed(alloc: Global, group: &Group) -> Result<Group, AllocError>
     })
 }
 
-/// Appends the group that asks for the attributes alone, if this one asks for one of the files.
+/// Appends the group that asks only for the attributes, if this one asks for one of the files.
 fn push_narrowed(
     alloc: Global,
     narrow: &mut Vec<Group>,
@@ -82,7 +82,8 @@ fn push_narrowed(
     Ok(())
 }
 
-/// Returns of the groups that ask for one of the files, which are in order, those that ask for the attributes alone.
+/// Returns the groups that ask for one of the files, which are in order; each now asks only for the
+/// attributes.
 pub(crate) fn narrowed_to(
     alloc: Global,
     groups: &[Group],

@@ -1,4 +1,4 @@
-//! Where files come from.
+//! The origins of files.
 ghost use Rattle.std.specs.Prelude.{◌≡◌, find, map, option_map, IfOk};
 ghost use Rattle.std.specs.Option.{option_copied};
 ghost use Rattle.br_cli_target.specs.Origins.{AreOrigins, ComeFrom, group_hit as hit_by, origin_by};
@@ -17,10 +17,10 @@ use br_types::{FileKey, Path, SessionKey, VolName};
 use br_volume::Drive;
 use std::alloc::{AllocError, Global};
 
-/// The session that is asked of first, whatever the files are.
+/// The session that is tried first, whatever the files are.
 const FIRST: SessionKey = SessionKey { id: 0, time: 0 };
 
-/// Where a file comes from.
+/// The origin of a file.
 #[derive(Drop)]
 pub struct Origin {
     pub key: FileKey,
@@ -30,7 +30,7 @@ pub struct Origin {
     pub path: Option<Path>,
 }
 
-/// Returns the group, of those by which the volumes were searched, that has the first of some hits.
+/// Returns the group with the first of some hits, among those by which the volumes were searched.
 fn group_hit<'g>(searched: &'g [Group], own: &[Hit]) -> Option<&'g Group>
     ensures { option_copied result ≡ hit_by searched.now own.now }
 {
@@ -55,7 +55,8 @@ fn vol_asked(
     }
 }
 
-/// Returns the volume on which the first of a file's hits is, or else that of the first group that asks for the file.
+/// Returns the volume of the first of a file's hits, else that of the first group that asks for the
+/// file.
 fn vol_of(
     alloc: Global,
     asking: &Asking<'_>,
@@ -72,7 +73,7 @@ fn vol_of(
     }
 }
 
-/// Returns where the file, which is one of the session, comes from, by its hits.
+/// Returns the origin of the file, which is one of the session, by its hits.
 fn origin_by_own(
     alloc: Global,
     asking: &Asking<'_>,
@@ -90,8 +91,8 @@ fn origin_by_own(
     })
 }
 
-/// Returns where each of the files comes from, by the hits of their attributes, which are in order of file and place,
-/// and for which the volumes were searched by groups.
+/// Returns the origin of each of the files by the hits of their attributes, which are in order of
+/// file and place. The volumes were searched for them by groups.
 fn origins_by(
     alloc: Global,
     groups: &[Group],
@@ -112,10 +113,11 @@ fn origins_by(
     Ok(origins)
 }
 
-/// Returns where each of some files comes from that a bootstrap asks for. The volumes of the groups that ask for one
-/// of the files are read once more, as these groups ask, and of these files the attributes are kept alone.
+/// Returns the origin of each of some files that a bootstrap asks for. The volumes of the groups
+/// that ask for one of the files are read once more, as these groups ask; only the attributes of
+/// these files are kept.
 ///
-/// A path is missing if the attributes can't be read, or a volume.
+/// A path is missing if the attributes or a volume can't be read.
 pub fn origins<D: Drive>(
     alloc: Global,
     bootstrap: &Bootstrap,

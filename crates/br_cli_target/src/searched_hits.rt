@@ -23,7 +23,7 @@ pub(crate) fn sorted(alloc: Global, keys: &[FileKey]) -> Result<Vec<FileKey>, Al
     Ok(sorted)
 }
 
-/// Returns if the file is one of these, which are in order.
+/// Returns true if the file is one of these, which are in order.
 fn is_among(keys: &[FileKey], key: FileKey) -> bool
     requires { IsSorted key_cmp keys.now }
     ensures { result ≡ model.is_among keys.now key }
@@ -34,7 +34,7 @@ fn is_among(keys: &[FileKey], key: FileKey) -> bool
     }
 }
 
-/// Appends the hit, if it is of one of these files, which are in order.
+/// Appends the hit, if it belongs to one of these files, which are in order.
 fn push_if_among(hits: &mut Vec<Hit>, keys: &[FileKey], hit: Hit) -> Result<(), AllocError>
     requires { IsSorted key_cmp keys.now }
     ensures { OnOk result (hits.new.items ≡ hits.old.items ++ hit_among keys.now hit) }
@@ -45,7 +45,7 @@ fn push_if_among(hits: &mut Vec<Hit>, keys: &[FileKey], hit: Hit) -> Result<(), 
     Ok(())
 }
 
-/// Appends the hits of a block that are of these files, which are in order.
+/// Appends the hits of a block that belong to these files, which are in order.
 #[tactic(auto, unfolding(crate::specs::OwnHits::hits_among))]
 fn append_among(hits: &mut Vec<Hit>, keys: &[FileKey], batch: Batch) -> Result<(), AllocError>
     requires { IsSorted key_cmp keys.now }
@@ -75,7 +75,7 @@ fn append_found<D: Drive>(
     Ok(())
 }
 
-/// Passes over a volume that can't be searched to its end.
+/// Skips a volume that can't be searched to its end.
 fn passed(searched: Result<(), PieceFault>) -> Result<(), AllocError> {
     match searched {
         Err(PieceFault::Memory) => Err(AllocError),
@@ -83,8 +83,9 @@ fn passed(searched: Result<(), PieceFault>) -> Result<(), AllocError> {
     }
 }
 
-/// Returns the hits of these files, which are in order, that a drive finds of some pieces, in order of file and place.
-/// Of a volume that can't be searched to its end these are the hits before.
+/// Returns the hits of these files, which are in order, that a drive finds of some pieces, in order
+/// of file and place. If a volume can't be searched to its end, its hits before the fault are
+/// included.
 pub(crate) fn hits_in<D: Drive>(
     alloc: Global,
     keys: &[FileKey],

@@ -15,11 +15,11 @@ pub type HostSink<'r> = FolderSink<HostDisk<&'r HostRuntime>>;
 /// A sink over a folder of the system, which may hold files already.
 pub type ResumingSink<'r> = Resuming<HostDisk<&'r HostRuntime>>;
 
-/// A sink over a folder of the system, which may hold files already and may leave out files. What is inside is
-/// watched, so that only files that were put are told.
+/// A sink over a folder of the system, which may hold files already and may leave out files. The
+/// sink inside is watched, so that only files that were put are reported.
 pub type LeavingSink<'g, 'r> = Leaving<WatchedSink<'g, 'r, ResumingSink<'r>>>;
 
-/// Returns the folder that the restored files go into, if they go into one.
+/// Returns the folder that the restored files go into, if any.
 pub fn folder_of(target: Target<'_>) -> Option<&str>
     ensures { option_map (λ f. f.now) result ≡ folder_asked target.entry }
 {
@@ -60,8 +60,8 @@ fn resuming_over<'r>(
     Ok(Some(Resuming::new(rt.alloc(), maker, path, start)?))
 }
 
-/// Returns the sink over the folder to deliver into, if there is one. It leaves out the files that can't be
-/// made, if a delivery is not to stop there, and tells the gauge of those that are put.
+/// Returns the sink over the folder to deliver into, if there is one. It leaves out the files that
+/// can't be made, if a delivery is not to stop there, and reports those that are put to the gauge.
 pub fn leaving_over<'g, 'r>(
     rt: &'r HostRuntime,
     gauge: &'g Gauge<'r>,

@@ -1,4 +1,4 @@
-//! The tar stream that restored files go into, and how it ends.
+//! The tar stream that restored files go into, and its end.
 ghost use Rattle.std.specs.Prelude.{◌≡◌, ◌++◌, Bool, true, false, option_map, IfOk, IfSome, OnErr, OnOk};
 ghost use Rattle.std.specs.Io.KnownBytes.{Keeps};
 ghost use Rattle.br_fs.specs.Making.{IsFree, MakesFile};
@@ -41,7 +41,7 @@ impl TarFault {
     }
 }
 
-/// Something that can be written to, and whether it is standard output.
+/// A writer, and whether it is standard output.
 pub trait Channel: Write {
     ghost is_output: { Bool };
 }
@@ -91,33 +91,33 @@ pub fn tar_into(rt: &HostRuntime, path: &str) -> Result<TarSink<BufWriter<File>>
     tar_onto(rt.alloc(), file)
 }
 
-/// How many of the restored files were put into the sink.
+/// The number of restored files that were put into the sink.
 #[derive(Clone, Copy)]
 pub enum Extent {
     All,
-    /// None, or those before a stop.
+    /// No file was put, or those before a stop.
     Part,
 }
 
-/// What became of a tar stream.
+/// The state of a tar stream after a restore.
 #[derive(Clone, Copy)]
 pub enum TarEnd {
-    /// It has its end. This number of the files have no entry in it.
+    /// It is finished. This number of the files has no entry in it.
     Whole(u64),
-    /// Not all files were put, and it has no end.
+    /// Not all files were put, so the stream is not finished.
     Cut,
     /// Its end could not be written.
     Refused(SinkFault),
 }
 
-/// What came of a restore whose files go into a tar stream.
+/// The result of a restore into a tar stream.
 #[derive(Drop)]
 pub struct Streamed<A, W> {
     /// What the restore returned.
     pub run: A,
-    /// What became of the stream.
+    /// The state of the stream.
     pub end: TarEnd,
-    /// What it was written to, if there was a sink.
+    /// The writer of the stream, if there was a sink.
     pub writer: Option<W>,
 }
 
@@ -134,7 +134,7 @@ fn finished<W: Write + Drop>(sink: TarSink<W>) -> (W, TarEnd)
     }
 }
 
-/// Returns what became of a stream that could not be flushed.
+/// Returns the state of a stream that could not be flushed.
 fn not_flushed(end: TarEnd) -> TarEnd
     ensures { result ≡ not_flushed end }
 {
@@ -145,7 +145,7 @@ fn not_flushed(end: TarEnd) -> TarEnd
     }
 }
 
-/// Flushes what a stream was written to, and returns what became of the stream.
+/// Flushes the writer of a stream, and returns the state of the stream.
 #[tactic(auto, using(crate::proofs::TarLaws::shown_anyway))]
 fn flushed<W: Flush>(writer: &mut W, end: TarEnd) -> TarEnd
     ensures bytes { Keeps (W.contents writer.old) (W.contents writer.new) }
@@ -158,7 +158,7 @@ fn flushed<W: Flush>(writer: &mut W, end: TarEnd) -> TarEnd
     }
 }
 
-/// Writes the end of a stream and flushes what it was written to.
+/// Writes the end of a stream and flushes its writer.
 fn closed<W: Flush + Drop>(sink: TarSink<W>) -> (W, TarEnd)
     ensures held { HoldsBy (told sink) result.1 (W.contents result.0) }
     ensures ends { IsClosed sink.left_out result.1 }
@@ -169,7 +169,7 @@ fn closed<W: Flush + Drop>(sink: TarSink<W>) -> (W, TarEnd)
     (writer, end)
 }
 
-/// Flushes what a stream was written to, which gets no end.
+/// Flushes the writer of a stream that is not finished.
 fn cut_off<W: Flush + Drop>(sink: TarSink<W>) -> (W, TarEnd)
     ensures held { HoldsBy (told sink) result.1 (W.contents result.0) }
     ensures ends { result.1 ≡ Cut }
@@ -179,7 +179,7 @@ fn cut_off<W: Flush + Drop>(sink: TarSink<W>) -> (W, TarEnd)
     (writer, end)
 }
 
-/// Ends the stream of a sink if all files were put, and flushes what it was written to.
+/// Ends the stream of a sink if all files were put, and flushes its writer.
 fn end_of<W: Flush + Drop>(sink: TarSink<W>, extent: Extent) -> (W, TarEnd)
     ensures held { HoldsBy (told sink) result.1 (W.contents result.0) }
     ensures ends { EndsBy extent sink.left_out result.1 }
@@ -192,8 +192,8 @@ fn end_of<W: Flush + Drop>(sink: TarSink<W>, extent: Extent) -> (W, TarEnd)
     }
 }
 
-/// Ends the stream of a watched sink, if there is one and all files were put, and flushes what it was written
-/// to. Returns this writer, and what became of the stream.
+/// Ends the stream of a watched sink, if there is one and all files were put, and flushes its
+/// writer. Returns this writer, and the state of the stream.
 pub fn end_stream<W: Flush + Drop>(
     sink: Option<WatchedSink<'_, '_, TarSink<W>>>,
     extent: Extent,
@@ -211,7 +211,7 @@ pub fn end_stream<W: Flush + Drop>(
     }
 }
 
-/// Appends the line that says how many files have no entry in a stream, if there are some.
+/// Appends the line with the number of files without an entry in a stream, if there are any.
 fn push_left_out(text: &mut Vec<u8>, count: u64) -> Result<(), AllocError>
     ensures { OnOk result (text.new.items ≡ text.old.items ++ left_out_text count) }
 {
@@ -224,7 +224,7 @@ fn push_left_out(text: &mut Vec<u8>, count: u64) -> Result<(), AllocError>
     Ok(())
 }
 
-/// Appends the line that says what became of a stream. What cut it is told by another line.
+/// Appends the line about the state of a stream. Another line reports why it was cut.
 fn push_end(text: &mut Vec<u8>, end: TarEnd) -> Result<(), AllocError>
     ensures { OnOk result (text.new.items ≡ text.old.items ++ tar_text end) }
 {
@@ -235,7 +235,7 @@ fn push_end(text: &mut Vec<u8>, end: TarEnd) -> Result<(), AllocError>
     }
 }
 
-/// Returns the exit status of a run with this status of its own.
+/// Returns the exit status, given that of the run.
 fn status_with(status: u8, end: TarEnd) -> u8
     ensures { result ≡ tar_status status end }
 {
@@ -245,7 +245,7 @@ fn status_with(status: u8, end: TarEnd) -> u8
     }
 }
 
-/// Adds what became of a stream to the ending of a run.
+/// Adds the state of a stream to the ending of a run.
 pub fn add_tar_end(ending: &mut Ending, end: TarEnd) -> Result<(), AllocError>
     ensures status { OnOk result (ending.new.status ≡ tar_status ending.old.status end) }
     ensures refusal { OnOk result (ending.new.refusal.items ≡ ending.old.refusal.items ++ tar_text end) }

@@ -1,4 +1,4 @@
-//! What is told of the outcomes of a restore, at a terminal and in a log.
+//! Reports on the outcomes of a restore, to a terminal and a log.
 
 use crate::absent_count::count_absent;
 use crate::advice_lines::{push_absent, push_older, push_origin};
@@ -14,10 +14,10 @@ use br_volume::FolderDrive;
 use std::alloc::AllocError;
 use std::io;
 
-/// The number of volumes of which the reasons are told.
+/// The number of volumes whose reasons are reported.
 const VOLUMES: usize = 8;
 
-/// The number of outcomes whose lines are told at once.
+/// The number of outcomes whose lines are printed at once.
 const LINES: usize = 256;
 
 /// What a watcher noted of a restore while it ran.
@@ -50,8 +50,8 @@ impl<'t> Told<'t> {
     }
 }
 
-/// Returns where the outcomes come from that are no files. Their attributes are read once more, by a drive of its
-/// own.
+/// Returns the origins of the outcomes that are no files. Their attributes are read once more, with
+/// a separate drive.
 fn origins_of(rt: &HostRuntime, volumes: &str, told: &Told<'_>) -> Result<Vec<Origin>, AllocError> {
     let keys = told.faults.keys(rt.alloc())?;
     let Some(bootstrap) = told.bootstrap else {
@@ -61,7 +61,7 @@ fn origins_of(rt: &HostRuntime, volumes: &str, told: &Told<'_>) -> Result<Vec<Or
     origins(rt.alloc(), bootstrap, &keys, &mut drive)
 }
 
-/// Returns the lines of where outcomes come from.
+/// Returns the lines with the origins of outcomes.
 fn origin_lines(rt: &HostRuntime, origins: &[Origin]) -> Result<Vec<u8>, AllocError> {
     let mut text = Vec::new(rt.alloc());
     for origin in origins {
@@ -70,8 +70,8 @@ fn origin_lines(rt: &HostRuntime, origins: &[Origin]) -> Result<Vec<u8>, AllocEr
     Ok(text)
 }
 
-/// Tells a terminal and the log where outcomes come from, some lines at once. Lines for which memory runs out are not
-/// told.
+/// Reports the origins of outcomes to a terminal and the log, some lines at once. Lines for which
+/// memory runs out are left out.
 ///
 /// # Errors
 ///
@@ -85,8 +85,8 @@ fn tell_origins(rt: &HostRuntime, gauge: &Gauge<'_>, origins: &[Origin]) -> io::
     Ok(())
 }
 
-/// Tells a terminal and the log the outcomes that are no files in words, and where each of them comes from, by the
-/// volumes in a folder. Where they come from is not told if memory runs out for it.
+/// Reports to a terminal and the log the outcomes that are no files in words, and the origin of
+/// each, by the volumes in a folder. The origins are left out if memory runs out for them.
 ///
 /// # Errors
 ///
@@ -107,7 +107,7 @@ pub fn tell_outcomes(
     }
 }
 
-/// Returns the line that says how many indexes gave no outcome, if some did.
+/// Returns the line with the number of indexes without an outcome, if there are any.
 fn absent_lines(rt: &HostRuntime, told: &Told<'_>) -> Result<Vec<u8>, AllocError> {
     let mut text = Vec::new(rt.alloc());
     if let (Some(keys), Some(bootstrap)) = (told.keys, told.bootstrap) {
@@ -120,7 +120,7 @@ fn absent_lines(rt: &HostRuntime, told: &Told<'_>) -> Result<Vec<u8>, AllocError
     Ok(text)
 }
 
-/// Returns the line that says how many files are older copies, if some are.
+/// Returns the line with the number of files that are older copies, if there are any.
 fn older_lines(rt: &HostRuntime, outcomes: &[(FileKey, Outcome)]) -> Result<Vec<u8>, AllocError> {
     let mut text = Vec::new(rt.alloc());
     push_older(&mut text, &older_copies(rt.alloc(), outcomes)?)?;
@@ -138,10 +138,10 @@ fn count_files(outcomes: &[(FileKey, Outcome)]) -> u64 {
     count
 }
 
-/// Tells a terminal and the log what `--complete` and `--newest` would say or change, if they were not given. Notes
-/// how many older copies are left out, if `--newest` was given. The outcomes are those that were to be delivered,
-/// and `conflicts` is the number of files beside them that are left out since they conflict. What memory runs out
-/// for is not told.
+/// Reports to a terminal and the log what `--complete` and `--newest` would report or change, if
+/// they were not given. Notes the number of older copies that are left out, if `--newest` was
+/// given. The outcomes are those that were to be delivered, and `conflicts` is the number of
+/// further files that are left out as conflicting. Lines for which memory runs out are left out.
 ///
 /// # Errors
 ///
@@ -174,7 +174,7 @@ pub fn advise(
     }
 }
 
-/// Says why a volume in a folder can't be read, if it can't. Returns true if it said so.
+/// Reports why a volume in a folder can't be read, if it can't. Returns true if it did.
 fn say_volume(
     rt: &HostRuntime,
     gauge: &Gauge<'_>,
@@ -190,8 +190,8 @@ fn say_volume(
     }
 }
 
-/// Says of the volumes in a folder that the bootstrap names why they can't be read, of the first of those that can't,
-/// after a restore that stopped for want of one.
+/// Reports why volumes in a folder that the bootstrap names can't be read, for the first of them,
+/// after a restore that stopped since a volume was missing.
 ///
 /// # Errors
 ///

@@ -1,4 +1,4 @@
-//! What is told in words, at a terminal and in a log, beside what the commands print.
+//! Reports in words, to a terminal and a log, besides what the commands print.
 ghost use Rattle.std.specs.Prelude.{◌≡◌, ◌||◌, ◌==◌};
 ghost use Rattle.br_pool.specs.Fault.{fault_number};
 
@@ -16,10 +16,11 @@ use br_types::{FileKey, Path, push_escaped};
 use std::fmt;
 use std::io::{self, ErrorKind};
 
-/// The number of files of which the reasons are told.
+/// The number of files whose reasons are reported.
 const FILES: usize = 8;
 
-/// Appends a line to the log that says which stream or which file of the program's own failed, if it has a name.
+/// Appends a line to the log with the name of the program's stream or file that failed, if it has
+/// one.
 pub fn log_fault<F: fmt::Display>(
     rt: &HostRuntime,
     gauge: &Gauge<'_>,
@@ -34,8 +35,9 @@ pub fn log_fault<F: fmt::Display>(
     Ok(())
 }
 
-/// Prints to standard error a line for what is in a folder that is resumed, and is neither a file among the outcomes
-/// nor a folder on the way to one, and appends it to the log. If the folder can't be listed, a line says why.
+/// Prints to standard error a line for each thing in a resumed folder that is neither a file among
+/// the outcomes nor a folder on the way to one, and appends it to the log. If the folder can't be
+/// listed, a line says why.
 pub fn tell_others(
     rt: &HostRuntime,
     gauge: &Gauge<'_>,
@@ -57,7 +59,7 @@ pub fn tell_others(
     Ok(())
 }
 
-/// Returns whether a restore was given up for want of a volume: one is not there, or no drive is left.
+/// Returns whether a restore was given up since a volume was missing or no drive was left.
 pub fn lacks_volumes(fault: &PoolFault) -> bool
     ensures { result ≡ (fault_number fault.now == 14 || fault_number fault.now == 70) }
 {
@@ -68,12 +70,12 @@ pub fn lacks_volumes(fault: &PoolFault) -> bool
     }
 }
 
-/// Says the reason of a refusal.
+/// Reports the reason of a refusal.
 fn say_reason(rt: &HostRuntime, gauge: &Gauge<'_>, reason: &Reason) -> io::Result<()> {
     gauge.say(format!(in rt.alloc(); "  {reason}")?.as_str())
 }
 
-/// Says that a stream or its file could not be written.
+/// Reports that a stream or its file could not be written.
 fn say_stream(rt: &HostRuntime, gauge: &Gauge<'_>, path: &str) -> io::Result<()> {
     let reason = Reason {
         path: String::from_str(rt.alloc(), path)?,
@@ -82,7 +84,7 @@ fn say_stream(rt: &HostRuntime, gauge: &Gauge<'_>, path: &str) -> io::Result<()>
     say_reason(rt, gauge, &reason)
 }
 
-/// Says why the files of these paths could not be written, of the first of them.
+/// Reports why the files of these paths could not be written, for the first of them.
 pub fn say_files(
     rt: &HostRuntime,
     gauge: &Gauge<'_>,
@@ -101,7 +103,7 @@ pub fn say_files(
     }
 }
 
-/// Says why a sink failed at the file of a path.
+/// Reports why a sink failed at the file of a path.
 fn say_failure(
     rt: &HostRuntime,
     gauge: &Gauge<'_>,
@@ -118,7 +120,7 @@ fn say_failure(
     }
 }
 
-/// Says that a path conflicts with one that was written before, and what to do next.
+/// Reports that a path conflicts with one that was written before, and what to do next.
 fn say_conflict(rt: &HostRuntime, gauge: &Gauge<'_>, path: &Path, next: &str) -> io::Result<()> {
     let mut escaped = Vec::new(rt.alloc());
     push_escaped(&mut escaped, path.bytes())?;
@@ -129,7 +131,7 @@ fn say_conflict(rt: &HostRuntime, gauge: &Gauge<'_>, path: &Path, next: &str) ->
     gauge.say(line.as_str())
 }
 
-/// Says of the first of the files that are left out since they conflict with one before that they do.
+/// Reports the first of the files that are left out since they conflict with an earlier one.
 pub fn say_conflicts(rt: &HostRuntime, gauge: &Gauge<'_>, paths: &[Path]) -> io::Result<()> {
     if gauge.is_watching() {
         for path in paths.iter().take(FILES) {
@@ -139,7 +141,7 @@ pub fn say_conflicts(rt: &HostRuntime, gauge: &Gauge<'_>, paths: &[Path]) -> io:
     Ok(())
 }
 
-/// Says why a delivery stopped at the file of a path, if it did.
+/// Reports why a delivery stopped at the file of a path, if it did.
 pub fn say_stop(
     rt: &HostRuntime,
     gauge: &Gauge<'_>,
@@ -159,7 +161,7 @@ pub fn say_stop(
     }
 }
 
-/// Tells a terminal, unless it is to be quiet, that no file was written if there is no place for one.
+/// Reports to a terminal, unless it is to be quiet, that no file was written if there is no target.
 pub fn say_nowhere(gauge: &Gauge<'_>, target: Target<'_>) -> io::Result<()> {
     match target {
         Target::Nowhere if gauge.is_shown() => {
@@ -169,7 +171,7 @@ pub fn say_nowhere(gauge: &Gauge<'_>, target: Target<'_>) -> io::Result<()> {
     }
 }
 
-/// Says why the place for the restored files is not taken.
+/// Reports why the target of the restored files is refused.
 pub fn say_place(rt: &HostRuntime, gauge: &Gauge<'_>, target: Target<'_>) -> io::Result<()> {
     if !gauge.is_watching() {
         return Ok(());
@@ -181,8 +183,8 @@ pub fn say_place(rt: &HostRuntime, gauge: &Gauge<'_>, target: Target<'_>) -> io:
     }
 }
 
-/// Prints a refusal before anything was read to standard error, tells a terminal and the log what it means, and
-/// why the place for the restored files is not taken. Returns the exit status.
+/// Prints a refusal to standard error before anything was read, explains it to a terminal and the
+/// log, and reports why the target of the restored files is refused. Returns the exit status.
 ///
 /// # Errors
 ///

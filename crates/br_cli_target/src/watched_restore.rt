@@ -1,4 +1,4 @@
-//! Restores that tell a terminal how far they are.
+//! Restores that show their progress at a terminal.
 ghost use Rattle.std.specs.Prelude.{◌≡◌, is_some, length, IfOk};
 
 use crate::ending::BAD_STREAM;
@@ -7,8 +7,9 @@ use br_cli_progress::{Gauge, Log, WatchedDrive, WatchedSink};
 use std::alloc::{AllocError, Global};
 use std::io::{self, ErrorKind};
 
-/// Returns the gauge of a restore from volumes in the folder with this path. It shows how far the restore is if that
-/// is asked for and standard error is a terminal, and appends to the file of a log if one is given.
+/// Returns the gauge of a restore from volumes in the folder with this path. It shows the progress
+/// if that is asked for and standard error is a terminal, and appends to the file of a log if one
+/// is given.
 pub fn gauge_of<'r>(
     rt: &'r HostRuntime,
     volumes: &'r str,
@@ -27,8 +28,8 @@ pub fn gauge_of<'r>(
     Ok(gauge.with_log(log))
 }
 
-/// Prints to standard error that the file of a log can't be opened. Returns the exit status. An error for memory
-/// is returned.
+/// Prints to standard error that the file of a log can't be opened. Returns the exit status. If
+/// memory ran out, returns the error.
 pub fn refuse_log(rt: &HostRuntime, log: Option<&str>, error: io::Error) -> io::Result<u8> {
     match log {
         Some(path) if error.kind() != ErrorKind::OutOfMemory => {
@@ -54,7 +55,7 @@ pub(crate) fn watched_drives<'g, 'r, D: Drop>(
     Ok(watched)
 }
 
-/// Returns the sink, if there is one, so that it is watched.
+/// Returns the sink, if there is one, as a watched sink.
 pub(crate) fn watched_sink<'g, 'r, S>(
     sink: Option<S>,
     gauge: &'g Gauge<'r>,

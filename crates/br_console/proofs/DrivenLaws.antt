@@ -26,7 +26,7 @@ use Rattle.br_engine.proofs.RestoreLaws.{by_plain_order, ended, plain_delivers}
 use Rattle.br_console.specs.DrivenRestoring.{IsRestored, RestoredBy, RestoresWanted, some_shown}
 use Rattle.br_console.specs.declared.driven_store.DrivenRestore.{DrivenRestore}
 
--- drives that show these volumes tell them
+-- drives that show these volumes report them
 all_tell : (volumes : List Volume) (drives : List (List Volume)) → EachShows volumes drives
     → AllByRecursion (λ (shown : Option (List Volume)). shown ≡ Some volumes) (some_shown drives)
 all_tell volumes [] each = tt
@@ -78,7 +78,7 @@ shown_restored volumes wanted before after result drives many each by = record {
   delivers = by.delivers;
 }
 
--- so many drives, each of which shows these volumes
+-- this number of drives, each of which shows these volumes
 abbrev alike : List Volume → ℕ → List (List Volume)
 alike volumes zero = []
 alike volumes (suc n) = volumes ∷ alike volumes n

@@ -90,7 +90,7 @@ pub record IsDialogue (lines : List (List ℕ)) (before after : Option (List ℕ
   pub clean_is : clean ≡ are_answered s.view s.state lines
   pub marks_are : marks ≡ marks_at_done s.view s.state lines
 
--- if the reader tells its bytes, the dialogue of their lines with the console was written
+-- if the reader reports its bytes, the dialogue of their lines with the console was written
 abbrev pub MarksOver : Option (List ℕ) → Option (List ℕ) → Option (List ℕ) → Situation → Lines → Option (List (List ℕ)) → Type 0
 MarksOver (Some text) before after s lines marks = IsDialogue (console_lines text) before after s (are_accepted lines) marks
 MarksOver None before after s lines marks = ⊤

@@ -1,4 +1,4 @@
--- A session line after line: what was written and what is left stand for the whole.
+-- A session line after line: what was written and what is left give the whole.
 use Rattle.std.proofs.Common.{◌≡◌, ℕ, suc, ◌-◌, ◌<◌, Bool, true, false, not, cond, ◌&&◌, List, [], ◌∷◌, ◌++◌, length, take, filter, Option, Some, None, Result, Ok, Err, ne_eqb, lt-ltb, refl, ap, sym, subst, ◌∙◌, append_assoc, arith}
 use Rattle.std.proofs.lemmas.List.{append-nil}
 use Rattle.std.proofs.lemmas.List.Splits.{length-slice_split}
@@ -26,7 +26,7 @@ is_feed c = c == 10
 parts_of : (text : List ℕ) → 0 < length (slice_split is_feed text)
 parts_of text = omega (arith, length-slice_split is_feed text)
 
--- an empty first part stays, where there is one behind it
+-- an empty first part stays, if there is one after it
 empty_first : (parts : List (List ℕ)) → 0 < length parts → without_empty_end ([] ∷ parts) ≡ [] ∷ without_empty_end parts
 empty_first [] some = absurd (omega arith)
 empty_first (p ∷ ps) some = refl
@@ -37,7 +37,7 @@ is_filled p ps = ne_eqb (length (p ∷ ps)) 0 (λ e. omega (arith, e))
 untrue : true ≡ false → ⊥
 untrue h = cc
 
--- a byte in front of the first line
+-- a byte before the first line
 longer_first : (x : ℕ) (parts : List (List ℕ)) (a : List ℕ) (more : List (List ℕ)) → without_empty_end parts ≡ a ∷ more → without_empty_end (onto_first x parts) ≡ (x ∷ a) ∷ more
 longer_first x [] a more e = absurd cc
 longer_first x ([] ∷ []) a more e = absurd cc
@@ -74,7 +74,7 @@ strip_taken x y ys = go (y == 10)
 nothing_taken : (x : ℕ) (xs : List ℕ) → is_feed x ≡ true → first_piece 10 (x ∷ xs) ≡ []
 nothing_taken x xs e = ap (λ b. strip_last 10 (cond b (x ∷ []) (x ∷ take_through 10 xs))) e ∙ ap (λ b. cond b [] (x ∷ [])) e
 
--- a text that is not empty is its first line in front of the lines behind
+-- a text that is not empty is its first line before the other lines
 pub first_of_lines : (x : ℕ) (xs : List ℕ) → console_lines (x ∷ xs) ≡ first_piece 10 (x ∷ xs) ∷ console_lines (drop_through 10 (x ∷ xs))
 unfolding console_lines
 first_of_lines x [] =
@@ -231,7 +231,8 @@ said_end t u line more r is_said off = rw (← is_said.reply, off) refl
 
 -- ---- line after line
 
--- What was written so far, and what the lines that are left come to, are what the whole text comes to.
+-- What was written so far, and the effect of the lines that are left, are the effect of the whole
+-- text.
 pub record IsSoFar (text left : List ℕ) (before now : Option (List ℕ)) (s t : Situation) (clean : Bool) : Type 0 where
   pub shown : List ℕ
   pub appended : Appends before now shown
@@ -241,7 +242,7 @@ pub record IsSoFar (text left : List ℕ) (before now : Option (List ℕ)) (s t 
   pub state : console_after s.view s.state (console_lines text) ≡ console_after t.view t.state (console_lines left)
   pub unsaid : left_unsaid s text ≡ left_unsaid t left
 
--- the same where the reader tells its bytes
+-- the same if the reader reports its bytes
 abbrev pub SoFar : Option (List ℕ) → Option (List ℕ) → Option (List ℕ) → Option (List ℕ) → Situation → Situation → Bool → Type 0
 SoFar (Some text) (Some left) before now s t clean = IsSoFar text left before now s t clean
 SoFar (Some text) None before now s t clean = ⊥

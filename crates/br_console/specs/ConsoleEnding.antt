@@ -1,4 +1,4 @@
--- How a session and a run of the console end.
+-- The end of a session and of a run of the console.
 use Rattle.std.specs.Prelude.{◌≡◌, Bool, true, false, List, Option, Some, None, ⊤}
 use Rattle.br_model.specs.Restored.{Restored}
 use Rattle.br_engine.specs.Outputs.{InSink}
@@ -21,8 +21,8 @@ abbrev pub is_done : SessionEnd → Bool
 is_done session.Done = true
 is_done session.Quit = false
 
--- The run restored files, of which each outcome is a file, or some is not; or it restored nothing. Of a delivery that stopped the end does
--- not say if each outcome is a file.
+-- The run restored files, each outcome of which is a file, or some is not; or it restored nothing.
+-- If a delivery stopped, the end does not say if each outcome is a file.
 abbrev pub EndIs : End → Option Bool → Type 0
 EndIs Quit None = ⊤
 EndIs Quit (Some whole) = ⊥
@@ -31,7 +31,8 @@ EndIs (Done restore.AllFiles) (Some whole) = whole ≡ true
 EndIs (Done restore.SomeFaults) (Some whole) = whole ≡ false
 EndIs (Done (restore.Stopped stop)) (Some whole) = ⊤
 
--- without files nothing was put; otherwise the restore ended so, with these files in the sink
+-- without files nothing was put; otherwise the restore ended like this, with these files in the
+-- sink
 abbrev pub LeavesSink : InSink → InSink → End → Option (List Restored) → Type 0
 LeavesSink had has Quit None = has ≡ had
 LeavesSink had has Quit (Some rs) = ⊥

@@ -1,4 +1,4 @@
--- Why a run of the console ended early, and the line that says so.
+-- Why a run of the console ended early, and the line that reports it.
 use Rattle.std.specs.Prelude.{◌≡◌, ℕ, ◌^◌, List, [], Option, Some, None, option_map, ⊤}
 use Rattle.std.specs.declared.io.ErrorKind.{ErrorKind}
 use Rattle.std.specs.declared.io.ErrorKind.TheVariants.{OutOfMemory}
@@ -10,7 +10,7 @@ use Rattle.br_engine.specs.Fault.{pool_text}
 use Rattle.br_console.specs.declared.console_fault.ConsoleFault.{ConsoleFault}
 use Rattle.br_console.specs.declared.console_fault.ConsoleFault.TheVariants.{Memory, Plan, Piece, Io, NoEnd}
 
--- the number of a refused choice or plan, or the fault of a piece
+-- the number of a refused choice or plan, or that of a piece's fault
 pub data Refusal : Type 0 where
   OfPlan : ℕ → Refusal
   OfPiece : model.PieceFault → Refusal
@@ -24,7 +24,8 @@ cause (Piece fault) = option_map OfPiece (pool.cause fault)
 cause (Io fault) = None
 cause (NoEnd turns) = None
 
--- the number of a refusal; a fault of reading or writing has none, nor have lines that have no end
+-- the number of a refusal; a fault of reading or writing has none, and neither have lines without
+-- an end
 abbrev pub fault_number : ConsoleFault → Option ℕ
 fault_number Memory = Some 1
 fault_number (Plan fault) = Some (plan.fault_number fault)
@@ -32,7 +33,8 @@ fault_number (Piece fault) = Some (pool.fault_number fault)
 fault_number (Io fault) = None
 fault_number (NoEnd turns) = None
 
--- the line of a refusal; a fault of reading or writing has none, nor have lines that have no end
+-- the line of a refusal; a fault of reading or writing has none, and neither have lines without an
+-- end
 abbrev pub fault_text : ConsoleFault → List ℕ
 fault_text Memory = refused_line 1
 fault_text (Plan fault) = refused_line (plan.fault_number fault)
@@ -56,7 +58,7 @@ IsFree (Piece fault) = ⊥
 IsFree (Io fault) = ⊤
 IsFree (NoEnd turns) = ⊥
 
--- a session was broken off: memory ran out, reading or writing failed, or the lines have no end
+-- a session failed: memory ran out, reading or writing failed, or the lines have no end
 abbrev pub IsBrokenOff : ConsoleFault → Type 0
 IsBrokenOff Memory = ⊤
 IsBrokenOff (Plan fault) = ⊥
@@ -64,7 +66,7 @@ IsBrokenOff (Piece fault) = ⊥
 IsBrokenOff (Io fault) = ⊤
 IsBrokenOff (NoEnd turns) = ⊤
 
--- lines are said to have no end only after 2^40 turns of reading
+-- lines are refused as lines without an end only after 2^40 turns of reading
 abbrev pub EndlessAfterAll : ConsoleFault → Type 0
 EndlessAfterAll Memory = ⊤
 EndlessAfterAll (Plan fault) = ⊤
@@ -72,6 +74,7 @@ EndlessAfterAll (Piece fault) = ⊤
 EndlessAfterAll (Io fault) = ⊤
 EndlessAfterAll (NoEnd turns) = turns ≡ 2 ^ 40
 
--- a fault of reading or writing with this kind is told as it is, or as memory that ran out if it is of that kind
+-- a fault of reading or writing is reported with its kind; if that is memory, as memory that ran
+-- out
 abbrev pub IsStreamFault : ErrorKind → ConsoleFault → ConsoleFault → Type 0
 IsStreamFault kind told e = IsFree e × (kind ≡ OutOfMemory → e ≡ Memory) × (¬ (kind ≡ OutOfMemory) → e ≡ told)

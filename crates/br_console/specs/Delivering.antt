@@ -1,4 +1,5 @@
--- A run of the console as its contracts state it: over what reader, drives, writer and sink show before and after it.
+-- A run of the console as its contracts state it: over what reader, drives, writer and sink show
+-- before and after the run.
 use Rattle.std.specs.Prelude.{◌≡◌, ℕ, List, Option, option_map, Result, Ok, Err, IfOk, ⊤}
 use Rattle.br_model.specs.Restored.{Restored}
 use Rattle.br_model.specs.Job.{JobRows}
@@ -19,8 +20,8 @@ use Rattle.br_console.specs.declared.ending.ConsoleRun.{ConsoleRun}
 use Rattle.br_console.specs.declared.console_fault.ConsoleFault.{ConsoleFault}
 use Rattle.br_console.specs.declared.running.JobSelection.{JobSelection}
 
--- The run restored these files, or none if the dialogue did not end by `done`, and the very same files were put. If the run is refused,
--- nothing was put.
+-- The run restored these files, or none if the dialogue did not end with `done`, and exactly the
+-- same files were put. If the run is refused, nothing was put.
 abbrev pub Delivers : Option (List ℕ) → Told → Told → Option (List ℕ) → Option (List ℕ) → InSink → InSink → List JobRows → Request → Result ConsoleRun ConsoleFault → Type 0
 Delivers known earlier later before after had has history q (Ok run) =
     (files : Option (List Restored))
@@ -43,7 +44,7 @@ RunsInto known seen asked result =
 abbrev pub TellsInto : Option (List ℕ) → Option (List ℕ) → Option (List ℕ) → JobSelection → Result ConsoleRun ConsoleFault → Type 0
 TellsInto known before after asked result = TellsOver known before after asked.history.now asked.request.now result
 
--- all that comes before a drive is asked
+-- all that comes before a drive is used
 abbrev pub BeginsInto : Option (List ℕ) → Option (List ℕ) → Option (List ℕ) → JobSelection → Result (Lines × Option Plan) ConsoleFault → Type 0
 BeginsInto known before after asked result = BeginsOver known before after asked.history.now asked.request.now result
 
@@ -61,12 +62,12 @@ IfUnchosen asked holds = (n : ℕ) → choose asked.history.now asked.request.no
 
 -- ---- a sink that failed
 
--- if the delivery of a run stopped by 80, the sink has failed once more
+-- if the delivery of a run stopped with 80, the sink has failed once more
 abbrev pub EndsByFailure : Option ℕ → Option ℕ → End → Type 0
 EndsByFailure earlier later (Done end) = StopsByFailure earlier later end
 EndsByFailure earlier later Quit = ⊤
 
--- a stop by 80 was counted as a failure of the sink
+-- a stop with 80 was counted as a failure of the sink
 abbrev pub RunStopIsCounted : {D S : Type 0} → (S → ℕ) → Restore D S → Restore D S → Result ConsoleRun ConsoleFault → Type 0
 RunStopIsCounted failures before after result =
     IfOk result (λ run. EndsByFailure (option_map failures before.sink) (option_map failures after.sink) run.end)

@@ -12,12 +12,13 @@ use Rattle.br_engine.specs.declared.restore_end.RestoreEnd.{RestoreEnd}
 use Rattle.br_engine.specs.declared.fault.ExtractFault.{ExtractFault}
 use Rattle.br_console.specs.declared.driven_store.DrivenRestore.{DrivenRestore}
 
--- the volumes of drives that tell them
+-- the volumes of drives that report them
 abbrev pub some_shown : List (List Volume) → Told
 some_shown drives = map (λ (shown : List Volume). Some shown) drives
 
--- The manifest of what a bootstrap gives was written, or there is why not, over all volumes that drives may
--- be taken to show. There are so many of them, each shows these volumes at first, and they only grow.
+-- The manifest of what a bootstrap gives was written, or there is a reason why not, over all
+-- volumes that drives may be taken to show. There is this number of drives; each shows these
+-- volumes at first, and the volumes only grow.
 pub record IsRestored (volumes : Option (List Volume)) (count : ℕ) (groups : List Group) (names : Option (List Planned)) (before after : Option (List ℕ))
     (result : Result RestoreEnd ExtractFault) : Type 0 where
   pub earlier : Told
@@ -27,13 +28,14 @@ pub record IsRestored (volumes : Option (List Volume)) (count : ℕ) (groups : L
   pub grow : AllZip OnlyGrows earlier later
   pub delivers : Delivers (λ holds. OverVolumes earlier later groups names holds) before after None None result
 
--- the same of what is wanted
+-- the same for what is wanted
 abbrev pub RestoresWanted : Option (List Volume) → DrivenRestore → Option (List ℕ) → Option (List ℕ) → Result RestoreEnd ExtractFault → Type 0
 RestoresWanted volumes wanted before after result =
     IsRestored volumes wanted.drives wanted.bootstrap.now (option_map planned_in wanted.names) before after result
 
--- The manifest of what is wanted was written, or there is why not, over all volumes that some drives may be taken to show. They tell these
--- volumes at first, which only grow.
+-- The manifest of what is wanted was written, or there is a reason why not, over all volumes that
+-- some drives may be taken to show. The drives report these volumes at first, and the volumes only
+-- grow.
 pub record RestoredBy (earlier : Told) (wanted : DrivenRestore) (before after : Option (List ℕ)) (result : Result RestoreEnd ExtractFault) : Type 0 where
   pub later : Told
   pub grow : AllZip OnlyGrows earlier later

@@ -1,4 +1,4 @@
--- What the fields of a restore say.
+-- The fields of a line `restore`.
 use Rattle.std.specs.Prelude.{ℕ, List, Option, Some, Result, Ok}
 use Rattle.br_model.specs.Answer.{◌>>=◌}
 use Rattle.br_model.specs.Choice.{Request}
@@ -16,7 +16,7 @@ abbrev pub fault_number : RestoreLineFault → ℕ
 fault_number (Field why) = field.fault_number why
 fault_number (Moment why) = moment_number why
 
--- the refusal that the fields decide, none if memory ran out
+-- the refusal that the fields decide; none if memory ran out
 abbrev pub cause : RestoreLineFault → Option ℕ
 cause (Field why) = field.cause why
 cause (Moment why) = Some (moment_number why)
@@ -27,7 +27,7 @@ of_field_fault why = Field why
 abbrev pub of_moment_fault : BadMoment → RestoreLineFault
 of_moment_fault why = Moment why
 
--- a client, a file set and a moment: 90 if the fields do not have their forms, and then 52 for the moment
+-- a client, a file set and a moment: 90 if the fields are malformed, and then 52 for the moment
 unfoldable pub request_said : List ℕ → Result Request ℕ
 request_said text = do
   client ← field_said text

@@ -1,5 +1,5 @@
--- A run of the console: from a history and the lines of a dialogue to a bootstrap, and over volumes to a manifest; what is appended to
--- what the writer held, and what is returned or refused.
+-- A run of the console: from a history and the lines of a dialogue to a bootstrap, and over volumes
+-- to a manifest. It says what is appended to what the writer held, and what is returned or refused.
 use Rattle.std.specs.Prelude.{◌≡◌, ℕ, Bool, true, List, [], ◌++◌, map, Option, Some, None, IfSome, Result, Ok, Err, ⊤}
 use Rattle.std.specs.Io.KnownBytes.{Appends, Keeps}
 use Rattle.br_model.specs.Answer.{◌>>=◌, refused_as, IsRefusal}
@@ -32,7 +32,7 @@ use Rattle.br_console.specs.declared.ending.End.{End}
 use Rattle.br_console.specs.declared.ending.End.TheVariants.{Done, Quit}
 use Rattle.br_console.specs.declared.ending.ConsoleRun.{ConsoleRun}
 
--- ---- before a drive is asked
+-- ---- before a drive is used
 
 -- the console over the view of the chosen jobs, at the root and without marks; or the refusal of the choice
 unfoldable pub opening : List JobRows → Request → Result Situation ℕ
@@ -40,18 +40,20 @@ opening history q = do
   jobs ← choose history q
   Ok (record { view = view_of jobs; state = at_start })
 
--- what is written before a drive is asked, if no line was refused, and the plan, if the dialogue ended by `done`
+-- what is written before a drive is used, if no line was refused, and the plan, if the dialogue
+-- ended with `done`
 pub record Begun : Type 0 where
   pub text : List ℕ
   pub is_clean : Bool
   pub plan : Result (Option Plan) ℕ
 
--- after a dialogue that ended by `done` comes the bootstrap of the plan, unless the plan is refused
+-- after a dialogue that ended with `done` comes the bootstrap of the plan, unless the plan is
+-- refused
 abbrev pub with_plan : List ℕ → Bool → Result Plan ℕ → Begun
 with_plan text clean (Ok plan) = record { text = text ++ canonical plan.groups; is_clean = clean; plan = Ok (Some plan) }
 with_plan text clean (Err n) = record { text = text; is_clean = clean; plan = Err n }
 
--- after a dialogue with these marks at its `done`, if there is one
+-- what follows a dialogue with these marks at its `done`, if there is one
 abbrev pub with_marks : List JobRows → Request → List ℕ → Bool → Option (List (List ℕ)) → Begun
 with_marks history q text clean None = record { text = text; is_clean = clean; plan = Ok None }
 with_marks history q text clean (Some marks) = with_plan text clean (plan_of history q marks)
@@ -62,13 +64,14 @@ with_console history q lines (Ok s) =
     with_marks history q (dialogue s.view s.state lines) (are_answered s.view s.state lines) (marks_at_done s.view s.state lines)
 with_console history q lines (Err n) = record { text = []; is_clean = true; plan = Err n }
 
--- all that comes before a drive is asked, for the lines of a text
+-- all that comes before a drive is used, for the lines of a text
 unfoldable pub begun : List JobRows → Request → List ℕ → Begun
 begun history q text = with_console history q (console_lines text) (opening history q)
 
 -- ---- the whole of a run
 
--- what a run returns: if no line was refused, and if each outcome is a file, if the dialogue ended by `done`
+-- what a run returns: whether no line was refused, and whether each outcome is a file, if the
+-- dialogue ended with `done`
 pub record Answer : Type 0 where
   pub is_clean : Bool
   pub restored : Option Bool
@@ -78,18 +81,18 @@ pub record Run : Type 0 where
   pub text : List ℕ
   pub answer : Result Answer Refusal
 
--- after what was written the manifest of the files, or the fault of a piece and nothing more
+-- after what was written comes the manifest of the files, or the fault of a piece and nothing more
 abbrev pub with_files : List ℕ → Bool → Result (List Restored) model.PieceFault → Run
 with_files text clean (Ok rs) = record { text = text ++ manifest rs; answer = Ok (record { is_clean = clean; restored = Some (are_files rs) }) }
 with_files text clean (Err why) = record { text = text; answer = Err (OfPiece why) }
 
--- over volumes the files that were planned, under their names; without a plan nothing more
+-- the planned files over volumes, under their names; without a plan nothing more
 abbrev pub over_volumes : List ℕ → Bool → List Volume → Result (Option Plan) ℕ → Run
 over_volumes text clean volumes (Ok None) = record { text = text; answer = Ok (record { is_clean = clean; restored = None }) }
 over_volumes text clean volumes (Ok (Some plan)) = with_files text clean (restored_files plan.groups (Some plan.names) volumes)
 over_volumes text clean volumes (Err n) = record { text = text; answer = Err (OfPlan n) }
 
--- a run over volumes from what is there before they are asked
+-- a run over volumes, from the state before a drive is used
 abbrev pub run_from : Begun → List Volume → Run
 run_from b volumes = over_volumes b.text b.is_clean volumes b.plan
 
@@ -103,8 +106,9 @@ console_run history q text volumes = run_from (begun history q text) volumes
 abbrev pub Shows : ConsoleRun → Answer → Type 0
 Shows run answer = (are_accepted run.lines ≡ answer.is_clean) × EndIs run.end answer.restored
 
--- The refusal is the expected one, and what is expected was appended to what the writer held. There is no refusal to compare if memory
--- ran out, no drive is left, or reading or writing failed, which may happen at any time.
+-- The refusal is the expected one, and what is expected was appended to what the writer held. There
+-- is no refusal to compare if memory ran out, no drive is left, or reading or writing failed, which
+-- may happen at any time.
 abbrev pub RefusesRun : Option (List ℕ) → Option (List ℕ) → Run → Option Refusal → Type 0
 RefusesRun before after expected None = ⊤
 RefusesRun before after expected (Some why) = (expected.answer ≡ Err why) × Appends before after expected.text
@@ -118,7 +122,8 @@ Runs before after (Err why) expected = RefusesRun before after expected (cause w
 abbrev pub AllStandForPlan : Told → Told → Begun → List Volume → Type 0
 AllStandForPlan earlier later b volumes = (plan : Plan) → b.plan ≡ Ok (Some plan) → AllStand earlier later (pieces_of plan.groups) volumes
 
--- if the reader tells its bytes, the run is that of these bytes over all volumes that each of the drives may be taken to show
+-- if the reader reports its bytes, the run is that of these bytes over all volumes that each of the
+-- drives may be taken to show
 abbrev pub RunsOver : Option (List ℕ) → Told → Told → Option (List ℕ) → Option (List ℕ) → List JobRows → Request → Result ConsoleRun ConsoleFault → Type 0
 RunsOver (Some text) earlier later before after history q result =
     (volumes : List Volume) → AllStandForPlan earlier later (begun history q text) volumes → Runs before after result (console_run history q text volumes)
@@ -126,15 +131,15 @@ RunsOver None earlier later before after history q result = ⊤
 
 -- ---- a run over any drives
 
--- Without a plan nothing more was written than what is written before a drive is asked. Otherwise the manifest of some files follows it,
--- and the end says if each of them is a file.
+-- Without a plan nothing is written beyond what is written before a drive is used. Otherwise the
+-- manifest of some files follows it, and the end says if each of them is a file.
 abbrev pub Ends : Option (List ℕ) → Option (List ℕ) → Begun → End → Type 0
 Ends before after b Quit = (b.plan ≡ Ok None) × Appends before after b.text
 Ends before after b (Done end) =
     (plan : Plan) × (rs : List Restored) × (b.plan ≡ Ok (Some plan)) × EndTells end rs × Appends before after (b.text ++ manifest rs)
 
--- Whatever the drives do, what is written before one is asked was written first; and nothing more if the choice or the plan is refused,
--- or a piece by whatever fault.
+-- Whatever the drives do, what is written before one is used was written first. Nothing more is
+-- written if the choice or the plan is refused, or a piece by any fault.
 abbrev pub Tells : Option (List ℕ) → Option (List ℕ) → Begun → Result ConsoleRun ConsoleFault → Type 0
 Tells before after b (Ok run) = (b.is_clean ≡ are_accepted run.lines) × Ends before after b run.end
 Tells before after b (Err fault.Memory) = ⊤
@@ -143,7 +148,7 @@ Tells before after b (Err (fault.Piece why)) = (plan : Plan) × (b.plan ≡ Ok (
 Tells before after b (Err (fault.Io why)) = ⊤
 Tells before after b (Err (fault.NoEnd turns)) = ⊤
 
--- the same if the reader tells its bytes
+-- the same if the reader reports its bytes
 abbrev pub TellsOver : Option (List ℕ) → Option (List ℕ) → Option (List ℕ) → List JobRows → Request → Result ConsoleRun ConsoleFault → Type 0
 TellsOver (Some text) before after history q result = Tells before after (begun history q text) result
 TellsOver None before after history q result = ⊤
@@ -159,7 +164,8 @@ WritesPlan before after expected (Err (fault.Piece why)) = ⊥
 WritesPlan before after expected (Err (fault.Io why)) = ⊤
 WritesPlan before after expected (Err (fault.NoEnd turns)) = ⊥
 
--- what is expected before a drive is asked was written, with the expected lines and plan; or the choice or the plan is refused as expected
+-- what is expected before a drive is used was written, with the expected lines and plan; or the
+-- choice or the plan is refused as expected
 abbrev pub Begins : Option (List ℕ) → Option (List ℕ) → Begun → Result (Lines × Option Plan) ConsoleFault → Type 0
 Begins before after b (Ok made) = (b.is_clean ≡ are_accepted made.0) × (b.plan ≡ Ok made.1) × Appends before after b.text
 Begins before after b (Err fault.Memory) = ⊤
@@ -168,12 +174,12 @@ Begins before after b (Err (fault.Piece why)) = ⊥
 Begins before after b (Err (fault.Io why)) = ⊤
 Begins before after b (Err (fault.NoEnd turns)) = ⊤
 
--- the same if the reader tells its bytes
+-- the same if the reader reports its bytes
 abbrev pub BeginsOver : Option (List ℕ) → Option (List ℕ) → Option (List ℕ) → List JobRows → Request → Result (Lines × Option Plan) ConsoleFault → Type 0
 BeginsOver (Some text) before after history q result = Begins before after (begun history q text) result
 BeginsOver None before after history q result = ⊤
 
--- what is said of the files that a plan gives, or of the fault of a piece
+-- a statement about the files that a plan gives, or about the fault of a piece
 abbrev pub Said : Type 1
 Said = Result (List Restored) model.PieceFault → Type 0
 
@@ -190,15 +196,16 @@ StopsAt before after (fault.Piece why) = Keeps before after
 StopsAt before after (fault.Io why) = ⊤
 StopsAt before after (fault.NoEnd turns) = ⊥
 
--- The files are those of the plan, their manifest was written, and the restore ended so; or the refusal is the fault of a piece, and nothing
--- was put.
+-- The files are those of the plan, their manifest was written, and the restore ended like this. Or
+-- the refusal is the fault of a piece, and nothing was put.
 abbrev pub RestoresPlan : Told → Told → Option (List ℕ) → Option (List ℕ) → InSink → InSink → Plan → Result RestoreEnd ConsoleFault → Type 0
 RestoresPlan earlier later before after had has plan (Ok end) =
     (rs : List Restored) × OverPlan earlier later plan (λ expected. expected ≡ Ok rs) × Appends before after (manifest rs) × EndsWith had has rs end
 RestoresPlan earlier later before after had has plan (Err why) =
     OverPlan earlier later plan (λ expected. IsRefusal (cause why) (refused_as OfPiece expected)) × StopsAt before after why × (has ≡ had)
 
--- the fault of a restore as one of a run: memory that ran out for reading or writing is told as such
+-- the fault of a restore as one of a run: memory that ran out for reading or writing is reported as
+-- such
 abbrev pub BecomesFault : ExtractFault → ConsoleFault → Type 0
 BecomesFault extract.Memory why = why ≡ fault.Memory
 BecomesFault (extract.Bootstrap e) why = ⊥
@@ -212,14 +219,14 @@ IsNoDriveLeft why = fault_number why ≡ Some 70
 
 -- ---- the files of a run
 
--- Without files the dialogue did not end by `done`, and what comes before a drive is asked was written. Otherwise these are the files of the
--- plan, and their manifest follows it.
+-- Without files the dialogue did not end with `done`, and what comes before a drive is used was
+-- written. Otherwise these are the files of the plan, and their manifest follows it.
 abbrev pub Restores : Told → Told → Option (List ℕ) → Option (List ℕ) → Begun → Option (List Restored) → Type 0
 Restores earlier later before after b None = (b.plan ≡ Ok None) × Appends before after b.text
 Restores earlier later before after b (Some rs) =
     (plan : Plan) × (b.plan ≡ Ok (Some plan)) × OverPlan earlier later plan (λ expected. expected ≡ Ok rs) × Appends before after (b.text ++ manifest rs)
 
--- the same if the reader tells its bytes, and if no line was refused
+-- the same if the reader reports its bytes, and whether no line was refused
 abbrev pub RestoresOver : Option (List ℕ) → Told → Told → Option (List ℕ) → Option (List ℕ) → List JobRows → Request → Bool → Option (List Restored) → Type 0
 RestoresOver (Some text) earlier later before after history q clean files =
     ((begun history q text).is_clean ≡ clean) × Restores earlier later before after (begun history q text) files

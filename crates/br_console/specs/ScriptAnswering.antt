@@ -10,20 +10,20 @@ use Rattle.br_keeper.specs.declared.fault.KeeperFault.{KeeperFault}
 abbrev pub stored_line : ℕ → List ℕ
 stored_line id = line (codes "stored " ++ decimal id)
 
--- the line of a refusal; 90 is beside the number of the refused line
+-- the line of a refusal; 90 comes with the number of the refused line
 abbrev pub refusal_at : ℕ → ℕ → List ℕ
 refusal_at number place = if number == 90 then line (codes "refused 90 line " ++ decimal place) else refused_line number
 
--- what is written of a job that was to be committed
+-- what is written about a job that was to be committed
 abbrev pub commit_line : Result ℕ KeeperFault → List ℕ
 commit_line (Ok id) = stored_line id
 commit_line (Err why) = refused_line (fault_number why)
 
--- the text was written, or that memory ran out for it
+-- the text was written, or a line that memory ran out for it
 abbrev pub Tells : Option (List ℕ) → Option (List ℕ) → List ℕ → Type 0
 Tells before after text = Appends before after text ⊎ Appends before after (refused_line 1)
 
--- the text that was made was written, or that memory ran out for it
+-- the text that was made was written, or a line that memory ran out for it
 abbrev pub TellsMade : {E F : Type 0} → Option (List ℕ) → Option (List ℕ) → Result (Unit {0}) E → Result (Vec ℕ Global) F → Type 0
 TellsMade before after result (Ok text) = OnOk result (Appends before after text.items)
 TellsMade before after result (Err why) = OnOk result (Appends before after (refused_line 1))

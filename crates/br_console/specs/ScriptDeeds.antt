@@ -1,4 +1,4 @@
--- What becomes of a keeper: jobs are committed, and bytes are appended to volumes.
+-- The changes of a keeper: jobs are committed, and bytes are appended to volumes.
 use Rattle.std.specs.Prelude.{◌≡◌, ℕ, ◌<◌, ◌⊎◌, List, [], ◌∷◌, Option, Result, Ok, Err, OnOk, ⊤}
 use Rattle.std.specs.Io.KnownBytes.{Appends, Keeps}
 use Rattle.std.specs.List.{AllByRecursion}
@@ -16,19 +16,19 @@ use Rattle.br_keeper.specs.Committing.{Commits}
 use Rattle.br_keeper.specs.Keeping.{Keeping, shelf_of}
 use Rattle.br_console.specs.ScriptKeeper.{HasLearned}
 
--- a job that is to be committed and what came of it, or a volume and the bytes that are appended to it
+-- a job to be committed and the result, or a volume and the bytes that are appended to it
 pub data Deed : Type 0 where
   Commit : ToCommit → Result Beginning KeeperFault → Deed
   Append : List ℕ → List ℕ → Deed
 
--- the bytes are appended to the volume, or some of the first of them, and nothing else is changed
+-- the bytes, or a first part of them, are appended to the volume, and nothing else is changed
 abbrev pub AppendsRaw : {C W : Type 0} → (W → Option (List Volume)) → List ℕ → List ℕ → Keeping C W → Keeping C W → Type 0
 AppendsRaw holds volume bytes old new =
     (AppendsTo volume bytes (holds old.volumes) (holds new.volumes) ⊎ AppendsInPartTo volume bytes (holds old.volumes) (holds new.volumes))
     × (new ≡ record old { volumes = new.volumes })
 
--- The bytes are appended to the volume, and nothing is written. Or the store failed, some of the first of them are appended, and the
--- refusal is written.
+-- The bytes are appended to the volume, and nothing is written. Or the store failed, a first part
+-- of the bytes is appended, and the refusal is written.
 abbrev pub AnswersBytes : {C W E : Type 0} → (W → Option (List Volume)) → (W → ℕ) → List ℕ → List ℕ → Keeping C W → Keeping C W
     → Option (List ℕ) → Option (List ℕ) → Result (Unit {0}) E → Type 0
 AnswersBytes holds failures volume bytes old new before after result =

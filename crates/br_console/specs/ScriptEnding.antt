@@ -25,7 +25,7 @@ use Rattle.br_console.specs.declared.script.ScriptEnd.TheVariants.{Refused}
 
 -- ---- refusals
 
--- this line is written, and the script does not end clean
+-- this line is written, and the script does not end cleanly
 abbrev pub RefusesBy : {E : Type 0} → Option (List ℕ) → Option (List ℕ) → ScriptEnd → Result (Unit {0}) E → List ℕ → Type 0
 RefusesBy before after now result text = OnOk result ((now ≡ Refused) × Appends before after text)
 
@@ -40,35 +40,36 @@ DialogueStops (of_dialogue.Io why) result = result ≡ Err (of_script.Io why)
 DialogueStops (of_dialogue.NoEnd turns) result = result ≡ Err (of_script.NoEnd turns)
 DialogueStops why result = ⊤
 
--- the line of the refusal is written, and the script does not end clean; a fault of reading or writing ends it at once
+-- the line of the refusal is written, and the script does not end cleanly; a fault of reading or
+-- writing ends it at once
 abbrev pub RefusesExtract : Option (List ℕ) → Option (List ℕ) → ScriptEnd → ExtractFault → Result (Unit {0}) ScriptFault → Type 0
 RefusesExtract before after now why result =
     OnOk result ((now ≡ Refused) × Tells before after (extract.fault_text why)) × ExtractStops why result
 
--- the same of a dialogue
+-- the same for a dialogue
 abbrev pub RefusesDialogue : Option (List ℕ) → Option (List ℕ) → ScriptEnd → ConsoleFault → Result (Unit {0}) ScriptFault → Type 0
 RefusesDialogue before after now why result =
     OnOk result ((now ≡ Refused) × Tells before after (dialogue.fault_text why)) × DialogueStops why result
 
 -- ---- restores
 
--- After a restore whose files are all there the script ends as it would before. After one with faults it does not end clean. A refusal is
--- written.
+-- After a restore in which each outcome is a file the script ends as it would before. After one
+-- with faults it does not end cleanly. A refusal is written.
 abbrev pub EndsRestore : Option (List ℕ) → Option (List ℕ) → ScriptEnd → ScriptEnd → Result RestoreEnd ExtractFault → Result (Unit {0}) ScriptFault → Type 0
 EndsRestore before after was now (Ok AllFiles) result = (now ≡ was) × Keeps before after × (result ≡ Ok tt)
 EndsRestore before after was now (Ok SomeFaults) result = (now ≡ Refused) × Keeps before after × (result ≡ Ok tt)
 EndsRestore before after was now (Ok (Stopped stop)) result = (now ≡ Refused) × Keeps before after × (result ≡ Ok tt)
 EndsRestore before after was now (Err why) result = RefusesExtract before after now why result
 
--- By this number of drives over the volumes a bootstrap is restored, with the names of its files if it is that of a plan. What becomes of
--- that is written, and the script ends by it.
+-- A bootstrap is restored by this number of drives over the volumes, with the names of its files if
+-- it is that of a plan. The result is written, and the script ends accordingly.
 abbrev pub Restores : Option (List Volume) → ℕ → List Group → Option (List Planned) → Option (List ℕ) → Option (List ℕ) → ScriptEnd → ScriptEnd
     → Result (Unit {0}) ScriptFault → Type 0
 Restores volumes count groups names before after was now result =
     (middle : Option (List ℕ)) × (ended : Result RestoreEnd ExtractFault) × IsRestored volumes count groups names before middle ended
     × EndsRestore middle after was now ended result
 
--- the kept bootstrap is restored; without one the line is refused
+-- the kept bootstrap is restored; if there is none, the line is refused
 abbrev pub RunsKept : Option (List Volume) → ℕ → ℕ → Option (List ℕ) → Option (List ℕ) → ScriptEnd → ScriptEnd → Result (Unit {0}) ScriptFault
     → Option (List Group) → Type 0
 RunsKept volumes count place before after was now result None = RefusesBy before after now result (refusal_at 90 place)
@@ -76,7 +77,7 @@ RunsKept volumes count place before after was now result (Some groups) = Restore
 
 -- ---- dialogues
 
--- a script whose lines were refused does not end clean
+-- a script whose lines were refused does not end cleanly
 abbrev pub after_lines : Lines → ScriptEnd → ScriptEnd
 after_lines AllAccepted was = was
 after_lines SomeRefused was = Refused
@@ -90,7 +91,7 @@ EndsDialogue volumes count before after was now result judged (Some plan) =
 
 -- ---- as a script states it, over its volumes, its drives and its end
 
--- the kept bootstrap is restored; without one the line is refused
+-- the kept bootstrap is restored; if there is none, the line is refused
 abbrev pub RunsKeptBy : {C V : Type 0} → (V → Option (List Volume)) → Script C V → Script C V → Option (List ℕ) → Option (List ℕ) → ℕ
     → Result (Unit {0}) ScriptFault → Type 0
 RunsKeptBy holds old new before after place result =

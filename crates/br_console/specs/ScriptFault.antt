@@ -3,7 +3,7 @@ use Rattle.std.specs.Prelude.{◌≡◌, ◌^◌, ⊤}
 use Rattle.br_console.specs.declared.script_fault.ScriptFault.{ScriptFault}
 use Rattle.br_console.specs.declared.script_fault.ScriptFault.TheVariants.{Io, NoEnd}
 
--- a script is said to have no end only after 2^40 turns of reading
+-- a script is refused as one without an end only after 2^40 turns of reading
 abbrev pub EndlessAfterAll : ScriptFault → Type 0
 EndlessAfterAll (Io fault) = ⊤
 EndlessAfterAll (NoEnd turns) = turns ≡ 2 ^ 40

@@ -1,4 +1,4 @@
--- What the lines of a job do.
+-- The effect of the lines of a job.
 use Rattle.std.specs.Prelude.{◌≡◌, ℕ, ◌⊎◌, List, Option, Some, None, MatchOption, Result, Ok, Err, OnOk}
 use Rattle.std.specs.Io.KnownBytes.{Appends, Keeps}
 use Rattle.br_model.specs.Answer.{IsRefusal}
@@ -28,8 +28,8 @@ BeginsJob place before after result fields was now =
 abbrev pub GivesUp : Option Drafting → Option Drafting → Type 0
 GivesUp before after = MatchOption before (after ≡ None) (λ d. after ≡ Some (given_up d))
 
--- What becomes of a job after a line that it has taken. If the line ends it, it ends. If the line is
--- refused, its refusal is written. No line but the end does anything else than to change the job.
+-- The state of a job after a line that it has taken. If the line ends the job, the job ends. If the
+-- line is refused, its refusal is written. Every other line only changes the job.
 abbrev pub GoesOn : {C W E : Type 0} → (JobRows → C → C → Type 0) → (JobRows → C → C → Type 0) → (Keeping C W → Shelf) → ℕ
     → Keeping C W → Keeping C W → Option Known → Option (List ℕ) → Option (List ℕ) → Result (Unit {0}) E
     → Drafting → Option Drafting → Result Taken JobLineFault → Type 0
@@ -55,7 +55,7 @@ abbrev pub CommitsJob : {C V W E : Type 0} → (JobRows → C → C → Type 0) 
 CommitsJob inserts refuses holds failures contents old new before after c result =
     AnswersCommit inserts refuses (shelf_of holds failures) c old.desk.keeper new.desk.keeper new.desk.session (contents before) (contents after) result
 
--- what becomes of a job that ends
+-- the result for a job that ends
 abbrev pub EndsDraft : {C V W E : Type 0} → (JobRows → C → C → Type 0) → (JobRows → C → C → Type 0) → (V → Option (List Volume)) → (V → ℕ)
     → (W → Option (List ℕ)) → Script C V → Script C V → W → W → ℕ → Result (Unit {0}) E → Drafting → Type 0
 EndsDraft inserts refuses holds failures contents old new before after place result draft =

@@ -12,11 +12,11 @@ use Rattle.br_keeper.specs.Keeping.{Keeping}
 use Rattle.br_keeper.specs.Writing.{Shelf}
 use Rattle.br_console.specs.ScriptAnswering.{commit_line, refusal_at}
 
--- the session is there, and reads the list of the keeper
+-- the session is there, and reads the keeper's list
 abbrev pub IsOwn : {C W : Type 0} → Option Known → Keeping C W → Type 0
 IsOwn session keeper = MatchOption session ⊥ (λ s. s.book ≡ keeper.list.book)
 
--- the session is there, and knows the job of the receipt to be published
+-- the session is there, and knows that the job of the receipt is published
 abbrev pub HasLearned : Beginning → Option Known → Type 0
 HasLearned receipt session = MatchOption session ⊥ (λ s. IsPrefix receipt.log s.list)
 
@@ -24,7 +24,8 @@ HasLearned receipt session = MatchOption session ⊥ (λ s. IsPrefix receipt.log
 abbrev pub SeesMore : Option Known → Option Known → Type 0
 SeesMore before after = (after ≡ before) ⊎ MatchOption before ⊥ (λ s. MatchOption after ⊥ (λ t. Extends s t))
 
--- a snapshot of the session is taken, which is missing then; or none is, and the session is as before
+-- a snapshot of the session is taken, and the session is missing then; or none is, and the session
+-- is as before
 abbrev pub TakesSnapshot : Option Known → Option Known → Option Known → Type 0
 TakesSnapshot before after taken = MatchOption taken (after ≡ before) (λ view. (after ≡ None) × MatchOption before ⊥ (λ s. Extends s view))
 
@@ -36,15 +37,15 @@ CommitsAt inserts refuses shelf c old new session (Ok id) =
     (receipt : Beginning) × Commits inserts refuses shelf c old new (Ok receipt) × (last_id receipt.log ≡ Some id) × HasLearned receipt session
 CommitsAt inserts refuses shelf c old new session (Err why) = Commits inserts refuses shelf c old new (Err why)
 
--- A job is committed, and its line is written: `stored` beside its number if there is a receipt, else the
--- refusal.
+-- A job is committed, and its line is written: `stored` with its number if there is a receipt, else
+-- the refusal.
 abbrev pub AnswersCommit : {C W E : Type 0} → (JobRows → C → C → Type 0) → (JobRows → C → C → Type 0) → (Keeping C W → Shelf) → ToCommit
     → Keeping C W → Keeping C W → Option Known → Option (List ℕ) → Option (List ℕ) → Result (Unit {0}) E → Type 0
 AnswersCommit inserts refuses shelf c old new session before after result =
     (r : Result ℕ KeeperFault) × CommitsAt inserts refuses shelf c old new session r × OnOk result (Appends before after (commit_line r))
 
--- What becomes of a job that ends: nothing if it was given up, else it is committed, unless it cannot be.
--- Then its refusal is written.
+-- The result for a job that ends: nothing if it was given up, else it is committed. If it can't be
+-- committed, its refusal is written.
 abbrev pub EndsJob : {C W E : Type 0} → (JobRows → C → C → Type 0) → (JobRows → C → C → Type 0) → (Keeping C W → Shelf) → ℕ
     → Keeping C W → Keeping C W → Option Known → Option (List ℕ) → Option (List ℕ) → Result (Unit {0}) E → Result (Option ToCommit) ℕ → Type 0
 EndsJob inserts refuses shelf place old new session before after result (Ok None) = (new ≡ old) × OnOk result (Keeps before after)

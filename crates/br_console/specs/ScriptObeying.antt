@@ -1,4 +1,4 @@
--- What the lines outside of a job do.
+-- The effect of the lines outside of a job.
 use Rattle.std.specs.Prelude.{◌≡◌, ℕ, ◌⊎◌, List, Option, Some, None, MatchOption, Result, Ok, Err}
 use Rattle.std.specs.Io.KnownBytes.{Keeps}
 use Rattle.br_model.specs.Answer.{Answers, IsRefusal}
@@ -24,13 +24,14 @@ use Rattle.br_console.specs.declared.script_fault.ScriptFault.{ScriptFault}
 use Rattle.br_console.specs.declared.script.Script.{Script}
 use Rattle.br_console.specs.declared.script.ScriptEnd.{ScriptEnd}
 
--- a bootstrap that was read is kept, and one that is refused is written and none kept
+-- a bootstrap that was read is kept; if it is refused, the refusal is written and none is kept
 abbrev pub KeepsRead : Option (List ℕ) → Option (List ℕ) → ScriptEnd → ScriptEnd → Result (Unit {0}) ScriptFault → Option (List Group)
     → Result (List Group) BsrFault → Type 0
 KeepsRead before after was now result keeps (Ok groups) = (keeps ≡ Some groups) × (now ≡ was) × Keeps before after
 KeepsRead before after was now result keeps (Err why) = (keeps ≡ None) × RefusesExtract before after now (of_extract.Bootstrap why) result
 
--- Some text is read as a bootstrap. Or memory ran out for it, or the input ended or failed before it did.
+-- Some text is read as a bootstrap. Or memory ran out for it, or the input ended or failed before
+-- its end.
 abbrev pub KeepsBootstrap : Option (List ℕ) → Option (List ℕ) → ScriptEnd → ScriptEnd → Result (Unit {0}) ScriptFault → Option (List Group)
     → Option (List Group) → Type 0
 KeepsBootstrap before after was now result kept keeps =
@@ -39,13 +40,13 @@ KeepsBootstrap before after was now result kept keeps =
     ⊎ ((text : List ℕ) × (read : Result (List Group) BsrFault) × Answers (λ (groups : List Group). groups) bootstrap.cause read (read_bootstrap text)
     × KeepsRead before after was now result keeps read))
 
--- the bytes are appended to the volume, or some of the first of them and the refusal is written
+-- the bytes are appended to the volume, or a first part of them and the refusal is written
 abbrev pub AppendsBy : {C V E : Type 0} → (V → Option (List Volume)) → (V → ℕ) → Script C V → Script C V → Option (List ℕ) → Option (List ℕ)
     → List ℕ → List ℕ → Result (Unit {0}) E → Type 0
 AppendsBy holds failures old new before after volume bytes result =
     AnswersBytes holds failures volume bytes old.desk.keeper new.desk.keeper before after result
 
--- what a line outside of a job does that asks for this
+-- the effect of a line outside of a job with this request
 abbrev pub Obeys : {C V : Type 0} → (V → Option (List Volume)) → (V → ℕ) → Script C V → Script C V → Option (List ℕ) → Option (List ℕ) → ℕ
     → Result (Unit {0}) ScriptFault → Said → Type 0
 Obeys holds failures old new before after place result (Drives n) = (new ≡ record old { drives = n }) × Keeps before after
@@ -61,14 +62,14 @@ abbrev pub number_of : LineFault → ℕ
 number_of Memory = 1
 number_of BadScript = 90
 
--- a line outside of a job does what it asks for, or it is refused
+-- a line outside of a job is carried out, or it is refused
 abbrev pub TakesOutside : {C V : Type 0} → (V → Option (List Volume)) → (V → ℕ) → Script C V → Script C V → Option (List ℕ) → Option (List ℕ) → ℕ
     → Result (Unit {0}) ScriptFault → List ℕ → Type 0
 TakesOutside holds failures old new before after place result line =
     ((why : LineFault) × IsRefusal (line_cause why) (line_said line) × RefusesBy before after new.end result (refusal_at (number_of why) place))
     ⊎ ((asked : Said) × (line_said line ≡ Ok asked) × Obeys holds failures old new before after place result asked)
 
--- a line is taken by the job that it is in, or by the script
+-- a line is taken by the job that it is in, else by the script
 abbrev pub CarriesOut : {C V W : Type 0} → (JobRows → C → C → Type 0) → (JobRows → C → C → Type 0) → (V → Option (List Volume)) → (V → ℕ)
     → (W → Option (List ℕ)) → Script C V → Script C V → W → W → ℕ → Result (Unit {0}) ScriptFault → List ℕ → Type 0
 CarriesOut inserts refuses holds failures contents old new before after place result line =

@@ -18,13 +18,13 @@ use Rattle.br_console.specs.declared.script.ScriptEnd.{ScriptEnd}
 use Rattle.br_console.specs.declared.script_restores.Dialogue.{Dialogue}
 use Rattle.br_console.specs.declared.script_restores.Dialogue.TheVariants.{Refused, NoMemory, Unended, Held, Broken}
 
--- by this number the choice of jobs is refused, or memory ran out
+-- the choice of jobs is refused with this number, or memory ran out
 abbrev pub IsUnchosen : List JobRows → Request → ℕ → Type 0
 IsUnchosen history q n = (n ≡ 1) ⊎ (choose history q ≡ Err n)
 
--- The dialogue was that of some text with the console over the jobs of this history, and what comes before
--- drives are asked was written. Or nothing was, and the choice of jobs is refused, memory ran out, or the
--- input ended.
+-- The dialogue was that of some text with the console over the jobs of this history, and what comes
+-- before drives are used was written. Or nothing was, and the choice of jobs is refused, memory ran
+-- out, or the input ended.
 abbrev pub Converses : Option (List ℕ) → Option (List ℕ) → List JobRows → Request → Dialogue → Type 0
 Converses before after history q (Refused n) = Keeps before after × IsUnchosen history q n
 Converses before after history q NoMemory = Keeps before after
@@ -37,15 +37,16 @@ abbrev pub ConversesOver : Option (List ℕ) → Option (List ℕ) → List JobR
 ConversesOver before after history q (Ok dialogue) = Converses before after history q dialogue
 ConversesOver before after history q (Err why) = ⊤
 
--- The same over a snapshot of a session, which has what the session knows to be published. Or no snapshot
--- was given.
+-- The same over a snapshot of a session, which contains what the session knows to be published. Or
+-- no snapshot was given.
 abbrev pub ConversesIn : Option (List ℕ) → Option (List ℕ) → Known → Request → Result Dialogue ScriptFault → Type 0
 ConversesIn before after session q result =
     ((result ≡ Ok (Refused 1)) × Keeps before after)
     ⊎ ((view : Known) × Extends session view × ConversesOver before after (view.opening ++ view.list) q result)
 
--- What follows a dialogue. If its jobs are not chosen, or memory ran out, the refusal is written. If the input ended before it did, it has no
--- effect. If it was held, its plan is restored, if there is one. If it was broken off, it is refused.
+-- What follows a dialogue. If its jobs are not chosen, or memory ran out, the refusal is written.
+-- If the input ended before the dialogue, it has no effect. If the dialogue was completed, its plan
+-- is restored, if there is one. If it failed, it is refused.
 abbrev pub FinishesDialogue : Option (List Volume) → ℕ → Option (List ℕ) → Option (List ℕ) → ScriptEnd → ScriptEnd → Result (Unit {0}) ScriptFault
     → Dialogue → Type 0
 FinishesDialogue volumes count before after was now result (Refused n) = RefusesBy before after now result (refused_line n)
@@ -66,15 +67,15 @@ abbrev pub FinishesOver : Option (List Volume) → ℕ → Option (List ℕ) →
 FinishesOver volumes count before after was now result (Ok dialogue) = FinishesDialogue volumes count before after was now result dialogue
 FinishesOver volumes count before after was now result (Err why) = result ≡ Err why
 
--- a dialogue of a request is held over a snapshot of the session, and what follows it is done
+-- a dialogue of a request takes place over a snapshot of the session, and what follows it is done
 abbrev pub HoldsDialogue : Option (List Volume) → ℕ → Known → Request → Option (List ℕ) → Option (List ℕ) → ScriptEnd → ScriptEnd
     → Result (Unit {0}) ScriptFault → Type 0
 HoldsDialogue volumes count session q before after was now result =
     (middle : Option (List ℕ)) × (held : Result Dialogue ScriptFault) × ConversesIn before middle session q held
     × FinishesOver volumes count middle after was now result held
 
--- What a line `restore` does. If its fields are no request, the line is refused. Otherwise the dialogue of the request is held over a
--- snapshot of the session.
+-- The effect of a line `restore`. If its fields are no request, the line is refused. Otherwise the
+-- dialogue of the request takes place over a snapshot of the session.
 abbrev pub RestoresBy : {C V : Type 0} → (V → Option (List Volume)) → Script C V → Script C V → Option (List ℕ) → Option (List ℕ) → ℕ
     → Result (Unit {0}) ScriptFault → List ℕ → Type 0
 RestoresBy holds old new before after place result fields =

@@ -1,4 +1,4 @@
--- The theorem that a run of the console serves: what is marked comes back as it was saved.
+-- The theorem that a run of the console serves: marked files come back as they were saved.
 use Rattle.std.specs.Prelude.{◌≡◌, ℕ, Bool, true, false, List, ◌++◌, Option, Some, None, Result, Ok, Err, Contains}
 use Rattle.std.specs.Io.KnownBytes.{Appends}
 use Rattle.std.specs.List.{AllByRecursion, AllZip}
@@ -21,8 +21,8 @@ use Rattle.br_console.specs.Running.{Run, Shows, RunsOver, AllStandForPlan, begu
 use Rattle.br_console.specs.declared.console_fault.ConsoleFault.{ConsoleFault}
 use Rattle.br_console.specs.declared.ending.ConsoleRun.{ConsoleRun}
 
--- After dialogue and bootstrap a run wrote the manifest of these entries' copies in order of key, one for each entry and no others, and it
--- returns that each outcome is a file.
+-- After dialogue and bootstrap a run wrote the manifest of these entries' copies in order of key,
+-- one for each entry and no others, and it returns that each outcome is a file.
 pub record RestoresAll (jobs : List Job) (selected : List Entry) (before : List ℕ) (run : Run) (clean : Bool) : Type 0 where
   pub copies : List Restored
   pub text_is : run.text ≡ before ++ manifest copies
@@ -30,12 +30,13 @@ pub record RestoresAll (jobs : List Job) (selected : List Entry) (before : List 
   pub are_copies : AllZip (IsCopy jobs) (by_key selected) copies
   pub are_all : IsPermutation selected (by_key selected)
 
--- of these jobs those that are chosen stand on the volumes
+-- the volumes hold those of these jobs that are chosen
 abbrev pub AllHold : List Volume → List Job → List JobRows → Type 0
 AllHold volumes jobs chosen = (j : Job) → Contains jobs j → Contains chosen j.rows → Holds volumes j
 
--- Of jobs with what they saved: if the lines end by `done` with some paths of the view marked, and volumes hold the chosen jobs, the run over
--- all volumes that extend these restores the marked entries of the view of the chosen jobs.
+-- A law about jobs and what they saved. If the lines end with `done` while some paths of the view
+-- are marked, and volumes hold the chosen jobs, then the run over all volumes that extend these
+-- restores the marked entries of the view of the chosen jobs.
 abbrev pub RunsMeanSelection : Type 0
 RunsMeanSelection =
     (jobs : List Job) (q : Request) (text : List ℕ) (chosen : List JobRows) (marks : List (List ℕ)) (volumes later : List Volume)
@@ -50,7 +51,7 @@ RunsMeanSelection =
 
 -- ---- over drives that show more
 
--- a drive tells its volumes, and they extend these
+-- a drive reports its volumes, and they extend these
 abbrev pub ShowsMore : List Volume → Option (List Volume) → Type 0
 ShowsMore volumes None = ⊥
 ShowsMore volumes (Some shown) = Extends shown volumes
@@ -59,8 +60,9 @@ ShowsMore volumes (Some shown) = Extends shown volumes
 abbrev pub AllShowMore : List Volume → Told → Told → Type 0
 AllShowMore volumes earlier later = AllByRecursion (ShowsMore volumes) earlier × AllZip OnlyGrows earlier later
 
--- Of jobs with what they saved: if volumes hold the chosen jobs, drives that show more than these volumes may be taken to show just these,
--- for the pieces of whatever plan the lines make. So what was appended to the volumes, and what is appended meanwhile, changes nothing.
+-- A law about jobs and what they saved. If volumes hold the chosen jobs, drives that show more than
+-- these volumes may be taken to show just these, for the pieces of any plan that the lines make. So
+-- what was appended to the volumes before, and what is appended meanwhile, changes nothing.
 abbrev pub DrivesStandForPlans : Type 0
 DrivesStandForPlans =
     (jobs : List Job) (q : Request) (text : List ℕ) (volumes : List Volume) (earlier later : Told)
@@ -78,14 +80,15 @@ pub record ReturnsAll (jobs : List Job) (selected : List Entry) (text : List ℕ
   pub are_copies : AllZip (IsCopy jobs) (by_key selected) copies
   pub are_all : IsPermutation selected (by_key selected)
 
--- the run did so, unless memory ran out, no drive was left, or reading or writing failed
+-- the run did this, unless memory ran out, no drive was left, or reading or writing failed
 abbrev pub ReturnsAllOrFails : List Job → List Entry → List ℕ → Bool → Option (List ℕ) → Option (List ℕ)
     → Result ConsoleRun ConsoleFault → Type 0
 ReturnsAllOrFails jobs selected text clean before after (Ok run) = ReturnsAll jobs selected text clean before after run
 ReturnsAllOrFails jobs selected text clean before after (Err why) = cause why ≡ None
 
--- Of jobs with what they saved: if the lines end by `done` with some paths of the view marked, volumes hold the chosen jobs, and each drive
--- shows more than these volumes, then what the clause `runs` says of a run is that it restores the marked entries of the view.
+-- A law about jobs and what they saved. If the lines end with `done` while some paths of the view
+-- are marked, volumes hold the chosen jobs, and each drive shows more than these volumes, then the
+-- clause `runs` implies that the run restores the marked entries of the view.
 abbrev pub RunsRestoreSelection : Type 0
 RunsRestoreSelection =
     (jobs : List Job) (q : Request) (text : List ℕ) (chosen : List JobRows) (marks : List (List ℕ)) (volumes : List Volume)

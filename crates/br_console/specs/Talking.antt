@@ -1,4 +1,5 @@
--- A console session: what the lines of a text come to, up to the one that ends it, and what is left after that line.
+-- A console session: the effect of the lines of a text, up to the one that ends it, and what is
+-- left after that line.
 use Rattle.std.specs.Prelude.{◌≡◌, ℕ, zero, suc, Bool, true, not, ◌&&◌, List, [], ◌∷◌, is_some, is_err, Option, Some, None, Result, Ok, Err, ⊤, if◌then◌else◌}
 use Rattle.std.specs.Io.KnownBytes.{Appends}
 use Rattle.std.specs.declared.io.Read as read
@@ -15,7 +16,7 @@ use Rattle.br_console.specs.declared.reply.Reply.TheVariants.{Text, Refused, Don
 use Rattle.br_console.specs.ConsoleEnding.{are_accepted, is_done}
 use Rattle.br_console.specs.declared.ending.Session.{Session}
 
--- ---- what the lines come to
+-- ---- the effect of the lines
 
 -- whether none of the lines is refused, up to the one that ends the dialogue
 unfoldable pub are_answered : List Entry → model.Console → List (List ℕ) → Bool
@@ -31,7 +32,7 @@ console_after view c (text ∷ more) =
     if ends (answer_of (said view c text)) then after_answer c (said view c text)
     else console_after view (after_answer c (said view c text)) more
 
--- the number of lines that are said: all of them, or those up to the one that ends the dialogue
+-- the number of lines that are used: all of them, or those up to the one that ends the dialogue
 unfoldable pub lines_said : List Entry → model.Console → List (List ℕ) → ℕ
 lines_said view c [] = 0
 lines_said view c (text ∷ more) =
@@ -42,21 +43,22 @@ unfoldable pub behind_lines : ℕ → List ℕ → List ℕ
 behind_lines zero text = text
 behind_lines (suc n) text = behind_lines n (drop_through 10 text)
 
--- what follows the line that ends the dialogue of a text, nothing if none does
+-- what follows the line that ends the dialogue of a text; nothing if none does
 abbrev pub left_unsaid : Situation → List ℕ → List ℕ
 left_unsaid s text = behind_lines (lines_said s.view s.state (console_lines text)) text
 
 -- ---- a session over a reader and a writer
 
--- The dialogue of the lines of a text was appended to what the writer held. It ended by `done` if the lines come to it, and its lines were
--- accepted if none was refused. The reader has left what follows the line that ended it.
+-- The dialogue of the lines of a text was appended to what the writer held. It ended with `done` if
+-- the lines reach it, and its lines were accepted if none was refused. The reader has left what
+-- follows the line that ended it.
 pub record IsSessionOf (text : List ℕ) (left before after : Option (List ℕ)) (s : Situation) (session : Session) : Type 0 where
   pub written : Appends before after (dialogue s.view s.state (console_lines text))
   pub done : is_done session.end ≡ is_some (marks_at_done s.view s.state (console_lines text))
   pub clean : are_accepted session.lines ≡ are_answered s.view s.state (console_lines text)
   pub unsaid : left ≡ Some (left_unsaid s text)
 
--- if the reader tells its bytes, a session that did not fail is that of their lines
+-- if the reader reports its bytes, a session that did not fail is that of their lines
 abbrev pub SessionOver : Option (List ℕ) → Option (List ℕ) → Option (List ℕ) → Option (List ℕ) → Situation → Result Session ConsoleFault → Type 0
 SessionOver (Some text) left before after s (Ok session) = IsSessionOf text left before after s session
 SessionOver (Some text) left before after s (Err fault) = ⊤
@@ -69,7 +71,7 @@ pub record Talk : Type 0 where
   pub before : Option (List ℕ)
   pub after : Option (List ℕ)
 
--- the same of a reader and a writer
+-- the same for a reader and a writer
 abbrev pub talk : {R W : Type 0} → read.Ghosts R → write.Ghosts W → R × W → R × W → Talk
 talk reader writer old new = record {
   known = reader.remaining old.0;
@@ -78,20 +80,21 @@ talk reader writer old new = record {
   after = writer.contents new.1;
 }
 
--- the session is so, as a contract states it
+-- this holds of the session, as a contract states it
 abbrev pub Converses : Talk → Situation → Result Session ConsoleFault → Type 0
 Converses talk s result = SessionOver talk.known talk.left talk.before talk.after s result
 
--- the marks of the console if the session ended by `done`
+-- the marks of the console if the session ended with `done`
 abbrev pub marks_told : Session → model.Console → Option (List (List ℕ))
 marks_told session c = if is_done session.end then Some c.marked else None
 
--- the console is as the lines of the text left it, and its marks are those at `done` if they come to it
+-- the console is as the lines of the text left it, and its marks are those at `done` if the lines
+-- reach it
 pub record IsLeftBy (text : List ℕ) (s t : Situation) (session : Session) : Type 0 where
   pub state : t.state ≡ console_after s.view s.state (console_lines text)
   pub marks : marks_told session t.state ≡ marks_at_done s.view s.state (console_lines text)
 
--- if the reader told its bytes, the lines of these left the console so
+-- if the reader reported its bytes, their lines left the console like this
 abbrev pub LeavesOver : Option (List ℕ) → Situation → Situation → Result Session ConsoleFault → Type 0
 LeavesOver (Some text) s t (Ok session) = IsLeftBy text s t session
 LeavesOver (Some text) s t (Err fault) = ⊤
@@ -99,12 +102,13 @@ LeavesOver None s t result = ⊤
 
 -- ---- one line
 
--- If the reader tells its bytes, it lost those of the first line, which this is without its end. At the end of input there is none.
+-- If the reader reports its bytes, it lost those of the first line; this is that line without its
+-- end. At the end of input there is none.
 abbrev pub ReadsLine : Option (List ℕ) → Option (List ℕ) → List ℕ → Bool → Type 0
 ReadsLine (Some text) left line is_line = (left ≡ Some (drop_through 10 text)) × (line ≡ first_piece 10 text) × (is_line ≡ not (is_empty text))
 ReadsLine None left line is_line = ⊤
 
--- the answer or the refusal that a reply stands for
+-- the answer or the refusal of a reply
 abbrev pub replied : Reply → Result model.Answer ℕ
 replied (Text text) = Ok (model.Text text.items)
 replied (Refused number) = Err number

@@ -11,7 +11,7 @@ use std::alloc::AllocError;
 use std::io::{self, ErrorKind};
 use thiserror::Error;
 
-/// Why a run of the console ended early.
+/// The reason why a run of the console ended early.
 #[derive(Debug, Drop, Error)]
 pub enum ConsoleFault {
     #[error("out of memory")]
@@ -22,7 +22,7 @@ pub enum ConsoleFault {
     /// A volume could not be read, or no drive is left.
     #[error("{0}")]
     Piece(PoolFault),
-    /// Reading the lines or writing what comes of them failed.
+    /// Reading the lines or writing the results failed.
     #[error("{0}")]
     Io(io::Error),
     /// The lines have no end.
@@ -76,9 +76,9 @@ impl From<NoEnd> for ConsoleFault {
 }
 
 impl ConsoleFault {
-    /// Returns the number of the refusal: 1 out of memory, 50, 53 or 54 no jobs to choose, 51 nothing
-    /// marked, 10 to 12 and 14 a volume, 70 no drive left. A fault of reading or writing is no refusal, and
-    /// neither are lines that have no end.
+    /// Returns the number of the refusal: 1 out of memory, 50, 53 or 54 no jobs to choose, 51
+    /// nothing marked, 10 to 12 and 14 a volume, 70 no drive left. A fault of reading or writing is
+    /// no refusal, and neither are lines without an end.
     pub fn number(&self) -> Option<u32>
         ensures { result ≡ fault_number self.now }
     {
@@ -90,8 +90,9 @@ impl ConsoleFault {
         }
     }
 
-    /// Appends the line of the refusal: `refused N VOLUME ADDRESS` for 10 to 14, with the volume escaped,
-    /// otherwise `refused N`. Appends nothing for a fault of reading or writing, or lines that have no end.
+    /// Appends the line of the refusal: `refused N VOLUME ADDRESS` for 10 to 14, with the volume
+    /// escaped, otherwise `refused N`. Appends nothing for a fault of reading or writing, or lines
+    /// without an end.
     ///
     /// If memory runs out here, a part of the line may have been appended.
     pub fn push_line(&self, text: &mut Vec<u8>) -> Result<(), AllocError>

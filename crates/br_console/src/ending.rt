@@ -1,6 +1,6 @@
 use br_engine::RestoreEnd;
 
-/// Which lines of a dialogue were accepted.
+/// Whether the lines of a dialogue were accepted.
 #[derive(Clone, Copy)]
 pub enum Lines {
     AllAccepted,
@@ -10,13 +10,13 @@ pub enum Lines {
 /// How a session ended.
 #[derive(Clone, Copy)]
 pub enum SessionEnd {
-    /// By `done`.
+    /// With `done`.
     Done,
-    /// By `quit` or the end of input.
+    /// With `quit` or the end of input.
     Quit,
 }
 
-/// What came of a console session.
+/// The result of a console session.
 #[derive(Clone, Copy)]
 pub struct Session {
     pub lines: Lines,
@@ -26,13 +26,13 @@ pub struct Session {
 /// How a run of the console ended.
 #[derive(Drop)]
 pub enum End {
-    /// The dialogue ended by `done`, and the marked files were restored.
+    /// The dialogue ended with `done`, and the marked files were restored.
     Done(RestoreEnd),
-    /// The dialogue ended by `quit` or the end of input.
+    /// The dialogue ended with `quit` or the end of input.
     Quit,
 }
 
-/// What came of a run of the console.
+/// The result of a run of the console.
 #[derive(Drop)]
 pub struct ConsoleRun {
     pub lines: Lines,

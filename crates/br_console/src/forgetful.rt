@@ -3,7 +3,8 @@ use br_history::{History, JobRows};
 use br_keeper::{JobStore, JobStoreFault};
 use std::alloc::Global;
 
-/// A catalogue that keeps no jobs: those that a keeper stores in it are in the keeper's history alone.
+/// A catalogue that keeps no jobs: those that a keeper stores in it are only in the keeper's
+/// history.
 #[derive(Drop)]
 pub struct Forgetful {
     alloc: Global,

@@ -1,13 +1,13 @@
 //! The restore console and scripts.
 //!
-//! The console leads from the history of some jobs and a dialogue to a bootstrap, the files that it
-//! gives and their manifest, and into a sink if there is one: `prepare`, `converse` and
+//! The console leads from the history of some jobs and a dialogue to a bootstrap, to the files that
+//! it gives and their manifest, and into a sink if there is one: `prepare`, `converse` and
 //! `run_console`.
 //!
 //! A script fills volumes, commits jobs, and restores by bootstraps and by dialogues with the
-//! console, line by line. `run_script` works over memory, and `run_script_over` over any catalogue
-//! and any store of volumes that has drives. Such a `DrivenStore` restores by a `DriveCount` of
-//! drives, each of which shows all of its volumes, while jobs may be appended to them. A store over
+//! console, line by line. `run_script` works in memory, and `run_script_over` with any catalogue
+//! and any store of volumes that has drives. Such a `DrivenStore` restores with a `DriveCount` of
+//! drives, each of which shows all of its volumes, while jobs may be appended to them. A store in
 //! memory is one.
 #![tactic(auto)]
 

@@ -19,21 +19,21 @@ pub(crate) enum Reply {
 }
 
 impl Reply {
-    /// Returns if the line was refused.
+    /// Returns true if the line was refused.
     pub(crate) fn is_refused(&self) -> bool
         ensures { result ≡ is_err (replied self.now) }
     {
         matches!(self, Reply::Refused(_))
     }
 
-    /// Returns if the dialogue ends here.
+    /// Returns true if the dialogue ends here.
     pub(crate) fn ends(&self) -> bool
         ensures { result ≡ ends (replied self.now) }
     {
         matches!(self, Reply::Done | Reply::Quit)
     }
 
-    /// Returns if the dialogue ends here by `done`.
+    /// Returns true if the dialogue ends here with `done`.
     pub(crate) fn ends_done(&self) -> bool
         ensures { result ≡ ends_done (replied self.now) }
     {

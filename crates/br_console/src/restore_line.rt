@@ -8,7 +8,7 @@ use br_plan::{BadMoment, Request, read_moment};
 use std::alloc::Global;
 use thiserror::Error;
 
-/// Why the fields of a restore were refused.
+/// The reason why the fields of a restore were refused.
 #[derive(Clone, Copy, Debug, PartialEq, Eq, Error)]
 pub(crate) enum RestoreLineFault {
     #[error("{0}")]
@@ -18,8 +18,7 @@ pub(crate) enum RestoreLineFault {
 }
 
 impl RestoreLineFault {
-    /// Returns the number of the refusal: 1 out of memory, 90 fields that do not have their forms, 52 a
-    /// bad moment.
+    /// Returns the number of the refusal: 1 out of memory, 90 malformed fields, 52 a bad moment.
     pub(crate) fn number(self) -> u32
         ensures { result ≡ fault_number self }
     {
@@ -51,7 +50,7 @@ impl From<BadMoment> for RestoreLineFault {
 ///
 /// # Errors
 ///
-/// `Field` if there are fewer fields, or a name is none, and then `Moment` for a bad moment.
+/// `Field` if there are fewer fields or a name is invalid, and then `Moment` for a bad moment.
 #[tactic(auto, unfolding(crate::specs::RestoreLine::request_said))]
 pub(crate) fn read_request(alloc: Global, fields: &[u8]) -> Result<Request, RestoreLineFault>
     ensures { Answers (λ q. q) cause result (request_said fields.now) }

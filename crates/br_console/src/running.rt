@@ -32,7 +32,7 @@ use std::thread::Threads;
 pub struct JobSelection<'h> {
     /// All jobs of the catalogue.
     pub history: &'h History,
-    /// Which of them to choose.
+    /// The request that chooses among them.
     pub request: &'h Request,
 }
 
@@ -74,9 +74,9 @@ fn write_plan<W: Flush>(
     Ok(plan)
 }
 
-/// Does all of a run of the console that comes before a drive is asked: runs a session as `run_console`,
-/// and, if it ended by `done`, writes and flushes the bootstrap of the plan. Returns the plan then, and
-/// whether each line was accepted.
+/// Makes the part of a run of the console before a drive is used: runs a session as `run_console`
+/// does. If it ended with `done`, writes and flushes the bootstrap of the plan, and returns the
+/// plan. Returns also whether each line was accepted.
 ///
 /// # Errors
 ///
@@ -119,13 +119,13 @@ fn console_fault(fault: ExtractFault) -> ConsoleFault
     }
 }
 
-/// Runs the console over a history: chooses the jobs of a request, and runs a session over their view as
-/// `converse`, from a console at `/` without marks.
+/// Runs the console over a history: chooses the jobs of a request, and runs a session over their
+/// view as `converse` does, from a console at `/` without marks.
 ///
-/// If the session ended by `done`, the plan for the marked paths is made and its bootstrap written and
-/// flushed before a drive is asked. The planned files are then restored under their names: their manifest is
-/// written and flushed, and they are delivered into the sink, if there is one. If the session ended by `quit`
-/// or at the end of input, nothing follows.
+/// If the session ended with `done`, the plan for the marked paths is made, and its bootstrap is
+/// written and flushed before a drive is used. The planned files are then restored under their
+/// names: their manifest is written and flushed, and they are delivered into the sink, if there is
+/// one. If the session ended with `quit` or at the end of input, nothing follows.
 ///
 /// # Errors
 ///

@@ -1,4 +1,4 @@
-//! The state of a script that runs, and how lines are refused.
+//! The state of a running script, and the refusals of its lines.
 ghost use Rattle.std.specs.Prelude.{◌≡◌, IfOk, None, OnOk, Some};
 ghost use Rattle.std.specs.Io.KnownBytes.{Appends};
 ghost use Rattle.br_model.specs.Text.{refused_line};
@@ -20,10 +20,10 @@ use br_volume::VolumeStore;
 use std::alloc::{AllocError, Global};
 use std::io::{self, Write};
 
-/// The number of the refusal of a line that fits no form, or is in a wrong place.
+/// The number of the refusal of a malformed line, or of a line in a wrong place.
 pub(crate) const BAD_SCRIPT: u32 = 90;
 
-/// How a script ended.
+/// The end of a script.
 #[derive(Clone, Copy)]
 pub enum ScriptEnd {
     /// Nothing was refused, and every outcome was a file.
@@ -32,7 +32,7 @@ pub enum ScriptEnd {
     Refused,
 }
 
-/// The state of a script that runs.
+/// The state of a running script.
 pub(crate) struct Script<C: JobStore, V: VolumeStore> {
     pub(crate) alloc: Global,
     /// The number of bytes of data that a restore holds.
@@ -41,7 +41,7 @@ pub(crate) struct Script<C: JobStore, V: VolumeStore> {
     pub(crate) desk: Desk<C, V>,
     /// The bootstrap that `extract` runs.
     pub(crate) kept: Option<Bootstrap>,
-    /// The job of which the script gives lines.
+    /// The job whose lines the script gives.
     pub(crate) draft: Option<Draft>,
     pub(crate) end: ScriptEnd,
 }
@@ -104,7 +104,7 @@ impl<C: JobStore, V: VolumeStore> Script<C, V> {
         writeln!(writer, "refused {number}")
     }
 
-    /// Writes the line of a refusal: of 90 with the line's number.
+    /// Writes the line of a refusal; 90 comes with the line's number.
     pub(crate) fn refuse_line<W: Write>(
         &mut self,
         number: u32,
@@ -121,7 +121,7 @@ impl<C: JobStore, V: VolumeStore> Script<C, V> {
         writeln!(writer, "refused 90 line {line}")
     }
 
-    /// Writes a text that refuses something, or `refused 1` if memory ran out for the text.
+    /// Writes a text that is a refusal, or `refused 1` if memory ran out for the text.
     fn refuse_by<W: Write>(
         &mut self,
         text: Result<Vec<u8>, AllocError>,

@@ -5,7 +5,7 @@ use br_engine::NoEnd;
 use std::io::{self, ErrorKind};
 use thiserror::Error;
 
-/// Why a script was not read to its end, or its answers were not written.
+/// The reason why a script was not read to its end, or its answers were not written.
 #[derive(Debug, Drop, Error)]
 pub enum ScriptFault {
     /// The reader or the writer failed.
@@ -32,7 +32,7 @@ impl From<NoEnd> for ScriptFault {
     }
 }
 
-/// A script that has no end is an error of the kind `TimedOut`.
+/// A script without an end is an error of the kind `TimedOut`.
 impl From<ScriptFault> for io::Error {
     fn from(fault: ScriptFault) -> io::Error {
         match fault {

@@ -17,7 +17,7 @@ pub(crate) enum Reading {
 }
 
 impl Reading {
-    /// Returns the result for a line of which something was read.
+    /// Returns the result for a line that was read in part or whole.
     fn begun(self) -> Reading {
         match self {
             Reading::End => Reading::Line,
@@ -30,14 +30,14 @@ impl Reading {
 enum Part {
     /// The turn was interrupted.
     Nothing,
-    /// Bytes of a line that goes on.
+    /// Bytes of a line that continues.
     More,
     /// The last bytes of a line, and its LF.
     LineEnd,
     InputEnd,
 }
 
-/// The lines of an input. A line ends at LF alone, which the last line may lack.
+/// The lines of an input. A line ends only at LF, which the last line may lack.
 #[derive(Drop)]
 pub(crate) struct Lines<R> {
     reader: R,
@@ -67,8 +67,8 @@ impl<R: BufRead> Lines<R> {
         self.number
     }
 
-    /// Makes one turn of reading: appends to `line` what the reader has at hand of it, up to `most` bytes in all. Returns false
-    /// beside the result if memory ran out.
+    /// Makes one turn of reading: appends to `line` what the reader has of it at hand, up to `most`
+    /// bytes in all. Returns the result, and false if memory ran out.
     fn read_part(&mut self, line: &mut Vec<u8>, most: usize) -> Result<(Part, bool), ScriptFault>
         ensures turn { OnOk result (self.new.turns ≡ self.old.turns + 1) }
         ensures few { OnOk result (self.old.turns < 2 ^ 40) }

@@ -133,7 +133,7 @@ impl<C: JobStore, V: VolumeStore> Script<C, V> {
         }
     }
 
-    /// Refuses a line for which memory ran out. It gives up the job that it is in.
+    /// Refuses a line for which memory ran out. The job that the line is in is given up.
     pub(crate) fn lose_line<W: Write>(&mut self, writer: &mut W) -> io::Result<()>
         ensures drives { self.new.drives ≡ self.old.drives }
         ensures desk { self.new.desk ≡ self.old.desk }

@@ -34,7 +34,7 @@ impl<C: JobStore, W: VolumeStore> Desk<C, W> {
         Ok(receipt.job())
     }
 
-    /// Takes a snapshot of the jobs that are published; `None` if none can be taken. The session is missing
+    /// Takes a snapshot of the published jobs; `None` if none can be taken. The session is missing
     /// until the snapshot is released.
     pub(crate) fn snapshot(&mut self) -> Option<Snapshot>
         requires own { IsOwn self.old.session self.old.keeper }

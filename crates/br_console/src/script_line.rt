@@ -11,12 +11,12 @@ use std::alloc::Global;
 /// The greatest number of bytes of a line of a script, without its LF.
 pub(crate) const MAX_LINE: usize = 4096;
 
-/// A line of a script that is not in a job.
+/// A line of a script outside of a job.
 #[derive(Drop)]
 pub(crate) enum ScriptLine<'l> {
     /// Sets the number of drives.
     Drives(DriveCount),
-    /// Appends bytes to a volume, which is made if it is not there.
+    /// Appends bytes to a volume, which is made if it does not exist.
     Volume { name: VolName, bytes: Vec<u8> },
     /// Begins a bootstrap, whose lines end before a line `.`.
     Bsr,
@@ -56,7 +56,8 @@ fn read_volume<'l>(alloc: Global, fields: &'l [u8]) -> Result<ScriptLine<'l>, Li
     })
 }
 
-/// Reads a line of a word and the fields after it. The fields of `job` and `restore` are not looked at.
+/// Reads a line of a word and the fields after it. The fields of `job` and `restore` are not
+/// checked.
 fn read_fields<'l>(
     alloc: Global,
     word: &[u8],
@@ -92,10 +93,10 @@ fn read_word<'l>(word: &'l [u8]) -> Result<ScriptLine<'l>, LineFault>
     }
 }
 
-/// Reads a line outside of a job, given without its LF: `drives N`, `volume NAME HEX`, `bsr`, `extract`,
-/// or the first word of `job` or `restore` and the fields after it. Fields are separated by one space,
-/// numbers are decimal, names are escaped, and bytes are pairs of hexadecimal digits in lower case, or
-/// `-` for none. Memory does not run out for `drives N`.
+/// Reads a line outside of a job, given without its LF: `drives N`, `volume NAME HEX`, `bsr`,
+/// `extract`, or the first word of `job` or `restore` and the fields after it. Fields are separated
+/// by one space, numbers are decimal, names are escaped, and bytes are pairs of hexadecimal digits
+/// in lower case, or `-` for none. Memory can't run out for `drives N`.
 ///
 /// # Errors
 ///

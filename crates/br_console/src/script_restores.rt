@@ -25,21 +25,21 @@ use std::io::{BufRead, Write};
 use std::sync::Wait;
 use std::thread::Threads;
 
-/// What came of the dialogue of a restore.
+/// The result of the dialogue of a restore.
 enum Dialogue {
-    /// Its jobs were not chosen, by this number. Its lines were not read.
+    /// Its jobs were not chosen, with this number. Its lines were not read.
     Refused(u32),
     /// Memory ran out for its lines.
     NoMemory,
-    /// The input ended before the dialogue did, which has no effect.
+    /// The input ended before the dialogue, which has no effect.
     Unended,
-    /// It was held: if its lines were accepted, and the plan, if it ended by `done`.
+    /// It was completed: whether its lines were accepted, and the plan, if it ended with `done`.
     Held(Judged, Option<Plan>),
-    /// It was broken off, or its plan refused.
+    /// It failed, or its plan was refused.
     Broken(ConsoleFault),
 }
 
-/// Holds the dialogue of these lines, and writes what comes before drives are asked.
+/// Runs the dialogue of these lines, and writes what comes before drives are used.
 fn hold<W: Write>(alloc: Global, asked: &JobSelection<'_>, text: &[u8], writer: &mut W) -> Dialogue
     ensures { Converses (W.contents writer.old) (W.contents writer.new) asked.now.history.now asked.now.request.now result }
 {
@@ -50,7 +50,7 @@ fn hold<W: Write>(alloc: Global, asked: &JobSelection<'_>, text: &[u8], writer: 
     }
 }
 
-/// Returns the number by which the choice of jobs is refused, if it is.
+/// Returns the number of the refusal of the choice of jobs, if it is refused.
 #[tactic(auto, using(crate::proofs::ChoiceLaws::refused_choice))]
 fn refusal_of(alloc: Global, asked: &JobSelection<'_>) -> Option<u32>
     ensures { IfSome result (IsUnchosen asked.now.history.now asked.now.request.now) }
@@ -68,7 +68,7 @@ fn refusal_of(alloc: Global, asked: &JobSelection<'_>) -> Option<u32>
     }
 }
 
-/// Reads the lines of a dialogue, and holds it over the jobs of a history that are chosen.
+/// Reads the lines of a dialogue, and runs it over the chosen jobs of a history.
 fn converse_over<R: BufRead, W: Write>(
     alloc: Global,
     asked: &JobSelection<'_>,
@@ -88,7 +88,7 @@ fn converse_over<R: BufRead, W: Write>(
     }
 }
 
-/// Holds the dialogue of a request over the jobs of a snapshot.
+/// Runs the dialogue of a request over the jobs of a snapshot.
 fn converse_at<R: BufRead, W: Write>(
     alloc: Global,
     snapshot: &Snapshot,
@@ -108,7 +108,8 @@ fn converse_at<R: BufRead, W: Write>(
 }
 
 impl<C: JobStore, V: DrivenStore> Script<C, V> {
-    /// Reads the lines up to `.` as a bootstrap and keeps it in place of the one before. Keeps none if it is refused.
+    /// Reads the lines up to `.` as a bootstrap and keeps it instead of the previous one. Keeps
+    /// none if it is refused.
     pub(crate) fn keep_bootstrap<R: BufRead, W: Write>(
         &mut self,
         lines: &mut Lines<R>,
@@ -224,7 +225,7 @@ impl<C: JobStore, V: DrivenStore> Script<C, V> {
         skip_dialogue(self.alloc, lines)
     }
 
-    /// Does what a dialogue asks for.
+    /// Carries out the request of a dialogue.
     fn finish_dialogue<T: Threads + Wait + Sync, R: BufRead, W: Write>(
         &mut self,
         rt: &T,
@@ -249,7 +250,7 @@ impl<C: JobStore, V: DrivenStore> Script<C, V> {
         }
     }
 
-    /// Holds the dialogue of a request over a snapshot of the published jobs.
+    /// Runs the dialogue of a request over a snapshot of the published jobs.
     fn converse<R: BufRead, W: Write>(
         &mut self,
         request: &Request,
@@ -273,7 +274,7 @@ impl<C: JobStore, V: DrivenStore> Script<C, V> {
         dialogue
     }
 
-    /// Restores what the dialogue asks for of the jobs that are published.
+    /// Restores what the dialogue asks for among the published jobs.
     pub(crate) fn restore<T: Threads + Wait + Sync, R: BufRead, W: Write>(
         &mut self,
         rt: &T,

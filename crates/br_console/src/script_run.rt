@@ -25,7 +25,7 @@ use std::sync::Wait;
 use std::thread::Threads;
 
 impl<C: JobStore, V: DrivenStore> Script<C, V> {
-    /// Appends bytes to a volume, for which no job vouches.
+    /// Appends bytes to a volume. No job vouches for them.
     fn append<W: Write>(&mut self, name: VolName, bytes: &[u8], writer: &mut W) -> io::Result<()>
         requires own { IsOwn self.old.desk.session self.old.desk.keeper }
         ensures own { IsOwn self.new.desk.session self.new.desk.keeper }
@@ -40,7 +40,7 @@ impl<C: JobStore, V: DrivenStore> Script<C, V> {
         }
     }
 
-    /// Does what a line asks for.
+    /// Carries out the request of a line.
     #[tactic(auto, using(crate::proofs::DeskLaws::appended_few))]
     fn obey<T: Threads + Wait + Sync, R: BufRead, W: Write>(
         &mut self,
@@ -209,11 +209,12 @@ fn run_in_memory<T: Threads + Wait + Sync, R: BufRead, W: Write>(
 
 /// Runs a script over a catalogue and volumes in memory, and writes its answers.
 ///
-/// `drives N` sets the number of drives, 1 to 16; it is 1 before. `volume NAME HEX` appends bytes to a
-/// volume. The lines between `bsr` and `.` are a bootstrap, which is kept until the next one. `extract`
-/// runs the kept bootstrap and writes the manifest. The lines from `job` to `end` are a job, which is
-/// committed. The lines after `restore` up to `done` or `quit` are a dialogue with the console over the
-/// jobs that were stored before. For a line that is refused, `refused N` is written and nothing done.
+/// `drives N` sets the number of drives, 1 to 16; it is 1 before. `volume NAME HEX` appends bytes
+/// to a volume. The lines between `bsr` and `.` are a bootstrap, which is kept until the next one.
+/// `extract` runs the kept bootstrap and writes the manifest. The lines from `job` to `end` are a
+/// job, which is committed. The lines after `restore` up to `done` or `quit` are a dialogue with
+/// the console over the jobs that were stored before. For a refused line, `refused N` is written
+/// and nothing is done.
 ///
 /// # Errors
 ///

@@ -8,12 +8,12 @@ use br_mark::Command;
 use std::alloc::Global;
 use std::io::BufRead;
 
-/// The bytes that are kept of each line of a text: as many as make the line too long in a bootstrap, where
-/// the last may be a CR of the line's end, and in a dialogue. So a line without an end takes no more memory,
-/// and the text is refused as the whole one.
+/// The number of bytes that are kept of each line of a text. They make the line too long in a
+/// bootstrap, where the last one may be a CR of the line's end, and in a dialogue. So a line
+/// without an end takes no more memory, and the text is refused as the whole one would be.
 const MAX_KEPT: usize = MAX_LINE + 2;
 
-/// A text of several lines, as far as a script has it.
+/// A text of several lines, as far as a script has read it.
 pub(crate) enum Text {
     /// The whole text.
     Whole(Vec<u8>),
@@ -23,12 +23,12 @@ pub(crate) enum Text {
     Unended,
 }
 
-/// What a text of several lines is.
+/// The kinds of texts of several lines.
 #[derive(Clone, Copy, PartialEq, Eq)]
 pub(crate) enum TextKind {
-    /// A bootstrap, which a line `.` ends that is no part of it.
+    /// A bootstrap. A line `.` ends it and is no part of it.
     Bootstrap,
-    /// A dialogue, which a line `done` or `quit` ends that belongs to it.
+    /// A dialogue. A line `done` or `quit` ends it and belongs to it.
     Dialogue,
 }
 
@@ -64,9 +64,10 @@ fn text_of(text: Vec<u8>, has_memory: bool) -> Text {
     }
 }
 
-/// Reads lines up to the last one of a text of this kind, or the end of input. Of a line that is too long
-/// only the front is kept. There is room for the last line from the start: a line that finds no memory is
-/// not kept, so the end of the text would pass unseen. Without that room no line is read.
+/// Reads lines up to the last one of a text of this kind, or the end of input. Only the first part
+/// of a line that is too long is kept. Room for the last line is made at the start: a line for
+/// which memory runs out is not kept, so the end of the text could be missed. Without that room no
+/// line is read.
 pub(crate) fn read_text<R: BufRead>(
     alloc: Global,
     lines: &mut Lines<R>,
@@ -94,8 +95,8 @@ pub(crate) fn read_text<R: BufRead>(
     }
 }
 
-/// Skips lines up to and with the one that ends a dialogue, or to the end of input. Without memory for
-/// that line no line is skipped.
+/// Skips the lines up to and including the one that ends a dialogue, or to the end of input. If
+/// memory runs out for that line, skips none.
 pub(crate) fn skip_dialogue<R: BufRead>(
     alloc: Global,
     lines: &mut Lines<R>,

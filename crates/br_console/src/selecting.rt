@@ -1,9 +1,9 @@
-//! What a run of the console is for.
+//! The purpose of a run of the console.
 ghost use Rattle.br_console.specs.Selecting.{DrivesStandForPlans, RunsMeanSelection, RunsRestoreSelection};
 
 use br_model::plan_means_selection;
 
-/// What a run of the console restores is what was marked, as it was saved.
+/// A run of the console restores what was marked, as it was saved.
 pub fn runs_mean_selection()
     ensures { RunsMeanSelection }
 {

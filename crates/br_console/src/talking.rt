@@ -12,7 +12,7 @@ use br_mark::Console;
 use std::alloc::Global;
 use std::io::BufRead;
 
-/// Returns what came of a session, by two flags: it ended by `done`, and no line was refused.
+/// Returns the result of a session from two flags: it ended with `done`, and no line was refused.
 fn session_of(done: bool, clean: bool) -> Session
     ensures done { is_done result.end ≡ done }
     ensures clean { are_accepted result.lines ≡ clean }
@@ -40,8 +40,8 @@ fn drop_feed(line: &mut Vec<u8>)
     }
 }
 
-/// Makes one turn of reading: reads the next line without its line feed, in place of what `line` holds. By then
-/// the writer is flushed. Returns false at the end of input.
+/// Makes one turn of reading: reads the next line without its line feed into `line`, in place of
+/// its old bytes. The writer is flushed before. Returns false at the end of input.
 fn read_line<R: BufRead, W: Flush>(
     reader: &mut R,
     turns: &mut Turns,
@@ -63,10 +63,11 @@ fn read_line<R: BufRead, W: Flush>(
     Ok(len > 0)
 }
 
-/// Runs a console session: reads line after line, of any length, gives each to the console, and writes
-/// the answer, or `refused N` if the console refuses the line by 55, 56 or 57. The writer is flushed
-/// after each answer. A line ends at its line feed alone, which the last one may lack. The session ends
-/// at `done`, at `quit` or at the end of input; lines after `done` or `quit` stay unread.
+/// Runs a console session: reads line after line, of any length, gives each to the console, and
+/// writes the answer, or `refused N` if the console refuses the line with 55, 56 or 57. The writer
+/// is flushed after each answer. A line ends only at its line feed, which the last one may lack.
+/// The session ends at `done`, at `quit` or at the end of input; lines after `done` or `quit` stay
+/// unread.
 ///
 /// # Errors
 ///

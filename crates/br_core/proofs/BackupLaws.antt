@@ -89,7 +89,7 @@ fit : (c : ToCommit) (starts : List (List ℕ × ℕ)) (written : Written) → I
 fit c starts written is was all =
     written_rows_fit_lem c.row c.files c.deleted c.limit c.places starts written all is.commits.in_order is.commits.early is.id_fits is.time_fits is.commits.bounds.1 was.is_written
 
--- so nothing but want of memory refuses them
+-- so they are refused only if memory runs out
 only_memory : {X : Type 0} (why : HistoryFault) (r : Result X ℕ) (x : X) → r ≡ Ok x → IsRefusal (cause why) r → why ≡ Memory
 only_memory Memory r x ok e = refl
 only_memory DuplicateJob r x ok e = absurd (err_is_not_ok 40 x (sym e ∙ ok))
@@ -168,7 +168,7 @@ rows_back [] commits e = refl
 rows_back (j ∷ js) [] e = absurd (omega (arith, e))
 rows_back (j ∷ js) (c ∷ cs) e = ap (λ (rest : List JobRows). j ∷ rest) (rows_back js cs (omega (arith, e)))
 
--- there are as many jobs as commits
+-- the number of jobs is that of commits
 jobs_length : (history : List JobRows) (commits : List Committed) → length commits ≡ length history → length (jobs_of history commits) ≡ length commits
 jobs_length [] [] e = refl
 jobs_length [] (c ∷ cs) e = absurd (omega (arith, e))
@@ -264,7 +264,7 @@ pub as_many : (w : World) (history : List JobRows) (commits : List Committed) (v
 as_many w history commits volumes same are =
     subst (λ (it : World). length it.jobs ≡ length it.earlier) same (jobs_length history commits are.each ∙ sym (length-map commits (λ (c : Committed). c.before)))
 
--- there are as many commits as jobs
+-- the number of commits is that of jobs
 pub commits_length : (w : World) (history : List JobRows) (commits : List Committed) (volumes : List Volume) → backups_of history commits volumes ≡ w → AreBackups history commits volumes
     → length commits ≡ length w.jobs
 commits_length w history commits volumes same are = subst (λ (it : World). length commits ≡ length it.jobs) same (sym (jobs_length history commits are.each))

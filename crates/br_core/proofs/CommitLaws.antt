@@ -95,7 +95,7 @@ record IsLater (first w : World) : Type 0 where
 later_itself : (w : World) → IsLater w w
 later_itself w = record { extend = extends_itself w.volumes; each = λ j among. inl among }
 
--- where nothing was committed the later state is still later
+-- if nothing was committed, the later state is still later
 left_later : (first w after : World) → IsLeft w after → IsLater first w → IsLater first after
 left_later first w after left is = record {
   extend = subst (λ (vs : List Volume). Extends vs first.volumes) (sym left.volumes_are) is.extend;
@@ -144,7 +144,7 @@ jobs_hold_lem first last events replies run =
 
 -- ---- histories
 
--- what is pushed to a history, with rows that can stand together, makes a history
+-- what is pushed to a history, with rows that can be in one history, makes a history
 pushed_is_history : (history rows : List JobRows) (j : JobRows) → is_history history ≡ true → are_rows j ≡ true → pushed history j ≡ Ok rows → is_history rows ≡ true
 unfolding pushed
 pushed_is_history history rows j is fit e =

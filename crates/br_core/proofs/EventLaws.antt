@@ -50,7 +50,7 @@ finish_is w n piece commits shown reached are of = record {
 
 -- ---- when a restore was planned
 
--- the number of commits before the plan of a restore of the state, which may be told by itself
+-- the number of commits before the plan of a restore of the state, which may be given separately
 pub planned_since : (backups : World) (restores : List (Option Restore)) (n since : ℕ) → commits_at (slice_get restores n) ≡ Some since
     → (r : machine.Restore) → restore_at (world_with backups restores) n ≡ Some r → r.commits ≡ since
 planned_since backups restores n since told r at =

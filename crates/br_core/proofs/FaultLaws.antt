@@ -9,7 +9,7 @@ use Rattle.br_core.specs.Fault.{cause, fault_number}
 use Rattle.br_core.specs.declared.fault.StepFault.{StepFault}
 use Rattle.br_core.specs.declared.fault.StepFault.TheVariants.{Memory, NotEnabled, Commit, Plan}
 
--- the relation has all of them but want of memory, whose number is 1
+-- the relation has all of them, except for memory that ran out, whose number is 1
 cause_is : (f : StepFault) → cause f ≡ cond (fault_number f == 1) None (Some (fault_number f))
 cause_is Memory = refl
 cause_is NotEnabled = refl

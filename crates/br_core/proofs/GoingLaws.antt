@@ -23,8 +23,8 @@ use Rattle.br_join.proofs.TakingLaws.{one_set, was_taken}
 use Rattle.br_core.proofs.HeldLaws.{IsHeld, batch_is_held, held_where_taken, held_with_batch}
 use Rattle.br_core.proofs.StatusLaws.{IsAt, AreAt, at_weaker, are_at_new, claimed_at}
 
--- The restore is one of the plan over the volumes that so many commits left, what is on its way and
--- what was taken are hits of the set, and each piece stands somewhere.
+-- The restore is one of the plan over the volumes after a number of commits, what is on its way and
+-- what was taken are hits of the set, and each piece has a status.
 pub record IsGoing (volumes : List Volume) (commits : ℕ) (plan : model.Plan) (set : Hits) (r : Restore) : Type 0 where
   pub volumes_are : r.volumes ≡ volumes
   pub commits_are : r.commits ≡ commits
@@ -35,7 +35,7 @@ pub record IsGoing (volumes : List Volume) (commits : ℕ) (plan : model.Plan) (
 
 -- ---- moves
 
--- a claim, a failure: the piece goes where nothing is asked of it, or its walk begins
+-- a claim, a failure: the piece gets a status without conditions, or its walk begins
 going_to : (volumes : List Volume) (commits : ℕ) (plan : model.Plan) (set : Hits) (r : Restore) (n : ℕ) (status : Status) → IsGoing volumes commits plan set r
     → ((piece : Piece) → slice_get (pieces_of plan.groups) n ≡ Some piece → IsAt volumes (IsHeld r.transit r.taken) piece status)
     → IsGoing volumes commits plan set (goes r n status)

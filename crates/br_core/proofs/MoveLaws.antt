@@ -61,7 +61,7 @@ address_is None address e = absurd cc
 pub address_none : (o : Option code.Status) → address_in o ≡ None → (address : ℕ) → o ≡ Some (at.Claimed address) → ⊥
 address_none o none address e = none_is_not_some address (sym none ∙ ap address_in e)
 
--- a status tells its address
+-- a status gives its address
 same_address : (a b : ℕ) → Claimed a ≡ Claimed b → a ≡ b
 same_address a b e = cc
 
@@ -184,7 +184,7 @@ not_ended r pieces statuses n shown batch next are given can is =
     let step : Option (List Hit × ℕ) = Some (batch.hits.items, next) in
     none_is_not_some (batch.hits.items, next) (one_step r n shown None step (end_step r n shown is) (shown_step r pieces statuses n shown step are can given))
 
--- there is no step where the read says that there is none
+-- there is no step if the read says that there is none
 no_step : (r : Restore) (pieces : List Piece) (statuses : List code.Status) (n : ℕ) (shown : List Volume) (step : Option (List Hit × ℕ)) → AreOf r pieces statuses → CanBeRead r n shown
     → OverReady pieces statuses n shown (λ volumes. (s : Option (List Hit × ℕ)) → IsNext pieces statuses n volumes s → ⊥) → IsStepAt r n shown step → ⊥
 no_step r pieces statuses n shown step are can given is =

@@ -124,7 +124,7 @@ moves_in backups before after n Premise Move it asked = record {
       ∙ ap (λ (rs : List (Option machine.Restore)). record backups { restores = rs }) (map-set (option_map (restore_of backups.jobs (stages_of backups))) before n (Some it.1));
 }
 
--- where no restore can move so, none of the state can
+-- if no restore can make the move, none of the state can
 pub cannot_in : (backups : World) (before : List (Option Restore)) (n : ℕ) (Premise : machine.Restore → Type 0) (Move : machine.Restore → machine.Restore → Type 0)
     → ((r : Restore) → slice_get before n ≡ Some (Some r) → CannotMove Premise Move r)
     → ((r : Restore) → slice_get before n ≡ Some (Some r) → Premise (restore_of backups.jobs (stages_of backups) r))

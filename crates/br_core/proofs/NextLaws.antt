@@ -58,7 +58,7 @@ read_refused shown piece address why fault (inr it) refused =
 
 -- ---- the step of a piece
 
--- a status tells its address
+-- a status gives its address
 same_address : (a b : ℕ) → at.Claimed a ≡ at.Claimed b → a ≡ b
 same_address a b e = cc
 

@@ -65,7 +65,7 @@ pub runs_on : (before after : Situation) (command : model.Command) (answer : Ans
 runs_on before after command answer runs same =
     ap (λ (view : List Entry). record after { view = view }) same ∙ rw runs refl
 
--- a command that is refused, and not for want of memory
+-- a command that is refused, but not since memory ran out
 pub stays_so : (before after : Situation) (command : model.Command) (why : MarkFault) → (why ≡ Memory → ⊥) → Runs before after command (Err why) → after ≡ before
     → after ≡ after_command before command
 stays_so before after command Memory some runs same = absurd (some refl)

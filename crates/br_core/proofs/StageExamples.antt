@@ -1,4 +1,4 @@
--- Reads of the volumes as so many commits left them, by example: a commit came after the plan.
+-- Reads of the volumes after a number of commits, by example: a commit came after the plan.
 use Rattle.std.proofs.Common.{◌≡◌, List, [], ◌∷◌, Some, refl, ap, lit≤, arith}
 use Rattle.std.proofs.lemmas.Option.{same_Some}
 use Rattle.std.specs.Prelude.{codes, slice_get}

@@ -9,8 +9,8 @@ use Rattle.br_core.specs.Machine.{Status}
 use Rattle.br_core.specs.Machine.Status.{Waiting, Claimed, Finished}
 use Rattle.br_core.proofs.PlaceLaws.{same_or_not, set_other, set_same}
 
--- What holds of a piece where it stands: of a claimed one the hits that its walk found are held, of
--- a finished one all of its hits.
+-- What holds of a piece by its status: of a claimed one the hits that its walk found are held, of a
+-- finished one all of its hits.
 abbrev pub IsAt : List Volume → (Hit → Type 0) → Piece → Status → Type 0
 IsAt volumes P piece Waiting = ⊤
 IsAt volumes P piece (Claimed a) = (found : List Hit) × IsWalked volumes piece a found × ((h : Hit) → Contains found h → P h)

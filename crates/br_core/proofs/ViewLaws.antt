@@ -92,7 +92,7 @@ reads_nothing r n shown given =
     stays (λ m. CanBeRead m n shown) (λ m after. IsRead m n shown after) r
     (λ jobs stages after can is. not_read (restore_of jobs stages r) after r.pieces.items r.statuses.items n shown (are_of r jobs stages) given can is)
 
--- no block is read where the walk is refused
+-- no block is read if the walk is refused
 pub read_refused : (r : Restore) (n : ℕ) (shown : List Volume) (fault : StepFault) → ReadsPiece r.pieces.items r.statuses.items n shown (Err fault)
     → MovesIf (λ m. CanBeRead m n shown) (λ m after. IsRead m n shown after) r r (Err fault)
 read_refused r n shown fault (inl memory) = (λ jobs stages. refl, inl memory)
@@ -124,7 +124,7 @@ finishes_nothing r n shown batch next given =
     stays (λ m. CanBeRead m n shown) (Finishes n shown) r
     (λ jobs stages after can is. not_ended (restore_of jobs stages r) r.pieces.items r.statuses.items n shown batch next (are_of r jobs stages) given can is.0)
 
--- no walk ends where it is refused
+-- no walk ends if it is refused
 pub finish_refused : (r : Restore) (n : ℕ) (shown : List Volume) (fault : StepFault) → ReadsPiece r.pieces.items r.statuses.items n shown (Err fault)
     → MovesIf (λ m. CanBeRead m n shown) (Finishes n shown) r r (Err fault)
 finish_refused r n shown fault (inl memory) = (λ jobs stages. refl, inl memory)

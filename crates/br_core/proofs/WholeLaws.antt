@@ -1,4 +1,4 @@
--- A restore of which all is read and taken, and its joiner.
+-- A restore with everything read and taken, and its joiner.
 use Rattle.std.proofs.Common.{◌≡◌, ℕ, zero, suc, Bool, true, false, cond, List, [], ◌∷◌, length, map, option_map, Option, Some, None, refl, sym, ap, ◌∙◌, arith}
 use Rattle.std.proofs.lemmas.Bool.{ne_eqb}
 use Rattle.std.proofs.lemmas.Option.{same_Some}
@@ -47,7 +47,7 @@ finished_at (at.Claimed address ∷ ss) n b h e = absurd cc
 finished_at (at.Finished ∷ ss) zero b h e = sym (same_Some true b e)
 finished_at (at.Finished ∷ ss) (suc n) b h e = finished_at ss n b h e
 
--- ---- maps of which all values are true
+-- ---- maps whose values are all true
 
 put_true : (k : ℕ) (es : List (ℕ × Bool)) → list_all (λ (e : ℕ × Bool). e.1) es ≡ true → list_all (λ (e : ℕ × Bool). e.1) (put nat_cmp k true es) ≡ true
 put_true k [] h = refl
@@ -104,7 +104,7 @@ joiner_is_ready r whole =
     let all = all_finished r.statuses.items (whole [] []).finished in
     looked_up_true r.joiner.pieces (λ k b e. finished_at r.statuses.items k b all (sym (r.parts.closed k) ∙ e))
 
--- what the tests of a restore tell
+-- what the tests of a restore give
 pub tells_whole : (r : Restore) (none all : Bool) → none ≡ is_empty r.transit.items → all ≡ list_all is_finished r.statuses.items → TellsWhole r (none && all)
 tells_whole r none all left each = go none all left each
   where

@@ -1,4 +1,4 @@
--- Jobs that were committed, with the volumes before each, seen as a state without restores.
+-- Committed jobs with the volumes before each, seen as a state without restores.
 use Rattle.std.specs.Prelude.{◌≡◌, ◌∷◌, ◌++◌, List, [], length, map}
 use Rattle.std.specs.List.{zip}
 use Rattle.br_model.specs.Volume.{Volume}
@@ -9,16 +9,16 @@ use Rattle.br_volume.specs.MemStore.{Stored}
 use Rattle.br_history.specs.Committing.{AreWhole}
 use Rattle.br_core.specs.Machine.{World}
 
--- a job that was committed, and the volumes before it
+-- a committed job, and the volumes before it
 pub record Committed : Type 0 where
   pub job : ToCommit
   pub before : List Volume
 
--- the job with the files that were saved
+-- the job with the saved files
 abbrev pub job_with : JobRows × Committed → Job
 job_with p = record { rows = p.0; saved = map (λ (f : ToSave). f.file) p.1.job.files }
 
--- the jobs: the rows, each beside what was saved
+-- the jobs: their rows, each with what was saved
 abbrev pub jobs_of : List JobRows → List Committed → List Job
 jobs_of history commits = map job_with (zip history commits)
 
@@ -43,7 +43,7 @@ pub record IsAdded (history : List JobRows) (commits : List Committed) (rows : J
   pub commits_are : commits' ≡ commits ++ c ∷ []
   pub volumes_are : volumes' ≡ later
 
--- rows and a job are added, the job beside the volumes before it, and these are the volumes after it
+-- rows and a job are added, the job with the volumes before it, and these are the volumes after it
 abbrev pub AddsJob : JobRows → ToCommit → Stored → List JobRows → List Committed → Stored → List JobRows → List Committed → Stored → Type 0
 AddsJob rows job later history commits volumes history' commits' volumes' =
     IsAdded history commits rows (record { job = job; before = volumes.volumes }) later.volumes history' commits' volumes'.volumes

@@ -41,16 +41,16 @@ pub record IsPrepared
   pub is_job : IsJob (job_of c written.spans)
   pub in_range : IsInRange c
 
--- The job is prepared. Or in each state with this history a commit that finds volumes of these
--- lengths is refused for the same number. Nothing is said if memory runs out.
+-- The job is prepared. Or in each state with this history, a commit that finds volumes of these
+-- lengths is refused with the same number. If memory runs out, nothing is stated.
 abbrev pub Prepares : List JobRows → ToCommit → List (List ℕ × ℕ) → Result (JobRows × Vec (List ℕ × Vec ℕ)) HistoryFault → Type 0
 Prepares history c starts (Ok p) = IsPrepared history c starts p.0 (map (λ (b : List ℕ × Vec ℕ). (b.0, b.1.items)) p.1.items)
 Prepares history c starts (Err why) =
     IfSome (cause why)
     (λ n. (w : World) (found : List Volume) → rows_of_jobs w.jobs ≡ history → lengths_of found ≡ starts → IsRefusedFor w c found n)
 
--- What becomes of a commit: the job is there, or nothing is changed. Then the relation refuses it
--- for the same number, unless memory ran out.
+-- The result of a commit: the job is there, or nothing is changed. Then the relation refuses it
+-- with the same number, unless memory ran out.
 abbrev pub CommitsTo : World → ToCommit → World → Result (Unit {0}) HistoryFault → Type 0
 CommitsTo before c after (Ok u) = IsCommitted before c before.volumes after
 CommitsTo before c after (Err why) = (after ≡ before) × IfSome (cause why) (IsRefusedFor before c before.volumes)

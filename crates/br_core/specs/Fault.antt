@@ -1,4 +1,4 @@
--- What a refused step says.
+-- The number of a refused step.
 use Rattle.std.specs.Prelude.{ℕ, Option, Some, None}
 use Rattle.br_history.specs.Fault as history
 use Rattle.br_plan.specs.Fault as planning
@@ -12,7 +12,7 @@ fault_number NotEnabled = 59
 fault_number (Commit why) = history.fault_number why
 fault_number (Plan why) = planning.fault_number why
 
--- the refusal that the relation has, none if memory ran out
+-- the refusal in the relation; none if memory ran out
 abbrev pub cause : StepFault → Option ℕ
 cause Memory = None
 cause NotEnabled = Some 59

@@ -1,4 +1,4 @@
--- Events and replies of the machine that runs, seen as those of the relation.
+-- Events and replies of the running machine, seen as those of the relation.
 use Rattle.std.specs.Prelude.{map}
 use Rattle.br_mark.specs.Said.{said}
 use Rattle.br_join.specs.Outcome.{restored}

@@ -17,7 +17,7 @@ use Rattle.br_core.specs.Machine.{World, Restore, Event, Reply, IsStart, IsStep,
 use Rattle.br_core.specs.Machine.Event.{Plan, Deliver}
 use Rattle.br_core.specs.Machine.Reply.{Planned, Delivered}
 
--- The restore of this number was planned in the run: some steps, then its plan, then other steps.
+-- The restore of this number was planned in the run: some steps, then its plan, then more steps.
 pub record WasPlanned (first last : World) (events : List Event) (replies : List Reply) (number : ℕ) : Type 0 where
   pub request : Request
   pub script : List Command
@@ -37,14 +37,13 @@ pub record WasPlanned (first last : World) (events : List Event) (replies : List
   pub chosen_are : choose (rows_of_jobs moment.jobs) request ≡ Ok chosen
   pub plan_is : plan_for (rows_of_jobs moment.jobs) request script ≡ Ok (marks_of chosen script, plan)
 
--- The chosen jobs that were there before the first step stand on the volumes of this moment.
--- Nothing is asked of those that were committed since.
+-- The volumes of this moment hold the chosen jobs that were there before the first step. Nothing is
+-- required of jobs that were committed later.
 abbrev pub OldOnesHold : World → World → List JobRows → Type 0
 OldOnesHold first moment chosen = (j : Job) → Contains first.jobs j → Contains chosen j.rows → Holds moment.volumes j
 
 -- The hits of the restore, on their way or taken, are among those of the bootstrap over the
--- volumes. If all of its pieces are read and nothing is on its way, the hits that were taken are
--- all of them.
+-- volumes. If all of its pieces are read and nothing is on its way, the taken hits are all of them.
 pub record HasHitsOf (plan : model.Plan) (volumes : List Volume) (r : Restore) : Type 0 where
   pub set : Hits
   pub means : meaning plan.groups volumes ≡ Ok set
@@ -52,7 +51,7 @@ pub record HasHitsOf (plan : model.Plan) (volumes : List Volume) (r : Restore) :
   pub taken_are : AreAmong r.taken set
   pub whole : IsWhole r → r.taken ≡ set
 
--- At every point of every run from a start each restore has a plan before it, and has hits of its
+-- At every point of every run from a start, each restore has a plan before it, and has hits of its
 -- bootstrap.
 abbrev pub HitsOfARun : Type 0
 HitsOfARun =
@@ -61,7 +60,7 @@ HitsOfARun =
     → WasPlanned first last events replies number
     × ((p : WasPlanned first last events replies number) → OldOnesHold first p.moment p.chosen → HasHitsOf p.plan p.moment.volumes r)
 
--- the entries that a script selects of the view of the chosen jobs
+-- the entries that a script selects in the view of the chosen jobs
 abbrev pub selected_by : List JobRows → List Command → List Entry
 selected_by chosen script = selection (view_of chosen) (marks_of chosen script)
 
@@ -73,9 +72,9 @@ pub record IsRestored (moment : World) (chosen : List JobRows) (script : List Co
   pub means : (later : List Volume) → Extends later moment.volumes
       → (hits : Hits) × (meaning plan.groups later ≡ Ok hits) × (files hits (Some plan.names) ≡ delivered)
 
--- Of every run from a start, with any commits, plans, failures and repeats in any order: each
--- delivery that gives files has a plan before it, and gives what that plan's script selected of the
--- jobs of that moment.
+-- For every run from a start, with any commits, plans, failures and repeats in any order: each
+-- delivery that gives files has a plan before it, and gives what that plan's script selected among
+-- the jobs of that moment.
 abbrev pub Headline : Type 0
 Headline =
     (first last after : World) (events : List Event) (replies : List Reply) (number : ℕ) (delivered : List Restored)
@@ -85,7 +84,7 @@ Headline =
     → IsRestored p.moment p.chosen p.script p.plan delivered)
 
 -- Volumes only grow. A job of a later state was there in the first, or the later volumes hold it.
--- Each job by itself that the first volumes hold the later ones hold too.
+-- The later volumes also hold each job that the first ones hold.
 abbrev pub JobsHold : Type 0
 JobsHold =
     (first last : World) (events : List Event) (replies : List Reply) → IsRun first events replies last

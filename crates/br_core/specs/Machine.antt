@@ -28,9 +28,9 @@ pub data Status : Type 0 where
   Claimed : ℕ → Status
   Finished : Status
 
--- A restore that is not over: the jobs, the volumes and the number of commits of the moment in
--- which it was planned, the request, the marks, the plan, the status of each piece, the hits that
--- are on their way, block by block, and the set of the hits that were taken.
+-- A restore that is not over: the jobs, the volumes and the number of commits at its plan, the
+-- request, the marks, the plan, the status of each piece, the hits that are on their way, block by
+-- block, and the set of the hits that were taken.
 pub record Restore : Type 0 where
   pub jobs : List Job
   pub volumes : List Volume
@@ -52,11 +52,11 @@ pub record World : Type 0 where
 
 -- ---- events and replies
 
--- What can happen. All events but commits and plans are of the restore with the first number. The
--- second number is that of a piece, or for `Take` the place of a batch among those on their way.
--- The third number of a `Read` is a number of commits: the walk reads the volumes that these left.
+-- What can happen. All events except commits and plans are of the restore with the first number.
+-- The second number is that of a piece, or for `Take` the place of a batch among those on their
+-- way. The third number of a `Read` is a number of commits: the walk reads the volumes after these.
 --
--- The last three happen to volumes that other programs write too: they find these volumes, which
+-- The last three happen on volumes that other programs write too: they find these volumes, which
 -- extend those of the state, or those of the plan.
 pub data Event : Type 0 where
   Commit : ToCommit → Event
@@ -71,8 +71,8 @@ pub data Event : Type 0 where
   ReadFinds : ℕ → ℕ → List Volume → Event
   FinishFinds : ℕ → ℕ → List Volume → Event
 
--- the reply: done; the number of the restore that was planned; the number of a refusal; the files
--- of a restore
+-- the reply: done; the number of the planned restore; the number of a refusal; the files of a
+-- restore
 pub data Reply : Type 0 where
   Done : Reply
   Planned : ℕ → Reply
@@ -106,7 +106,7 @@ pub record IsCommitted (before : World) (c : ToCommit) (found : List Volume) (af
   pub earlier_are : after.earlier ≡ before.earlier ++ before.volumes ∷ []
   pub restores_are : after.restores ≡ before.restores
 
--- the job can be among the others, but on the volumes that the commit finds a span would end past
+-- the job can be among the others, but on the volumes that the commit finds, a span would end past
 -- the greatest address, or there would be too many of them
 pub record IsTooLong (before : World) (c : ToCommit) (found : List Volume) : Type 0 where
   pub blocks : List (List ℕ)
@@ -115,8 +115,8 @@ pub record IsTooLong (before : World) (c : ToCommit) (found : List Volume) : Typ
   pub packed : ArePacked c.limit c.row.session (session_records c.files) blocks
   pub refused : checked_spans (lengths_of found) (visits c.places blocks) ≡ Err 42
 
--- the number for which a commit is refused: 40 or 41 for what the other jobs are, or 42 for what it
--- finds
+-- the number with which a commit is refused: 40 or 41 because of the other jobs, or 42 because of
+-- the volumes that it finds
 abbrev pub IsRefusedFor : World → ToCommit → List Volume → ℕ → Type 0
 IsRefusedFor before c found n =
     (pushed (rows_of_jobs before.jobs) (job_rows c []) ≡ Err n) ⊎ ((n ≡ 42) × IsTooLong before c found)
@@ -127,14 +127,14 @@ IsRefusedFor before c found n =
 abbrev pub marks_of : List JobRows → List Command → List (List ℕ)
 marks_of chosen script = (marks_after (view_of chosen) at_start script).marked
 
--- the plan for what a script marks: 53, 54 or 50 if no jobs are chosen, 51 if nothing is marked
+-- the plan for the marks of a script: 53, 54 or 50 if no jobs are chosen, 51 if nothing is marked
 unfoldable pub plan_for : List JobRows → Request → List Command → Result ((List (List ℕ)) × model.Plan) ℕ
 plan_for history q script = do
   chosen ← choose history q
   plan ← plan_of history q (marks_of chosen script)
   Ok (marks_of chosen script, plan)
 
--- a restore that was planned just now, all of its pieces waiting
+-- a restore that was just planned, all of its pieces waiting
 abbrev pub planned : World → Request → List (List ℕ) → model.Plan → Restore
 planned w q marks plan = record {
   jobs = w.jobs;
@@ -170,17 +170,17 @@ stands r piece status = slice_get r.statuses piece ≡ Some status
 abbrev pub goes : Restore → ℕ → Status → Restore
 goes r piece status = record r { statuses = set r.statuses piece status }
 
--- the volumes after each number of commits, from none to those of now
+-- the volumes after each number of commits, from none to the present one
 abbrev pub stages_of : World → List (List Volume)
 stages_of w = w.earlier ++ w.volumes ∷ []
 
--- These are the volumes after that many commits, at least as many as at the restore's plan.
+-- These are the volumes after this number of commits, which is at least that at the restore's plan.
 pub record AreAfter (w : World) (r : Restore) (commits : ℕ) (volumes : List Volume) : Type 0 where
   pub since : r.commits ≤ commits
   pub are : slice_get (stages_of w) commits ≡ Some volumes
 
--- A walk reads the block at its address, over these volumes. The block's hits, as one batch, are
--- then on their way.
+-- A walk reads the block at its address, over these volumes. The block's hits are then on their
+-- way, as one batch.
 pub record IsRead (r : Restore) (piece : ℕ) (volumes : List Volume) (after : Restore) : Type 0 where
   pub address : ℕ
   pub next : ℕ
@@ -210,7 +210,7 @@ pub record IsWhole (r : Restore) : Type 0 where
   pub finished : AllByRecursion (λ status. status ≡ Finished) r.statuses
   pub none : r.transit ≡ []
 
--- what an event makes of a restore that is not over, in this state
+-- the result of an event for a restore that is not over, in this state
 abbrev pub Moves : World → Event → Restore → Restore → Type 0
 Moves w (Claim number piece) r after = stands r piece Waiting × (after ≡ goes r piece (Claimed 0))
 Moves w (Read number piece commits) r after = (volumes : List Volume) × AreAfter w r commits volumes × IsRead r piece volumes after
@@ -227,13 +227,13 @@ Moves w (Deliver number) r after = ⊥
 
 -- ---- steps
 
--- the restore is there and not over, and the event makes something of it
+-- the restore is there and not over, and the event has a result for it
 abbrev pub Can : World → ℕ → Event → Type 0
 Can w number event = (r : Restore) × (after : Restore) × (restore_at w number ≡ Some r) × Moves w event r after
 
--- The event can happen: a commit and a plan always, a commit that finds other volumes if these
--- extend those of the state, every other if its restore is there and not over, and is as the event
--- asks.
+-- The event can happen: a commit and a plan always; a commit that finds other volumes if these
+-- extend those of the state; every other event if its restore is there and not over, and meets the
+-- event's conditions.
 abbrev pub IsEnabled : World → Event → Type 0
 IsEnabled w (Commit c) = ⊤
 IsEnabled w (Plan q script) = ⊤
@@ -247,16 +247,16 @@ IsEnabled w (CommitFinds c found) = Extends found w.volumes
 IsEnabled w (ReadFinds number piece volumes) = Can w number (ReadFinds number piece volumes)
 IsEnabled w (FinishFinds number piece volumes) = Can w number (FinishFinds number piece volumes)
 
--- what becomes of a commit: 40, 41 or 42 and no change, or the job is there. It finds the volumes
--- of the state.
+-- the result of a commit: 40, 41 or 42 and no change, or the job is there. It finds the volumes of
+-- the state.
 abbrev pub Commits : World → ToCommit → Reply → World → Type 0
 Commits w c Done after = IsCommitted w c w.volumes after
 Commits w c (Refused n) after = (after ≡ w) × IsRefusedFor w c w.volumes n
 Commits w c (Planned n) after = ⊥
 Commits w c (Delivered rs) after = ⊥
 
--- what becomes of a commit that finds these volumes: the same over these; 59 and no change if they
--- do not extend those of the state
+-- the result of a commit that finds these volumes: the same over these; 59 and no change if they do
+-- not extend those of the state
 abbrev pub CommitsOn : World → ToCommit → List Volume → Reply → World → Type 0
 CommitsOn w c found Done after = Extends found w.volumes × IsCommitted w c found after
 CommitsOn w c found (Refused n) after =
@@ -264,8 +264,7 @@ CommitsOn w c found (Refused n) after =
 CommitsOn w c found (Planned n) after = ⊥
 CommitsOn w c found (Delivered rs) after = ⊥
 
--- what becomes of a plan: 50, 51, 53 or 54 and no change, or one more restore, under the next
--- number
+-- the result of a plan: 50, 51, 53 or 54 and no change, or one more restore, with the next number
 abbrev pub Plans : World → Request → List Command → Reply → World → Type 0
 Plans w q script (Planned n) after =
     (marks : List (List ℕ)) × (plan : model.Plan) × (plan_for (rows_of_jobs w.jobs) q script ≡ Ok (marks, plan))
@@ -274,7 +273,7 @@ Plans w q script (Refused n) after = (after ≡ w) × (plan_for (rows_of_jobs w.
 Plans w q script Done after = ⊥
 Plans w q script (Delivered rs) after = ⊥
 
--- what becomes of an event of one restore: it changes that restore alone; 59 and no change if it is
+-- the result of an event of one restore: it changes only that restore; 59 and no change if it is
 -- not enabled
 abbrev pub Goes : World → ℕ → Event → Reply → World → Type 0
 Goes w number event Done after =
@@ -283,8 +282,8 @@ Goes w number event (Refused n) after = (n ≡ 59) × (after ≡ w) × (IsEnable
 Goes w number event (Planned n) after = ⊥
 Goes w number event (Delivered rs) after = ⊥
 
--- what becomes of a delivery: the files of what was taken under the planned names, and the restore
--- is over; 59 and no change if it is not enabled
+-- the result of a delivery: the files of what was taken under the planned names, and the restore is
+-- over; 59 and no change if it is not enabled
 abbrev pub Delivers : World → ℕ → Reply → World → Type 0
 Delivers w number (Delivered rs) after =
     (r : Restore) × (restore_at w number ≡ Some r) × IsWhole r × (rs ≡ files r.taken (Some r.plan.names)) × (after ≡ becomes w number None)
@@ -306,7 +305,7 @@ IsStep w (CommitFinds c found) reply after = CommitsOn w c found reply after
 IsStep w (ReadFinds number piece volumes) reply after = Goes w number (ReadFinds number piece volumes) reply after
 IsStep w (FinishFinds number piece volumes) reply after = Goes w number (FinishFinds number piece volumes) reply after
 
--- a run: some events one after the other, with their replies
+-- a run: some events one after another, with their replies
 abbrev pub IsRun : World → List Event → List Reply → World → Type 0
 IsRun w [] [] after = after ≡ w
 IsRun w (event ∷ events) (reply ∷ replies) after = (next : World) × IsStep w event reply next × IsRun next events replies after

@@ -1,4 +1,4 @@
--- Restores under their numbers, none for one that is over, and how one of them moves.
+-- Restores under their numbers, none for one that is over, and a move of one of them.
 use Rattle.std.specs.Prelude.{◌≡◌, ℕ, ◌⊎◌, List, map, set, option_map, slice_get, Option, Some, None, true, false, Result, Ok, Err, ⊤}
 use Rattle.br_model.specs.Volume.{Volume}
 use Rattle.br_model.specs.Job.{Job}
@@ -14,7 +14,7 @@ use Rattle.br_core.specs.declared.restore.Move.{Move}
 use Rattle.br_core.specs.declared.restore.Move.TheVariants.{Claim, Read, Fail, Finish, Take}
 use Rattle.br_core.specs.declared.restore.Restore.{Restore}
 
--- what a move asks of the restore
+-- the condition of a move on the restore
 abbrev pub asked : Move → machine.Restore → Type 0
 asked (Claim piece) r = ⊤
 asked (Read piece volumes) r = CanBeRead r piece (volumes_of volumes.now)
@@ -40,12 +40,12 @@ commits_at None = None
 abbrev pub seen_all : List Job → List (List Volume) → List (Option Restore) → List (Option machine.Restore)
 seen_all jobs stages restores = map (option_map (restore_of jobs stages)) restores
 
--- the two lists are one of the relation
+-- the two lists correspond to one list of the relation
 abbrev pub AreSeenAs : List (Option Restore) → List (Option Restore) → Type 0
 AreSeenAs before after = (jobs : List Job) (stages : List (List Volume)) → seen_all jobs stages after ≡ seen_all jobs stages before
 
--- The restore of this number moves so. No restore is changed if memory runs out, or if there is
--- none of this number that can move so.
+-- The restore of this number makes the move. No restore is changed if memory runs out, or if none
+-- of this number can make the move.
 abbrev pub OneMoves :
     (machine.Restore → Type 0) → (machine.Restore → machine.Restore → Type 0) → ℕ → List (Option Restore) → List (Option Restore)
     → Result (Unit {0}) StepFault → Type 0
@@ -56,15 +56,15 @@ OneMoves Premise Move number before after (Err fault) =
     × ((fault ≡ Memory)
     ⊎ ((fault ≡ NotEnabled) × ((r : Restore) → slice_get before number ≡ Some (Some r) → CannotMove Premise Move r)))
 
--- No restore is changed: memory runs out, or there is none of this number of which all is read and
--- taken.
+-- No restore is changed: memory runs out, or there is no restore of this number with everything
+-- read and taken.
 abbrev pub NoneDelivers : ℕ → List (Option Restore) → List (Option Restore) → StepFault → Type 0
 NoneDelivers number before after fault =
     AreSeenAs before after
     × ((fault ≡ Memory)
     ⊎ ((fault ≡ NotEnabled) × ((r : Restore) → slice_get before number ≡ Some (Some r) → TellsWhole r false)))
 
--- The restore of this number, of which all is read and taken, gives its files, and is over then.
+-- The restore of this number, with everything read and taken, gives its files, and is then over.
 abbrev pub OneDelivers : {X : Type 0} → (X → List Restored) → ℕ → List (Option Restore) → List (Option Restore) → Result X StepFault → Type 0
 OneDelivers said number before after (Ok given) =
     (r : Restore) × (slice_get before number ≡ Some (Some r)) × TellsWhole r true × (said given ≡ files r.joiner.hits (Some r.plan.names))

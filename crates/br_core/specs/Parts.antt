@@ -1,4 +1,4 @@
--- What the parts of a restore have to do with one another.
+-- How the parts of a restore relate to each other.
 use Rattle.std.specs.Prelude.{◌≡◌, ℕ, ◌<◌, List, [], length, map, option_map, slice_get, Some, Contains}
 use Rattle.std.specs.FinMap.{empty, get}
 use Rattle.br_model.specs.Meaning.{Piece, pieces_of}
@@ -21,7 +21,7 @@ pub record AreParts
   pub closed : (number : ℕ) → get joiner.pieces number ≡ option_map is_finished (slice_get statuses number)
   pub known : (b : ℕ × Batch) → Contains transit b → b.0 < length statuses
 
--- The parts of a restore that was planned just now: all pieces wait, and nothing was taken.
+-- The parts of a restore that was just planned: all pieces wait, and nothing was taken.
 abbrev pub AreFirst : model.Plan → List Piece → List Status → Joining → Type 0
 AreFirst plan pieces statuses joiner =
     AreParts plan pieces statuses [] joiner × (statuses ≡ map (λ (p : Piece). Waiting) (pieces_of plan.groups)) × (joiner.hits ≡ empty)

@@ -1,4 +1,4 @@
--- What a script makes of a console over the view of the chosen jobs.
+-- The effect of a script on a console over the view of the chosen jobs.
 use Rattle.std.specs.Prelude.{ℕ, List, Result, Ok}
 use Rattle.br_model.specs.Answer.{◌>>=◌}
 use Rattle.br_model.specs.Job.{JobRows}
@@ -7,7 +7,7 @@ use Rattle.br_model.specs.View.{view_of}
 use Rattle.br_model.specs.Console.{Command, after_answer, apply, at_start, marks_after}
 use Rattle.br_mark.specs.Seen.{Situation}
 
--- a console after a command, which changes nothing if it is refused
+-- a console after a command; a refused command changes nothing
 abbrev pub after_command : Situation → Command → Situation
 after_command s command = record s { state = after_answer s.state (apply s.view s.state command) }
 
@@ -15,7 +15,7 @@ after_command s command = record s { state = after_answer s.state (apply s.view 
 abbrev pub after_script : Situation → List Command → Situation
 after_script s script = record s { state = marks_after s.view s.state script }
 
--- the console over the view of the chosen jobs, after a script from its start; or the refusal of
+-- the console over the view of the chosen jobs, after a script from the start; or the refusal of
 -- the choice
 unfoldable pub console_after : List JobRows → Request → List Command → Result Situation ℕ
 console_after history q script = do

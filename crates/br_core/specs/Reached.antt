@@ -1,4 +1,4 @@
--- States that a run from nothing reaches.
+-- States that a run from the empty state reaches.
 use Rattle.std.specs.Prelude.{List, []}
 pub use Rattle.br_history.specs.Committing.{AreWhole}
 use Rattle.br_core.specs.Machine.{World, Event, Reply, IsRun}
@@ -7,8 +7,8 @@ use Rattle.br_core.specs.Machine.{World, Event, Reply, IsRun}
 abbrev pub nothing : World
 nothing = record { jobs = []; volumes = []; earlier = []; restores = [] }
 
--- A run from nothing leads to the state, and its volumes consist of whole blocks. So every law of
--- runs holds of it, and its volumes hold all of its jobs.
+-- A run from the empty state leads to the state, and its volumes consist of whole blocks. So every
+-- law of runs holds of it, and its volumes hold all of its jobs.
 pub record IsReached (w : World) : Type 0 where
   pub events : List Event
   pub replies : List Reply

@@ -1,4 +1,4 @@
--- How a walk reads a block over volumes that go on from those of the plan.
+-- How a walk reads a block over volumes that extend those of the plan.
 use Rattle.std.specs.Prelude.{◌≡◌, ℕ, ◌⊎◌, List, slice_get, Option, Some, None, Result, Ok, Err}
 use Rattle.br_model.specs.Volume.{Volume, Extends}
 use Rattle.br_model.specs.Meaning as model
@@ -15,9 +15,9 @@ use Rattle.br_core.specs.declared.fault.StepFault.TheVariants.{Memory, NotEnable
 use Rattle.br_core.specs.declared.status.Status as code
 use Rattle.br_core.specs.declared.status.Status.TheVariants as at
 
--- The volumes of the restore enclose a claimed piece, and its walk may have come to its address
--- over them. Over these volumes, which extend them, its next step is the same. (So it is of every
--- restore of a run from nothing.)
+-- The volumes of the restore enclose a claimed piece, and its walk may have reached its address
+-- over them. Over these volumes, which extend them, its next step is the same. (This holds for
+-- every restore of a run from the empty state.)
 pub record CanBeRead (r : Restore) (number : ℕ) (shown : List Volume) : Type 0 where
   pub extend : Extends shown r.volumes
   pub enclosed : (piece : Piece) → slice_get (pieces_of r.plan.groups) number ≡ Some piece → IsEnclosed r.volumes piece
@@ -25,14 +25,14 @@ pub record CanBeRead (r : Restore) (number : ℕ) (shown : List Volume) : Type 0
       (piece : Piece) (address : ℕ) → slice_get (pieces_of r.plan.groups) number ≡ Some piece → stands r number (Claimed address)
       → Follows r.volumes piece address × (step_on shown piece address ≡ step_on r.volumes piece address)
 
--- over all volumes that these extend and that enclose the piece, if its walk may have come to its
+-- over all volumes that these extend and that enclose the piece, if its walk may have reached its
 -- address over those
 abbrev pub OverEnclosing : List Volume → Piece → ℕ → (List Volume → Type 0) → Type 0
 OverEnclosing shown piece address P =
     (volumes : List Volume) → Extends shown volumes → IsEnclosed volumes piece → Follows volumes piece address → P volumes
 
 -- The hits of the next block with the address after it, or none at the walk's end. Memory may run
--- out at any time; any other refusal says that there is no step.
+-- out at any time; any other refusal means that there is no step.
 abbrev pub ReadsNext : List Volume → Piece → ℕ → Result (Option (Batch × ℕ)) StepFault → Type 0
 ReadsNext shown piece address (Ok (Some s)) =
     OverEnclosing shown piece address (λ volumes. step_on volumes piece address ≡ Ok (Some (s.0.hits.items, s.1)))
@@ -42,7 +42,7 @@ ReadsNext shown piece address (Err fault) =
     ⊎ ((fault ≡ NotEnabled)
     × OverEnclosing shown piece address (λ volumes. (step : Option (List Hit × ℕ)) → step_on volumes piece address ≡ Ok step → ⊥))
 
--- what a walk's refusal is as one of a step: want of memory, or a refusal that the volumes decide
+-- a walk's refusal as one of a step: memory ran out, or the volumes decide the refusal
 abbrev pub IsReadFault : PieceFault → StepFault → Type 0
 IsReadFault why fault = (fault ≡ Memory) ⊎ ((fault ≡ NotEnabled) × (r : model.PieceFault) × (matching.cause why ≡ Some r))
 
@@ -60,7 +60,7 @@ pub record IsNext
   pub piece_is : slice_get pieces number ≡ Some piece
   pub step_is : step_on volumes piece address ≡ Ok step
 
--- if the piece is claimed, these volumes enclose it, and its walk may have come to its address
+-- if the piece is claimed, these volumes enclose it, and its walk may have reached its address
 abbrev pub IsReady : List Piece → List code.Status → ℕ → List Volume → Type 0
 IsReady pieces statuses number volumes =
     (piece : Piece) (address : ℕ) → slice_get pieces number ≡ Some piece → slice_get statuses number ≡ Some (at.Claimed address)
@@ -72,7 +72,7 @@ OverReady pieces statuses number shown P =
     (volumes : List Volume) → Extends shown volumes → IsReady pieces statuses number volumes → P volumes
 
 -- The next step of the piece's walk, read over some volumes. It is the same over those that these
--- extend. A refusal says that memory ran out, or that there is no such step.
+-- extend. A refusal means that memory ran out, or that there is no such step.
 abbrev pub ReadsPiece : List Piece → List code.Status → ℕ → List Volume → Result (Option (Batch × ℕ)) StepFault → Type 0
 ReadsPiece pieces statuses number shown (Ok (Some s)) =
     OverReady pieces statuses number shown (λ volumes. IsNext pieces statuses number volumes (Some (s.0.hits.items, s.1)))

@@ -1,4 +1,4 @@
--- What holds of the machine in each state and of each of its runs, from nothing on.
+-- The laws of the machine for each state and each run from the empty state.
 use Rattle.std.specs.Prelude.{◌≡◌, ℕ, ◌≤◌, List, length, take, drop, slice_get, Some}
 use Rattle.br_model.specs.Restored.{Restored}
 use Rattle.br_core.specs.Machine.{World, Restore, Event, Reply, IsRun, restore_at}
@@ -9,12 +9,12 @@ use Rattle.br_core.specs.Reached.{nothing}
 
 -- ---- a state, and the events and replies by which it was reached
 
--- of all events by which a run from nothing reaches the state
+-- for all events by which a run from the empty state reaches the state
 abbrev pub HoweverReached : World → (List Event → List Reply → Type 0) → Type 0
 HoweverReached w P = (events : List Event) (replies : List Reply) → IsRun nothing events replies w → P events replies
 
 -- If an event of this state delivers files, its restore was planned before, and the files are what
--- the plan's script selected of the jobs of that moment.
+-- the plan's script selected among the jobs of that moment.
 abbrev pub GivesSelected : World → Event → Reply → List Event → List Reply → Type 0
 GivesSelected w event reply events replies =
     (number : ℕ) (files : List Restored) → event ≡ Deliver number → reply ≡ Delivered files
@@ -31,7 +31,7 @@ AllHaveHits w events replies =
 
 -- ---- a run
 
--- the state after the first events of a run from nothing to a last state
+-- the state after the first events of a run from the empty state to a last state
 pub record IsAfter (events : List Event) (replies : List Reply) (last : World) (count : ℕ) (w : World) : Type 0 where
   pub before : IsRun nothing (take count events) (take count replies) w
   pub after : IsRun w (drop count events) (drop count replies) last

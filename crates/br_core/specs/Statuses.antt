@@ -24,7 +24,7 @@ is_waiting (Some (code.Claimed address)) = false
 is_waiting (Some code.Finished) = false
 is_waiting None = false
 
--- the address before which the walk of a piece is, if there is a piece and it is claimed
+-- the address that the walk of a piece is before, if there is a piece and it is claimed
 abbrev pub address_in : Option Status → Option ℕ
 address_in (Some code.Waiting) = None
 address_in (Some (code.Claimed address)) = Some address

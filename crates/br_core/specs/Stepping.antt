@@ -1,4 +1,4 @@
--- The machine that runs: its state, and what a step of it is.
+-- The running machine: its state, and its steps.
 use Rattle.std.specs.Prelude.{◌≡◌, ℕ, ◌≤◌, List, map, option_map, slice_get, Option, Some, None, IfSome, Result, Ok, Err}
 use Rattle.br_model.specs.Volume.{Volume}
 use Rattle.br_model.specs.Choice.{Request}
@@ -23,14 +23,14 @@ use Rattle.br_core.specs.declared.restore.Restore.{Restore}
 abbrev pub world_with : World → List (Option Restore) → World
 world_with backups restores = record backups { restores = map (option_map (restore_of backups.jobs (stages_of backups))) restores }
 
--- The step is one of the relation, with its reply. A refusal changes nothing, and the relation has
--- it too, unless memory ran out.
+-- The step is one of the relation, with its reply. A refusal changes nothing, and the relation
+-- refuses too, unless memory ran out.
 abbrev pub TakesStep : World → Event → World → Result Reply StepFault → Type 0
 TakesStep before event after (Ok reply) = IsStep before event (reply_of reply) after
 TakesStep before event after (Err fault) = (after ≡ before) × IfSome (cause fault) (λ n. IsStep before event (Refused n) before)
 
--- In this state the event is that the restore of this number moves so. The restore is as the
--- premise asks.
+-- In this state the event is this move of the restore of this number. The restore meets the
+-- premise.
 pub record IsEventOf
     (w : World) (number : ℕ) (event : Event) (Premise : machine.Restore → Type 0) (Move : machine.Restore → machine.Restore → Type 0)
     : Type 0 where
@@ -40,7 +40,8 @@ pub record IsEventOf
   pub moves : (r after : machine.Restore) → restore_at w number ≡ Some r → Move r after → Moves w event r after
   pub asked : (r : machine.Restore) → restore_at w number ≡ Some r → Premise r
 
--- in every state of these restores the event that the one of this number moves so takes a step
+-- in every state with these restores, the event of this move of the restore of this number is a
+-- step
 abbrev pub StepsOfOne :
     (machine.Restore → Type 0) → (machine.Restore → machine.Restore → Type 0) → ℕ → List (Option Restore) → List (Option Restore)
     → Result Reply StepFault → Type 0
@@ -48,22 +49,22 @@ StepsOfOne Premise Move number before after result =
     (backups : World) (event : Event) → IsEventOf (world_with backups before) number event Premise Move
     → TakesStep (world_with backups before) event (world_with backups after) result
 
--- What becomes of a plan before it has a number: the restore, planned now of what the script marks,
--- or the relation's refusal, unless memory ran out.
+-- The result of a plan before it has a number: the restore, just planned from the marks of the
+-- script, or the relation's refusal, unless memory ran out.
 abbrev pub PlansRestore : World → Request → List Command → Result Restore StepFault → Type 0
 PlansRestore w q script (Ok r) =
     (marks : List (List ℕ)) × (plan : model.Plan) × (plan_for (rows_of_jobs w.jobs) q script ≡ Ok (marks, plan))
     × (restore_of w.jobs (stages_of w) r ≡ planned w q marks plan)
 PlansRestore w q script (Err fault) = IfSome (cause fault) (λ n. plan_for (rows_of_jobs w.jobs) q script ≡ Err n)
 
--- The commit of a job takes a step, whatever the restores are, if a run from nothing reaches the
--- state with these.
+-- The commit of a job is a step, whatever the restores are, if a run from the empty state reaches
+-- the state with these.
 abbrev pub CommitsBeside : World → ToCommit → World → Result Reply StepFault → Type 0
 CommitsBeside before job after result =
     (restores : List (Option Restore)) → IsReached (world_with before restores)
     → TakesStep (world_with before restores) (Commit job) (world_with after restores) result
 
--- the restores take the step of an event that leaves the jobs and the volumes
+-- the restores change by an event that leaves the jobs and the volumes
 abbrev pub RestoresStep : World → List (Option Restore) → Event → List (Option Restore) → Result Reply StepFault → Type 0
 RestoresStep backups before event after result = TakesStep (world_with backups before) event (world_with backups after) result
 
@@ -77,7 +78,7 @@ ShowsTo backups restores number commits None =
     (since : ℕ) (volumes : List Volume) → commits_at (slice_get restores number) ≡ Some since → since ≤ commits
     → slice_get (stages_of backups) commits ≡ Some volumes → ⊥
 
--- the reply to a step: its refusal is one
+-- the reply to a step: a refusal is a reply, too
 abbrev pub IsReply : Result Reply StepFault → Reply → Type 0
 IsReply (Ok taken) reply = reply ≡ taken
 IsReply (Err fault) reply = (number : ℕ) × (cause fault ≡ Some number) × (reply ≡ given.Refused number)

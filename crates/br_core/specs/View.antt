@@ -1,4 +1,4 @@
--- A restore of the machine that runs, seen as one of the relation.
+-- A restore of the running machine, seen as one of the relation.
 use Rattle.std.specs.Prelude.{◌≡◌, ℕ, Bool, true, false, ◌⊎◌, List, [], length, map, take, unwrap_or, slice_get, Result, Ok, Err}
 use Rattle.br_model.specs.Volume.{Volume}
 use Rattle.br_model.specs.Job.{Job}
@@ -15,15 +15,15 @@ use Rattle.br_core.specs.declared.fault.StepFault.{StepFault}
 use Rattle.br_core.specs.declared.fault.StepFault.TheVariants.{Memory, NotEnabled}
 use Rattle.br_core.specs.declared.restore.Restore.{Restore}
 
--- the hits of a batch that is on its way, and those of some
+-- the hits of a batch that is on its way, and those of some batches
 abbrev pub hits_of_batch : ℕ × Batch → List Hit
 hits_of_batch b = b.1.hits.items
 
 abbrev pub hits_of_batches : List (ℕ × Batch) → List (List Hit)
 hits_of_batches batches = map hits_of_batch batches
 
--- A restore. The number of commits tells the jobs and the volumes of its plan: jobs and stages are
--- only appended to.
+-- A restore. The number of commits determines the jobs and the volumes of its plan: jobs and stages
+-- are only appended to.
 abbrev pub restore_of : List Job → List (List Volume) → Restore → machine.Restore
 restore_of jobs stages r = record {
   jobs = take r.commits jobs;
@@ -37,18 +37,18 @@ restore_of jobs stages r = record {
   taken = r.joiner.hits;
 }
 
--- the two are one restore of the relation
+-- the two correspond to one restore of the relation
 abbrev pub IsSeenAs : Restore → Restore → Type 0
 IsSeenAs before after = (jobs : List Job) (stages : List (List Volume)) → restore_of jobs stages after ≡ restore_of jobs stages before
 
--- a restore that is as the premise asks cannot move so
+-- a restore that meets the premise can't make the move
 abbrev pub CannotMove : (machine.Restore → Type 0) → (machine.Restore → machine.Restore → Type 0) → Restore → Type 0
 CannotMove Premise Move r =
     (jobs : List Job) (stages : List (List Volume)) (after : machine.Restore)
     → Premise (restore_of jobs stages r) → Move (restore_of jobs stages r) after → ⊥
 
--- A restore that is as the premise asks moves so, whatever its jobs and its volumes are. It is
--- unchanged if memory runs out, or if it cannot move so.
+-- A restore that meets the premise makes the move, whatever its jobs and its volumes are. It is
+-- unchanged if memory runs out, or if it can't make the move.
 abbrev pub MovesIf :
     (machine.Restore → Type 0) → (machine.Restore → machine.Restore → Type 0) → Restore → Restore → Result (Unit {0}) StepFault
     → Type 0
@@ -83,7 +83,7 @@ abbrev pub TellsWhole : Restore → Bool → Type 0
 TellsWhole r true = (jobs : List Job) (stages : List (List Volume)) → IsWhole (restore_of jobs stages r)
 TellsWhole r false = (jobs : List Job) (stages : List (List Volume)) → IsWhole (restore_of jobs stages r) → ⊥
 
--- a restore that was planned just now, after this number of commits
+-- a restore that was just planned, after this number of commits
 abbrev pub IsPlanned : ℕ → Request → List (List ℕ) → model.Plan → Restore → Type 0
 IsPlanned commits request marks plan r =
     (w : machine.World) → length w.earlier ≡ commits → length w.jobs ≡ commits

@@ -1,4 +1,4 @@
-//! The jobs that were committed, and the volumes after each commit.
+//! The committed jobs, and the volumes after each commit.
 ghost use Rattle.std.specs.Prelude.{◌≡◌, length, option_map, slice_get, OnErr, OnOk};
 ghost use Rattle.br_model.specs.Answer.{Answers};
 ghost use Rattle.br_model.specs.Job.{pushed};
@@ -19,7 +19,7 @@ use std::alloc::Global;
 use std::marker::Model;
 use std::mem;
 
-/// A job that was committed, and the volumes before it.
+/// A committed job, and the volumes before it.
 #[derive(Drop)]
 struct Committed {
     job: SavedJob,
@@ -44,7 +44,7 @@ impl Committed {
     }
 }
 
-/// The jobs that were committed, and the volumes, as they are and as they were before each commit.
+/// The committed jobs, and the volumes, now and before each commit.
 #[derive(Drop)]
 pub(crate) struct Backups {
     alloc: Global,
@@ -69,8 +69,8 @@ impl Model for Backups {
     ghost invariant = { λ b. AreBackups b.history b.commits.items b.volumes.volumes };
 }
 
-/// Adds a job with its rows, and puts the volumes that hold it in place of those before it. A
-/// refusal changes nothing.
+/// Adds a job with its rows, and replaces the volumes by those that hold it. After a refusal
+/// nothing has changed.
 fn add(
     history: &mut History,
     commits: &mut Vec<Committed>,
@@ -94,7 +94,7 @@ fn add(
 }
 
 impl Backups {
-    /// Returns no jobs and no volumes. They keep the allocator, by which they grow.
+    /// Returns the state without jobs and volumes. It keeps the allocator, by which both grow.
     pub(crate) fn new(alloc: Global) -> Backups
         ensures { result ≡ nothing }
     {
@@ -107,7 +107,7 @@ impl Backups {
     }
 
     /// Commits a job: its session is written to the volumes, and its rows are added to the history.
-    /// A refusal changes nothing.
+    /// After a refusal nothing has changed.
     pub(crate) fn commit(&mut self, job: SavedJob) -> Result<(), HistoryFault>
         ensures committed { CommitsTo self.old job self.new result }
         ensures each { length self.old.jobs ≡ length self.old.earlier }
@@ -142,7 +142,7 @@ impl Backups {
         self.commits.len() as u64
     }
 
-    /// Returns the volumes after a number of commits, if there were as many.
+    /// Returns the volumes after this number of commits, if there were as many.
     pub(crate) fn volumes_after(&self, commits: u64) -> Option<&[(VolName, Vec<u8>)]>
         ensures { option_map (λ volumes. volumes_of volumes.now) result ≡ slice_get (stages_of self.now) commits }
     {

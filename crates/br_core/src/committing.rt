@@ -1,4 +1,4 @@
-//! Jobs as they are committed: their sessions and rows, and the blocks on the volumes.
+//! Jobs ready for a commit: their sessions and rows, and the blocks on the volumes.
 ghost use Rattle.std.specs.Prelude.{◌≡◌, ◌<◌, ◌^◌, map, IfOk, OnOk};
 ghost use Rattle.br_model.specs.Volume.{Extends};
 ghost use Rattle.br_model.specs.SessionHolds.{AreAppended};
@@ -46,7 +46,7 @@ fn written(
     ) {
         Ok(written) => Ok(written),
         Err(SessionFault::BadRow) => Err(HistoryFault::BadRow),
-        // The files are in order, so it is out of memory.
+        // The files are in order, so memory ran out.
         Err(_) => Err(HistoryFault::Memory),
     }
 }

@@ -4,12 +4,12 @@ use br_mark::Command;
 use br_plan::Request;
 use br_types::FileKey;
 
-/// What can happen. All events but commits and plans are of the restore with the number `plan`.
+/// What can happen. All events except commits and plans are of the restore with the number `plan`.
 #[derive(Drop)]
 pub enum Event {
     /// A job is committed: its session is written to the volumes.
     Commit(SavedJob),
-    /// A restore is planned of what a script marks.
+    /// A restore of what a script marks is planned.
     Plan(Request, Vec<Command>),
     /// A walk takes a waiting piece.
     Claim { plan: u64, piece: u32 },
@@ -26,11 +26,11 @@ pub enum Event {
     Deliver { plan: u64 },
 }
 
-/// What comes of an event.
+/// The reply to an event.
 #[derive(Drop)]
 pub enum Reply {
     Done,
-    /// The number of the restore that was planned.
+    /// The number of the planned restore.
     Planned(u64),
     /// The number of the refusal.
     Refused(u32),

@@ -9,7 +9,7 @@ use br_plan::PlanFault;
 use std::alloc::AllocError;
 use thiserror::Error;
 
-/// Why a step was refused.
+/// The reason why a step was refused.
 #[derive(Clone, Copy, Debug, PartialEq, Eq, Error)]
 pub enum StepFault {
     #[error("out of memory")]
@@ -36,7 +36,7 @@ impl StepFault {
         }
     }
 
-    /// Returns the number of the refusal, none if memory ran out.
+    /// Returns the number of the refusal; none if memory ran out.
     pub(crate) fn cause(self) -> Option<u32>
         ensures { result ≡ cause self }
     {

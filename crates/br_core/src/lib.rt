@@ -1,4 +1,4 @@
-//! The machine of restores and backups, over which the main theorem is proved for every schedule.
+//! The machine of restores and backups; the main theorem is proved over it for every schedule.
 #![tactic(auto)]
 
 mod backups;
@@ -22,8 +22,7 @@ pub use fault::StepFault;
 pub use running::run;
 pub use world::World;
 
-/// States that at every point of every run the hits of a restore are those that its bootstrap
-/// means.
+/// States that at every point of every run the hits of a restore are hits that its bootstrap means.
 pub fn hits_of_a_run()
     ensures { HitsOfARun }
 {}
@@ -33,8 +32,8 @@ pub fn headline()
     ensures { Headline }
 {}
 
-/// States that volumes only grow, and that those of every state hold the jobs of the first state
-/// that they held, and all jobs that were committed since.
+/// States that volumes only grow. Those of a later state hold the jobs of the first state that the
+/// first volumes held, and all jobs that were committed since.
 pub fn jobs_hold()
     ensures { JobsHold }
 {}

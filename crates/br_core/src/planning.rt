@@ -1,4 +1,4 @@
-//! Restores as they are planned: what a script marks, and the plan for it.
+//! The planning of restores: the marks of a script, and the plan for them.
 ghost use Rattle.std.specs.Prelude.{◌≡◌, [], map, OnOk};
 ghost use Rattle.br_model.specs.Answer.{Answers};
 ghost use Rattle.br_mark.specs.Said.{said};
@@ -36,7 +36,7 @@ fn console_over<'h>(
     Ok(Console::new(alloc, tree)?)
 }
 
-/// Runs a command. One that is refused changes nothing.
+/// Runs a command. A refused command changes nothing.
 fn run_command(console: &mut Console<'_>, command: &Command) -> Result<(), AllocError>
     ensures { OnOk result (console.new ≡ after_command console.old (said command.now)) }
 {
@@ -57,7 +57,7 @@ fn run_script(console: &mut Console<'_>, script: &[Command]) -> Result<(), Alloc
     Ok(())
 }
 
-/// Returns what a script marks in the view of the chosen jobs, and the plan for it.
+/// Returns the marks of a script in the view of the chosen jobs, and the plan for them.
 pub(crate) fn planned(
     alloc: Global,
     history: &History,

@@ -11,8 +11,8 @@ use br_types::VolName;
 use br_volume::BorrowedDrive;
 use std::alloc::Global;
 
-/// Returns the refusal of a read. A block that can't be read, or a volume that is not there, is no
-/// step of the walk.
+/// Returns the refusal of a read. If a block can't be read or a volume does not exist, the walk has
+/// no step.
 fn read_fault(fault: &PieceFault) -> StepFault
     requires { matching.fault_number fault.now ≡ 13 → ⊥ }
     ensures { IsReadFault fault.now result }

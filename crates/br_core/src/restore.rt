@@ -20,12 +20,12 @@ pub(crate) struct Restore {
     request: Request,
     marks: Vec<Path>,
     plan: Plan,
-    /// The pieces of the plan's bootstrap, each at the place that is its number.
+    /// The pieces of the plan's bootstrap, each at the place of its number.
     pieces: Vec<Piece>,
     statuses: Vec<Status>,
     /// The hits that are on their way, block by block, each with the number of its piece.
     transit: Vec<(u32, Batch)>,
-    /// Has the hits that were taken.
+    /// The joiner with the hits that were taken.
     joiner: Joiner,
     ghost parts: { AreParts plan pieces.items statuses.items transit.items joiner },
 }
@@ -40,7 +40,7 @@ pub(crate) enum Move<'v> {
     Take(u64),
 }
 
-/// Returns the pieces of a plan, each waiting, and the joiner of what will be found of them.
+/// Returns the pieces of a plan, each waiting, and the joiner for their hits.
 fn parts_of(alloc: Global, plan: &Plan) -> Result<(Vec<Piece>, Vec<Status>, Joiner), AllocError>
     ensures { IfOk result (λ parts. AreFirst plan.now parts.0.items parts.1.items parts.2) }
 {
@@ -60,7 +60,7 @@ impl Restore {
     ghost use Rattle.br_model.specs.Restored.{files};
     ghost use Rattle.br_join.specs.Outcome.{restored};
 
-    /// Returns a restore that was planned just now, after this number of commits.
+    /// Returns a restore that was just planned, after this number of commits.
     pub(crate) fn new(
         alloc: Global,
         commits: u64,
@@ -190,8 +190,8 @@ impl Restore {
         self.transit.is_empty() && all_finished(&self.statuses)
     }
 
-    /// Returns the files of what was taken, in order of key. The restore is over then; it comes
-    /// back if memory runs out.
+    /// Returns the files of what was taken, in order of key. The restore is then over; it is
+    /// returned if memory runs out.
     pub(crate) fn deliver(
         self,
         rt: &(impl Threads + Sync),

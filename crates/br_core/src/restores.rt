@@ -31,7 +31,8 @@ pub(crate) fn go(
     result
 }
 
-/// Makes an event of the restore with this number, as the relation does: it moves so.
+/// Carries out an event of the restore with this number, as the relation does: the restore makes
+/// the move.
 pub(crate) fn step_of_one(
     alloc: Global,
     restores: &mut Vec<Option<Restore>>,
@@ -57,8 +58,7 @@ pub(crate) fn add(restores: &mut Vec<Option<Restore>>, restore: Restore) -> Resu
     Ok(number)
 }
 
-/// Returns the files of the restore with this number, of which all is read and taken. It is then
-/// over.
+/// Returns the files of the restore with this number, if all is read and taken. It is then over.
 pub(crate) fn deliver(
     rt: &(impl Threads + Sync),
     restores: &mut Vec<Option<Restore>>,

@@ -27,7 +27,7 @@ fn reply_to(
     }
 }
 
-/// Takes the steps of events one after the other, and returns the reply to each.
+/// Takes the steps of events one after another, and returns the reply to each.
 fn replies_to(
     rt: &(impl Threads + Sync),
     alloc: Global,
@@ -43,11 +43,12 @@ fn replies_to(
     Ok(replies)
 }
 
-/// Runs a new machine over events. Returns it as they left it, and the reply to each.
+/// Runs a new machine over events. Returns its state afterwards, and the reply to each.
 ///
 /// # Errors
 ///
-/// Only if memory runs out. Any other refusal is the reply [`Reply::Refused`], and the run goes on.
+/// Only `AllocError`, if memory runs out. Any other refusal is the reply [`Reply::Refused`], and
+/// the run continues.
 pub fn run(
     rt: &(impl Threads + Sync),
     alloc: Global,

@@ -30,7 +30,7 @@ fn commit_job(backups: &mut Backups, job: SavedJob) -> Result<Reply, StepFault>
     Ok(Reply::Done)
 }
 
-/// Returns the restore of what a script marks, planned now.
+/// Returns the restore of a script's marks, just planned.
 fn planned_now(
     alloc: Global,
     backups: &Backups,
@@ -43,7 +43,7 @@ fn planned_now(
     Ok(Restore::new(alloc, backups.len(), request, marks, plan)?)
 }
 
-/// Plans a restore of what a script marks.
+/// Plans a restore of a script's marks.
 fn plan_restore(
     alloc: Global,
     backups: &Backups,
@@ -76,7 +76,8 @@ fn shown<'b>(
     backups.volumes_after(commits)
 }
 
-/// The walk of a claimed piece reads its next block, over the volumes after a number of commits.
+/// Lets the walk of a claimed piece read its next block, over the volumes after a number of
+/// commits.
 fn read_piece(
     alloc: Global,
     backups: &Backups,
@@ -94,7 +95,7 @@ fn read_piece(
     step_of_one(alloc, restores, number, Move::Read(piece, volumes))
 }
 
-/// The walk of a claimed piece is at its end, over the volumes of the restore's plan.
+/// Ends the walk of a claimed piece, over the volumes of the restore's plan.
 fn finish_piece(
     alloc: Global,
     backups: &Backups,
@@ -129,7 +130,7 @@ fn deliver_files(
     }
 }
 
-/// Takes the step of an event. A refusal changes nothing.
+/// Takes the step of an event. After a refusal nothing has changed.
 pub(crate) fn take_step(
     rt: &(impl Threads + Sync),
     alloc: Global,

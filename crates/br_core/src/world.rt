@@ -1,4 +1,4 @@
-//! The machine that runs.
+//! The running machine.
 ghost use Rattle.std.specs.Prelude.{◌≡◌, IfOk};
 ghost use Rattle.br_core.specs.Happening.{event_of, reply_of};
 ghost use Rattle.br_core.specs.Reached.{IsReached, nothing};
@@ -14,8 +14,7 @@ use std::alloc::Global;
 use std::marker::Model;
 use std::thread::Threads;
 
-/// The jobs that were committed, the volumes after each commit, and the restores that were planned,
-/// under their numbers.
+/// The committed jobs, the volumes after each commit, and the planned restores under their numbers.
 #[derive(Drop)]
 pub struct World {
     alloc: Global,
@@ -53,12 +52,12 @@ impl World {
         }
     }
 
-    /// Takes the step of an event. A refusal changes nothing.
+    /// Takes the step of an event. After a refusal nothing has changed.
     ///
     /// # Errors
     ///
     /// The numbers of the refusals are those of [`StepFault::number`]. An event of a restore is not
-    /// enabled if the restore is not there or is over, or is not as the event asks.
+    /// enabled if the restore does not exist or is over, or does not meet the event's conditions.
     pub fn step(&mut self, rt: &(impl Threads + Sync), event: Event) -> Result<Reply, StepFault>
         ensures step { TakesStep self.old (event_of event) self.new result }
         ensures reached { IsReached self.new }

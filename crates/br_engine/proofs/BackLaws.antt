@@ -1,4 +1,4 @@
--- Outcomes of which only some are delivered, with the files that were delivered in their places.
+-- Outcomes of which only some are delivered, with the delivered files in their places.
 use Rattle.std.proofs.Common.{◌≡◌, ℕ, Bool, true, false, not, cond, List, [], ◌∷◌, ◌++◌, map, Option, Some, None, Ok, Err, refl, sym, ap, subst, ◌∙◌}
 use Rattle.std.specs.Prelude.{filter}
 use Rattle.std.specs.List.{AllByRecursion, AllZip, list_any}
@@ -120,8 +120,8 @@ same_keys [] (o ∷ os) like = absurd like
 same_keys (r ∷ rs) [] like = absurd like
 same_keys (r ∷ rs) (o ∷ os) like = λ t. like.0.0 t ∷ same_keys rs os like.1 t
 
--- Files like these, of which those of the wanted copies are the ones that were delivered. If these are the ones that were to be delivered,
--- they are these files themselves.
+-- Files like these; those of the wanted copies are the delivered ones. If the delivered ones are
+-- those that were to be delivered, they are these files themselves.
 record InCopies (copies : Copies) (os ks : List Restored) : Type 0 where
   pub rs : List Restored
   pub like : AllZip IsFileLike rs os
@@ -214,7 +214,7 @@ apart_passes paths (o ∷ os) ks like = go (is_free paths (item_of o)) refl ks l
           f.1 ∙ ap (λ (ps : List (List ℕ)). conflicts_beside ps (put_apart wp os ks)) same.1 ∙ m.1 ∙ sym (kept_first paths o os e).1,
         )
 
--- the same of files of which those that conflict are left out or not
+-- the same for files of which those that conflict are left out or not
 record InKept (stops : Stops) (os ks : List Restored) : Type 0 where
   pub rs : List Restored
   pub like : AllZip IsFileLike rs os
@@ -234,8 +234,8 @@ in_kept Never os ks like =
       left = passes.1;
     }
 
--- Files like these, of which those that are wanted are the ones that were delivered. If these are the ones that were to be delivered, they are
--- these files themselves.
+-- Files like these; the wanted ones are the delivered ones. If the delivered ones are those that
+-- were to be delivered, they are these files themselves.
 pub record InPlaces (wanted : Wanted) (os ks : List Restored) : Type 0 where
   pub rs : List Restored
   pub like : AllZip IsFileLike rs os

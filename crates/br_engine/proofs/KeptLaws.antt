@@ -1,4 +1,4 @@
--- What is left of a list of which each element has a flag.
+-- The elements of a list that are left by their flags.
 use Rattle.std.proofs.Common.{◌≡◌, if◌then◌else◌, Bool, true, false, List, [], ◌∷◌, length, drop, map, arith, refl, ap, ◌∙◌}
 use Rattle.std.specs.List.{items_where_true, filter}
 use Rattle.std.specs.List.Retain.{ReturnsInTurn, IsFiltered}

@@ -34,7 +34,7 @@ few_lasts test (c ∷ cs) = go (list_any (is_of c.path) cs) (test c) refl (few_l
     go false true t few = rw t (let more : suc (length (filter test (lasts cs))) ≤ suc (length (filter test cs)) = omega (arith, few) in more)
     go false false t few = rw t few
 
--- the older files are as many as the copies that are outdated
+-- the number of older files is that of the outdated copies
 older_are : (all : List Copy) (rs : List Restored)
     → length (filter (λ r. not (is_current all (copy_of r))) rs) ≡ length (filter (is_outdated all) (copies_of rs))
 older_are all [] = refl

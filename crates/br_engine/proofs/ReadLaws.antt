@@ -140,7 +140,7 @@ none_in_nothing (x ∷ xs) few = absurd (omega arith)
 shorter : (front : List ℕ) (c : Cut front) (n : ℕ) → length front ≤ suc n → length c.back ≤ n
 shorter front c n few = omega (arith, few, ap length c.joined, length-append c.front (10 ∷ c.back))
 
--- whatever lines stand before the last
+-- whatever lines come before the last
 long_end_alike : (most : ℕ) (front last more : List ℕ) → length front ≤ most → list_any is_line_end last ≡ false → 4097 < length last
     → Alike ((front ++ last) ++ more) (front ++ last)
 long_end_alike zero front last more few none long = no_line_before front last more (none_in_nothing front few) none long

@@ -278,7 +278,7 @@ none_alike given items had has number same = record {
   more = subst (λ (later : Option (List Item)). HasMore [] had later) (sym same) (none_more had);
 }
 
--- the stop after fewer files than so many
+-- the stop after fewer files than this number
 pub stops_alone : (fault : PartsFault) (done count : ℕ) → done < count → IsStopAgain count (record { number = parts_number fault; done = done })
 stops_alone parts.Memory done count few = record { number = inl refl; within = few }
 stops_alone parts.Fault done count few = record { number = inr (inl refl); within = few }

@@ -38,13 +38,13 @@ use Rattle.br_engine.specs.declared.fault.ExtractFault.{ExtractFault}
 use Rattle.br_engine.specs.declared.made.Made.{Made}
 use Rattle.br_engine.specs.declared.restore_end.RestoreEnd.{RestoreEnd}
 
--- ---- what files are made of
+-- ---- the source of files
 
--- the drives read the hits of the files again as they were found, and these make the files
+-- the drives read the hits of the files again as they were found, and the hits make the files
 abbrev pub CanMake : RereadingMany → Gathered → List Restored → Type 0
 CanMake many gathered rs = GivesHits many gathered.hits × AllByRecursion (IsMadeOf gathered.hits) rs
 
--- the same of files of which the bytes may all be in memory
+-- the same for files whose bytes may all be in memory
 abbrev pub CanGive : {D : Type 0} → (D → Option (List Volume)) → (D → ℕ) → List D → List Group → Option Gathered → List Restored → Type 0
 CanGive shows failures drives groups None rs = ⊤
 CanGive shows failures drives groups (Some gathered) rs = CanMake (record { drives = driven_by shows failures drives; groups = groups }) gathered rs
@@ -58,81 +58,86 @@ IsOutcomeLike (Err one) (Err other) = one ≡ other
 IsOutcomeLike (Ok one) (Err other) = ⊥
 IsOutcomeLike (Err one) (Ok other) = ⊥
 
--- the same file, of which the bytes may be others with the same digest
+-- the same file; its bytes may be others with the same digest
 abbrev pub IsFileLike : Restored → Restored → Type 0
 IsFileLike one other = (one.key ≡ other.key) × IsOutcomeLike one.outcome other.outcome
 
--- Some files like the first of these were put into a sink: those that were put, all or before a stop. They are these files, if they can be given.
+-- Some files like the first of these were put into a sink: all, or those before a stop. They are
+-- these files, if these can be given.
 pub record PutsLike {A : Type 0} (given : Type 0) (items : List Item) (had has : Option (List Item)) (result : Result A Stop) : Type 0 where
   pub put : List Item
   pub like : AllZip IsLike put (items_put result items)
   pub same : given → put ≡ items_put result items
   pub more : HasMore put had has
 
--- the files among the outcomes are put so, and are these files if they are made of what was gathered
+-- the files among the outcomes are put so; they are these files if they are made from what was
+-- gathered
 abbrev pub PutsAgain : {A : Type 0} → RereadingMany → Gathered → List (FileKey × join.Outcome) → Option (List Item) → Option (List Item) → Result A Stop → Type 0
 PutsAgain many gathered outcomes had has result = PutsLike (CanMake many gathered (map restored outcomes)) (items_in outcomes) had has result
 
--- the file with the key is put so, and is this file if it is made of what was gathered
+-- the file with the key is put so; it is this file if it is made from what was gathered
 abbrev pub PutsItemAgain : {A : Type 0} → RereadingMany → Gathered → FileKey → Item → Option (List Item) → Option (List Item) → Result A Stop → Type 0
 PutsItemAgain many gathered key item had has result = PutsLike (GivesItem many gathered.hits key item) (item ∷ []) had has result
 
--- the two files with their keys are put so, and are these files if they are made of what was gathered
+-- the two files with their keys are put so; they are these files if they are made from what was
+-- gathered
 abbrev pub PutsTwoAgain : {A : Type 0} → RereadingMany → Gathered → KeyedItem → KeyedItem → Option (List Item) → Option (List Item) → Result A Stop → Type 0
 PutsTwoAgain many gathered one other had has result =
     PutsLike (GivesBoth many gathered.hits one.key other.key one.item.now other.item.now) (one.item.now ∷ other.item.now ∷ []) had has result
 
--- a file that is put part by part, as the outcome that it is
+-- a file that is put part by part, as an outcome
 abbrev pub keyed : KeyedItem → FileKey × join.Outcome
 keyed file = (file.key, File file.item.now)
 
--- these outcomes are the files that are put part by part, if some are
+-- these outcomes are the files that are put part by part, if there are any
 abbrev pub IsWindowOf : List (FileKey × join.Outcome) → Window → Type 0
 IsWindowOf outcomes (Alone one) = outcomes ≡ keyed one ∷ []
 IsWindowOf outcomes (Two one other) = outcomes ≡ keyed one ∷ keyed other ∷ []
 IsWindowOf outcomes Together = ⊤
 
--- a stop behind fewer files than so many: for want of memory (1), of a drive (70), or for a fault of the sink (80)
+-- a stop after fewer than this number of files: memory ran out (1), no drive is left (70), or the
+-- sink failed
 pub record IsStopAgain (count : ℕ) (stop : Stop) : Type 0 where
   pub number : (stop.number ≡ 1) ⊎ (stop.number ≡ 80) ⊎ (stop.number ≡ 70)
   pub within : stop.done < count
 
--- a restore ends so with files that are like these, and that are these if they can be given
+-- a restore ends so, with files that are like these; they are these if these can be given
 pub record EndsLike (given : Type 0) (had has : InSink) (os : List Restored) (end : RestoreEnd) : Type 0 where
   pub rs : List Restored
   pub like : AllZip IsFileLike rs os
   pub same : given → rs ≡ os
   pub ends : EndsWith had has rs end
 
--- a delivery of the files among the outcomes ends so, and they are these files if they are made of what was gathered, if something was
+-- a delivery of the files among the outcomes ends so; if something was gathered and they are made
+-- from it, they are these
 abbrev pub EndsAgain : {D : Type 0} → (D → Option (List Volume)) → (D → ℕ) → List D → List Group → Option Gathered → List (FileKey × join.Outcome)
     → InSink → InSink → RestoreEnd → Type 0
 EndsAgain shows failures drives groups gathered outcomes had has end =
     EndsLike (CanGive shows failures drives groups gathered (map restored outcomes)) had has (map restored outcomes) end
 
--- the same of files that are made of a source
+-- the same for files that are made from a source
 abbrev pub EndsBy : {D : Type 0} → (D → Option (List Volume)) → (D → ℕ) → List D → List Group → Source → List (FileKey × join.Outcome)
     → InSink → InSink → RestoreEnd → Type 0
 EndsBy shows failures drives groups source outcomes had has end =
     EndsAgain shows failures drives groups (Some source.gathered.now) outcomes had has end
 
--- the same of the files of a restore
+-- the same for the files of a restore
 abbrev pub EndsMade : {D : Type 0} → (D → Option (List Volume)) → (D → ℕ) → List D → List Group → Made → InSink → InSink → RestoreEnd → Type 0
 EndsMade shows failures drives groups made had has end =
     EndsAgain shows failures drives groups made.gathered made.outcomes.items had has end
 
--- the number of a stop if a file is not made once more
+-- the number of a stop if making a file once more failed
 abbrev pub again_number : AgainFault → ℕ
 again_number again.Memory = 1
 again_number again.Failed = 70
 again_number again.Changed = 70
 
--- the delivery of all files is taken, or the stop is the one that they decide
+-- the delivery of all files succeeded, or the stop is the one that they decide
 abbrev pub DeliversAll : Result (Unit {0}) Stop → List Restored → Type 0
 DeliversAll (Ok u) rs = delivery rs ≡ Ok (totals_of rs)
 DeliversAll (Err stop) rs = IsRefusal (stop_cause stop) (delivery rs)
 
--- ---- what is made
+-- ---- the files that are made
 
 -- the drives read the hits of a set again as they were found
 abbrev pub CanReread : {D : Type 0} → (D → Option (List Volume)) → (D → ℕ) → List D → List Group → Hits → Type 0
@@ -143,22 +148,23 @@ CanReread shows failures drives groups hits = (found : List Hit) → hits_of fou
 abbrev pub MadeOver : Type 0 → Joining → Made → Type 0
 MadeOver given joining made = given → map restored made.outcomes.items ≡ files joining.hits (option_map planned_in joining.names)
 
--- over all volumes that each of the drives may be taken to show, the files are those that the bootstrap gives, or the refusal is the first
--- fault
+-- over all volumes that each of the drives may be taken to show, the files are those that the
+-- bootstrap gives, or the refusal is the first fault
 abbrev pub MakesOver : {D : Type 0} → (D → Option (List Volume)) → List D → List D → List Group → Option Names → Result Made ExtractFault → Type 0
 MakesOver shows before after groups names result =
     OverVolumes (map shows before) (map shows after) groups (option_map planned_in names) (Answers (λ (m : Made). map restored m.outcomes.items) cause result)
 
--- the files can be made once more of what the drives show
+-- the files can be made once more from what the drives show
 abbrev pub CanGiveMade : {D : Type 0} → (D → Option (List Volume)) → (D → ℕ) → List D → List Group → Made → Type 0
 CanGiveMade shows failures drives groups made = CanGive shows failures drives groups made.gathered (map restored made.outcomes.items)
 
--- if the hits of a joiner are read again as they were found, the files can be made once more of what the drives show afterwards
+-- if the hits of a joiner are read again as they were found, the files can be made once more from
+-- what the drives show afterwards
 abbrev pub GivesIfReread : {D : Type 0} → (D → Option (List Volume)) → (D → ℕ) → List D → List D → List Group → Joining → Made → Type 0
 GivesIfReread shows failures before after groups joining made =
     CanReread shows failures before groups joining.hits → CanGiveMade shows failures after groups made
 
--- over all such volumes, the files can be made once more of what the drives show afterwards
+-- over all such volumes, the files can be made once more from what the drives show afterwards
 abbrev pub GivesAgain : {D : Type 0} → (D → Option (List Volume)) → (D → ℕ) → List D → List D → List Group → Made → Type 0
 GivesAgain shows failures before after groups made =
     (volumes : List Volume) → AllStand (map shows before) (map shows after) (pieces_of groups) volumes → CanGiveMade shows failures after groups made

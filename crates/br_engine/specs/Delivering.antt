@@ -1,4 +1,5 @@
--- A whole restore: the manifest of the files, and after it these files put into a sink, if there is one.
+-- A whole restore: the manifest of the files is written; then the files are put into a sink, if
+-- there is one.
 use Rattle.std.specs.Prelude.{◌≡◌, ℕ, List, take, filter_map, Option, Some, None, Result, Ok, Err, ⊤}
 use Rattle.std.specs.Io.KnownBytes.{Appends}
 use Rattle.br_model.specs.Answer.{IsRefusal}
@@ -19,19 +20,20 @@ use Rattle.br_engine.specs.declared.fault.ExtractFault.{ExtractFault}
 abbrev pub items_of : List Restored → List Item
 items_of rs = filter_map item_of rs
 
--- the expected files, with their manifest at the end of what the writer held
+-- the expected files; their manifest is at the end of what the writer held
 abbrev pub IsWritten : (Said → Type 0) → Option (List ℕ) → Option (List ℕ) → List Restored → Type 0
 IsWritten over before after rs = over (λ expected. expected ≡ Ok rs) × Appends before after (manifest rs)
 
--- if there is a sink, all of the files were added to those that it had: no path of them conflicts with another
+-- if there is a sink, all of the files were added to those that it had: no paths of them conflict
 abbrev pub IsDelivered : InSink → InSink → List Restored → Type 0
 IsDelivered None None rs = ⊤
 IsDelivered (Some had) (Some has) rs = (delivery rs ≡ Ok (totals_of rs)) × HasMore (items_of rs) had has
 IsDelivered None (Some has) rs = ⊥
 IsDelivered (Some had) None rs = ⊥
 
--- There is a sink, and the files before the stop were added to those that it had. A stop for a path that conflicts is at the first such
--- file, and the paths of the files before a stop do not conflict.
+-- There is a sink, and the files before the stop were added to those that it had. A stop for a
+-- conflicting path is at the first such file, and the paths of the files before a stop do not
+-- conflict.
 abbrev pub IsStopped : InSink → InSink → Stop → List Restored → Type 0
 IsStopped (Some had) (Some has) stop rs =
     IsRefusal (stop_cause stop) (delivery rs) × IsStopIn (items_of rs) stop × HasMore (take stop.done (items_of rs)) had has
@@ -44,15 +46,17 @@ IsPut had has AllFiles rs = IsDelivered had has rs
 IsPut had has SomeFaults rs = IsDelivered had has rs
 IsPut had has (Stopped stop) rs = IsStopped had has stop rs
 
--- the end of a restore of these files, and what it leaves in the sink
+-- the result of a restore of these files, and what it leaves in the sink
 abbrev pub EndsWith : InSink → InSink → List Restored → RestoreEnd → Type 0
 EndsWith had has rs end = EndTells end rs × IsPut had has end rs
 
--- the refusal is the expected one, nothing was written, unless reading or writing failed, and nothing was put
+-- the refusal is the expected one; nothing was put, and nothing was written unless reading or
+-- writing failed
 abbrev pub IsRefused : (Said → Type 0) → Option (List ℕ) → Option (List ℕ) → InSink → InSink → ExtractFault → Type 0
 IsRefused over before after had has fault = over (λ expected. IsRefusal (cause fault) expected) × WritesNothing before after fault × (has ≡ had)
 
--- the manifest of the expected files and what became of these; or why there is none
+-- the manifest of the expected files and the result of their delivery; or the reason why there is
+-- no manifest
 abbrev pub Delivers : (Said → Type 0) → Option (List ℕ) → Option (List ℕ) → InSink → InSink → Result RestoreEnd ExtractFault → Type 0
 Delivers over before after had has (Ok end) = (rs : List Restored) × IsWritten over before after rs × EndsWith had has rs end
 Delivers over before after had has (Err fault) = IsRefused over before after had has fault

@@ -13,25 +13,26 @@ use Rattle.br_engine.specs.Restoring.{Told, AllStand, Outcomes, restored_files}
 use Rattle.br_engine.specs.declared.fault.ExtractFault.{ExtractFault}
 use Rattle.br_engine.specs.declared.fault.ExtractFault.TheVariants.{Memory, Bootstrap, Piece, Io, NoEnd}
 
--- the files that the bootstrap of a text gives over volumes; or its first refused line, or the first fault of a piece
+-- the files that the bootstrap in a text gives over volumes; or its first refused line, or the
+-- first fault of a piece
 unfoldable pub extracted : List ℕ → List Volume → Result (List Restored) Refusal
 extracted text volumes = do
   groups ← refused_as OfLine (read_bootstrap text)
   refused_as OfPiece (restored_files groups None volumes)
 
--- ---- what holds of the files, whatever the volumes of the drives do meanwhile
+-- ---- what holds of the files, whatever happens to the volumes of the drives meanwhile
 
--- what is said of the files that are given, or of the refusal
+-- a predicate for the files that are given, and one for the refusal
 abbrev pub Said : Type 1
 Said = Result (List Restored) Refusal → Type 0
 
--- This holds of what a bootstrap gives, the planned files if there is a plan, over all volumes that each of the drives may be taken
--- to show.
+-- This holds of what a bootstrap gives (the planned files if there is a plan) over all volumes that
+-- each of the drives may be taken to show.
 abbrev pub OverVolumes : Told → Told → List Group → Option (List Planned) → Said → Type 0
 OverVolumes earlier later groups names holds =
     (volumes : List Volume) → AllStand earlier later (pieces_of groups) volumes → holds (refused_as OfPiece (restored_files groups names volumes))
 
--- each of the drives may be taken to show these volumes, for the pieces of the bootstrap of a text
+-- each of the drives may be taken to show these volumes, for the pieces of the bootstrap in a text
 abbrev pub AllStandForText : Told → Told → List ℕ → List Volume → Type 0
 AllStandForText earlier later text volumes = (groups : List Group) → read_bootstrap text ≡ Ok groups → AllStand earlier later (pieces_of groups) volumes
 
@@ -50,7 +51,8 @@ WritesNothing before after (Piece fault) = Keeps before after
 WritesNothing before after (Io fault) = ⊤
 WritesNothing before after (NoEnd turns) = Keeps before after
 
--- the outcomes of a restore are the files that a bootstrap gives, or the refusal is the expected one
+-- the outcomes of a restore are the files that a bootstrap gives, or the refusal is the expected
+-- one
 abbrev pub GivesOver : Told → Told → List Group → Option (List Planned) → Result Outcomes ExtractFault → Type 0
 GivesOver earlier later groups names result =
     OverVolumes earlier later groups names (Answers (λ (os : Outcomes). map restored os.items) cause result)

@@ -1,4 +1,4 @@
--- Why a restore wrote no manifest, or not all of it, and the line that says so.
+-- Why a restore wrote no manifest, or not all of it, and the refusal line.
 use Rattle.std.specs.Prelude.{◌≡◌, ℕ, ◌^◌, List, [], Option, Some, None, option_map, ⊤}
 use Rattle.br_model.specs.Text.{refused_line}
 use Rattle.br_model.specs.BootstrapText.{LineFault}
@@ -21,8 +21,8 @@ pub data Refusal : Type 0 where
   OfLine : LineFault → Refusal
   OfPiece : model.PieceFault → Refusal
 
--- The refusal that the bootstrap's text and the volumes decide. There is none if memory ran out, no drive is left, reading or writing
--- failed, or the input has no end.
+-- The refusal that the bootstrap's text and the volumes decide. There is none if memory ran out, no
+-- drive is left, reading or writing failed, or the input has no end.
 abbrev pub cause : ExtractFault → Option Refusal
 cause Memory = None
 cause (Bootstrap fault) = option_map OfLine (bootstrap.cause fault)
@@ -30,7 +30,8 @@ cause (Piece fault) = option_map OfPiece (pool.cause fault)
 cause (Io fault) = None
 cause (NoEnd turns) = None
 
--- the number of a refusal; a fault of reading or writing has none, nor has an input that has no end
+-- the number of a refusal; a fault of reading or writing has none, and neither has an input without
+-- an end
 abbrev pub fault_number : ExtractFault → Option ℕ
 fault_number Memory = Some 1
 fault_number (Bootstrap fault) = Some (bootstrap.fault_number fault)
@@ -54,7 +55,8 @@ pool_text of_pool.Memory = refused_line 1
 pool_text (of_pool.Piece why) = piece_text why
 pool_text of_pool.NoDriveLeft = refused_line 70
 
--- the line of a refusal; a fault of reading or writing has none, nor has an input that has no end
+-- the line of a refusal; a fault of reading or writing has none, and neither has an input without
+-- an end
 abbrev pub fault_text : ExtractFault → List ℕ
 fault_text Memory = refused_line 1
 fault_text (Bootstrap fault) = bootstrap_text (bootstrap.cause fault)
@@ -70,7 +72,8 @@ IsFree (Piece fault) = ⊥
 IsFree (Io fault) = ⊤
 IsFree (NoEnd turns) = ⊥
 
--- the fault of a restore if data were not read again: memory ran out, no drive is left, or a volume was changed
+-- the fault of a restore if reading data again failed: memory ran out, no drive is left, or a
+-- volume was changed
 abbrev pub OfAgain : AgainFault → ExtractFault → Type 0
 OfAgain again.Memory fault = fault ≡ Memory
 OfAgain again.Failed fault = fault ≡ Piece of_pool.NoDriveLeft
@@ -84,7 +87,8 @@ IsUnmade (Piece fault) = fault ≡ of_pool.NoDriveLeft
 IsUnmade (Io fault) = ⊤
 IsUnmade (NoEnd turns) = ⊥
 
--- the text of a bootstrap was not read whole: memory ran out, reading failed, or the input has no end
+-- the text of a bootstrap was not read to its end: memory ran out, reading failed, or the input has
+-- no end
 abbrev pub IsUnread : ExtractFault → Type 0
 IsUnread Memory = ⊤
 IsUnread (Bootstrap fault) = ⊥
@@ -92,7 +96,7 @@ IsUnread (Piece fault) = ⊥
 IsUnread (Io fault) = ⊤
 IsUnread (NoEnd turns) = ⊤
 
--- an input is said to have no end only after 2^40 turns of reading
+-- an input is refused as one without an end only after 2^40 turns of reading
 abbrev pub EndlessAfterAll : ExtractFault → Type 0
 EndlessAfterAll Memory = ⊤
 EndlessAfterAll (Bootstrap fault) = ⊤
@@ -100,7 +104,7 @@ EndlessAfterAll (Piece fault) = ⊤
 EndlessAfterAll (Io fault) = ⊤
 EndlessAfterAll (NoEnd turns) = turns ≡ 2 ^ 40
 
--- no line of a bootstrap was refused, and no input had no end
+-- no line of a bootstrap was refused, and no input was without an end
 abbrev pub IsNoLine : ExtractFault → Type 0
 IsNoLine Memory = ⊤
 IsNoLine (Bootstrap fault) = ⊥

@@ -1,4 +1,4 @@
--- What a restore writes to, and how it ended.
+-- The outputs of a restore, and its result.
 use Rattle.std.specs.Prelude.{◌≡◌, ℕ, ◌<◌, ◌≤◌, Bool, true, false, List, [], is_ok, Option, Some, None, ⊤, if◌then◌else◌}
 use Rattle.std.specs.List.{list_all}
 use Rattle.br_model.specs.Text.{refused_line}
@@ -17,17 +17,17 @@ end_text (Stopped stop) = refused_line stop.number
 abbrev pub are_files : List Restored → Bool
 are_files rs = list_all (λ (r : Restored). is_ok r.outcome) rs
 
--- how a restore of these files ends, unless its delivery stops
+-- the result of a restore of these files, unless its delivery stops
 abbrev pub end_of_files : List Restored → RestoreEnd
 end_of_files rs = if are_files rs then AllFiles else SomeFaults
 
--- the end says if each outcome is a file, unless the delivery stopped
+-- the result tells whether each outcome is a file, unless the delivery stopped
 abbrev pub EndTells : RestoreEnd → List Restored → Type 0
 EndTells AllFiles rs = are_files rs ≡ true
 EndTells SomeFaults rs = are_files rs ≡ false
 EndTells (Stopped stop) rs = ⊤
 
--- the files that the sink has, if there is a sink and it tells them
+-- the files that the sink has, if there is a sink and it reports them
 abbrev pub InSink : Type 0
 InSink = Option (Option (List Item))
 

@@ -1,4 +1,5 @@
--- A restore by an order: its manifest, what is delivered of its files, and what is reported as missing.
+-- A restore by an order: its manifest, the delivery of its files, and the report of what is
+-- missing.
 use Rattle.std.specs.Prelude.{◌≡◌, ℕ, List, [], ◌++◌, map, Option, option_map, Result, Ok, Err, IfOk}
 use Rattle.std.specs.declared.io.Write as write
 use Rattle.br_model.specs.Restored.{Restored, planned_in}
@@ -16,20 +17,21 @@ use Rattle.br_engine.specs.declared.restore.Restore.{Restore}
 use Rattle.br_engine.specs.declared.restore_order.RestoreOrder.{RestoreOrder}
 use Rattle.br_types.specs.declared.wanted.Wanted.{Wanted}
 
--- ---- what is seen of a restore
+-- ---- what a restore changes
 
--- the volumes that the drives tell, the bytes that the writer holds, and the files that the sink has
+-- the volumes that the drives report, the bytes that the writer holds, and the files that the sink
+-- has
 pub record Seen : Type 0 where
   pub told : Told
   pub written : Option (List ℕ)
   pub has : InSink
 
--- this before and after a run
+-- these before and after a run
 pub record Change : Type 0 where
   pub old : Seen
   pub new : Seen
 
--- what is seen of a restore and of its writer
+-- these of a restore and its writer
 abbrev pub seen : {D W S : Type 0} → drive.Ghosts D → write.Ghosts W → sink.Ghosts S → Restore D S × W → Seen
 seen drives writer sink at = record {
   told = map drives.shows at.0.drives.items;
@@ -37,7 +39,7 @@ seen drives writer sink at = record {
   has = option_map sink.has at.0.sink;
 }
 
--- what a run changes of it
+-- the change by a run
 abbrev pub change : {D W S : Type 0} → drive.Ghosts D → write.Ghosts W → sink.Ghosts S → Restore D S × W → Restore D S × W → Change
 change drives writer sink before after = record { old = seen drives writer sink before; new = seen drives writer sink after }
 
@@ -50,16 +52,18 @@ abbrev pub StopIsCounted : {D S : Type 0} → (S → ℕ) → Restore D S → Re
 StopIsCounted failures before after result =
     IfOk result (λ done. StopsByFailure (option_map failures before.sink) (option_map failures after.sink) done.end)
 
--- ---- what comes of it
+-- ---- the result
 
--- the lines of what is missing and of the files that are left out, these for their paths and those at which the sink failed, and the line of
+-- the lines of what is missing, of the files that are left out (for their paths, or since the sink
+-- failed), and of a delivery that stopped
 -- a delivery that stopped
 abbrev pub done_lines : Extracted → List (List ℕ) → List ℕ
 done_lines done failed = done.missing.items ++ left_lines 81 done.left.items ++ left_lines 80 failed ++ end_text done.end
 
--- The manifest is that of all expected files, and the end says if each outcome is a file. Of these files the sink has those that are to be
--- delivered, or those before the stop. What is missing is reported, and so is what is left out since it conflicts. Or there is a refusal,
--- and nothing was put.
+-- The manifest is that of all expected files, and the result tells whether each outcome is a file.
+-- Of these files the sink has those that are to be delivered, or those before the stop. What is
+-- missing is reported, and so are the files that are left out for a conflict. Or there is a
+-- refusal, and nothing was put.
 abbrev pub Extracts : Wanted → (Said → Type 0) → (List Restored → List ℕ → Type 0) → Option (List ℕ) → Option (List ℕ) → InSink → InSink
     → Result Extracted ExtractFault → Type 0
 Extracts wanted over reports before after had has (Ok done) =
@@ -67,13 +71,14 @@ Extracts wanted over reports before after had has (Ok done) =
     × reports rs done.missing.items × (done.left.items ≡ left_out wanted rs)
 Extracts wanted over reports before after had has (Err fault) = IsRefused over before after had has fault
 
--- a restore of what the bootstrap of the order gives, of the planned files if it has names, with a report of what is missing
+-- a restore of what the bootstrap of the order gives (the planned files if it has names), with a
+-- report of what is missing
 abbrev pub Restores : RestoreOrder → Change → Result Extracted ExtractFault → Type 0
 Restores order seen result =
     Extracts order.wanted (λ holds. OverVolumes seen.old.told seen.new.told order.asked.bootstrap.now (option_map planned_in order.names) holds)
     (λ rs lines. lines ≡ reported_for order.wanted.gaps order.asked rs) seen.old.written seen.new.written seen.old.has seen.new.has result
 
--- a plain restore of what the bootstrap of a text gives, if the text is known
+-- a plain restore of what the bootstrap in a text gives, if the text is known
 abbrev pub RestoresText : Option (List ℕ) → Change → Result Extracted ExtractFault → Type 0
 RestoresText known seen result =
     Extracts plain (λ holds. OverText known seen.old.told seen.new.told holds) (λ rs lines. lines ≡ []) seen.old.written seen.new.written

@@ -1,4 +1,4 @@
--- What a bootstrap gives over the volumes of some drives, whatever these do meanwhile.
+-- What a bootstrap gives over the volumes of some drives, whatever happens to these meanwhile.
 use Rattle.std.specs.Prelude.{List, map, Vec, Option, Result, Ok}
 use Rattle.std.specs.Global.{Global}
 use Rattle.std.specs.List.{AllZip}
@@ -16,11 +16,12 @@ use Rattle.br_join.specs.Joining.{Joining}
 use Rattle.br_join.specs.Outcome.{restored}
 use Rattle.br_join.specs.declared.item.Outcome.{Outcome}
 
--- the volumes of some drives, of each that tells them
+-- the volumes of some drives, for each that reports them
 abbrev pub Told : Type 0
 Told = List (Option (List Volume))
 
--- each of the drives may be taken to show these volumes, for these pieces; so all of them tell their volumes
+-- each of the drives may be taken to show these volumes, for these pieces; so all of them report
+-- their volumes
 abbrev pub AllStand : Told → Told → List Piece → List Volume → Type 0
 AllStand earlier later pieces volumes = AllZip (StandsTold pieces volumes) earlier later
 
@@ -36,12 +37,13 @@ restored_files groups names volumes = do
   set ← meaning groups volumes
   Ok (files set names)
 
--- the outcomes of a restore, each beside its key
+-- the outcomes of a restore, each with its key
 abbrev pub Outcomes : Type 0
 Outcomes = Vec (FileKey × Outcome) Global
 
--- over all volumes that each of the drives may be taken to show, the outcomes are the files that the bootstrap gives, or the refusal is
--- the first fault; each drive may fail, and memory run out, at any time
+-- Over all volumes that each of the drives may be taken to show, the outcomes are the files that
+-- the bootstrap gives, or the refusal is the first fault. Each drive may fail, and memory may run
+-- out, at any time.
 abbrev pub RestoredOver : Told → Told → List Group → Option (List Planned) → Result Outcomes PoolFault → Type 0
 RestoredOver earlier later groups names result =
     (volumes : List Volume) → AllStand earlier later (pieces_of groups) volumes

@@ -1,4 +1,4 @@
-//! Reading the text of a bootstrap, which stops at a line without an end.
+//! Reads the text of a bootstrap, and stops at a line without an end.
 ghost use Rattle.std.specs.Prelude.{◌≡◌, ◌+◌, ◌^◌, ◌<◌, false, length, IfOk, IfErr, OnOk};
 ghost use Rattle.std.specs.List.{list_any};
 ghost use Rattle.std.specs.Io.KnownBytes.{Consumes, IsAtEnd};
@@ -10,17 +10,18 @@ use crate::turns::Turns;
 use std::alloc::Global;
 use std::io::{ErrorKind, Read};
 
-/// The bytes of the longest line of a bootstrap, without its end.
+/// The number of bytes in the longest line of a bootstrap, without its end.
 const MAX_LINE: usize = 4096;
 
-/// The bytes without LF that make a line too long whatever follows. The last byte of a line may be a CR
-/// that belongs to its end.
+/// The number of bytes without LF that make a line too long whatever follows. The last byte of a
+/// line may be a CR that belongs to its end.
 const LONG_END: usize = MAX_LINE + 2;
 
-/// The bytes that one turn reads at most.
+/// The number of bytes that one turn reads at most.
 const MAX_PART: usize = 8192;
 
-/// Makes one turn of reading, and appends what was read to a text. Returns false at the end of the input.
+/// Makes one turn of reading, and appends the bytes to a text. Returns false at the end of the
+/// input.
 fn read_part<R: Read>(
     reader: &mut R,
     turns: &mut Turns,
@@ -52,14 +53,15 @@ fn read_part<R: Read>(
     }
 }
 
-/// Returns if a part of a text has LF.
+/// Returns true if a part of a text contains LF.
 fn has_ended(part: &[u8]) -> bool
     ensures { result ≡ list_any is_line_end part.now }
 {
     part.contains(&b'\n')
 }
 
-/// Returns if the last line of a text has no LF yet and is too long even if the next byte is LF.
+/// Returns true if the last line of a text has no LF yet and is too long even if the next byte is
+/// LF.
 #[tactic(auto, unfolding(crate::specs::BootstrapText::has_long_end))]
 fn has_long_end(text: &[u8]) -> bool
     ensures { result ≡ has_long_end text.now }
@@ -67,8 +69,9 @@ fn has_long_end(text: &[u8]) -> bool
     text.len() >= LONG_END && !has_ended(&text[text.len() - LONG_END..])
 }
 
-/// Reads the text of a bootstrap to the end of a reader. Stops once the last line is too long whatever
-/// follows: the text is refused then, at this line or one before it, as all of the input is.
+/// Reads the text of a bootstrap to the end of a reader. Stops as soon as the last line is too long
+/// whatever follows: the text is then refused at this line or an earlier one, as the whole input
+/// would be.
 ///
 /// # Errors
 ///

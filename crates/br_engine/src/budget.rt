@@ -2,7 +2,7 @@ ghost use Rattle.std.specs.Prelude.{◌≡◌, ◌≤◌, ◌^◌, ◌-◌};
 
 use std::alloc::Global;
 
-/// The largest number of bytes of the files that are made once more together.
+/// The largest number of bytes in the files that are made once more together.
 const WINDOW_LEN: u64 = 16 * 1024 * 1024;
 
 /// The memory of a restore.
@@ -10,8 +10,8 @@ const WINDOW_LEN: u64 = 16 * 1024 * 1024;
 pub struct Budget {
     /// The allocator.
     pub alloc: Global,
-    /// The number of bytes for data that are held, and for what the allocator and the threads keep beside
-    /// them. Data beyond it are read again. Attributes and digests are held beside it.
+    /// The number of bytes for data that are held, and for the overhead of the allocator and the
+    /// threads. Data beyond it are read again. Attributes and digests are not counted.
     pub room: u64,
 }
 
@@ -33,8 +33,8 @@ impl Budget {
         self.room - self.room / 8
     }
 
-    /// Returns the number of bytes of the files that are made once more together: as many as there is
-    /// room for, and at most 16 MiB.
+    /// Returns the number of bytes in the files that are made once more together: the room, and at
+    /// most 16 MiB.
     pub(crate) fn window(self) -> u64
         ensures { result ≤ self.room }
     {

@@ -1,4 +1,4 @@
-//! What is made of the outcomes before the manifest is written.
+//! The choice among the outcomes before the manifest is written.
 ghost use Rattle.std.specs.Prelude.{◌≡◌, true, length, map, replicate, IfOk};
 ghost use Rattle.std.specs.List.{items_where_true};
 ghost use Rattle.br_join.specs.Outcome.{restored};
@@ -15,21 +15,21 @@ use br_sink::keep_apart;
 use br_types::{Copies, FileKey, Gaps, Path, Stops, Wanted};
 use std::alloc::{AllocError, Global};
 
-/// What is made of the outcomes before the manifest is written.
+/// The choice among the outcomes before the manifest is written.
 #[derive(Drop)]
 pub(crate) struct Prepared {
     /// The lines of what is missing, if they are reported.
     pub(crate) missing: Vec<u8>,
-    /// Of each outcome if it is delivered. Without flags each is.
+    /// For each outcome, true if it is delivered. Without flags each is.
     pub(crate) flags: Option<Vec<bool>>,
     /// The paths of the files that are left out since they conflict with one that is delivered.
     pub(crate) left: Vec<Path>,
 }
 
-/// Which outcomes are delivered, and which files are left out.
+/// The outcomes that are delivered, and the files that are left out.
 #[derive(Drop)]
 struct Chosen {
-    /// Of each outcome if it is delivered. Without flags each is.
+    /// For each outcome, true if it is delivered. Without flags each is.
     flags: Option<Vec<bool>>,
     /// The paths of the files that are left out.
     left: Vec<Path>,
@@ -46,7 +46,7 @@ fn keys_of(alloc: Global, outcomes: &[(FileKey, Outcome)]) -> Result<Vec<FileKey
     Ok(keys)
 }
 
-/// Returns the lines of the indexes of which there is no outcome, and of the groups with fewer outcomes than
+/// Returns the lines of the indexes without an outcome, and of the groups with fewer outcomes than
 /// their counts.
 fn missing_of(
     alloc: Global,
@@ -75,7 +75,7 @@ fn reported_of(
     }
 }
 
-/// Returns of each outcome if it is of a wanted copy; nothing if each is.
+/// Returns for each outcome true if it is of a wanted copy; nothing if each is.
 fn flags_of(
     alloc: Global,
     copies: Copies,
@@ -97,7 +97,7 @@ fn all_flags(alloc: Global, count: usize) -> Result<Vec<bool>, AllocError>
     vec![in alloc; true; count]
 }
 
-/// Returns the flags of outcomes, each of them true if there are none.
+/// Returns the flags of outcomes. If there are no flags, each is true.
 fn flags_or_all(
     alloc: Global,
     flags: Option<Vec<bool>>,
@@ -131,7 +131,8 @@ fn without_conflicts(
     })
 }
 
-/// Leaves out the files that conflict with one that is delivered before, if the delivery is not to stop there.
+/// Leaves out the files that conflict with one that is delivered before, unless the delivery stops
+/// there.
 fn chosen_of(
     alloc: Global,
     stops: Stops,
@@ -151,7 +152,7 @@ fn chosen_of(
     }
 }
 
-/// Makes what is wanted of the outcomes.
+/// Makes the choice that is wanted among the outcomes.
 pub(crate) fn prepare(
     alloc: Global,
     wanted: Wanted,

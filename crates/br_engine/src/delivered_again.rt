@@ -1,4 +1,4 @@
-//! Files that are made once more and put into a sink, some at a time.
+//! Makes files once more and puts them into a sink, some at a time.
 ghost use Rattle.std.specs.Prelude.{◌≡◌, ◌<◌, ◌≤◌, length, map, IfErr};
 ghost use Rattle.br_model.specs.Answer.{IsRefusal};
 ghost use Rattle.br_model.specs.Delivery.{delivery};
@@ -17,17 +17,17 @@ use br_volume::Drive;
 use std::alloc::Global;
 use std::thread::Threads;
 
-/// What files are made of once more.
+/// What files are made from once more.
 #[derive(Drop)]
 pub(crate) struct Source<'g> {
     pub(crate) alloc: Global,
     pub(crate) gathered: &'g Gathered,
-    /// The number of bytes of the files that are made once more together, in memory. A file with more is
-    /// put part by part: alone, or side by side with the next one, if that has more, too.
+    /// The number of bytes in the files that are made once more together, in memory. A longer file
+    /// is put part by part: alone, or side by side with the next one, if that is longer, too.
     pub(crate) window: u64,
 }
 
-/// Returns the number of bytes of an outcome.
+/// Returns the number of bytes in an outcome.
 pub(crate) fn len_of(outcome: &Outcome) -> u64 {
     match outcome {
         Outcome::File(item) => item.bytes.len(),
@@ -35,7 +35,7 @@ pub(crate) fn len_of(outcome: &Outcome) -> u64 {
     }
 }
 
-/// Returns the number of the first outcomes that are files with more than `window` bytes: two at most.
+/// Returns the number of first outcomes that are files with more than `window` bytes: two at most.
 fn long_files(window: u64, outcomes: &[(FileKey, Outcome)]) -> usize
     ensures { result ≤ length outcomes.now }
 {
@@ -46,8 +46,8 @@ fn long_files(window: u64, outcomes: &[(FileKey, Outcome)]) -> usize
     }
 }
 
-/// Returns the number of the first outcomes that are put in one step, one at least: those whose files have at
-/// most `window` bytes together, or one or two files with more.
+/// Returns the number of first outcomes that are put in one step, at least one: those whose files
+/// have at most `window` bytes together, or one or two longer files.
 fn window_len(window: u64, outcomes: &[(FileKey, Outcome)]) -> usize
     requires { 0 < length outcomes.now }
     ensures some { 0 < result }
@@ -70,7 +70,7 @@ fn window_len(window: u64, outcomes: &[(FileKey, Outcome)]) -> usize
     count
 }
 
-/// The outcomes of which the files are put in one step.
+/// The outcomes whose files are put in one step.
 #[derive(Drop)]
 enum Window<'o> {
     /// One file, which is put part by part.
@@ -80,11 +80,12 @@ enum Window<'o> {
         one: KeyedItem<'o>,
         other: KeyedItem<'o>,
     },
-    /// Others: their files are made once more in memory.
+    /// Other outcomes: their files are made once more in memory.
     Together,
 }
 
-/// Returns the files to be put part by part, if these outcomes are one or two files with more bytes than `window`.
+/// Returns the files to be put part by part, if these outcomes are one or two files with more than
+/// `window` bytes.
 fn window_of(window: u64, outcomes: &[(FileKey, Outcome)]) -> Window<'_>
     ensures { IsWindowOf outcomes.now result }
 {
@@ -109,7 +110,7 @@ fn window_of(window: u64, outcomes: &[(FileKey, Outcome)]) -> Window<'_>
     }
 }
 
-/// Returns why a delivery stops if a file is not made once more.
+/// Returns why a delivery stops if making a file once more failed.
 fn stop_of(fault: AgainFault) -> StopCause
     ensures { cause_number result ≡ again_number fault }
 {
@@ -139,7 +140,7 @@ fn put_together<D: Drive, S: Sink>(
     }
 }
 
-/// Puts a file like this one into a sink. Its data are read again while it is put.
+/// Puts a file like this one into a sink. Its data are read again while the file is put.
 fn put_alone<D: Drive, S: Sink>(
     rt: &impl Threads,
     source: &Source<'_>,
@@ -162,8 +163,8 @@ fn put_alone<D: Drive, S: Sink>(
     }
 }
 
-/// Puts two files like these into a sink: side by side, if it puts two at once, else one after the other. Their
-/// data are read again while they are put.
+/// Puts two files like these into a sink: side by side, if the sink puts two at once, else one
+/// after the other. Their data are read again while they are put.
 fn put_two_alone<D: Drive, S: Sink>(
     rt: &impl Threads,
     source: &Source<'_>,
@@ -188,8 +189,8 @@ fn put_two_alone<D: Drive, S: Sink>(
     }
 }
 
-/// Makes the files among the outcomes once more, and puts them into a sink. One or two files with more bytes than
-/// the window are put part by part.
+/// Makes the files among the outcomes once more, and puts them into a sink. One or two files longer
+/// than the window are put part by part.
 fn put_window<D: Drive, S: Sink>(
     rt: &(impl Threads + Sync),
     source: &Source<'_>,

@@ -1,4 +1,4 @@
-//! What came of a restore.
+//! The result of a restore.
 ghost use Rattle.std.specs.Prelude.{◌≡◌, ◌++◌, OnOk};
 ghost use Rattle.br_engine.specs.Restores.{done_lines};
 
@@ -8,25 +8,27 @@ use br_sink::push_left;
 use br_types::{FileKey, Path};
 use std::alloc::AllocError;
 
-/// What came of a restore that wrote its manifest.
+/// The result of a restore that wrote its manifest.
 #[derive(Drop)]
 pub struct Extracted {
-    /// How it ended.
+    /// The end of the restore.
     pub end: RestoreEnd,
-    /// The lines of the indexes that the bootstrap asks for and that gave no outcome, and of the groups with fewer
-    /// outcomes than they count, if these are reported.
+    /// The lines of the indexes that the bootstrap asks for without an outcome, and of the groups
+    /// with fewer outcomes than they count, if these are reported.
     pub missing: Vec<u8>,
     /// The paths of the files that are left out since they conflict with one that is delivered.
     pub left: Vec<Path>,
-    /// The path of the file at which the delivery stopped, if it did and there was memory for the path.
+    /// The path of the file at which the delivery stopped, if it did and memory did not run out for
+    /// the path.
     pub stopped_at: Option<Path>,
     /// The outcomes that were to be delivered.
     pub outcomes: Vec<(FileKey, Outcome)>,
 }
 
 impl Extracted {
-    /// Appends the lines of what is missing, those of the files that are left out, and the line `refused N`
-    /// of a delivery that stopped. The sink failed at the files with the paths `failed`.
+    /// Appends the lines of what is missing, those of the files that are left out, and the line
+    /// `refused N` of a delivery that stopped. `failed` are the paths of the files at which the
+    /// sink failed.
     ///
     /// If memory runs out, a part of them may have been appended.
     pub fn push_lines(&self, failed: &[Path], text: &mut Vec<u8>) -> Result<(), AllocError>

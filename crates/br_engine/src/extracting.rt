@@ -26,19 +26,19 @@ fn all_outcomes(outcomes: &[(FileKey, Outcome)]) -> bool
     outcomes.iter().all(|outcome| is_file(&outcome.1))
 }
 
-/// Returns if each outcome is a file.
+/// Returns true if each outcome is a file.
 pub(crate) fn all_files(outcomes: &[(FileKey, Outcome)]) -> bool
     ensures { result ≡ are_files (map restored outcomes.now) }
 {
     all_outcomes(outcomes)
 }
 
-/// Writes the manifest of the outcomes part by part, and flushes it.
+/// Writes the manifest of the outcomes part by part, and flushes the writer.
 ///
 /// # Errors
 ///
 /// - `Memory` if memory ran out before the first part; then nothing is written.
-/// - `Io` if the writer failed, which may have taken a part of the manifest.
+/// - `Io` if the writer failed; it may have taken a part of the manifest.
 pub(crate) fn write_manifest<W: Flush>(
     alloc: Global,
     outcomes: &[(FileKey, Outcome)],

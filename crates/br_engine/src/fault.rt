@@ -151,8 +151,8 @@ fn push_piece_line(text: &mut Vec<u8>, fault: &PieceFault) -> Result<(), AllocEr
     }
 }
 
-/// Appends the line of pieces that were not read: that of the first piece that has a fault, `refused 1`
-/// if memory ran out, or `refused 70` if no drive is left.
+/// Appends the line for pieces that were not read: that of the first piece that has a fault,
+/// `refused 1` if memory ran out, or `refused 70` if no drive is left.
 ///
 /// If memory runs out here, a part of the line may have been appended.
 pub fn push_pool_line(text: &mut Vec<u8>, fault: &PoolFault) -> Result<(), AllocError>
@@ -166,9 +166,9 @@ pub fn push_pool_line(text: &mut Vec<u8>, fault: &PoolFault) -> Result<(), Alloc
 }
 
 impl ExtractFault {
-    /// Returns the number of the refusal: 1 out of memory, 10 to 12 and 14 a volume, 30 to 34 a line of
-    /// the bootstrap, 70 no drive left. A fault of reading or writing is no refusal, and neither is an input
-    /// that has no end.
+    /// Returns the number of the refusal: 1 out of memory, 10 to 12 and 14 a volume, 30 to 34 a
+    /// line of the bootstrap, 70 no drive left. A fault of reading or writing is no refusal, and
+    /// neither is an input without an end.
     pub fn number(&self) -> Option<u32>
         ensures { result ≡ fault_number self.now }
     {

@@ -3,14 +3,14 @@ ghost use Rattle.std.specs.Io.KnownBytes.{Appends, Keeps};
 
 use std::io::{self, Write};
 
-/// A writer of which a contract can say that it is flushed.
+/// A writer whose contracts can say that it is flushed.
 ///
-/// No type says what this means for it, so a function over any such writer can only meet "the writer is
-/// flushed" by flushing it after all that it writes. Each writer is one.
+/// No type defines what this means for it, so a function over any such writer can only meet "the
+/// writer is flushed" by flushing it after all that it writes. Each writer is one.
 pub trait Flush: Write {
     ghost use Rattle.std.specs.Prelude.{⊤};
 
-    /// Since it was flushed, nothing was written.
+    /// Nothing was written since the last flush.
     ghost is_flushed: { Self → Type 0 } = { λ _. ⊤ };
 
     /// Flushes the writer.
@@ -25,7 +25,7 @@ impl<W: Write> Flush for W {
     }
 }
 
-/// Writes a text and flushes it, so that it is seen before anything else is done.
+/// Writes a text and flushes it, so that it is visible before anything else is done.
 pub fn show<W: Flush>(writer: &mut W, text: &[u8]) -> io::Result<()>
     ensures written { OnOk result (Appends (W.contents writer.old) (W.contents writer.new) text.now) }
     ensures flushed { OnOk result (W.is_flushed writer.new) }

@@ -1,9 +1,9 @@
 //! The engine of a restore: from a bootstrap and the volumes of some drives to the files, to their
 //! manifest, and into a sink if there is one.
 //!
-//! An operator may want more of it, by a `Wanted`: that of several copies of a path the newest
-//! alone is delivered, that files which conflict are left out, and a report of the indexes that the
-//! bootstrap asks for and that gave no outcome, and of groups with fewer outcomes than they count.
+//! A `Wanted` holds what an operator may want besides: only the newest of several copies of a path
+//! is delivered; files that conflict are left out; and a report names the indexes that the
+//! bootstrap asks for without an outcome, and the groups with fewer outcomes than they count.
 #![tactic(auto)]
 
 mod bootstrap_text;

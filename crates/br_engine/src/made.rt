@@ -23,17 +23,17 @@ use std::mem;
 use std::sync::Wait;
 use std::thread::Threads;
 
-/// The length in bytes of the longest file with sparse data that is delivered beside data that are held.
-/// A longer one is in memory as a whole, so that all data are let go before.
+/// The length in bytes of the longest file with sparse data that is delivered while other data are
+/// held. A longer file is in memory as a whole, so all data are let go before.
 const LONG_LEN: u64 = 64 * 1024 * 1024;
 
 /// The files of a restore, each with its outcome, in order of their keys.
 #[derive(Drop)]
 pub(crate) struct Made {
     pub(crate) outcomes: Vec<(FileKey, Outcome)>,
-    /// What the files are made of once more, if their bytes are not in memory.
+    /// What the files are made from once more, if their bytes are not in memory.
     gathered: Option<Gathered>,
-    /// The number of bytes of the files that are made once more together.
+    /// The number of bytes in the files that are made once more together.
     window: u64,
 }
 
@@ -42,7 +42,8 @@ fn has_long_file(files: &[(FileKey, Outcome)]) -> bool {
     files.iter().any(|file| len_of(&file.1) > LONG_LEN)
 }
 
-/// Returns the same, without data in memory if there are sparse data and a file longer than `LONG_LEN`.
+/// Returns the same, without data in memory if there are sparse data and a file longer than
+/// `LONG_LEN`.
 fn lighter(gathered: Gathered, files: &[(FileKey, Outcome)]) -> Gathered
     ensures { result ≡ gathered }
 {
@@ -53,7 +54,7 @@ fn lighter(gathered: Gathered, files: &[(FileKey, Outcome)]) -> Gathered
     }
 }
 
-/// Makes the files of what a joiner took and did not hold. The drives read their data again.
+/// Makes the files from what a joiner took without all data. The drives read their data again.
 fn made_of<D: Drive + Send>(
     rt: &(impl Threads + Sync),
     budget: Budget,
@@ -83,9 +84,9 @@ fn made_of<D: Drive + Send>(
     })
 }
 
-/// Returns the files that a bootstrap selects as `restore` does, but holds no more data than there is
-/// room for. If there is not room for all, the bytes of the files are not in memory: `deliver_made`
-/// reads them again.
+/// Returns the files that a bootstrap selects, as `restore` does, but holds no more data than there
+/// is room for. If there is not room for all, the bytes of the files are not in memory;
+/// `deliver_made` reads them again.
 ///
 /// # Errors
 ///
@@ -120,7 +121,7 @@ pub(crate) fn restore_within<D: Drive + Send>(
     made_of(rt, budget, joiner, bootstrap.groups(), drives)
 }
 
-/// Delivers the files among the outcomes into a sink. They are made once more of their source.
+/// Delivers the files among the outcomes into a sink. They are made once more from their source.
 fn deliver_by<D: Drive, S: Sink>(
     rt: &(impl Threads + Sync),
     source: &Source<'_>,
@@ -146,7 +147,7 @@ fn deliver_by<D: Drive, S: Sink>(
     }
 }
 
-/// Delivers the files among the outcomes as `deliver_by`, if there is a sink.
+/// Delivers the files among the outcomes as `deliver_by` does, if there is a sink.
 fn deliver_from<D: Drive, S: Sink>(
     rt: &(impl Threads + Sync),
     source: &Source<'_>,
@@ -167,8 +168,8 @@ fn deliver_from<D: Drive, S: Sink>(
     }
 }
 
-/// Delivers the files of a restore in their order, if there is a sink. Those that are not in memory are
-/// made once more, and compared with what was made before. Returns the end of the restore.
+/// Delivers the files of a restore in their order, if there is a sink. Those that are not in memory
+/// are made once more, and compared with what was made before. Returns the end of the restore.
 pub(crate) fn deliver_made<D: Drive, S: Sink>(
     rt: &(impl Threads + Sync),
     alloc: Global,

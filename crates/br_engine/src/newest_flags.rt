@@ -38,7 +38,7 @@ pub(crate) fn noted<'o>(
     Ok(copies)
 }
 
-/// Returns if no copy is newer than an outcome. One that is no file is always current.
+/// Returns true if no copy is newer than an outcome. An outcome that is no file is always current.
 pub(crate) fn is_current(copies: &NewestCopies<'_>, key: FileKey, outcome: &Outcome) -> bool
     ensures { SaysCurrent copies.now (restored (key, outcome.now)) result }
 {
@@ -48,7 +48,7 @@ pub(crate) fn is_current(copies: &NewestCopies<'_>, key: FileKey, outcome: &Outc
     }
 }
 
-/// Returns of each outcome if it is current among the copies.
+/// Returns for each outcome true if it is current among the copies.
 fn flags_of(
     alloc: Global,
     copies: &NewestCopies<'_>,
@@ -64,7 +64,7 @@ fn flags_of(
     Ok(flags)
 }
 
-/// Returns of each outcome if it is the newest copy of its path among them, or no file.
+/// Returns for each outcome true if it is the newest copy of its path among them, or no file.
 pub fn flags_of_newest(
     alloc: Global,
     outcomes: &[(FileKey, Outcome)],

@@ -1,4 +1,4 @@
-//! How many outcomes are older copies of paths.
+//! Counts the outcomes that are older copies of paths.
 ghost use Rattle.std.specs.Prelude.{◌≡◌, List, map, min, not, ◌^◌, ◌-◌, IfOk, OnOk};
 ghost use Rattle.std.specs.List.{list_any};
 ghost use Rattle.br_join.specs.Outcome.{restored};
@@ -11,37 +11,38 @@ use br_join::Outcome;
 use br_types::{FileKey, NewestCopies};
 use std::alloc::{AllocError, Global};
 
-/// How many outcomes are older copies of paths.
+/// The numbers of outcomes that are older copies of paths.
 #[derive(Clone, Copy, PartialEq, Eq)]
 pub struct OlderCopies {
-    /// The number of files of whose path a newer one is among the outcomes.
+    /// The number of files for whose path a newer file is among the outcomes.
     pub files: u64,
-    /// The number of paths of which the last file is such a one.
+    /// The number of paths whose last file is such an older copy.
     pub on_top: u64,
 }
 
-/// The copies of which the last ones of their paths are counted, if they are older ones.
+/// The copies that are counted: the last ones of their paths, if they are older ones.
 #[derive(Drop)]
 struct LastCopies<'o> {
     seen: NewestCopies<'o>,
     count: u64,
 }
 
-/// Returns if no copy of the path is in the set.
+/// Returns true if no copy of the path is in the set.
 fn is_last(seen: &NewestCopies<'_>, path: &[u8]) -> bool
     ensures { (copies : List Copy) → AreNoted seen.now copies → result ≡ not (list_any (is_of path.now) copies) }
 {
     seen.newest(path).is_none()
 }
 
-/// Returns if a copy counts before those in the set: it is an older one, and the last of its path.
+/// Returns true if a copy that comes before those in the set counts: it is an older one, and the
+/// last of its path.
 fn is_counted(seen: &NewestCopies<'_>, is_old: bool, path: &[u8]) -> bool
     ensures { (copies : List Copy) → AreNoted seen.now copies → result ≡ counts is_old (list_any (is_of path.now) copies) }
 {
     is_old && is_last(seen, path)
 }
 
-/// Returns a number and one, if that is to be added.
+/// Returns a number plus one, if the flag is set.
 fn and_one(count: u64, is_more: bool) -> u64
     ensures { result ≡ model.and_one count is_more }
 {
@@ -52,7 +53,7 @@ fn and_one(count: u64, is_more: bool) -> u64
     }
 }
 
-/// Adds a copy before those that are there, by whether it is an older one.
+/// Adds a copy before those that were added, and counts it if it is an older one.
 fn note_copy<'o>(
     last: &mut LastCopies<'o>,
     is_old: bool,
@@ -66,7 +67,7 @@ fn note_copy<'o>(
     last.seen.note(key, path)
 }
 
-/// Adds an outcome before those that are there, if it is a file.
+/// Adds an outcome before those that were added, if it is a file.
 fn note_outcome<'o>(
     last: &mut LastCopies<'o>,
     copies: &NewestCopies<'_>,
@@ -84,8 +85,8 @@ fn note_outcome<'o>(
     }
 }
 
-/// Returns the number of paths of which the last file among the outcomes is an older copy, by the copies that
-/// the outcomes are.
+/// Returns the number of paths whose last file among the outcomes is an older copy. `copies` are
+/// the outcomes as copies.
 #[tactic(auto, unfolding(crate::specs::OlderCounts::on_top))]
 fn count_on_top(
     alloc: Global,
@@ -105,7 +106,7 @@ fn count_on_top(
     Ok(last.count)
 }
 
-/// Returns the number of outcomes that are older copies, by the copies that the outcomes are.
+/// Returns the number of outcomes that are older copies. `copies` are the outcomes as copies.
 #[tactic(auto, unfolding(crate::specs::OlderCounts::older))]
 fn count_older(copies: &NewestCopies<'_>, outcomes: &[(FileKey, Outcome)]) -> u64
     requires { AreNoted copies.now (copies_of (map restored outcomes.now)) }
@@ -120,8 +121,9 @@ fn count_older(copies: &NewestCopies<'_>, outcomes: &[(FileKey, Outcome)]) -> u6
     count
 }
 
-/// Returns how many files among the outcomes are older copies of their paths, and of how many paths such a one
-/// is the last, at most 2^64 - 1 each. The last one is what is there after all files were put.
+/// Returns the number of files among the outcomes that are older copies of their paths, and the
+/// number of paths whose last file is one; at most 2^64 - 1 each. The last file of a path is the
+/// one that remains after all files were put.
 pub fn older_copies(
     alloc: Global,
     outcomes: &[(FileKey, Outcome)],

@@ -31,9 +31,9 @@ use std::thread::Threads;
 pub struct Restore<D, S> {
     /// The memory for it.
     pub budget: Budget,
-    /// What reads the volumes: 1 to 16 drives, each of which shows all of them.
+    /// The drives that read the volumes: 1 to 16, each of which shows all of them.
     pub drives: Vec<D>,
-    /// Takes the restored files, if they are to be delivered.
+    /// The sink for the restored files, if they are to be delivered.
     pub sink: Option<S>,
 }
 
@@ -51,8 +51,8 @@ impl<D: Drive + Send, S: Sink> Restore<D, S> {
     ///
     /// - `Piece` for a volume that can't be read, or if no drive is left; then nothing is written.
     /// - `Memory` if memory ran out before the manifest; then nothing is written.
-    /// - `Io` if the writer failed, which may have taken a part of the manifest, or if a volume was changed
-    ///   while it was read.
+    /// - `Io` if the writer failed, which may have taken a part of the manifest, or if a volume was
+    ///   changed while it was read.
     ///
     /// After an error nothing is put into the sink.
     pub fn run<W: Flush>(
@@ -97,7 +97,7 @@ impl<D: Drive + Send, S: Sink> Restore<D, S> {
 
 /// Reads the text of a bootstrap from a reader, and restores all that it selects.
 ///
-/// The text is read to the end of the reader. Of a line that is too long before its LF has come, nothing
+/// The text is read to the end of the reader. If a line is too long before its LF has come, nothing
 /// more is read: the text is refused whatever follows.
 ///
 /// # Errors

@@ -5,7 +5,7 @@ use crate::fault::push_refused_line;
 use br_sink::SinkStop;
 use std::alloc::AllocError;
 
-/// How a restore ended that wrote its manifest.
+/// The end of a restore that wrote its manifest.
 #[derive(Debug, Drop)]
 pub enum RestoreEnd {
     /// Each outcome is a file, and all of them were delivered if there is a sink.

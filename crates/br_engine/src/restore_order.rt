@@ -1,4 +1,4 @@
-//! What is asked of a restore.
+//! The order of a restore: what it is asked to do.
 ghost use Rattle.std.specs.Prelude.{◌≡◌, IfOk};
 ghost use Rattle.br_model.specs.Answer.{Answers};
 ghost use Rattle.br_model.specs.BootstrapText as model;
@@ -15,7 +15,7 @@ use std::alloc::Global;
 pub struct CountedBootstrap<'b> {
     /// The groups.
     pub bootstrap: &'b Bootstrap,
-    /// Of each group its count, in the same order.
+    /// The count of each group, in the same order.
     pub counts: &'b [Option<u64>],
 }
 
@@ -24,7 +24,7 @@ pub struct CountedBootstrap<'b> {
 pub struct ReadBootstrap {
     /// The groups.
     pub bootstrap: Bootstrap,
-    /// Of each group its count, in the same order.
+    /// The count of each group, in the same order.
     pub counts: Vec<Option<u64>>,
 }
 
@@ -62,13 +62,14 @@ pub struct RestoreOrder<'b> {
     pub asked: CountedBootstrap<'b>,
     /// The names of the files, if they were planned. Then these files are restored and no others.
     pub names: Option<Names>,
-    /// Which copies are delivered, what is reported as missing, and where the delivery stops.
+    /// The copies to deliver, what to report as missing, and where the delivery stops.
     pub wanted: Wanted,
 }
 
 impl<'b> RestoreOrder<'b> {
-    /// Returns the order to restore all that a bootstrap selects, or the planned files if there are
-    /// names. Nothing is reported as missing, and the delivery stops at the first file that can't be put.
+    /// Returns the order to restore all that a bootstrap selects, or only the planned files if
+    /// there are names. Nothing is reported as missing, and the delivery stops at the first file
+    /// that can't be put.
     pub fn plain(bootstrap: &'b Bootstrap, names: Option<Names>) -> RestoreOrder<'b>
         ensures bootstrap { result.asked.bootstrap.now ≡ bootstrap.entry.now }
         ensures names { result.names ≡ names }

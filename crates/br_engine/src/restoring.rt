@@ -21,7 +21,7 @@ use std::thread::Threads;
 /// The number of batches of hits that may wait between the drives and the joiner.
 const ROOM: usize = 64;
 
-/// Makes the files of what a joiner took of all pieces.
+/// Makes the files from what a joiner took of all pieces.
 pub(crate) fn files_of(
     rt: &(impl Threads + Sync),
     joiner: &mut Joiner,

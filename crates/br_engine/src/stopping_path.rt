@@ -1,4 +1,4 @@
-//! At which file a delivery stopped.
+//! The file at which a delivery stopped.
 
 use crate::restore_end::RestoreEnd;
 use br_join::Outcome;
@@ -6,8 +6,8 @@ use br_sink::file_at;
 use br_types::{FileKey, Path};
 use std::alloc::Global;
 
-/// Returns the path of the file at which the delivery of these outcomes stopped, if it did and there is memory
-/// for the path.
+/// Returns the path of the file at which the delivery of these outcomes stopped, if it did and
+/// memory did not run out for the path.
 pub(crate) fn path_at_stop(
     alloc: Global,
     outcomes: &[(FileKey, Outcome)],

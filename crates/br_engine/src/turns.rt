@@ -25,7 +25,7 @@ impl Model for NoEnd {
     ghost inverse = { λ n. record { turns = n } };
 }
 
-/// The number of turns of reading that were made of an input.
+/// The number of turns of reading that were made.
 #[derive(Clone, Copy, Drop, PartialEq, Eq)]
 pub struct Turns {
     made: u64,
@@ -44,7 +44,7 @@ impl Model for Turns {
 }
 
 impl Turns {
-    /// Returns the turns before a first one.
+    /// Returns the number before the first turn.
     pub fn new() -> Turns
         ensures { result ≡ 0 }
     {

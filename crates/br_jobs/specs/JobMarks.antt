@@ -15,7 +15,7 @@ use Rattle.br_jobs.specs.ListingFault.{cause}
 use Rattle.br_jobs.specs.declared.listing_fault.ListingFault.{ListingFault}
 use Rattle.br_jobs.specs.declared.time_zones.Zones.{Zones}
 
--- the jobs that are chosen for a client, a file set and a moment; 2 if one of the names is none
+-- the jobs that are chosen for a client, a file set and a moment; 2 if a name is invalid
 unfoldable pub chosen_for : List JobRows → List ℕ → List ℕ → ℕ → Result (List JobRows) ℕ
 chosen_for history client fileset moment = do
   c ← checked_name client
@@ -29,7 +29,7 @@ marked history None fileset moment = Ok []
 marked history (Some client) None moment = Ok []
 marked history (Some client) (Some fileset) None = Ok []
 
--- the lines of the jobs that a filter lists, with those marked that are chosen, or why none is chosen
+-- the lines of the jobs that a filter lists, with the chosen ones marked, or why none is chosen
 abbrev pub MarksLines : List JobRows → Filter → Result (Vec ℕ) ListingFault → Type 0
 MarksLines history f (Ok text) =
     (chosen : List (Bor JobRows)) × (marked history f.client f.fileset f.before ≡ Ok (map (λ (j : Bor JobRows). j.now) chosen)) × AreLines chosen (listed f history) text.items

@@ -1,4 +1,4 @@
--- What a refused choice of the jobs that are marked says.
+-- The refused choice of the jobs to mark.
 use Rattle.std.specs.Prelude.{ℕ, Option, Some, None}
 use Rattle.br_choose.specs.Fault as choose
 use Rattle.br_jobs.specs.declared.listing_fault.ListingFault.{ListingFault}
@@ -10,7 +10,7 @@ mark_number Memory = 1
 mark_number BadName = 2
 mark_number (Choice fault) = choose.fault_number fault
 
--- the refusal that the jobs decide, nothing for want of memory
+-- the refusal that the jobs decide; nothing if memory ran out
 abbrev pub cause : ListingFault → Option ℕ
 cause Memory = None
 cause BadName = Some 2

@@ -9,7 +9,8 @@ use Rattle.br_model.specs.Job.{FileRow, JobRow, JobRows, Span}
 use Rattle.br_model.specs.Moment.{read_moment}
 use Rattle.br_model.specs.Name.{is_directory}
 
--- the text of a moment: `--before` reads it as these seconds; a moment that cannot be written so is an @ and the seconds
+-- the text of a moment: `--before` reads it as these seconds; a moment beyond this form is an @ and
+-- the seconds
 abbrev pub IsMoment : ℕ → List ℕ → Type 0
 IsMoment seconds text = (read_moment text ≡ Ok seconds) ⊎ (text ≡ 64 ∷ decimal seconds)
 
@@ -17,7 +18,7 @@ IsMoment seconds text = (read_moment text ≡ Ok seconds) ⊎ (text ≡ 64 ∷ d
 abbrev pub is_saved : FileRow → Bool
 is_saved f = not (f.index == 0)
 
--- the size in the numbers of a file; one below 0 counts as 0, as do numbers that can't be read
+-- the size in the numbers of a file; 0 for a negative one, and for numbers that can't be read
 abbrev pub size_in : Result Stat ℕ → ℕ
 size_in (Ok stat) = size_of stat.size
 size_in (Err why) = 0
@@ -30,21 +31,23 @@ counts f = is_saved f && not (is_directory f.path)
 abbrev pub bytes_of : FileRow → ℕ
 bytes_of f = if counts f then size_in (read_stat f.lstat) else 0
 
--- a name after a comma, unless it is that of the volume before
+-- a name after a comma, unless it is that of the previous volume
 abbrev pub next_text : List ℕ → List ℕ → List ℕ
 next_text last name = if bytes_eq name last then [] else 44 ∷ escaped name
 
--- the names of the volumes of spans after one on the last volume, each time another one
+-- the names of the volumes of spans after one on the last volume; repeated names in a row are
+-- written once
 unfoldable pub later_text : List ℕ → List Span → List ℕ
 later_text last [] = []
 later_text last (s ∷ ss) = next_text last s.volume ++ later_text s.volume ss
 
--- the names of the volumes of spans with commas between them, each time another one; - if there is none
+-- the names of the volumes of spans with commas between them; repeated names in a row are written
+-- once; - if there are no spans
 abbrev pub volumes_text : List Span → List ℕ
 volumes_text [] = codes "-"
 volumes_text (s ∷ ss) = escaped s.volume ++ later_text s.volume ss
 
--- whether the job is one of the chosen
+-- whether the job is among the chosen ones
 abbrev pub is_chosen : List (Bor JobRows) → JobRows → Bool
 is_chosen chosen j = list_any (λ (k : Bor JobRows). k.now.row.id == j.row.id) chosen
 
@@ -76,6 +79,6 @@ rest_text j = names_text j.row ++ sums_text j.files ++ end_text j.spans
 abbrev pub IsLine : Bool → JobRows → List ℕ → Type 0
 IsLine chosen j line = (moment : List ℕ) × IsMoment j.row.start moment × (line ≡ start_text chosen j ++ moment ++ rest_text j)
 
--- a line for each job, of which these are chosen
+-- a line for each job; these jobs are chosen
 abbrev pub AreLines : List (Bor JobRows) → List JobRows → List ℕ → Type 0
 AreLines chosen jobs text = (lines : List (List ℕ)) × AllZip (λ j line. IsLine (is_chosen chosen j) j line) jobs lines × (text ≡ flat_map (λ line. line) lines)

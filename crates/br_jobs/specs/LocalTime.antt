@@ -1,4 +1,4 @@
--- The line of a job that also shows its moment in a time zone.
+-- The line of a job with its moment also in a time zone.
 use Rattle.std.specs.Prelude.{◌≡◌, ◌⊎◌, ℕ, ◌*◌, ℤ, pos, ◌+ℤ◌, Bool, true, false, List, ◌∷◌, ◌++◌, flat_map, codes, Option, Some, None, option_map}
 use Rattle.std.specs.Borrow.{Bor}
 use Rattle.std.specs.List.{AllZip}
@@ -15,13 +15,15 @@ use Rattle.br_jobs.specs.declared.time_zones.Zones.TheVariants.{Utc, UtcAndLocal
 abbrev pub nanos_at : ℕ → ℤ
 nanos_at seconds = pos (seconds * 1_000_000_000)
 
--- the date and the time on the zone's clock with a T between them, and the zone's offset then, as 2026-11-22T00:15:33+01:00
+-- date and time on the zone's clock with a T between them, and the zone's offset then, as
+-- 2026-11-22T00:15:33+01:00
 abbrev pub IsOnClock : TimeZone → ℤ → List ℕ → Type 0
 IsOnClock zone nanos text =
     (clock : DateTime) × (offset : Offset) × (offset.seconds ≡ offset_at zone nanos)
     × (civil_nanos clock ≡ nanos +ℤ nanos_of_seconds offset.seconds) × (text ≡ iso_datetime_text clock ++ offset_text offset)
 
--- no instant is so many nanoseconds from the beginning of 1970: the last second of all is 9999-12-30 22:00:00 in UTC
+-- no instant is this number of nanoseconds from the beginning of 1970: the last second of all is
+-- 9999-12-30 22:00:00 in UTC
 abbrev pub IsBeyond : ℤ → Type 0
 IsBeyond nanos = IsTimestampNanos nanos → ⊥
 
@@ -30,7 +32,7 @@ abbrev pub IsShownIn : TimeZone → ℕ → List ℕ → Type 0
 IsShownIn zone seconds text =
     (IsTimestampNanos (nanos_at seconds) × IsOnClock zone (nanos_at seconds) text) ⊎ (IsBeyond (nanos_at seconds) × (text ≡ codes "-"))
 
--- the text of a moment in a zone, - if the zone is not known
+-- the text of a moment in a zone; - if the zone is not known
 abbrev pub IsLocal : Option TimeZone → ℕ → List ℕ → Type 0
 IsLocal None seconds text = text ≡ codes "-"
 IsLocal (Some zone) seconds text = IsShownIn zone seconds text
@@ -46,12 +48,12 @@ abbrev pub IsLineIn : Zones → Bool → JobRows → List ℕ → Type 0
 IsLineIn Utc chosen j line = IsLine chosen j line
 IsLineIn (UtcAndLocal zone) chosen j line = IsLocalLine (option_map plain_zone zone) chosen j line
 
--- a line for each job with its moment in these zones, of which these are chosen
+-- a line for each job with its moment in these zones; these jobs are chosen
 abbrev pub AreLinesIn : Zones → List (Bor JobRows) → List JobRows → List ℕ → Type 0
 AreLinesIn zones chosen jobs text =
     (lines : List (List ℕ)) × AllZip (λ j line. IsLineIn zones (is_chosen chosen j) j line) jobs lines × (text ≡ flat_map (λ line. line) lines)
 
--- the line of a job was appended if the job is listed, and nothing otherwise
+-- the line of a job was appended if the job is listed, else nothing was
 abbrev pub AppendsLineIn : Zones → Bool → Bool → JobRows → List ℕ → List ℕ → Type 0
 AppendsLineIn zones true chosen j before after = (line : List ℕ) × IsLineIn zones chosen j line × (after ≡ before ++ line)
 AppendsLineIn zones false chosen j before after = after ≡ before

@@ -4,7 +4,7 @@ ghost use Rattle.br_jobs.specs.JobFilter.{is_listed};
 
 use br_history::{JobRow, JobRows};
 
-/// Which jobs are listed. What is not given does not matter.
+/// The choice of the jobs that are listed. What is not given does not matter.
 #[derive(Clone, Copy)]
 pub struct Filter<'a> {
     /// The name of a client.
@@ -16,7 +16,7 @@ pub struct Filter<'a> {
 }
 
 impl Filter<'_> {
-    /// Returns if a row names the client, if one is given.
+    /// Returns true if a row names the client, if one is given.
     fn admits_client(&self, row: &JobRow) -> bool
         ensures { result ≡ option_map_or (λ c. bytes_eq row.now.client c.now) self.now.client true }
     {
@@ -26,7 +26,7 @@ impl Filter<'_> {
         }
     }
 
-    /// Returns if a row names the file set, if one is given.
+    /// Returns true if a row names the file set, if one is given.
     fn admits_fileset(&self, row: &JobRow) -> bool
         ensures { result ≡ option_map_or (λ s. bytes_eq row.now.fileset s.now) self.now.fileset true }
     {
@@ -36,7 +36,7 @@ impl Filter<'_> {
         }
     }
 
-    /// Returns if a job with this row began before the moment, if one is given.
+    /// Returns true if a job with this row began before the moment, if one is given.
     fn admits_start(&self, row: &JobRow) -> bool
         ensures { result ≡ option_map_or (λ m. nat_lt row.now.start m) self.now.before true }
     {
@@ -46,7 +46,7 @@ impl Filter<'_> {
         }
     }
 
-    /// Returns if a job is listed.
+    /// Returns true if a job is listed.
     pub(crate) fn admits(&self, job: &JobRows) -> bool
         ensures { result ≡ is_listed self.now job.now }
     {

@@ -9,7 +9,7 @@ use crate::time_zones::Zones;
 use br_history::JobRows;
 use std::alloc::{AllocError, Global};
 
-/// Returns if the job with a number is among those that were chosen.
+/// Returns true if the job with a number is among the chosen ones.
 fn is_among(chosen: &[&JobRows], job: &JobRows) -> bool
     ensures { result ≡ is_chosen chosen.now job.now }
 {
@@ -35,8 +35,8 @@ fn push_job(
     Ok(())
 }
 
-/// Returns a line for each of the jobs that the filter admits, in their order, with its moment in the given
-/// zones. It says of each if it is one of the chosen.
+/// Returns a line for each of the jobs that the filter admits, in their order, with its moment in
+/// the given zones. The line of a chosen job is marked.
 pub(crate) fn list_jobs(
     alloc: Global,
     jobs: &[JobRows],

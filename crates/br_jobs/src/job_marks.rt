@@ -1,4 +1,4 @@
-//! The lines of jobs with those marked that are chosen.
+//! The lines of jobs, with the chosen ones marked.
 ghost use Rattle.std.specs.Prelude.{IfOk, []};
 ghost use Rattle.br_model.specs.Answer.{Answers};
 ghost use Rattle.br_model.specs.Name.{checked_name};
@@ -65,8 +65,8 @@ fn marked<'h>(
     }
 }
 
-/// Returns the lines of the jobs that the filter lists, with their moments in the given zones, and with those
-/// marked that `console` would choose if client, file set and moment are given.
+/// Returns the lines of the jobs that the filter lists, with their moments in the given zones.
+/// Marks those that `console` would choose, if client, file set and moment are given.
 ///
 /// # Errors
 ///
@@ -96,12 +96,12 @@ pub fn unmarked_lines_in(
     list_jobs(alloc, history.jobs(), filter, zones, &[])
 }
 
-/// Returns the lines of the jobs that the filter lists, with their moments in UTC, and with those marked that
-/// `console` would choose if client, file set and moment are given.
+/// Returns the lines of the jobs that the filter lists, with their moments in UTC. Marks those that
+/// `console` would choose, if client, file set and moment are given.
 ///
 /// # Errors
 ///
-/// As those of `marked_lines_in`.
+/// Those of `marked_lines_in`.
 pub fn marked_lines(
     alloc: Global,
     history: &History,

@@ -6,7 +6,7 @@ use br_session::Span;
 use br_types::push_escaped;
 use std::alloc::AllocError;
 
-/// Appends a name after a comma, unless it is that of the volume before.
+/// Appends a name after a comma, unless it is that of the previous volume.
 fn push_next(text: &mut Vec<u8>, last: &[u8], name: &[u8]) -> Result<(), AllocError>
     ensures { OnOk result (text.new.items ≡ text.old.items ++ next_text last.now name.now) }
 {
@@ -18,7 +18,8 @@ fn push_next(text: &mut Vec<u8>, last: &[u8], name: &[u8]) -> Result<(), AllocEr
     Ok(())
 }
 
-/// Appends the names of the volumes of spans after one on the volume `first`, each time another one.
+/// Appends the names of the volumes of spans after one on the volume `first`; repeated names in a
+/// row are written once.
 fn push_later<'s>(text: &mut Vec<u8>, first: &'s [u8], spans: &'s [Span]) -> Result<(), AllocError>
     ensures { OnOk result (text.new.items ≡ text.old.items ++ later_text first.now spans.now) }
 {
@@ -30,8 +31,8 @@ fn push_later<'s>(text: &mut Vec<u8>, first: &'s [u8], spans: &'s [Span]) -> Res
     Ok(())
 }
 
-/// Appends the names of the volumes of spans with commas between them, each time another one; `-` if there
-/// is none.
+/// Appends the names of the volumes of spans with commas between them; repeated names in a row are
+/// written once. Appends `-` if there are no spans.
 pub(crate) fn push_volumes(text: &mut Vec<u8>, spans: &[Span]) -> Result<(), AllocError>
     ensures { OnOk result (text.new.items ≡ text.old.items ++ volumes_text spans.now) }
 {

@@ -1,5 +1,5 @@
-//! What `brestore jobs` prints: the jobs of a history, a line for each, with those marked that
-//! `console` would choose.
+//! The output of `brestore jobs`: a line for each job of a history. The jobs that `console` would
+//! choose are marked.
 //!
 //! Any call that returns a `Result` may also fail because memory ran out.
 #![tactic(auto)]

@@ -6,7 +6,7 @@ use br_choose::ChooseFault;
 use std::alloc::AllocError;
 use thiserror::Error;
 
-/// Why no jobs were marked as chosen.
+/// The reason why no jobs were marked as chosen.
 #[derive(Clone, Copy, Debug, PartialEq, Eq, Error)]
 pub enum ListingFault {
     #[error("out of memory")]

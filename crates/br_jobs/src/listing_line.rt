@@ -16,7 +16,7 @@ use br_types::{push_escaped, push_number, push_wide};
 use jiff::tz::TimeZone;
 use std::alloc::{AllocError, Global};
 
-/// Returns the mark of a job by whether it is chosen.
+/// Returns the mark of a job, which tells if it is chosen.
 fn mark_of(is_chosen: bool) -> u8
     ensures { result ≡ model.mark_of is_chosen }
 {
@@ -50,7 +50,7 @@ fn push_names(text: &mut Vec<u8>, row: &JobRow) -> Result<(), AllocError>
     Ok(())
 }
 
-/// Appends how many files a job saved, and their bytes.
+/// Appends the number of files that a job saved, and their bytes.
 fn push_sums(text: &mut Vec<u8>, files: &[FileRow]) -> Result<(), AllocError>
     ensures { OnOk result (text.new.items ≡ text.old.items ++ sums_text files.now) }
 {

@@ -7,7 +7,7 @@ use jiff::Timestamp;
 use jiff::tz::TimeZone;
 use std::alloc::{AllocError, Global};
 
-/// Returns the text of a moment that has no place in a zone.
+/// Returns the text of a moment that a zone can't show.
 fn no_text(alloc: Global) -> Result<Vec<u8>, AllocError>
     ensures { IfOk result (λ text. text.items ≡ codes "-") }
 {
@@ -30,7 +30,8 @@ fn clock_text(alloc: Global, zone: &TimeZone<'_>, instant: Timestamp) -> Result<
     Vec::from_slice(alloc, text.as_bytes())
 }
 
-/// Returns a moment in a zone, as `2026-11-22T00:15:33+01:00`; `-` if it is after the last instant of jiff.
+/// Returns a moment in a zone, as `2026-11-22T00:15:33+01:00`; `-` if it is after jiff's last
+/// instant.
 fn zoned_text(alloc: Global, zone: &TimeZone<'_>, seconds: u64) -> Result<Vec<u8>, AllocError>
     ensures { IfOk result (λ text. IsShownIn (plain_zone zone.now) seconds text.items) }
 {

@@ -25,8 +25,7 @@ fn civil_at(seconds: u64) -> Option<DateTime> {
     start.checked_add(SignedDuration::from_secs(second)).ok()
 }
 
-/// Returns a moment as `YYYY-MM-DD HH:MM:SS` in UTC. A moment that the calendar does not have gives no
-/// text.
+/// Returns a moment as `YYYY-MM-DD HH:MM:SS` in UTC, or nothing if the calendar does not have it.
 fn civil_text(alloc: Global, seconds: u64) -> Result<String, AllocError> {
     let Some(civil) = civil_at(seconds) else {
         return Ok(String::new(alloc));

@@ -109,7 +109,7 @@ one_set some other there back = hits_are_lookups_lem some other (λ k. go k (get
 
 -- ---- the same hits in another order
 
--- Hits of which no two are at one place make one set in every order, also if some are repeated.
+-- Hits make one set in every order if no two are at one place, also if some are repeated.
 pub same_taken : (held : Hits) (taken found : List Hit) → ((h : Hit) → Contains found h → HasHit (hits_of found) h)
     → ((h : Hit) → Contains taken h → Contains found h) → ((h : Hit) → Contains found h → Contains taken h) → with_hits held taken ≡ with_hits held found
 same_taken held taken found each to back = hits_are_lookups_lem (with_hits held taken) (with_hits held found) (λ q.

@@ -1,4 +1,4 @@
--- Joiners as data: each part has a code by which its values are told apart.
+-- Joiners as data: each part has a code that tells its values apart.
 use Rattle.std.specs.Prelude.{ℕ, ℤ, Bool, List, Option, refl}
 use Rattle.std.specs.Coded.{Coded, code_by, coded×, coded_ℕ, coded_ℤ, coded_bool, coded_list, coded_option}
 use Rattle.std.specs.FinMap.{FinMap, code}

@@ -11,6 +11,6 @@ abbrev pub shown : Outcome → model.Outcome
 shown (File item) = Ok item
 shown (Fault number stream) = Err (record { number = number; stream = stream })
 
--- the file of a restore that an outcome beside its key is
+-- the file of a restore for an outcome and its key
 abbrev pub restored : name.FileKey × Outcome → Restored
 restored r = record { key = r.0; outcome = shown r.1 }

@@ -12,7 +12,7 @@ abbrev pub named : Option (List ℕ) → Outcome → Outcome
 named None outcome = outcome
 named (Some path) outcome = under_name path outcome
 
--- the file that its hits make, in order of place, and which may have been planned
+-- the file that its hits make, in order of place, with its planned path if it has one
 abbrev pub file_of_run : FileKey → Option (List ℕ) → List Hit → Restored
 file_of_run key path hits = record { key = key; outcome = named path (outcome_of key (fragments hits)) }
 

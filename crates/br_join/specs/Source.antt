@@ -1,4 +1,4 @@
--- The file that its records make, with its bytes from one source or another.
+-- The file that its records make, with its bytes from one of the sources.
 use Rattle.std.specs.Prelude.{ℕ, not, ◌&&◌, List, filter, count_by, Result, Ok}
 use Rattle.br_model.specs.Answer.{◌>>=◌, refuse_if, refused_as}
 use Rattle.br_model.specs.File as model

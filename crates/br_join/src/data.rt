@@ -10,12 +10,12 @@ use br_data::FileBytes;
 use br_records::{FileFault, FileRecord, GREATEST_LEN, MakingFault, has_bytes};
 use std::alloc::Global;
 
-/// What gives the bytes of a file.
+/// Where the bytes of a file come from.
 #[derive(Drop)]
 pub(crate) enum Source {
     /// The data of its records, which are in memory.
     Records,
-    /// These bytes, the data of its records, of which none are sparse.
+    /// These bytes: the data of its records, none of which are sparse.
     Read(FileBytes),
 }
 

@@ -13,15 +13,16 @@ use std::mem;
 /// The number of hits that are taken before the list is sorted for the first time.
 const FIRST_LEN: usize = 4096;
 
-/// A set of hits. Of several at one place of one file it has the first that was taken.
+/// A set of hits. Of several hits at one place of one file it keeps the first that was taken.
 ///
-/// Hits are listed as they come, and sorted as they are moved out: a list takes a third of the memory of a tree. Hits
-/// that come again, as after a drive failed, make it longer. So it is also sorted each time that it is twice as long
-/// as after the sort before, and of hits at one place the first is kept.
+/// Hits are appended to a list and sorted when they are moved out: a list needs a third of the
+/// memory of a tree. Hits that come again, as after a drive failed, make it longer. So it is also
+/// sorted each time that it has become twice as long as after the last sort, and of hits at one
+/// place the first is kept.
 #[derive(Drop)]
 pub(crate) struct Held {
     hits: Vec<Hit>,
-    /// The number of hits from which on the list is sorted before more are taken.
+    /// The number of hits from which the list is sorted before more are taken.
     full: usize,
 }
 
@@ -56,8 +57,8 @@ impl Held {
         }
     }
 
-    /// Sorts the list if it is twice as long as after the sort before. If there is no memory for that, it stays as it
-    /// is until it is twice as long again.
+    /// Sorts the list if it is twice as long as after the last sort. If there is no memory for
+    /// that, it stays as it is until it is twice as long again.
     fn shorten(&mut self)
         ensures { self.new ≡ self.old }
     {
@@ -68,8 +69,8 @@ impl Held {
         self.full = self.hits.len().saturating_mul(2);
     }
 
-    /// Takes room for the data of hits. If there is too little, the data of the hits that were taken before are
-    /// let go: a restore that has not all data in memory reads them again.
+    /// Reserves room for the data of hits. If there is too little, the data of the hits that were
+    /// taken before are let go: a restore that does not hold all data reads them again.
     fn make_room(&mut self, room: &mut Room, hits: &[Hit])
         ensures { self.new ≡ self.old }
     {
@@ -80,8 +81,8 @@ impl Held {
         }
     }
 
-    /// Takes hits, and lets data go for which there is no room. Returns the hits as they were if there is
-    /// no memory.
+    /// Takes hits, and lets data go if there is no room for them. Returns the hits unchanged if
+    /// memory runs out.
     pub(crate) fn take(&mut self, room: &mut Room, mut hits: Vec<Hit>) -> Result<(), Vec<Hit>>
         ensures ok { OnOk result (self.new ≡ with_hits self.old hits.items) }
         ensures err { OnErr result (self.new ≡ self.old) }

@@ -17,7 +17,7 @@ pub struct Item {
     pub link: Vec<u8>,
     /// The bytes of a file of type 2 or 3, else none.
     pub bytes: FileBytes,
-    /// The number of records that were passed over.
+    /// The number of records that were skipped.
     pub skipped: u64,
 }
 

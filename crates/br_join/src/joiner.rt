@@ -24,13 +24,14 @@ use std::collections::BTreeMap;
 use std::marker::Model;
 use std::thread::Threads;
 
-/// Gathers what was found of the pieces of a bootstrap, and makes files of it. Of several hits at
-/// one place of one file it keeps the first that was taken. It lists hits as they come, and sorts them at
-/// the end.
+/// Gathers the hits of the pieces of a bootstrap, and makes files of them. Of several hits at one
+/// place of one file it keeps the first that was taken. It appends hits to a list, and sorts the
+/// list at the end.
 ///
-/// As soon as data come for which there is no room, all data are let go, except attributes and digests:
-/// the files are then made of data that are read again, and memory is free for what else is to come. The
-/// hits are the same for contracts, which see their bytes whether they are in memory or not.
+/// At the first data for which there is no room, all data are let go, except attributes and
+/// digests. The files are then made of data that are read again, and the memory is free for what
+/// follows. For contracts the hits stay the same: they see the bytes whether these are in memory or
+/// not.
 #[derive(Drop)]
 pub struct Joiner {
     /// The number of each piece, and whether the piece is closed.
@@ -101,8 +102,8 @@ impl Joiner {
         Joiner::with_room(alloc, pieces, names, u64::MAX)
     }
 
-    /// Returns a joiner as `new` does, which has room for this number of bytes of data. Attributes
-    /// and digests are not counted.
+    /// Returns a joiner as `new` does, with room for this number of bytes of data. Attributes and
+    /// digests are not counted.
     pub fn with_room(
         alloc: Global,
         pieces: &[Piece],
@@ -214,7 +215,7 @@ impl Joiner {
         Ok(())
     }
 
-    /// Returns whether each piece is closed, so that all was taken.
+    /// Returns whether each piece is closed, that is, whether all hits were taken.
     pub fn ready(&self) -> bool
         ensures { result ≡ is_ready self.now }
     {
@@ -225,8 +226,9 @@ impl Joiner {
     /// names, these are the planned files, with 63 for a file of which nothing was found. The
     /// joiner keeps its names, and is then empty, its pieces open.
     ///
-    /// The files are made in as many threads as there are processors, and the result is that of one
-    /// thread. The hits are sorted first, beside a list as long as theirs. Hits that came in order are not.
+    /// The files are made in as many threads as there are processors; the result is that of one
+    /// thread. The hits are sorted first, which needs a second list as long as theirs. Hits that
+    /// came in order are not sorted.
     ///
     /// # Errors
     ///
@@ -255,15 +257,15 @@ impl Joiner {
         }
     }
 
-    /// Returns whether all data that were taken are in memory. If not, `finish` refuses, and the files
-    /// are made of `into_hits`.
+    /// Returns whether all data that were taken are in memory. If not, `finish` refuses, and the
+    /// files are made from the result of `into_hits`.
     pub fn holds_all(&self) -> bool {
         self.room.holds_all()
     }
 
     /// Returns the hits that were taken, in order of file and place, and the names of the plan, if
-    /// there is one. Their data are let go, but for attributes and digests, so that there is room for
-    /// the data of one file.
+    /// there is one. Their data are let go, except attributes and digests, so that there is room
+    /// for the data of one file.
     ///
     /// # Errors
     ///

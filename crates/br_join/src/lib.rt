@@ -1,8 +1,8 @@
-//! Joining: from the fragments that were found to the files that they make.
+//! Joining: makes files of the fragments that drives found.
 //!
 //! `Joiner` gathers what drives find of the pieces of a bootstrap, piece by piece or block by
-//! block, and makes an `Outcome` of each file. If it let data go, it returns its hits: br_reread_files
-//! makes the files of them, with data that are read again.
+//! block, and makes an `Outcome` for each file. If it let data go, it returns its hits;
+//! br_reread_files makes the files of them, with data that are read again.
 #![tactic(auto)]
 
 mod data;

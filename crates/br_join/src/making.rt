@@ -20,7 +20,7 @@ use br_records::{
 use br_types::{FileIndex, FileKey, Path};
 use std::alloc::{AllocError, Global};
 
-/// Returns whether there is no digest, or one, which is that of the bytes.
+/// Returns whether the digest, if there is one, is that of the bytes.
 ///
 /// # Errors
 ///
@@ -114,7 +114,7 @@ fn file_with(
     plain_content(alloc, key.index, &records, plain)
 }
 
-/// Returns the outcome with this fault.
+/// Returns an outcome with this fault.
 fn refused(fault: FileFault) -> Outcome
     ensures { shown result ≡ Err (file_fault fault) }
 {
@@ -134,7 +134,7 @@ fn no_file(why: MakingFault) -> Result<Outcome, AllocError>
     }
 }
 
-/// Returns the outcome of a file by its fragments, given in order of place.
+/// Returns the outcome of a file from its fragments, given in order of place.
 pub fn outcome_of(alloc: Global, key: FileKey, hits: &[Hit]) -> Result<Outcome, AllocError>
     requires { All (λ (h : meaning.Hit). h.key ≡ key) hits.now }
     ensures { IfOk result (λ outcome. shown outcome ≡ model.outcome_of key (map (λ (h : meaning.Hit). h.fragment) hits.now)) }
@@ -145,8 +145,8 @@ pub fn outcome_of(alloc: Global, key: FileKey, hits: &[Hit]) -> Result<Outcome, 
     }
 }
 
-/// Returns the outcome of a file by its fragments, given in order of place, and by its plain data, of
-/// which the fragments need not be in memory.
+/// Returns the outcome of a file from its fragments, given in order of place, and its plain data.
+/// The fragments of plain data need not be in memory.
 ///
 /// # Errors
 ///

@@ -4,12 +4,12 @@ ghost use Rattle.std.specs.Prelude.{◌≡◌};
 use br_match::Hit;
 use br_records::{ATTRIBUTES, DIGEST};
 
-/// The number of bytes of data that may be held. Attributes and digests are held beside them.
+/// The number of bytes of data that may be held. Attributes and digests are not counted.
 #[derive(Clone, Copy)]
 pub(crate) struct Room {
     all: u64,
     left: u64,
-    /// Whether there was room for all data so far.
+    /// True if there was room for all data so far.
     holds_all: bool,
 }
 
@@ -19,7 +19,7 @@ fn is_always_held(hit: &Hit) -> bool {
     stream == ATTRIBUTES || stream == DIGEST
 }
 
-/// Returns how many bytes of data the hits have; at most 2^64 - 1 are counted. Attributes and digests are
+/// Returns the number of bytes of data in the hits, at most 2^64 - 1. Attributes and digests are
 /// not counted.
 fn bytes_in(hits: &[Hit]) -> u64 {
     let mut bytes = 0u64;
@@ -31,7 +31,7 @@ fn bytes_in(hits: &[Hit]) -> u64 {
     bytes
 }
 
-/// Lets the data of a hit go, unless it is of attributes or a digest.
+/// Drops the data of a hit, unless it is of attributes or a digest.
 fn let_go(hit: &mut Hit)
     ensures { hit.new ≡ hit.old }
 {
@@ -40,7 +40,7 @@ fn let_go(hit: &mut Hit)
     }
 }
 
-/// Lets the data of hits go, but for attributes and digests. As contracts see them the hits are the same.
+/// Drops the data of hits, except attributes and digests. For contracts the hits stay the same.
 pub(crate) fn let_all_go(hits: &mut Vec<Hit>)
     ensures { hits.new.items ≡ hits.old.items }
 {
@@ -59,7 +59,7 @@ impl Room {
         }
     }
 
-    /// Takes room for the data of hits. If there is too little there is none from then on.
+    /// Reserves room for the data of hits. If there is too little, there is none from then on.
     pub(crate) fn take(&mut self, hits: &[Hit]) {
         match self.left.checked_sub(bytes_in(hits)) {
             Some(left) => self.left = left,
@@ -72,8 +72,8 @@ impl Room {
         self.holds_all
     }
 
-    /// Lets the data of hits go if there was no room for all, but for attributes and digests. As contracts see
-    /// them the hits are the same.
+    /// Drops the data of hits if there was no room for all, except attributes and digests. For
+    /// contracts the hits stay the same.
     pub(crate) fn fit(&self, hits: &mut Vec<Hit>)
         ensures { hits.new.items ≡ hits.old.items }
     {
@@ -82,7 +82,7 @@ impl Room {
         }
     }
 
-    /// Returns the room when nothing is held.
+    /// Returns the room as it was when nothing was held.
     pub(crate) fn emptied(&self) -> Room {
         Room::new(self.all)
     }

@@ -14,7 +14,7 @@ closed_step pieces i p first now next k low at number so_far put =
     put ∙ (λ t. with_closed (so_far t) (number t)) ∙ sym (each_closed_more first (take i pieces) p)
     ∙ sym (ap (closed_each first) (take_more pieces i p low ∙ ap (λ (q : Piece). take i pieces ++ q ∷ []) (sym at)))
 
--- what is in front is in the list
+-- what is before it is in the list
 taken_inside : (ps : List Piece) (n : ℕ) (q : Piece) → Contains (take n ps) q → Contains ps q
 taken_inside [] zero q inside = inside
 taken_inside [] (suc n) q inside = inside

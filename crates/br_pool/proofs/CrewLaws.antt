@@ -226,7 +226,7 @@ nothing : (items : List Batch) → length items ≡ 0 → items ≡ []
 nothing [] e = refl
 nothing (x ∷ xs) e = absurd (omega (arith, e))
 
--- what an empty queue tells
+-- what follows from an empty queue
 pub none_left : (v : Crew) → (items : List Batch) × (length items ≡ 0) × TellsAll v items → TellsAll v []
 none_left v held = subst (λ (l : List Batch). TellsAll v l) (nothing held.0 held.1) held.2
 

@@ -45,7 +45,7 @@ pub each_fills : (is : Piece → Answer → Type 0) (pieces : List Piece) (slots
 each_fills is pieces slots [] fills are = fills
 each_fills is pieces slots (a ∷ all) fills are = each_fills is pieces (slice_set slots a.0 (Some a.1)) all (set_fills is pieces slots a.0 a.1 fills are.0) are.1
 
--- ---- what the slots come to
+-- ---- the result of the slots
 
 pub numbers_are : (over : List Volume → Type 0) (pieces : List Piece) (founds : List Found) → AllZip (Fills over) pieces (full_of founds)
     → map (λ (f : Found). f.piece) founds ≡ map (λ (p : Piece). p.number) pieces

@@ -16,11 +16,11 @@ sent_by v x = crew v.gathers v.parts (v.pushed ++ x ∷ []) v.popped
 abbrev pub taken_by : Crew → Batch → Crew
 taken_by v x = crew v.gathers v.parts v.pushed (v.popped ++ x ∷ [])
 
--- a pass that gave another one of its parts
+-- a pass that gave one of its parts to another pass
 abbrev pub one_part_fewer : Crew → Crew
 one_part_fewer v = crew v.gathers (v.parts - 1) v.pushed v.popped
 
--- a pass of a worker that pushed nothing yet
+-- a pass of a worker that has pushed nothing yet
 abbrev pub hired : Crew
 hired = crew false 1 [] []
 
@@ -37,7 +37,7 @@ abbrev pub Has : Batch → List Batch → Type 0
 Has b [] = ⊥
 Has b (x ∷ xs) = (x ≡ b) ⊎ Has b xs
 
--- each batch of the one list is in the other
+-- each batch of the first list is in the second
 abbrev pub HasAll : List Batch → List Batch → Type 0
 HasAll bs xs = (b : Batch) → Has b bs → Has b xs
 
@@ -51,8 +51,8 @@ abbrev pub pushed_of : List Crew → List Batch
 pushed_of [] = []
 pushed_of (v ∷ vs) = v.pushed ++ pushed_of vs
 
--- One pass alone pops, and knows what was popped. What a pass pushed is in the queue or was popped. A
--- pass without parts was taken in by another.
+-- Only one pass pops, and it knows what was popped. What a pass pushed is in the queue or was
+-- popped. A pass without parts was taken in by another.
 pub record FitsCrew (gatherer : ℕ) (got items : List Batch) (port : ℕ) (v : Crew) : Type 0 where
   pub gathers : v.gathers ≡ true → (port ≡ gatherer) × (v.popped ≡ got)
   pub pushed : HasAll v.pushed (got ++ items)
@@ -66,7 +66,7 @@ pub record IsKept (items : List Batch) (views : List Crew) : Type 0 where
   pub from : HasAll (got ++ items) (pushed_of views)
   pub fits : (port : ℕ) (v : Crew) → get_elem? views port ≡ some v → FitsCrew gatherer got items port v
 
--- What the gatherer learns of the batches in the queue: with those that it popped they are all that it
--- pushed and took in; and they are no others if it has all parts.
+-- What the gatherer learns about the batches in the queue: together with those that it popped they
+-- include all that it pushed and took in. If it has all parts, they include no others.
 abbrev pub TellsAll : Crew → List Batch → Type 0
 TellsAll v items = HasAll v.pushed (v.popped ++ items) × (v.parts ≡ 65536 → HasAll (v.popped ++ items) v.pushed)

@@ -30,7 +30,7 @@ cause (Piece why) = piece.cause why
 cause NoDriveLeft = None
 
 -- The volumes decide the refusal of a piece: it is neither a drive's failure nor memory that ran
--- out. These are refusals of the whole pool.
+-- out. Those two are refusals of the whole pool.
 abbrev pub IsDecided : PoolFault → Type 0
 IsDecided Memory = ⊤
 IsDecided (Piece why) = piece.cause why ≡ None → ⊥

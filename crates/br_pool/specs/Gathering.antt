@@ -1,4 +1,4 @@
--- What a gatherer gives a joiner of what it pops.
+-- What a gatherer gives a joiner from the batches that it pops.
 use Rattle.std.specs.Prelude.{◌≡◌, List, ◌++◌, flat_map}
 use Rattle.br_model.specs.Meaning.{Hit}
 use Rattle.br_match.specs.declared.hit.Batch.{Batch}
@@ -10,12 +10,12 @@ use Rattle.br_pool.specs.declared.batch_queue.Crew.{Crew}
 abbrev pub hits_of_batches : List Batch → List Hit
 hits_of_batches batches = flat_map (λ (b : Batch). b.hits.items) batches
 
--- the same pass but for what it popped
+-- the same pass, except for what it popped
 abbrev pub IsStill : Crew → Crew → Type 0
 IsStill v w = (w.gathers ≡ v.gathers) × (w.parts ≡ v.parts) × (w.pushed ≡ v.pushed)
 
--- Batches were popped, and the joiner has the hits of some of them: of all if this holds. A batch for
--- which there was no memory is not among them.
+-- Batches were popped, and the joiner has the hits of some of them; if this holds, of all. A batch
+-- for which memory ran out is not among them.
 pub record Takes (none_lost : Type 0) (v w : Crew) (before after : Joining) : Type 0 where
   pub popped : List Batch
   pub batches : List Batch

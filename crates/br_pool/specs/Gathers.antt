@@ -1,4 +1,4 @@
--- What a joiner has of what workers send, round by round.
+-- What a joiner has from the hits that workers send, round by round.
 use Rattle.std.specs.Prelude.{◌≡◌, ℕ, ◌+◌, true, Bool, List, ◌++◌, map, reverse, flat_map, Option}
 use Rattle.std.specs.List.{AllZip}
 use Rattle.atomic_table.specs.Seated.{TableId}
@@ -16,11 +16,11 @@ use Rattle.br_pool.specs.declared.sender.SendRound.{SendRound}
 use Rattle.br_pool.specs.declared.sender.Sender.{Sender}
 use Rattle.br_pool.specs.declared.worker.Worker.{Worker}
 
--- the same pass with n parts fewer
+-- the same pass with n fewer parts
 abbrev pub HasHired : ℕ → Crew → Crew → Type 0
 HasHired n v w = (w.gathers ≡ v.gathers) × (w.parts + n ≡ v.parts) × (w.pushed ≡ v.pushed) × (w.popped ≡ v.popped)
 
--- the same pass with n parts more, which took in passes that pushed these batches
+-- the same pass with n more parts, which took in passes that pushed these batches
 abbrev pub HasTakenIn : ℕ → List Batch → Crew → Crew → Type 0
 HasTakenIn n batches v w = (w.gathers ≡ v.gathers) × (w.parts ≡ v.parts + n) × (w.pushed ≡ v.pushed ++ batches) × (w.popped ≡ v.popped)
 
@@ -28,8 +28,8 @@ HasTakenIn n batches v w = (w.gathers ≡ v.gathers) × (w.parts ≡ v.parts + n
 abbrev pub sent_of : {D : Type 0} → List (Sender D) → List Batch
 sent_of {D} senders = flat_map (λ (s : Sender D). (view s.pass).pushed) (reverse senders)
 
--- The joiner took hits to which walks come, over all volumes of which `over` holds, and this holds of
--- those hits.
+-- The joiner took hits. Walks come to these hits over all volumes for which `over` holds, and this
+-- predicate holds of the hits.
 pub record Gathers (over : List Volume → Type 0) (pieces : List Piece) (old new : Joining) (fact : List Hit → Type 0) : Type 0 where
   pub taken : List Hit
   pub took : new ≡ with_batch old taken
@@ -50,14 +50,14 @@ HasRunFor shows failures claims pieces left sent before after =
 abbrev pub shown_to : {D : Type 0} → (D → Option (List Volume)) → List (Worker D) → List (Option (List Volume))
 shown_to {D} shows workers = map (λ (w : Worker D). shows w.reader.drive) workers
 
--- The workers ran. The hits of their pieces are among those that they sent, and these were taken if
+-- The workers ran. The hits of their pieces are among those that they sent. These were taken if
 -- nothing was lost.
 abbrev pub HaveSent : {D : Type 0} → (D → Option (List Volume)) → (D → ℕ) → TableId → List Piece → List ℕ → List (Worker D) → List (Worker D) → Joining → Joining → Bool → Type 0
 HaveSent shows failures claims pieces left before after old new fine =
     (sent : List Hit) × AllZip (HasRunFor shows failures claims pieces left sent) before after
     × Gathers (λ volumes. AllZip (StandsTold pieces volumes) (shown_to shows before) (shown_to shows after)) pieces old new (λ taken. fine ≡ true → AreIn sent taken)
 
--- the same of a round
+-- the same for a round
 abbrev pub HaveSentIn : {D G : Type 0} → (D → Option (List Volume)) → (D → ℕ) → SendRound G → List (Worker D) → List (Worker D) → Joining → Joining → Bool → Type 0
 HaveSentIn shows failures sending before after old new fine =
     HaveSent shows failures sending.round.now.claims.now.claims sending.round.now.pieces.now sending.round.now.left.now before after old new fine

@@ -1,4 +1,4 @@
--- What many drives find of some pieces, whatever their volumes do meanwhile.
+-- What several drives find of some pieces, whatever happens to their volumes meanwhile.
 use Rattle.std.specs.Prelude.{◌≡◌, ℕ, ◌<◌, ◌≤◌, List, [], ◌∷◌, map, length, Vec, Option, Some, None, Result, Ok, IfErr}
 use Rattle.std.specs.Global.{Global}
 use Rattle.std.specs.List.{AllZip, range_with_len}
@@ -20,8 +20,7 @@ IsDriveCount n = (0 < n) × (n ≤ 16)
 abbrev pub AreDrives : {D : Type 0} → List D → Type 0
 AreDrives drives = IsDriveCount (length drives)
 
--- Each drive is in its place again. Its volumes only grew, and the number of its failures did not
--- fall.
+-- Each drive is in its place again. Its volumes only grew, and its number of failures did not fall.
 abbrev pub StayInPlace : {D : Type 0} → (D → Option (List Volume)) → (D → ℕ) → List D → List D → Type 0
 StayInPlace shows failures before after = AllZip (λ old new. OnlyGrows (shows old) (shows new) × (failures old ≤ failures new)) before after
 
@@ -29,7 +28,7 @@ StayInPlace shows failures before after = AllZip (λ old new. OnlyGrows (shows o
 abbrev pub AreNumbered : List Piece → Type 0
 AreNumbered pieces = map (λ (p : Piece). p.number) pieces ≡ range_with_len 0 (length pieces)
 
--- A drive that tells its volumes may be taken to show these. A drive that tells none may not.
+-- A drive that reports its volumes may be taken to show these. A drive that reports none may not.
 abbrev pub StandsTold : List Piece → List Volume → Option (List Volume) → Option (List Volume) → Type 0
 StandsTold pieces volumes (Some earlier) (Some later) = StandsForEach earlier later pieces volumes
 StandsTold pieces volumes None later = ⊥
@@ -54,7 +53,7 @@ abbrev pub PoolOver : List (Option (List Volume)) → List (Option (List Volume)
 PoolOver before after pieces result =
     (volumes : List Volume) → AllZip (StandsTold pieces volumes) before after → Answers found_hits cause result (hits_lists volumes pieces)
 
--- A refusal of this kind comes only if each of the drives failed meanwhile.
+-- There is a refusal of this kind only if each of the drives failed meanwhile.
 abbrev pub OnlyIfAllFail : {D A E : Type 0} → (D → ℕ) → List D → List D → (E → Type 0) → Result A E → Type 0
 OnlyIfAllFail failures before after is_refusal result =
     IfErr result (λ fault. is_refusal fault → AllZip (λ old new. failures old < failures new) before after)

@@ -16,7 +16,7 @@ OverAll shows pieces before after volumes = AllZip (StandsTold pieces volumes) (
 abbrev pub AddsOver : {D : Type 0} → (D → Option (List Volume)) → List Piece → List (Reader D) → List (Reader D) → List (Option Answer) → List (Option Answer) → Type 0
 AddsOver shows pieces before after slots filled = Adds (OverAll shows pieces before after) pieces slots filled
 
--- each slot that is filled has the answer for its piece, over what the readers showed meanwhile
+-- each filled slot has the answer for its piece, over what the readers showed meanwhile
 abbrev pub FilledOver : {D : Type 0} → (D → Option (List Volume)) → List Piece → List (Reader D) → List (Reader D) → List (Option Answer) → Type 0
 FilledOver shows pieces before after slots = AllZip (Fills (OverAll shows pieces before after)) pieces slots
 

@@ -20,7 +20,7 @@ use Rattle.br_pool.specs.declared.sender.SendRound.{SendRound}
 use Rattle.br_pool.specs.declared.sender.Sender.{Sender}
 use Rattle.br_pool.specs.declared.worker.Reader.{Reader}
 
--- each hit of the one list is in the other
+-- each hit of the first list is in the second
 abbrev pub AreIn : List Hit → List Hit → Type 0
 AreIn found sent = (hit : Hit) → Contains found hit → Contains sent hit
 
@@ -29,8 +29,8 @@ abbrev pub SaysSent : List Volume → List Hit → Piece → Answer → Type 0
 SaysSent volumes sent p (Ok found) = (hits : List Hit) × (hits_on volumes p ≡ Ok hits) × AreIn hits sent
 SaysSent volumes sent p (Err why) = IsRefusal (cause why) (hits_on volumes p)
 
--- Over all volumes of which `over` holds, this is the answer for a piece whose hits are sent. No drive
--- failed.
+-- Over all volumes for which `over` holds, this is the answer for a piece whose hits are sent. No
+-- drive failed.
 pub record IsSent (over : List Volume → Type 0) (sent : List Hit) (p : Piece) (a : Answer) : Type 0 where
   pub hits : (volumes : List Volume) → over volumes → SaysSent volumes sent p a
   pub sound : is_failure a ≡ false
@@ -41,15 +41,15 @@ abbrev pub SendsOver : Option (List Volume) → Option (List Volume) → Piece �
 SendsOver earlier later piece v w result =
     (hits : List Hit) × Pushes v w hits × Over earlier later piece (λ volumes. AllComeTo volumes (piece ∷ []) hits × SaysSent volumes hits piece result)
 
--- What a worker sent in its run, as its pass knows it. Over the volumes that its drive may be taken to
--- show, walks of pieces come to each of these hits, and its answers are those of pieces whose hits are
--- among them.
+-- What a worker sent in its run, as its pass knows it. Over the volumes that its drive may be taken
+-- to show, walks of pieces come to each of these hits. Its answers are those of pieces whose hits
+-- are among them.
 pub record HasSent (claims : TableId) (pieces : List Piece) (left : List ℕ) (before after : Option (List Volume)) (failed_before failed_after : ℕ) (was_out is_out : Bool) (seat : Seated) (answers : List (ℕ × Answer)) (v : Crew) : Type 0 where
   pub parts : v.parts ≡ 1
   pub come : (volumes : List Volume) → StandsTold pieces volumes before after → AllComeTo volumes pieces (hits_of_batches v.pushed)
   pub worked : HasWorkedBy (IsSent (λ volumes. StandsTold pieces volumes before after) (hits_of_batches v.pushed)) claims pieces left before after failed_before failed_after was_out is_out seat answers
 
--- the pass is of this queue, and no slot is out with it
+-- the pass belongs to this queue, and no slot is out with it
 abbrev pub IsPassAt : TableId → Pass Batch Crew → Type 0
 IsPassAt table pass = (pass.table_id ≡ table) × (pass.me.1 ≡ [])
 
@@ -82,8 +82,8 @@ abbrev pub HasRunIn : {D G : Type 0} → (D → Option (List Volume)) → (D →
 HasRunIn shows failures sending before after =
     HasRunSending shows failures sending.line.now.table.shared.table_id sending.round.now.claims.now.claims sending.round.now.pieces.now sending.round.now.left.now before after
 
--- senders before their run in this round, in which each number that is left can be drawn, and is that
--- of a piece
+-- Senders before their run in this round. Each number that is left can be drawn, and is the number
+-- of a piece.
 abbrev pub AreSetUpIn : {D G : Type 0} → SendRound G → List (Sender D) → Type 0
 AreSetUpIn sending senders =
     (sending.round.now.claims.now.limit ≡ length sending.round.now.left.now)

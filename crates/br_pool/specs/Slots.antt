@@ -22,16 +22,16 @@ with_each slots (a ∷ answers) = with_each (slice_set slots a.0 (Some a.1)) ans
 abbrev pub AllBelow : ℕ → List (ℕ × Answer) → Type 0
 AllBelow n answers = AllByRecursion (λ (a : ℕ × Answer). a.0 < n) answers
 
--- this holds of the piece and of the answer in its slot, if there is one
+-- this holds of the piece and of the answer in its slot, if there is an answer
 abbrev pub FillsBy : (Piece → Answer → Type 0) → Piece → Option Answer → Type 0
 FillsBy is p None = ⊤
 FillsBy is p (Some a) = is p a
 
--- a slot that is filled has the answer for its piece
+-- a filled slot has the answer for its piece
 abbrev pub Fills : (List Volume → Type 0) → Piece → Option Answer → Type 0
 Fills over = FillsBy (IsAnswer over)
 
--- answers of which this holds were put into their slots
+-- answers for which this holds were put into their slots
 abbrev pub AddsBy : (Piece → Answer → Type 0) → List Piece → List (Option Answer) → List (Option Answer) → Type 0
 AddsBy is pieces before after = (answers : List (ℕ × Answer)) × (after ≡ with_each before answers) × EachHolds is pieces answers
 
@@ -51,32 +51,32 @@ abbrev pub empties : ℕ → List (Option Answer) → List ℕ
 empties k [] = []
 empties k (s ∷ slots) = (if is_empty s then k ∷ [] else []) ++ empties (suc k) slots
 
--- The most rounds that can follow: none if no slot is empty. Each round takes a drive out or leaves no
--- slot empty.
+-- The greatest number of rounds that can follow: none if no slot is empty. Each round takes a drive
+-- out or leaves no slot empty.
 abbrev pub rounds_left : List Bool → List (Option Answer) → ℕ
 rounds_left flags slots = cond (list_any is_empty slots) (suc (count_in flags)) 0
 
 -- ---- the result
 
--- memory ran out over the piece
+-- memory ran out during the reading of the piece
 abbrev pub is_memory : Option Answer → Bool
 is_memory None = false
 is_memory (Some (Ok found)) = false
 is_memory (Some (Err piece.Memory)) = true
 is_memory (Some (Err (piece.Block why vol addr))) = false
 
--- slots of what was found
+-- slots with what was found
 abbrev pub full_of : List Found → List (Option Answer)
 full_of founds = map (λ (f : Found). Some (Ok f)) founds
 
--- a slot has this refusal, and those before it have what was found
+-- a slot has this refusal, and the slots before it have what was found
 pub record IsFirstFault (slots : List (Option Answer)) (why : PieceFault) : Type 0 where
   pub front : List Found
   pub rest : List (Option Answer)
   pub parted : slots ≡ full_of front ++ Some (Err why) ∷ rest
 
--- The result is what all slots have, in their order; or memory ran out, here or over a piece; or
--- else a slot is empty; or else it is the first refusal.
+-- The result contains what all slots have, in their order. Else memory ran out, here or during the
+-- reading of a piece; or else a slot is empty; or else it is the first refusal.
 abbrev pub IsListed : List (Option Answer) → Result (Vec Found Global) PoolFault → Type 0
 IsListed slots (Ok founds) = slots ≡ full_of founds.items
 IsListed slots (Err Memory) = ⊤

@@ -1,4 +1,4 @@
--- What many drives give a joiner of some pieces, whatever their volumes do meanwhile.
+-- What several drives give a joiner from some pieces, whatever happens to their volumes meanwhile.
 use Rattle.std.specs.Prelude.{◌≡◌, ℕ, List, Vec, Option, Result, Ok, Err, IfOk, OnOk}
 use Rattle.std.specs.Global.{Global}
 use Rattle.std.specs.List.{AllZip}
@@ -19,33 +19,35 @@ use Rattle.br_pool.specs.declared.fault.PoolFault.{PoolFault}
 use Rattle.br_pool.specs.declared.worker.Reader.{Reader}
 use Rattle.br_pool.specs.declared.worker.Round.{Round}
 
--- Readers sent pieces that are left: the joiner took hits, and if nothing was lost the slots are filled
--- with what the workers of these seats answered, of pieces whose hits were taken.
+-- Readers sent the hits of pieces that are left, and the joiner took hits. If nothing was lost, the
+-- slots are filled with the answers of the workers of these seats, for pieces whose hits were
+-- taken.
 abbrev pub ReadsTo : {D E : Type 0} → (D → Option (List Volume)) → Claimed → List Piece → List ℕ → List (Reader D) → List (Reader D) → List (Option Answer) → List (Option Answer)
     → Joining → Joining → Result (Vec Seated Global) E → Type 0
 ReadsTo shows claims pieces left before after slots filled old new result =
     Gathers (OverAll shows pieces before after) pieces old new (λ taken. IfOk result (λ seats. (answers : List (ℕ × Answer)) × (filled ≡ with_each slots answers)
     × HaveWorkedBy (IsSent (OverAll shows pieces before after) taken) claims.claims pieces left (outs before) (outs after) seats.items answers))
 
--- the same of a round
+-- the same for a round
 abbrev pub ReadsRoundTo : {D G E : Type 0} → (D → Option (List Volume)) → Round G → List (Reader D) → List (Reader D) → List (Option Answer) → List (Option Answer)
     → Joining → Joining → Result (Vec Seated Global) E → Type 0
 ReadsRoundTo shows round before after slots filled old new result =
     ReadsTo shows round.claims.now round.pieces.now round.left.now before after slots filled old new result
 
--- the joiner took hits, and answers of pieces whose hits were taken were put into their slots
+-- the joiner took hits, and answers for pieces whose hits were taken were put into their slots
 abbrev pub AddsTo : {D E : Type 0} → (D → Option (List Volume)) → List Piece → List (Reader D) → List (Reader D) → List (Option Answer) → List (Option Answer)
     → Joining → Joining → Result (Unit {0}) E → Type 0
 AddsTo shows pieces before after slots filled old new result =
     Gathers (OverAll shows pieces before after) pieces old new (λ taken. OnOk result (AddsBy (IsSent (OverAll shows pieces before after) taken) pieces slots filled))
 
--- the joiner took hits, and each slot that is filled has the answer for a piece whose hits were taken
+-- the joiner took hits, and each filled slot has the answer for a piece whose hits were taken
 abbrev pub FilledTo : {D E : Type 0} → (D → Option (List Volume)) → List Piece → List (Reader D) → List (Reader D) → List (Option Answer) → Joining → Joining → Result (Unit {0}) E → Type 0
 FilledTo shows pieces before after slots old new result =
     Gathers (OverAll shows pieces before after) pieces old new (λ taken. OnOk result (AllZip (FillsBy (IsSent (OverAll shows pieces before after) taken)) pieces slots))
 
--- Over these volumes, the set has what it had, with the hits of all pieces; or the refusal is that of
--- the first piece that has one, and the set has what it had, with hits to which walks come.
+-- Over these volumes, the set has the hits that it had, and those of all pieces. Or the refusal is
+-- that of the first piece that has one, and the set has the hits that it had, and others that walks
+-- come to.
 abbrev pub Streams : List Volume → List Piece → Hits → Hits → Result (Unit {0}) PoolFault → Type 0
 Streams volumes pieces held new (Ok _) = (found : List Hit) × (hits_on_each volumes pieces ≡ Ok found) × (new ≡ with_hits held found)
 Streams volumes pieces held new (Err fault) = IsRefusal (cause fault) (hits_on_each volumes pieces) × (found : List Hit) × (new ≡ with_hits held found) × AllComeTo volumes pieces found

@@ -1,4 +1,4 @@
--- What the readers of a round have before and after it.
+-- The readers of a round, before and after it.
 use Rattle.std.specs.Prelude.{◌≡◌, ℕ, zero, suc, ◌≤◌, ◌<◌, ◌==◌, ◌⊎◌, Bool, true, false, List, [], ◌∷◌, map, length, slice_index_or, Vec, vec_capacity, Option, Result, Ok, Err, IfOk}
 use Rattle.std.specs.Global.{Global}
 use Rattle.std.specs.List.{AllByRecursion, AllZip}
@@ -28,7 +28,7 @@ abbrev pub is_failure : Answer → Bool
 is_failure (Ok found) = false
 is_failure (Err why) = piece.fault_number why == 13
 
--- What was found is of this piece. Over all volumes of which `over` holds it is what these say. No
+-- What was found is of this piece. Over all volumes for which `over` holds it is what these say. No
 -- drive failed.
 pub record IsAnswer (over : List Volume → Type 0) (p : Piece) (a : Answer) : Type 0 where
   pub number : IfOk a (λ f. f.piece ≡ p.number)
@@ -104,8 +104,8 @@ pub record IsReady (claims : TableId) (n : ℕ) (seat : Seated) (answers : Vec (
   pub answered_none : answers.items ≡ []
   pub room : n ≤ vec_capacity answers
 
--- A worker served: this holds of each of its answers. If it did not go out, it answered each piece
--- whose place among those left it drew. If it is not out, it drew until none was left.
+-- A worker ran: this holds of each of its answers. If it did not go out, it answered each piece
+-- whose place it drew. If it is not out, it drew until none was left.
 pub record HasWorkedBy (is : Piece → Answer → Type 0) (claims : TableId) (pieces : List Piece) (left : List ℕ) (before after : Option (List Volume)) (failed_before failed_after : ℕ) (was_out is_out : Bool) (seat : Seated) (answers : List (ℕ × Answer)) : Type 0 where
   pub claims_are : seat.claims ≡ claims
   pub served : HasServed before after failed_before failed_after was_out is_out
@@ -113,11 +113,11 @@ pub record HasWorkedBy (is : Piece → Answer → Type 0) (claims : TableId) (pi
   pub answered : is_out ≡ was_out → numbers_of answers ≡ map (number_at left) seat.drawn
   pub ended : is_out ≡ false → seat.ended ≡ true
 
--- A worker served, and each of its answers is over what its drive showed meanwhile.
+-- A worker ran, and each of its answers is over what its drive showed meanwhile.
 abbrev pub HasWorked : TableId → List Piece → List ℕ → Option (List Volume) → Option (List Volume) → ℕ → ℕ → Bool → Bool → Seated → List (ℕ × Answer) → Type 0
 HasWorked claims pieces left before after = HasWorkedBy (IsAnswer (λ volumes. StandsTold pieces volumes before after)) claims pieces left before after
 
--- A reader served as a worker of this round, by this seat, and gave these answers.
+-- A reader ran as a worker of this round, with this seat, and gave these answers.
 abbrev pub HasWorkedIn : {D G : Type 0} → (D → Option (List Volume)) → (D → ℕ) → Round G → Reader D → Reader D → Seated → List (ℕ × Answer) → Type 0
 HasWorkedIn shows failures round before after =
     HasWorked round.claims.now.claims round.pieces.now round.left.now (shows before.drive) (shows after.drive)
@@ -141,18 +141,18 @@ EachAt {A} P xs = (i : ℕ) (d : A) → i < length xs → P (slice_index_or xs i
 abbrev pub EachPairAt : {A : Type 0} → (A → A → Type 0) → List A → List A → Type 0
 EachPairAt {A} R xs ys = (i : ℕ) (d : A) → i < length xs → R (slice_index_or xs i d) (slice_index_or ys i d)
 
--- a seat found that none is left, and each piece whose place was drawn has an answer
+-- a seat found that no place is left, and each piece whose place was drawn has an answer
 abbrev pub AreAllAnswered : List ℕ → List Seated → List (ℕ × Answer) → Type 0
 AreAllAnswered left seats answers =
     (some_ended seats ≡ true) × ((x : ℕ) → 0 < times_in x (map (λ (s : Seated). s.drawn) seats) → 0 < times (number_at left x) (numbers_of answers))
 
--- Many workers, each with a drive of its own, gave these answers. This holds of each. If some drive
--- was not out before, a drive went out, or all that was drawn was answered, until none was left.
+-- Several workers, each with its own drive, gave these answers. This holds of each answer. If some
+-- drive was not out before, then a drive went out, or all places were drawn and answered.
 pub record HaveWorkedBy (is : Piece → Answer → Type 0) (claims : TableId) (pieces : List Piece) (left : List ℕ) (were_out are_out : List Bool) (seats : List Seated) (answers : List (ℕ × Answer)) : Type 0 where
   pub claims_are : AllOf claims seats
   pub each : EachHolds is pieces answers
   pub progress : 0 < count_in were_out → (count_in are_out < count_in were_out) ⊎ AreAllAnswered left seats answers
 
--- Many workers gave these answers, each over all volumes that all drives may be taken to show.
+-- Several workers gave these answers, each over all volumes that all drives may be taken to show.
 abbrev pub HaveWorked : TableId → List Piece → List ℕ → List (Option (List Volume)) → List (Option (List Volume)) → List Bool → List Bool → List Seated → List (ℕ × Answer) → Type 0
 HaveWorked claims pieces left before after = HaveWorkedBy (IsAnswer (λ volumes. AllZip (StandsTold pieces volumes) before after)) claims pieces left

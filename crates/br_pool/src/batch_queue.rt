@@ -12,9 +12,9 @@ use std::collections::LinkedList;
 use std::sync::Wait;
 use std::thread;
 
-/// What a pass of the queue knows: whether it is the gatherer's, how many of the parts of the queue
-/// it has, and which batches were pushed and popped by it and by the passes that it took in. No
-/// value of it is made.
+/// What a pass of the queue knows: whether it is the gatherer's, how many parts of the queue it
+/// has, and which batches were pushed and popped by it and by the passes that it took in. No value
+/// of this type is ever made.
 pub(crate) struct Crew {
     pub(crate) gathers: bool,
     pub(crate) parts: u32,
@@ -22,7 +22,7 @@ pub(crate) struct Crew {
     pub(crate) popped: LinkedList<Batch>,
 }
 
-/// The rule of the queue: what was pushed is in the queue or was popped, and nothing else is.
+/// The rule of the queue: what was pushed is in the queue or was popped, and nothing else is there.
 pub(crate) struct NothingLost;
 
 impl Protocol<Batch, Crew> for NothingLost {
@@ -67,7 +67,7 @@ impl Lesson<Batch, Crew> for Sends {
     ghost fact = { λ v items. Unit {0} };
 }
 
-/// A pop of a batch, and what an empty queue tells.
+/// A pop of a batch, and what follows from an empty queue.
 pub(crate) struct Takes;
 
 impl Outcome<Batch, Crew> for Takes {
@@ -109,7 +109,7 @@ pub(crate) fn pass_for_worker(line: &Line, pass: &mut CrewPass) -> CrewPass
     line.another::<OnePart>(pass)
 }
 
-/// Takes in the pass of a worker that has ended, with all that it pushed.
+/// Takes in the pass of a worker that has ended, with all that the worker pushed.
 pub(crate) fn take_in(line: &Line, pass: &mut CrewPass, other: CrewPass)
     requires passes { IsPassOf line.now pass.old × IsPassOf line.now other }
     ensures pass { IsPassOf line.now pass.new }
@@ -118,7 +118,7 @@ pub(crate) fn take_in(line: &Line, pass: &mut CrewPass, other: CrewPass)
     line.absorb::<OnePart>(pass, other);
 }
 
-/// Pushes a batch, and waits while the queue is full.
+/// Pushes a batch. Waits while the queue is full.
 pub(crate) fn send<R: Wait>(rt: &R, line: &Line, course: &Course, pass: &mut CrewPass, batch: Batch)
     requires pass { IsPassOf line.now pass.old }
     requires part { 0 < (view pass.old).parts }
@@ -142,8 +142,8 @@ pub(crate) fn send<R: Wait>(rt: &R, line: &Line, course: &Course, pass: &mut Cre
     unreachable!()
 }
 
-/// Pops the next batch of the queue. If there is none, all that was pushed was popped; if the pass
-/// has taken all others in, these are all batches that it popped.
+/// Pops the next batch of the queue. If there is none, all that was pushed was popped. If the pass
+/// has taken all others in, it has popped all batches.
 pub(crate) fn next_batch<R: Wait>(rt: &R, line: &Line, pass: &mut CrewPass) -> Option<Batch>
     requires pass { IsPassOf line.now pass.old }
     requires gathers { (view pass.old).gathers ≡ true }

@@ -13,7 +13,7 @@ use thiserror::Error;
 pub enum PoolFault {
     #[error("out of memory")]
     Memory,
-    /// The fault of the first piece that has one: what its volume refuses. It is neither `Memory`
+    /// The fault of the first piece that has one: the refusal of its volume. It is neither `Memory`
     /// nor the failure of a drive.
     #[error("{0}")]
     Piece(PieceFault),
@@ -34,7 +34,7 @@ impl PoolFault {
         }
     }
 
-    /// Returns the volume of the block that was refused, if one was.
+    /// Returns the volume of the refused block, if there is one.
     pub fn vol(&self) -> Option<&VolName>
         ensures { option_copied result ≡ fault_volume self.now }
     {
@@ -44,8 +44,8 @@ impl PoolFault {
         }
     }
 
-    /// Returns the address of the block that was refused, in bytes from the start of the volume, if
-    /// one was.
+    /// Returns the address of the refused block, in bytes from the start of the volume, if there is
+    /// one.
     pub fn addr(&self) -> Option<u64>
         ensures { result ≡ fault_address self.now }
     {

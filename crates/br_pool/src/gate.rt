@@ -1,4 +1,4 @@
-/// An observer of the pieces that are read. Each thread calls it for itself.
+/// An observer of the reading of pieces. Each thread calls it for itself.
 pub trait Gate {
     /// Is called before the piece with this number is read.
     fn enter(&self, number: u32);

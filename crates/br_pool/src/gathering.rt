@@ -1,4 +1,4 @@
-//! The gatherer's part: it gives a joiner what workers send.
+//! The gatherer: it gives a joiner the hits that workers send.
 ghost use Rattle.std.specs.Prelude.{◌≡◌, ◌≢◌, true, IsTrue};
 ghost use Rattle.crossbeam_queue.specs.Passes.{view, IsPassOf};
 ghost use Rattle.br_pool.specs.Crew.{HasAll};
@@ -10,12 +10,12 @@ use crate::round_course::Course;
 use br_join::Joiner;
 use std::sync::Wait;
 
-/// What became of one look at the queue.
+/// The result of one look at the queue.
 #[derive(Clone, Copy, PartialEq, Eq)]
 pub(crate) enum Look {
     /// The joiner took a batch.
     Taken,
-    /// There was no memory for a batch, which is lost.
+    /// Memory ran out for a batch, which is lost.
     Lost,
     /// There was no batch.
     Empty,
@@ -42,9 +42,9 @@ fn take_one<R: Wait>(rt: &R, line: &Line, pass: &mut CrewPass, joiner: &mut Join
     }
 }
 
-/// Gives the joiner what is in the queue, until it finds the queue empty after the senders have ended,
-/// or send nothing. Returns whether nothing was lost. If a batch is lost, the later ones are taken all
-/// the same, so that no worker waits for a place in the queue.
+/// Gives the joiner the batches in the queue, until the queue is empty after the senders have ended
+/// or given up. Returns whether nothing was lost. If a batch is lost, the later ones are still
+/// taken, so that no worker waits for room in the queue.
 pub(crate) fn gather<R: Wait>(
     rt: &R,
     line: &Line,
@@ -77,7 +77,7 @@ pub(crate) fn gather<R: Wait>(
     unreachable!()
 }
 
-/// Begins, and gives the joiner what is in the queue, as `gather` does.
+/// Begins, and gives the joiner the batches in the queue, as `gather` does.
 pub(crate) fn gather_sent<R: Wait>(
     rt: &R,
     line: &Line,

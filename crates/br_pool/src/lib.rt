@@ -1,9 +1,8 @@
-//! Many drives with one result: workers read pieces in threads, each worker with a drive of its
-//! own.
+//! Several drives with one result: workers read pieces in threads, each worker with its own drive.
 //!
 //! `run_pool` returns what one drive would find of each piece, whichever worker reads it.
-//! `run_pool_streaming` gives it to a joiner block by block, as it is found, so that no more than
-//! some batches wait in a queue. The volumes of the drives may grow meanwhile, and drives may fail
+//! `run_pool_streaming` gives the hits to a joiner block by block, as they are found, so that only
+//! a few batches wait in a queue. The volumes of the drives may grow meanwhile, and drives may fail
 //! as long as one is left.
 #![tactic(auto)]
 

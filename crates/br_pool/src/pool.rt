@@ -14,7 +14,7 @@ use std::alloc::Global;
 use std::thread::Threads;
 
 /// Returns what the drives find of the pieces, in the order of the pieces. One of the drives reads
-/// each piece, as `match_piece` does. Each drive works in a thread of its own.
+/// each piece, as `match_piece` does. Each drive works in its own thread.
 ///
 /// There are 1 to 16 drives, and the pieces are numbered from 0, as `split` numbers them. The gate
 /// is called before and after each piece. A drive that failed reads no further piece. The drives
@@ -23,7 +23,7 @@ use std::thread::Threads;
 ///
 /// # Errors
 ///
-/// - `Memory` if memory ran out, over whichever piece.
+/// - `Memory` if memory ran out, for any piece.
 /// - `NoDriveLeft` if each drive failed before all pieces were read.
 /// - `Piece` with the fault of the first piece that has one.
 pub fn run_pool<D: Drive + Send, G: Gate + Sync, R: Threads + Sync>(

@@ -1,4 +1,4 @@
-//! How far the gatherer and the senders of a round are.
+//! The state of a round: what the gatherer and the senders have reached.
 
 use std::sync::Wait;
 use std::sync::atomic::{AtomicU64, Ordering};
@@ -16,7 +16,8 @@ const ENDED: u64 = 2;
 /// The gatherer did not begin, so the senders send nothing.
 const LEFT: u64 = 3;
 
-/// How often the senders wait for a gatherer that has not begun, before they go on without it.
+/// The number of times that the senders wait for a gatherer that has not begun, before they go on
+/// without it.
 const MOST_WAITS: u64 = 1_000;
 
 /// The longest wait for a gatherer that has not begun, in milliseconds.
@@ -28,8 +29,8 @@ const LONGEST_SLEEP: u64 = 5;
 /// The number of batches after which a sender wakes the gatherer: half of a queue for 64.
 const BATCHES_FOR_A_WAKE: u64 = 32;
 
-/// How far the gatherer and the senders of a round are. The senders send only if the gatherer has
-/// begun, and it gathers until they have ended. So no sender waits for a gatherer that is not there.
+/// The state of a round. The senders send only if the gatherer has begun, and it gathers until they
+/// have ended. So no sender waits for a gatherer that is not there.
 #[derive(Drop)]
 pub(crate) struct Course {
     state: AtomicU64,
@@ -38,7 +39,7 @@ pub(crate) struct Course {
 }
 
 impl Course {
-    /// Returns the course of a gatherer that has not begun.
+    /// Returns the state of a round whose gatherer has not begun.
     pub(crate) fn new() -> Course {
         Course {
             state: AtomicU64::new(AWAITED),
@@ -77,7 +78,7 @@ impl Course {
         self.state.load(Ordering::SeqCst) == LEFT
     }
 
-    /// Returns whether no more is sent: the senders have ended, or they send nothing.
+    /// Returns whether nothing more is sent: the senders have ended, or have given up.
     pub(crate) fn is_over(&self) -> bool {
         let state = self.state.load(Ordering::SeqCst);
         state == ENDED || state == LEFT
@@ -96,14 +97,14 @@ impl Course {
         self.state.wake_all();
     }
 
-    /// Sleeps until the senders wake it or end, but not long. A gatherer that looked again at once would
-    /// take a processor from the drives, and one that wakes often takes its share too.
+    /// Sleeps until the senders wake it or end, but not long. A gatherer that looked again at once
+    /// would take a processor from the drives, and so does one that wakes often.
     pub(crate) fn sleep<R: Wait>(&self, rt: &R) {
         let longest = Duration::from_millis(LONGEST_SLEEP);
         self.state.park_timeout(rt, BEGUN as u32, longest);
     }
 
-    /// Passes to a state if the gatherer is awaited. Returns whether it was.
+    /// Changes to a state if the gatherer is awaited. Returns whether it was.
     fn passes_to(&self, state: u64) -> bool {
         self.state
             .compare_exchange(AWAITED, state, Ordering::SeqCst, Ordering::SeqCst)

@@ -59,7 +59,7 @@ fn run_round<D: Drive + Send, G: Gate + Sync, R: Threads + Sync>(
     Ok(())
 }
 
-/// Returns whether a drive is not out.
+/// Returns whether some drive is not out.
 fn has_drive<D: Drive>(readers: &[Reader<D>]) -> bool
     ensures { result ≡ list_any (λ (r : Reader D). not r.out) readers.now }
 {

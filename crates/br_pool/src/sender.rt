@@ -55,8 +55,8 @@ fn send_hits<G: Gate, R: Wait>(
     }
 }
 
-/// Sends the fragments that the piece's groups hit, block by block, as `match_piece` finds them. They
-/// are in the queue then, so what is returned has none.
+/// Sends the fragments that the piece's groups hit, block by block, as `match_piece` finds them.
+/// They are then in the queue, so the returned value has none.
 ///
 /// # Errors
 ///
@@ -90,7 +90,7 @@ fn send_piece<D: Drive, G: Gate, R: Wait>(
     })
 }
 
-/// Sends a piece as `send_piece`, unless the gatherer has left and nobody would take the hits.
+/// Sends a piece as `send_piece` does, unless the gatherer has left and nobody would take the hits.
 ///
 /// # Errors
 ///
@@ -116,8 +116,8 @@ fn send_if_taken<D: Drive, G: Gate, R: Wait>(
     send_piece(rt, sending, pass, piece, drive)
 }
 
-/// Reads and sends a piece with a drive that is not out, and reports both ends of the reading to the
-/// gate. A drive that fails is out, so it reads no further piece.
+/// Reads and sends a piece with a drive that is not out, and calls the gate before and after the
+/// reading. A drive that fails is out, so it reads no further piece.
 fn send_one<D: Drive, G: Gate, R: Wait>(
     rt: &R,
     sending: &SendRound<'_, G>,
@@ -195,7 +195,7 @@ fn work<D: Drive, G: Gate, R: Wait>(rt: &R, sending: &SendRound<'_, G>, sender: 
     send_drawn(rt, sending, reader, seat, answers, pass);
 }
 
-/// Runs each sender in a thread of its own.
+/// Runs each sender in its own thread.
 pub(crate) fn run_senders<D: Drive + Send, G: Gate + Sync, R: Threads + Wait + Sync>(
     rt: &R,
     sending: &SendRound<'_, G>,

@@ -1,5 +1,5 @@
-//! The senders of a round: they are made of workers, run while the joiner takes what they send, and
-//! are taken apart.
+//! The senders of a round: they are made from workers, run while the joiner takes what they send,
+//! and are taken apart.
 ghost use Rattle.std.specs.Prelude.{◌≡◌, ◌<◌, ◌≤◌, [], true, map, reverse, length, vec_capacity, IfOk, IsTrue};
 ghost use Rattle.std.specs.List.{AllByRecursion, AllZip};
 ghost use Rattle.std.specs.Thread.{IsSend, IsSync};
@@ -21,7 +21,7 @@ use std::alloc::{AllocError, Global};
 use std::sync::Wait;
 use std::thread::{Threads, join_mut};
 
-/// What is returned by `lists_for`.
+/// The result of `lists_for`.
 pub(crate) type Lists<D> = (Vec<Worker<D>>, Vec<Sender<D>>);
 
 /// Returns a list for `count` workers and one for as many senders, both empty.
@@ -39,7 +39,7 @@ pub(crate) fn lists_for<D: Drive>(alloc: Global, count: usize) -> Result<Lists<D
     }
 }
 
-/// Makes a sender of each worker, the last worker first. Each gets a part of the pass.
+/// Makes a sender from each worker, the last worker first. Each gets a part of the pass.
 fn hire<D: Drive>(
     line: &Line,
     pass: &mut CrewPass,
@@ -65,7 +65,7 @@ fn hire<D: Drive>(
     }
 }
 
-/// Takes the senders apart, the last one first. Their workers go back, and their passes are taken in.
+/// Takes the senders apart, the last one first. Their workers go back; their passes are taken in.
 fn dismiss<D: Drive>(
     line: &Line,
     pass: &mut CrewPass,
@@ -89,9 +89,9 @@ fn dismiss<D: Drive>(
     senders.destroy_empty();
 }
 
-/// Runs the senders, one in this thread and each other one in a thread of its own, while another thread
-/// gives the joiner what they send. Returns whether nothing was lost. If no thread can be made for the
-/// joiner, the senders refuse their pieces.
+/// Runs the senders, one in this thread and each of the others in its own thread, while another
+/// thread gives the joiner what they send. Returns whether nothing was lost. If no thread can be
+/// made for the joiner, the senders refuse their pieces.
 fn run_both<D: Drive + Send, G: Gate + Sync, R: Threads + Wait + Sync>(
     rt: &R,
     sending: &SendRound<'_, G>,

@@ -39,7 +39,7 @@ fn is_empty(slot: &Option<Answer>) -> bool
     }
 }
 
-/// Returns whether a slot has no answer.
+/// Returns whether some slot has no answer.
 pub(crate) fn has_empty(slots: &[Option<Answer>]) -> bool
     ensures { result ≡ list_any is_empty slots.now }
 {
@@ -81,15 +81,15 @@ fn is_memory(slot: &Option<Answer>) -> bool
     }
 }
 
-/// Returns whether memory ran out over a piece.
+/// Returns whether memory ran out for a piece.
 fn has_memory(slots: &[Option<Answer>]) -> bool
     ensures { result ≡ list_any is_memory slots.now }
 {
     slots.iter().any(is_memory)
 }
 
-/// Returns what was found, in order. Else memory ran out, or else no drive is left if a slot is
-/// empty, or else it is the first refusal.
+/// Returns what was found, in order. Else returns that memory ran out, or else that no drive is
+/// left if a slot is empty, or else the first refusal.
 pub(crate) fn found_in_order(
     alloc: Global,
     slots: Vec<Option<Answer>>,

@@ -38,7 +38,7 @@ pub struct Streaming<'t, G: Gate> {
     pub room: usize,
 }
 
-/// What a round needs beside its readers.
+/// What a round needs besides its readers.
 #[derive(Drop)]
 struct RoundTask<'r, G: Gate> {
     round: &'r Round<'r, G>,
@@ -46,8 +46,8 @@ struct RoundTask<'r, G: Gate> {
     alloc: Global,
 }
 
-/// Makes a thread, which does nothing, and waits for its end. If no thread can be made, the drives
-/// and the joiner would take turns, so the round is refused before it begins.
+/// Makes a thread that does nothing, and waits for its end. If no thread can be made, the drives
+/// and the joiner would have to take turns, so the round is refused before it begins.
 fn try_thread<R: Threads>(rt: &R) -> Result<(), AllocError> {
     thread::spawn(rt, || {})?.join(rt);
     Ok(())
@@ -183,8 +183,8 @@ fn close_all(joiner: &mut Joiner, pieces: &[Piece])
     }
 }
 
-/// Reads the pieces with the drives, and gives the joiner the hits of each block as they come. One of
-/// the drives reads each piece, as `match_piece` does. Each drive works in a thread of its own.
+/// Reads the pieces with the drives, and gives the joiner the hits of each block as they are found.
+/// One of the drives reads each piece, as `match_piece` does. Each drive works in its own thread.
 ///
 /// There are 1 to 16 drives, and the pieces are those of a bootstrap, for which the joiner was made.
 /// At most `room` batches wait between the drives and the joiner. After success the joiner is ready:
@@ -194,12 +194,12 @@ fn close_all(joiner: &mut Joiner, pieces: &[Piece])
 ///
 /// # Errors
 ///
-/// - `Memory` if memory ran out, over whichever piece, or if no thread can be made, or none begins
-///   within ten seconds.
+/// - `Memory` if memory ran out, for any piece, or if no thread can be made, or none begins within
+///   ten seconds.
 /// - `NoDriveLeft` if each drive failed before all pieces were read.
 /// - `Piece` with the fault of the first piece that has one.
 ///
-/// Then the joiner keeps the hits that it took, and its pieces are as they were. It can take the same
+/// Then the joiner keeps the hits that it took, and its pieces are unchanged. It can take the same
 /// pieces again.
 pub fn run_pool_streaming<D: Drive + Send, G: Gate + Sync, R: Threads + Wait + Sync>(
     rt: &R,

@@ -16,7 +16,7 @@ use std::thread::Threads;
 /// What a drive finds of a piece, or the reason why it gave the piece up.
 pub(crate) type Answer = Result<Found, PieceFault>;
 
-/// A drive, and whether it is out: whether it failed in this run of the pool.
+/// A drive, and whether it is out, that is, failed in this run of the pool.
 pub(crate) struct Reader<D: Drive> {
     pub(crate) drive: D,
     pub(crate) out: bool,
@@ -50,7 +50,7 @@ pub(crate) fn is_failure(answer: &Answer) -> bool
     }
 }
 
-/// Reads a piece with a drive that is not out, and reports both ends of the reading to the gate. A
+/// Reads a piece with a drive that is not out, and calls the gate before and after the reading. A
 /// drive that fails is out, so it reads no further piece.
 fn read_one<D: Drive, G: Gate>(
     alloc: Global,
@@ -126,7 +126,7 @@ fn work<D: Drive, G: Gate>(alloc: Global, round: &Round<'_, G>, worker: &mut Wor
     read_drawn(alloc, round, reader, seat, answers);
 }
 
-/// Runs each worker in a thread of its own.
+/// Runs each worker in its own thread.
 pub(crate) fn run_workers<D: Drive + Send, G: Gate + Sync, R: Threads + Sync>(
     rt: &R,
     alloc: Global,

@@ -12,7 +12,7 @@ use br_volume::Drive;
 use std::alloc::{AllocError, Global};
 use std::thread::Threads;
 
-/// What a worker has beside its reader.
+/// What a worker has besides its reader.
 #[derive(Drop)]
 pub(crate) struct Share {
     pub(crate) seat: ClaimSeat,
@@ -92,8 +92,8 @@ fn run_all<D: Drive + Send, G: Gate + Sync, R: Threads + Sync>(
     workers
 }
 
-/// Takes the workers apart, the last one first. Their readers go back, and their answers into the
-/// slots.
+/// Takes the workers apart, the last one first. Their readers go back, and their answers go into
+/// the slots.
 pub(crate) fn out_of_workers<D: Drive>(
     mut workers: Vec<Worker<D>>,
     readers: &mut Vec<Reader<D>>,

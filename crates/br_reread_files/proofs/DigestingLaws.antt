@@ -68,7 +68,7 @@ more_read stays a b had rest then left now last on first second = record {
   same = λ given. second.same (hits_kept stays a b left on (first.given a given)) ∙ first.same given;
 }
 
--- a file of which no hit is left is digested with the last window
+-- a file without hits left is digested with the last window
 pub ends_read : (m : RereadingMany) (had rest : List Hit) (then : Digesting) (left : List Hit) (now : Digesting) → left ≡ [] → now.hits.items ≡ then.hits.items
     → now.reading ≡ then.reading ++ data_bytes then.window.items → ReadsOn m had rest then left → IsDigested m had rest now
 ends_read m had rest then left now none hits digested read =

@@ -47,7 +47,7 @@ has_each hs sorted =
     all_weaker (λ (h : Hit). find hit_cmp (place h) (listed hs) ≡ Some h.fragment) (HasHit (hits_of hs))
     (λ h found. get-from_entries hit_cmp_total (listed hs) (place h) ∙ found) hs (found_each hs sorted)
 
--- ---- each hit stands on the volume of its group
+-- ---- each hit is on the volume of its group
 
 hit_stands : HitsStand → (groups : List Group) (volumes : List Volume) (h : Hit) → IsHit groups volumes h → IsFragmentOf volumes groups h.spot h.fragment.bytes
 unfolding hits_on hits_among
@@ -82,7 +82,7 @@ shown_still stays volumes shown h groups grown is = record {
   same = is.same;
 }
 
--- the drive tells its volumes, and shows at least these
+-- the drive reports its volumes, and shows at least these
 abbrev pub ShowsThem : List Volume → Driven → Type 0
 ShowsThem volumes d = (shown : List Volume) × (d.shown ≡ Some shown) × Extends shown volumes
 

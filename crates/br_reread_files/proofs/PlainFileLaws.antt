@@ -1,4 +1,4 @@
--- The hits of a file of which none has sparse data.
+-- The hits of a file without sparse data.
 use Rattle.std.proofs.Common.{◌≡◌, Bool, ◌||◌, ◌==◌, List, [], ◌∷◌, refl, ap}
 use Rattle.std.specs.Prelude.{nat_abs}
 use Rattle.std.specs.List.{list_any}

@@ -56,7 +56,7 @@ first_more runs made new r f at is pushed first =
     ∙ ap (map file_of) (sym (take_next runs (length made) r at))
     ∙ ap (λ (n : ℕ). map file_of (take n runs)) one
 
--- as many as there are are all
+-- if as many files are made as there are runs, these are all of them
 pub first_all : (runs : List Run) (made : List Restored) → length runs ≤ length made → AreFirst runs made → made ≡ map file_of runs
 first_all runs made low first = first ∙ ap (map file_of) (take_whole runs (length made) low)
 

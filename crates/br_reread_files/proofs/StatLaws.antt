@@ -18,7 +18,7 @@ same_itself [] = refl
 same_itself (x ∷ []) = (Decides-int_eq x x).1 refl
 same_itself (x ∷ z ∷ xs) = λ i. (Decides-int_eq x x).1 refl i && same_itself (z ∷ xs) i
 
--- two lists with as many numbers, the first of which has one at least
+-- two lists with the same number of numbers; the first has at least one
 same_numbers : (x y : ℤ) (xs ys : List ℤ) → are_same (x ∷ xs) (y ∷ ys) ≡ true → length xs ≡ length ys → x ∷ xs ≡ y ∷ ys
 same_numbers x y [] [] same many = ap (λ z. z ∷ []) ((Decides-int_eq x y).0 same)
 same_numbers x y [] (b ∷ ys) same many = absurd (omega (arith, many))

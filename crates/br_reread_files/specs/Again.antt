@@ -13,7 +13,7 @@ use Rattle.br_sink.specs.Delivery.{items_in}
 use Rattle.br_sink.specs.FileParts.{AreAlike}
 use Rattle.br_reread_parts.specs.Given.{GivesHits}
 
--- Two files differ at most in their bytes, which are as many and have the same digest.
+-- Two files differ at most in their bytes, which have the same length and the same digest.
 pub record IsLike (one other : Item) : Type 0 where
   pub path : one.path ≡ other.path
   pub kind : one.kind ≡ other.kind
@@ -26,11 +26,12 @@ pub record IsLike (one other : Item) : Type 0 where
 abbrev pub MakeItem : List Hit → FileKey → Item → Type 0
 MakeItem hits key item = outcome_of key (fragments_for key (listed hits)) ≡ Ok item
 
--- if it is a file, the hits of its key make it
+-- for a file, the hits of its key make it
 abbrev pub IsMadeOf : List Hit → Restored → Type 0
 IsMadeOf hits r = IfOk r.outcome (λ item. MakeItem hits r.key item)
 
--- the files that are made are those among the outcomes, if the hits are given as they were found and make these
+-- the files that are made are those among the outcomes, if the hits are given as they were found
+-- and make them
 abbrev pub AreSameIfGiven : RereadingMany → List Hit → List (FileKey × Outcome) → List (FileKey × Outcome) → Type 0
 AreSameIfGiven many hits outcomes made =
     GivesHits many hits → AllByRecursion (IsMadeOf hits) (map restored outcomes) → items_in made ≡ items_in outcomes

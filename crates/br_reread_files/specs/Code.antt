@@ -1,4 +1,4 @@
--- What was gathered as data: it has a code by which its values are told apart.
+-- What was gathered, as data: it has a code that tells its values apart.
 use Rattle.std.specs.Prelude.{List, Option, refl}
 use Rattle.std.specs.Coded.{Coded, code_by, coded×, coded_ℕ, coded_list, coded_option}
 use Rattle.std.specs.FinMap.{code}

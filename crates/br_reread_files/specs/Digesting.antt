@@ -1,4 +1,4 @@
--- A file whose data are digested one window after another.
+-- A file whose data are digested, one window after another.
 use Rattle.std.specs.Prelude.{◌≡◌, List, ◌++◌, map, All}
 use Rattle.br_model.specs.Meaning.{Hit}
 use Rattle.br_model.specs.Name.{FileKey}
@@ -14,18 +14,18 @@ use Rattle.br_reread_files.specs.declared.digesting.Digesting.{Digesting}
 abbrev pub keys_of : List Hit → List FileKey
 keys_of hits = map (λ (h : Hit). h.key) hits
 
--- the hits were read: as they were found, if they are given
+-- the hits were read: as they were found, if they are given unchanged
 pub record AreRead (many : RereadingMany) (hits : List Hit) (ahead : Ahead) : Type 0 where
   pub keys : keys_of ahead.hits.items ≡ keys_of hits
   pub same : GivesHits many hits → ahead.hits.items ≡ hits
   pub window : data_bytes ahead.window.items ≡ plain_bytes (fragments ahead.hits.items)
 
--- what was digested and what is digested next are the plain data of the hits that were read
+-- the data that were digested and the next ones are the plain data of the hits that were read
 abbrev pub IsRead : Digesting → Type 0
 IsRead d = d.reading ++ data_bytes d.window.items ≡ plain_bytes (fragments d.hits.items)
 
--- A file was read on. Some hits were read before, and of the others some are left now. What is given was
--- read as it was found.
+-- More of a file was read. Some hits were read before, and some of the others are left now. What is
+-- given was read as it was found.
 pub record ReadsOn (many : RereadingMany) (had rest : List Hit) (now : Digesting) (left : List Hit) : Type 0 where
   pub read : IsRead now
   pub keys : keys_of (now.hits.items ++ left) ≡ keys_of (had ++ rest)

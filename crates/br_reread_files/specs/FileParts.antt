@@ -1,4 +1,4 @@
--- A file that is made of hits which are read again.
+-- A file that is made from hits which are read again.
 use Rattle.std.specs.Prelude.{List}
 use Rattle.br_model.specs.File.{Item}
 use Rattle.br_model.specs.Meaning.{Hit}

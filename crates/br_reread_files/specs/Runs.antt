@@ -1,4 +1,4 @@
--- Files by their hits, and how many of them are made.
+-- Files by their hits, and the number of them that are made.
 use Rattle.std.specs.Prelude.{◌≡◌, ◌++◌, ℕ, List, length, map, take, Option}
 use Rattle.std.specs.List.{AllByRecursion}
 use Rattle.br_model.specs.Meaning.{Hit}
@@ -30,7 +30,7 @@ pub record IsPart (all : List Hit) (r : Run) : Type 0 where
 abbrev pub GivesRuns : RereadingMany → List Run → Type 0
 GivesRuns many runs = AllByRecursion (λ (r : Run). GivesHits many r.hits) runs
 
--- these are the first of the files
+-- these are the first files of the list
 abbrev pub AreFirst : List Run → List Restored → Type 0
 AreFirst runs made = made ≡ map file_of (take (length made) runs)
 

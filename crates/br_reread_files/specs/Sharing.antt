@@ -11,16 +11,17 @@ use Rattle.br_reread_files.specs.Runs.{AreFirst, GivesRuns, Run, StayFirst, file
 use Rattle.br_reread_files.specs.declared.sharing.Share.{Share}
 use Rattle.br_reread_files.specs.declared.file_work.Work.{Work}
 
--- The files that are made are the first ones, and all if no fault ended it.
+-- The files that are made are the first ones; they are all if no fault ended the work.
 pub record IsBegun (w : Work) : Type 0 where
   pub first : AreFirst w.runs.now (map restored w.made.items)
   pub all : OnOk w.end (length w.runs.now ≤ length w.made.items)
 
--- the files of works, one after another
+-- the files of the works, one work after another
 abbrev pub runs_in : List Work → List Run
 runs_in works = flat_map (λ (w : Work). w.runs.now) works
 
--- the works are begun after their run, if the bytes of all hits of their files are given as they were found
+-- the works are begun after the run, if the bytes of all hits of their files are given as they were
+-- found
 abbrev pub AreBegunIfGiven : RereadingMany → List Work → List Work → Type 0
 AreBegunIfGiven many before after = GivesRuns many (runs_in before) → AllByRecursion IsBegun after
 
@@ -29,7 +30,8 @@ abbrev pub AppendsIfGiven : RereadingMany → Work → List (FileKey × Outcome)
 AppendsIfGiven many w before after =
     GivesRuns many w.runs.now → IsBegun w → map restored after ≡ map restored before ++ map file_of w.runs.now
 
--- the files are those of works that were begun, given the last one first, if the bytes of their hits are given as they were found
+-- the files are those of begun works, given the last work first, if the bytes of their hits are
+-- given as they were found
 abbrev pub AreAllIfGiven : RereadingMany → List Work → List (FileKey × Outcome) → Type 0
 AreAllIfGiven many works made =
     GivesRuns many (runs_in (reverse works)) → AllByRecursion IsBegun works → map restored made ≡ map file_of (runs_in (reverse works))
@@ -42,12 +44,12 @@ many_over shows failures groups drives = record { drives = driven_by shows failu
 abbrev pub many_of : {D : Type 0} → (D → Option (List Volume)) → (D → ℕ) → List Group → Share D → RereadingMany
 many_of shows failures groups s = many_over shows failures groups s.drives.items
 
--- the drives of each share, those of the last one first
+-- the drives of the shares, the last share first
 abbrev pub drives_from_last : {D : Type 0} → List (Share D) → List (List D)
 drives_from_last {D} shares = reverse (map (λ (s : Share D). s.drives.items) shares)
 
--- A share before and after files were made: its drives went on. More of its files may be made, and all
--- are if no fault ended it.
+-- A share before and after files were made: its drives went on. More of its files may be made, and
+-- all are made if no fault ended the work.
 pub record HasMade {D : Type 0} (shows : D → Option (List Volume)) (failures : D → ℕ) (groups : List Group) (before after : Share D) : Type 0 where
   pub runs : after.work.runs.now ≡ before.work.runs.now
   pub on : AllZip GoesOn (driven_by shows failures before.drives.items) (driven_by shows failures after.drives.items)

@@ -35,7 +35,7 @@ PutsTwo Both given one other had has = PutsBoth given one other had has
 PutsTwo (One why) given one other had has = PutsAlike given one had has
 PutsTwo (Neither why) given one other had has = has ≡ had
 
--- the same, if anything was tried
+-- the same, if the files were tried
 abbrev pub PutsAny : Option TwoDone → Type 0 → Item → Item → Option (List Item) → Option (List Item) → Type 0
 PutsAny (Some done) given one other had has = PutsTwo done given one other had has
 PutsAny None given one other had has = has ≡ had
@@ -46,7 +46,7 @@ FailsEither Both = ⊥
 FailsEither (One why) = why ≡ Fault
 FailsEither (Neither why) = why ≡ Fault
 
--- the same, if anything was tried
+-- the same, if the files were tried
 abbrev pub FailsAny : Option TwoDone → Type 0
 FailsAny (Some done) = FailsEither done
 FailsAny None = ⊥
@@ -55,6 +55,6 @@ FailsAny None = ⊥
 abbrev pub GivesBoth : RereadingMany → List Hit → FileKey → FileKey → Item → Item → Type 0
 GivesBoth many hits key later one other = GivesItem many hits key one × GivesItem many hits later other
 
--- so are those of these two, by their keys
+-- the same holds for these two files, by their keys
 abbrev pub GivesKeyed : RereadingMany → List Hit → KeyedItem → KeyedItem → Type 0
 GivesKeyed many hits one other = GivesBoth many hits one.key other.key one.item.now other.item.now

@@ -1,5 +1,5 @@
-//! Two files that are read and digested side by side. This thread reads a window of the one file and then
-//! one of the other, while two other threads digest those that were read before.
+//! Two files that are read and digested side by side. This thread reads a window of one file and
+//! then one of the other, while two other threads digest the windows that were read before.
 ghost use Rattle.std.specs.Prelude.{◌≡◌, ◌≤◌, ◌-◌, ◌++◌, [], length, Err, IfOk, OnOk};
 ghost use Rattle.br_data.specs.declared.reread_fault.AgainFault.TheVariants.{Failed};
 ghost use Rattle.br_join.specs.Outcome.{restored};
@@ -26,7 +26,7 @@ pub(crate) struct Both<'h> {
     pub(crate) other: &'h [Hit],
 }
 
-/// A window of each of two files, which were read.
+/// A window of each of two files; both were read.
 #[derive(Drop)]
 struct BothAhead {
     one: Ahead,
@@ -154,7 +154,7 @@ fn read_both_on<'h, D: Drive>(
     })
 }
 
-/// Reads and digests two files side by side, as long as a window of each is left.
+/// Reads and digests two files side by side, while both have a window left.
 ///
 /// # Errors
 ///
@@ -249,7 +249,7 @@ fn read_two<D: Drive>(
     })
 }
 
-/// Returns the outcome of a file that is digested, under its planned path, if it has one.
+/// Returns the outcome of a digested file, under its planned path, if it has one.
 ///
 /// # Errors
 ///
@@ -269,8 +269,8 @@ pub(crate) struct Outcomes {
     pub(crate) other: Outcome,
 }
 
-/// Makes two files without sparse data side by side, each under its planned path, if it has one. Their
-/// bytes are not in memory.
+/// Makes two files without sparse data side by side, each under its planned path, if it has one.
+/// Their bytes are not kept in memory.
 ///
 /// # Errors
 ///

@@ -1,5 +1,5 @@
-//! Files whose data are read and digested one window after another, and not kept. While the data of one
-//! window are digested in another thread, those of the next one are read.
+//! Files whose data are read and digested one window after another, and not kept. While another
+//! thread digests the data of one window, those of the next one are read.
 ghost use Rattle.std.specs.Prelude.{◌≡◌, ◌≤◌, ◌-◌, ◌++◌, [], length, map, nat_abs, Err, IfOk, OnOk};
 ghost use Rattle.std.specs.List.{AllByRecursion};
 ghost use Rattle.br_data.specs.declared.reread_fault.AgainFault.TheVariants.{Failed};
@@ -24,7 +24,7 @@ use br_volume::Drive;
 use std::alloc::{AllocError, Global};
 use std::thread::{Threads, join_mut};
 
-/// If data of this stream are plain, lets them go and appends them to a window.
+/// If data of this stream are plain, moves them out of the hit and appends them to a window.
 ///
 /// # Errors
 ///
@@ -41,7 +41,7 @@ fn keep_plain(window: &mut Vec<Data>, stream: i32, mut found: Data) -> Result<Da
     Ok(found)
 }
 
-/// Reads the data of the hit. Plain data are let go and appended to a window, and others are in memory.
+/// Reads the data of the hit. Plain data are moved to a window; other data stay in memory.
 ///
 /// # Errors
 ///
@@ -69,7 +69,7 @@ fn read_next<D: Drive>(
     })
 }
 
-/// Hits that were read, and their plain data in memory. The hits have let them go.
+/// Hits that were read, and their plain data in memory. The hits no longer hold these.
 #[derive(Drop)]
 pub(crate) struct Ahead {
     pub(crate) hits: Vec<Hit>,
@@ -101,7 +101,7 @@ pub(crate) fn read_ahead<D: Drive>(
     Ok(Ahead { hits: read, window })
 }
 
-/// The plain data of a file that are digested, the hits that were read, and the plain data of the last of
+/// The digested plain data of a file, the hits that were read, and the plain data of the last of
 /// them, which are digested next.
 #[derive(Drop)]
 pub(crate) struct Digesting {
@@ -127,7 +127,7 @@ pub(crate) fn take_ahead(begun: &mut Digesting, ahead: Ahead) -> Result<(), Allo
     Ok(())
 }
 
-/// A file of which the first window is read, and the hits after it.
+/// A file whose first window is read, and the hits after it.
 #[derive(Drop)]
 pub(crate) struct Opened<'h> {
     pub(crate) begun: Digesting,
@@ -214,9 +214,9 @@ fn read_on<'h, D: Drive>(
     Ok(next.rest)
 }
 
-/// Reads and digests what is left of a file, a window of hits at a time. Plain data are digested and let
-/// go, and others are in memory. Those of the last window, and so of a file that has no other, are
-/// digested in this thread, and the others in another one.
+/// Reads and digests the rest of a file, a window of hits at a time. Plain data are digested and
+/// let go, and other data stay in memory. This thread digests those of the last window (in a small
+/// file it is the only one), and another thread digests the others.
 ///
 /// # Errors
 ///
@@ -243,7 +243,7 @@ pub(crate) fn digest_rest<D: Drive>(
     Ok(())
 }
 
-/// Returns the outcome of a file that is digested.
+/// Returns the outcome of a digested file.
 ///
 /// # Errors
 ///
@@ -256,8 +256,8 @@ pub(crate) fn finish(alloc: Global, key: FileKey, read: Digesting) -> Result<Out
     outcome_with(alloc, key, &read.hits, bytes)
 }
 
-/// Returns the outcome of a file without sparse data. The data of two windows at most are in memory, and
-/// the bytes of the file are not.
+/// Returns the outcome of a file without sparse data. At most two windows of data are in memory,
+/// and the bytes of the file are not.
 ///
 /// # Errors
 ///
@@ -283,7 +283,7 @@ fn plain_outcome_by<D: Drive>(
     Ok(outcome)
 }
 
-/// Returns the outcome, of which the bytes of a file are let go.
+/// Returns the outcome with the bytes of its file let go.
 fn without_bytes(outcome: Outcome) -> Outcome
     ensures { shown result ≡ shown outcome }
 {
@@ -296,9 +296,9 @@ fn without_bytes(outcome: Outcome) -> Outcome
     }
 }
 
-/// Returns the outcome of a file by its fragments, given in order of place, whose data are read again
-/// if they were let go. The bytes of the file are not in memory after that; while they are read, those of
-/// two windows at most are, or all of them if some are sparse.
+/// Returns the outcome of a file from its fragments, given in order of place; data that were let go
+/// are read again. The bytes of the file are not kept in memory. While they are read, at most two
+/// windows of them are in memory, or all of them if some are sparse.
 ///
 /// # Errors
 ///

@@ -1,4 +1,4 @@
-//! Files that one drive makes: two long ones side by side, and each other one alone.
+//! Files that one drive makes: two long ones side by side, and every other one alone.
 ghost use Rattle.std.specs.Prelude.{◌≡◌, ◌<◌, ◌≤◌, ◌+◌, length, Err, OnOk};
 ghost use Rattle.br_data.specs.declared.reread_fault.AgainFault.TheVariants.{Failed};
 ghost use Rattle.br_data.specs.ManyDrives.{GoOn, HaveFailed};
@@ -17,12 +17,12 @@ use br_volume::Drive;
 use std::alloc::Global;
 use std::thread::Threads;
 
-/// Returns whether a file has more data than one window, and none that are sparse.
+/// Returns whether a file has more data than one window, and no sparse data.
 fn is_long(run: &Run<'_>) -> bool {
     !cut_window(run.hits, DIGESTED).rest.is_empty() && !has_sparse_data(run.hits)
 }
 
-/// Makes the next two files side by side: the ones after as many as are made.
+/// Makes the next two files side by side. The files already made come first in the list.
 ///
 /// # Errors
 ///
@@ -48,7 +48,7 @@ fn make_two<D: Drive>(
     Ok(())
 }
 
-/// Makes the next two files side by side, if both are long, and else the next one.
+/// Makes the next two files side by side if both are long, else only the next one.
 ///
 /// # Errors
 ///
@@ -73,7 +73,7 @@ fn make_next<D: Drive>(
     make_one(rt, alloc, many, runs, made)
 }
 
-/// Makes the files that are left: those after as many as are made.
+/// Makes the files that are left, after those already made.
 ///
 /// # Errors
 ///

@@ -1,4 +1,4 @@
-//! Files that are made one after another, begun by one drive and gone on with by others.
+//! Files that are made one after another: one drive begins, and others may continue.
 ghost use Rattle.std.specs.Prelude.{◌≡◌, ◌++◌, ◌<◌, ◌≤◌, [], length, map, Err, IfOk, OnOk};
 ghost use Rattle.br_data.specs.declared.reread_fault.AgainFault.TheVariants.{Failed};
 ghost use Rattle.br_join.specs.Outcome.{restored};
@@ -15,7 +15,7 @@ use br_volume::Drive;
 use std::alloc::{AllocError, Global};
 use std::thread::Threads;
 
-/// Makes the next file: the one after as many as are made.
+/// Makes the next file, after those already made.
 ///
 /// # Errors
 ///
@@ -39,7 +39,7 @@ pub(crate) fn make_one<D: Drive>(
     Ok(())
 }
 
-/// Makes the files that are left: those after as many as are made.
+/// Makes the files that are left, after those already made.
 ///
 /// # Errors
 ///
@@ -64,7 +64,8 @@ pub(crate) fn make_left<D: Drive>(
     Ok(())
 }
 
-/// Files in order of key, the first of them that are made, and the fault that ended it, if one did.
+/// Files in order of key, those of them that are made (the first ones), and the fault that ended
+/// the work, if any.
 #[derive(Drop)]
 pub(crate) struct Work<'r, 'h> {
     pub(crate) runs: &'r [Run<'h>],
@@ -73,7 +74,7 @@ pub(crate) struct Work<'r, 'h> {
 }
 
 impl<'r, 'h> Work<'r, 'h> {
-    /// Returns the work of these files, of which none is made.
+    /// Returns the work of these files. None of them is made yet.
     pub(crate) fn new(alloc: Global, runs: &'r [Run<'h>]) -> Work<'r, 'h>
         ensures runs { result.runs.now ≡ runs.now }
         ensures none { result.made.items ≡ [] }
@@ -89,7 +90,7 @@ impl<'r, 'h> Work<'r, 'h> {
     ///
     /// # Errors
     ///
-    /// Those of `many`, and the fault that ended it, if no drive failed.
+    /// Those of `many`, and the fault that ended the work, if no drive failed.
     #[tactic(auto, using(br_data::proofs::GoOnLaws::go_itself))]
     fn finish<D: Drive>(
         &mut self,
@@ -111,8 +112,8 @@ impl<'r, 'h> Work<'r, 'h> {
     }
 }
 
-/// Appends files. The first ones are taken as they are, so that no copy of them is made while the
-/// files of all other works are in memory.
+/// Appends files. The first ones are moved, so that no copy of them is made while the files of all
+/// other works are in memory.
 ///
 /// # Errors
 ///

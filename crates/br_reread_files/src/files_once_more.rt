@@ -18,11 +18,11 @@ use br_types::FileKey;
 use br_volume::Drive;
 use std::alloc::{AllocError, Global};
 
-/// Makes a file once more, of the hits with its key.
+/// Makes a file once more, from the hits with its key.
 ///
 /// # Errors
 ///
-/// Those of `many`, `Changed` if it is not like the file, and `Memory` if memory runs out.
+/// Those of `many`, `Changed` if the result is not like the file, and `Memory` if memory runs out.
 pub(crate) fn item_once_more<D: Drive>(
     alloc: Global,
     many: &mut OverMany<'_, D>,
@@ -55,7 +55,7 @@ fn push_item(
     Ok(())
 }
 
-/// Makes the files among outcomes once more, and passes over the faults.
+/// Makes the files among outcomes once more, and skips the faults.
 ///
 /// # Errors
 ///

@@ -53,11 +53,11 @@ impl Model for Gathered {
 }
 
 impl Gathered {
-    /// Returns what the joiner took.
+    /// Returns the hits and names that the joiner took.
     ///
     /// # Errors
     ///
-    /// `AllocError` if memory runs out. Then what it took is lost.
+    /// `AllocError` if memory runs out. Then the hits are lost.
     pub fn of(joiner: Joiner) -> Result<Gathered, AllocError>
         ensures hits { IfOk result (λ g. hits_of g.hits ≡ joiner.hits) }
         ensures names { IfOk result (λ g. g.names ≡ joiner.names) }
@@ -66,8 +66,8 @@ impl Gathered {
         Ok(Gathered { hits, names })
     }
 
-    /// Returns the same, without the data in memory that are bytes of files: they are read again each
-    /// time. Attributes and digests stay.
+    /// Returns the same without the file bytes that are in memory: they are read again each time.
+    /// Attributes and digests stay.
     pub fn let_go(self) -> Gathered
         ensures { result ≡ self }
     {
@@ -84,14 +84,15 @@ impl Gathered {
         has_sparse_data(&self.hits)
     }
 
-    /// Makes the files, in order of key: the planned ones if there is a plan, else those that were found.
-    /// Each drive makes some of them, in a thread of its own. It has the data of at most two windows in memory,
-    /// each of about 1 MiB, of which another thread digests the one, or those of a file that has sparse data. The
-    /// bytes of the file are not kept.
+    /// Makes the files, in order of key: the planned ones if there is a plan, else those that were
+    /// found. Each drive makes some of them, in its own thread. A drive has at most two windows of
+    /// data in memory, each of about 1 MiB, one of which another thread digests; of a file with
+    /// sparse data it has all data. The bytes of the file are not kept.
     ///
     /// # Errors
     ///
-    /// Those of `many`, and `Memory` if memory runs out. Of several it is the first in order of the files.
+    /// Those of `many`, and `Memory` if memory runs out. Of several faults it is the first in order
+    /// of the files.
     pub fn files<D: Drive + Send>(
         &self,
         rt: &(impl Threads + Sync),
@@ -105,14 +106,14 @@ impl Gathered {
         files_by(rt, alloc, many, &self.hits, self.names.as_ref())
     }
 
-    /// Makes the files among these outcomes once more, in their order, and passes over the faults. Their
-    /// data are in memory together. Each file is like the one that it is made for: their paths, numbers,
-    /// links and lengths are the same, and the digests of their bytes.
+    /// Makes the files among these outcomes once more, in their order, and skips the faults. Their
+    /// data are in memory together. Each file is like the one in the outcomes: they have the same
+    /// path, numbers and link, and bytes of the same length and digest.
     ///
     /// # Errors
     ///
-    /// Those of `many`, `Changed` if a file is not like the one that it is made for, and `Memory` if
-    /// memory runs out. There is none if there is no file among the outcomes.
+    /// Those of `many`, `Changed` if a file is not like the one in the outcomes, and `Memory` if
+    /// memory runs out. There is no error if there is no file among the outcomes.
     pub fn again<D: Drive>(
         &self,
         alloc: Global,
@@ -128,14 +129,14 @@ impl Gathered {
         made_once_more(alloc, many, &self.hits, outcomes)
     }
 
-    /// Puts a file like this one, made of the hits with its key, into a sink. Their paths, numbers, links and
-    /// lengths are the same, and the digests of their bytes. The data are read again while it is put: at most two
-    /// windows of them are in memory, each of about 4 MiB, of which another thread digests the one. A file with
-    /// sparse data is in memory as a whole.
+    /// Puts a file like this one, made from the hits with its key, into a sink. They have the same
+    /// path, numbers and link, and bytes of the same length and digest. The data are read again
+    /// while the file is put: at most two windows of them are in memory, each of about 4 MiB, one
+    /// of which another thread digests. A file with sparse data is in memory as a whole.
     ///
     /// # Errors
     ///
-    /// The sink has what it had; one that does not tell its files may hold a part of this one.
+    /// The sink has what it had; one that does not report its files may hold a part of this one.
     ///
     /// - `NoDriveLeft` if no drive is left that gives such data.
     /// - `Fault` if the sink failed.
@@ -162,8 +163,8 @@ impl Gathered {
         put_plain(rt, alloc, many, run, item, sink)
     }
 
-    /// Puts two files like these side by side, if no data of either are sparse. Returns `None`, and the sink has what
-    /// it had, if some are, or if the sink does not put these two so.
+    /// Puts two files like these side by side, if neither has sparse data. Returns `None`, and the
+    /// sink has what it had, if one has, or if the sink does not put these two side by side.
     #[tactic(auto, using(br_data::proofs::GoOnLaws::go_itself))]
     fn put_side_by_side<D: Drive, S: Sink>(
         &self,
@@ -224,12 +225,14 @@ impl Gathered {
         }
     }
 
-    /// Puts two files like these, made of the hits with their keys, into a sink, as `put_by_parts` does: side by side,
-    /// if no data of either are sparse and the sink puts these two so, else one after the other. Side by side, two other
-    /// threads digest, and at most two windows of each file are in memory.
+    /// Puts two files like these, made from the hits with their keys, into a sink, as
+    /// `put_by_parts` does: side by side, if neither has sparse data and the sink does so, else one
+    /// after the other. Side by side, two other threads digest, and at most two windows of each
+    /// file are in memory.
     ///
-    /// The two have different paths, and neither is below the other: a caller sees to that. If the first can't be put,
-    /// neither is. A sink that does not tell its files may hold a part of a file that was not put.
+    /// The caller makes sure that the two paths differ and that neither is below the other. If the
+    /// first can't be put, neither is. A sink that does not report its files may hold a part of a
+    /// file that was not put.
     #[tactic(auto, using(br_data::proofs::GoOnLaws::go_more))]
     pub fn put_two_by_parts<D: Drive, S: Sink>(
         &self,

@@ -1,9 +1,9 @@
-//! What a joiner gathered and did not hold: files that are made again of their hits.
+//! The hits that a joiner gathered without all their data, and the files that are made from them.
 //!
 //! A `Gathered` has the hits of a restore, of which data may have been let go. It makes the files
-//! of data that drives read again, each drive some of them: their bytes are digested, and not kept.
-//! It makes some of the files once more if they are to be delivered, and compares them with what
-//! was made before.
+//! from data that drives read again; each drive makes some of them. Their bytes are digested and
+//! not kept. For a delivery it makes some of the files once more, and compares them with those that
+//! it made before.
 #![tactic(auto)]
 
 mod both_digested;

@@ -7,7 +7,7 @@ use br_reread_parts::DATA;
 /// The stream of sparse data.
 pub(crate) const SPARSE_DATA: u32 = 6;
 
-/// Lets the data of a hit go if they are bytes of a file.
+/// Drops the data of a hit if they are bytes of a file.
 fn lighten(hit: &mut Hit)
     ensures { hit.new ≡ hit.old }
 {
@@ -17,7 +17,7 @@ fn lighten(hit: &mut Hit)
     }
 }
 
-/// Lets the data go that are bytes of a file. As contracts see them the hits are the same.
+/// Drops the data that are bytes of a file. For contracts the hits stay the same.
 pub(crate) fn lightened(hits: Vec<Hit>) -> Vec<Hit>
     ensures { result.items ≡ hits.items }
 {

@@ -1,4 +1,4 @@
-//! Whether two files differ at most in their bytes, and in these neither in number nor in digest.
+//! Compares two files, and their bytes by length and digest.
 ghost use Rattle.std.specs.Prelude.{◌≡◌, true};
 ghost use Rattle.br_reread_files.specs.Again.{IsLike};
 
@@ -14,7 +14,7 @@ fn have_same_names(one: &Item, other: &Item) -> bool
     one.path.bytes() == other.path.bytes() && one.link == other.link
 }
 
-/// Returns whether two files have the same numbers, and as many records of both were passed over.
+/// Returns whether two files have the same numbers and the same number of skipped records.
 fn have_same_numbers(one: &Item, other: &Item) -> bool
     ensures kind { result ≡ true → one.now.kind ≡ other.now.kind }
     ensures stat { result ≡ true → one.now.stat ≡ other.now.stat }

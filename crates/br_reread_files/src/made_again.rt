@@ -1,4 +1,4 @@
-//! A file that is made of hits whose data are read again if they were let go.
+//! A file that is made from hits; data that were let go are read again.
 ghost use Rattle.std.specs.Prelude.{◌≡◌, ◌∷◌, ◌++◌, [], map, Err, IfOk, OnErr, OnOk};
 ghost use Rattle.std.specs.List.{AllByRecursion};
 ghost use Rattle.std.specs.Option.{option_copied};
@@ -31,8 +31,8 @@ pub(crate) fn push_file(
     Ok(())
 }
 
-/// Makes the file with these hits, under its planned path, if it has one. Its bytes are not in memory
-/// after that.
+/// Makes the file with these hits, under its planned path, if it has one. Its bytes are not kept in
+/// memory.
 pub(crate) fn file_by<D: Drive>(
     rt: &impl Threads,
     alloc: Global,

@@ -1,4 +1,4 @@
-//! The files of hits, made by one drive or by several side by side.
+//! The files of hits, made by one drive or by several drives side by side.
 ghost use Rattle.std.specs.Prelude.{◌≡◌, map, Err, IfOk};
 ghost use Rattle.std.specs.Option.{option_copied};
 ghost use Rattle.br_data.specs.declared.reread_fault.AgainFault.TheVariants.{Failed};
@@ -20,8 +20,8 @@ use br_volume::Drive;
 use std::alloc::Global;
 use std::thread::Threads;
 
-/// Makes the files: side by side, if there are several drives and several files. One drive makes two long
-/// files side by side, if one comes after the other.
+/// Makes the files: side by side, if there are several drives and several files. One drive makes
+/// two consecutive long files side by side.
 ///
 /// # Errors
 ///
@@ -45,7 +45,8 @@ fn made_of<D: Drive + Send>(
 }
 
 /// Makes the files of sorted hits: the planned ones if there is a plan, else those that were found.
-/// Each of several drives has the data of one file at a time in memory, and one drive those of two.
+/// Each of several drives has the data of one file at a time in memory; a single drive has those of
+/// two.
 ///
 /// # Errors
 ///

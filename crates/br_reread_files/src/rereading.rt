@@ -75,8 +75,8 @@ fn read_hits<D: Drive>(
     Ok(read)
 }
 
-/// Returns the outcome of a file by its fragments, given in order of place, whose data are read
-/// again if they were let go.
+/// Returns the outcome of a file from its fragments, given in order of place; data that were let go
+/// are read again.
 ///
 /// # Errors
 ///

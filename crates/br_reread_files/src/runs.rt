@@ -45,7 +45,7 @@ impl<'h> Run<'h> {
         Run { key, path, hits }
     }
 
-    /// Returns how many bytes the hits have; at most 2^64 - 1 are counted.
+    /// Returns the number of bytes in the hits, at most 2^64 - 1.
     pub(crate) fn bytes(&self) -> u64 {
         let mut bytes = 0u64;
         for hit in self.hits {
@@ -72,7 +72,7 @@ fn found_runs<'h>(alloc: Global, hits: &'h [Hit]) -> Result<Vec<Run<'h>>, AllocE
     Ok(runs)
 }
 
-/// Returns the planned files, in order of key. One that was not hit has no hits.
+/// Returns the planned files, in order of key. A file that was not hit has no hits.
 fn planned_runs<'h>(
     alloc: Global,
     hits: &'h [Hit],

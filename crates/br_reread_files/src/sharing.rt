@@ -1,4 +1,4 @@
-//! Files that several drives make side by side, each drive some of them.
+//! Files that several drives make side by side; each drive makes some of them.
 ghost use Rattle.std.specs.Prelude.{◌≡◌, ◌+◌, ◌<◌, ◌≤◌, ◌∷◌, ◌++◌, [], drop, length, map, reverse, vec_capacity, Err, IfOk, OnOk};
 ghost use Rattle.std.specs.List.{AllByRecursion, AllZip};
 ghost use Rattle.br_data.specs.declared.reread_fault.AgainFault.TheVariants.{Failed};
@@ -18,14 +18,14 @@ use std::alloc::{AllocError, Global};
 use std::thread::Threads;
 use std::{mem, thread};
 
-/// Some of the files, and the drive that makes them.
+/// Some of the files, and a drive to make them.
 struct Share<'r, 'h, D: Drive> {
     drives: Vec<D>,
     work: Work<'r, 'h>,
 }
 
 impl<'r, 'h, D: Drive> Share<'r, 'h, D> {
-    /// Makes the files by the drive, until it fails.
+    /// Makes the files with the drive, until it fails.
     fn make(&mut self, rt: &impl Threads, alloc: Global, groups: &[Group])
         ensures { HasMade D.shows D.failures groups.now self.old self.new }
     {
@@ -37,7 +37,7 @@ impl<'r, 'h, D: Drive> Share<'r, 'h, D> {
     }
 }
 
-/// Returns how many bytes the files have; at most 2^64 - 1 are counted.
+/// Returns the number of bytes in the files, at most 2^64 - 1.
 fn bytes_in(runs: &[Run<'_>]) -> u64 {
     let mut bytes = 0u64;
     for run in runs {
@@ -46,7 +46,8 @@ fn bytes_in(runs: &[Run<'_>]) -> u64 {
     bytes
 }
 
-/// Returns how many of the first files have at least this many bytes together, or the number of all.
+/// Returns the least number of first files that together have this number of bytes; all if there
+/// are fewer bytes.
 fn first_with(runs: &[Run<'_>], bytes: u64) -> usize
     ensures { result ≤ length runs.now }
 {
@@ -59,8 +60,8 @@ fn first_with(runs: &[Run<'_>], bytes: u64) -> usize
     count
 }
 
-/// Returns the next files after the first `from`: they have at least this many bytes together, or they
-/// are all that are left.
+/// Returns the next files after the first `from`: together they have at least this number of bytes,
+/// or they are all that are left.
 fn next_with<'r, 'h>(runs: &'r [Run<'h>], from: usize, bytes: u64) -> &'r [Run<'h>]
     requires { from ≤ length runs.now }
     ensures within { from + length result.now ≤ length runs.now }
@@ -71,7 +72,7 @@ fn next_with<'r, 'h>(runs: &'r [Run<'h>], from: usize, bytes: u64) -> &'r [Run<'
     next
 }
 
-/// Cuts the files into this number of works, which have about as many bytes each.
+/// Cuts the files into this number of works, each with about the same number of bytes.
 fn works_for<'r, 'h>(
     alloc: Global,
     count: usize,
@@ -95,7 +96,7 @@ fn works_for<'r, 'h>(
     Ok(works)
 }
 
-/// Makes a share of each work and a drive, the first of them of the last drive.
+/// Makes a share from each work and a drive. The first share gets the last drive.
 ///
 /// # Errors
 ///
@@ -122,7 +123,7 @@ fn into_shares<'r, 'h, D: Drive>(
     Ok(())
 }
 
-/// Runs the shares, each in a thread of its own.
+/// Runs the shares, each in its own thread.
 fn run_shares<D: Drive + Send, R: Threads + Sync>(
     rt: &R,
     alloc: Global,
@@ -151,7 +152,7 @@ fn run_all<'r, 'h, D: Drive + Send, R: Threads + Sync>(
     shares
 }
 
-/// Takes the shares apart, the last one first: their drives go back, and their works are left.
+/// Takes the shares apart, the last one first. Their drives go back; their works are left.
 fn out_of_shares<'r, 'h, D: Drive>(
     mut shares: Vec<Share<'r, 'h, D>>,
     drives: &mut Vec<D>,
@@ -175,8 +176,8 @@ fn out_of_shares<'r, 'h, D: Drive>(
     shares.destroy_empty();
 }
 
-/// Makes the files of works by the drives, one for each, as far as they do not fail. Returns the
-/// works, the first one last. Each drive is then in its place again.
+/// Makes the files of the works with the drives, one drive for each, as far as the drives do not
+/// fail. Returns the works, the first one last. Each drive is then in its place again.
 ///
 /// # Errors
 ///
@@ -210,7 +211,7 @@ fn run_apart<'r, 'h, D: Drive + Send>(
     }
 }
 
-/// Does the same by the drives of `many`.
+/// Makes the files of the works with the drives of `many`, as far as the drives do not fail.
 fn run_works<'r, 'h, D: Drive + Send>(
     rt: &(impl Threads + Sync),
     alloc: Global,
@@ -230,12 +231,13 @@ fn run_works<'r, 'h, D: Drive + Send>(
     done
 }
 
-/// Makes the files by the drives, each of which makes some of them in a thread of its own. What a
-/// drive left because it failed is made afterwards by all drives, one file after another.
+/// Makes the files with the drives. Each makes some of them, in its own thread. What a drive left
+/// because it failed is made afterwards with all drives, one file after another.
 ///
 /// # Errors
 ///
-/// Those of `many`, and `Memory` if memory runs out: the first in order of the files.
+/// Those of `many`, and `Memory` if memory runs out. Of several faults it is the first in order of
+/// the files.
 #[tactic(auto, using(br_data::proofs::GoOnLaws::go_itself))]
 pub(crate) fn made_side_by_side<D: Drive + Send>(
     rt: &(impl Threads + Sync),

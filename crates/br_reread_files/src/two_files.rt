@@ -19,14 +19,14 @@ use br_volume::Drive;
 use std::alloc::Global;
 use std::thread::Threads;
 
-/// A file that is put, and its key.
+/// A file to put, and its key.
 #[derive(Drop)]
 pub struct KeyedItem<'i> {
     pub key: FileKey,
     pub item: &'i Item,
 }
 
-/// What was put of two files.
+/// The files of two that were put.
 #[derive(Clone, Copy, PartialEq, Eq)]
 pub enum TwoDone {
     /// Both were put.
@@ -37,7 +37,7 @@ pub enum TwoDone {
     Neither(PartsFault),
 }
 
-/// Returns the hits with the key, if a file of the item's type has their plain data as its bytes.
+/// Returns the hits with the key, if their plain data are the bytes of a file of the item's type.
 pub(crate) fn plain_run<'h>(hits: &'h [Hit], key: FileKey, item: &Item) -> Option<&'h [Hit]>
     requires { AreListed hits.now }
     ensures { IfSome result (λ run. (many : RereadingMany) → GivesItem many hits.now key item.now → GivesFile many run.now item.now) }
@@ -60,7 +60,7 @@ fn done_of(put: TwoPut) -> TwoDone
     }
 }
 
-/// Returns what was put of two files, if they were tried.
+/// Returns what was put of two files, if an attempt was made.
 fn done_if_any(put: Option<TwoPut>) -> Option<TwoDone>
     ensures { result ≡ option_map done_as put }
 {
@@ -70,8 +70,8 @@ fn done_if_any(put: Option<TwoPut>) -> Option<TwoDone>
     }
 }
 
-/// Puts two files like these into a sink, side by side. Returns `None`, and the sink has what it had, if it does not
-/// put these two so.
+/// Puts two files like these into a sink, side by side. Returns `None`, and the sink has what it
+/// had, if it does not put these two side by side.
 pub(crate) fn put_two<D: Drive, S: Sink>(
     rt: &impl Threads,
     alloc: Global,

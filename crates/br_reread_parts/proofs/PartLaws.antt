@@ -21,6 +21,6 @@ few_none a room = record { bytes = []; few = omega arith; written = Appends-nil 
 pub some_of_few : (wanted : List ℕ) (most : ℕ) (a b : Option (List ℕ)) → most ≡ length wanted → WritesFew most a b → WritesSome wanted a b
 some_of_few wanted most a b is few = record { bytes = few.bytes; few = let less = few.few in omega (arith, less, is); written = few.written }
 
--- so many bytes, and no more may follow than were left
+-- this number of bytes, and no more may follow than were left
 pub few_these : (a b : Option (List ℕ)) (read : List ℕ) (room left : ℕ) → left + length read ≡ room → Appends a b read → WritesFew room a b
 few_these a b read room left are written = record { bytes = read; few = omega (arith, are); written = written }

@@ -63,7 +63,7 @@ alike_two (One p why) (Ok fault) one other first second comes = comes.1
 alike_two (One p why) (Err _) one other first second comes = absurd comes
 alike_two (Neither why) end one other first second comes = tt
 
--- a file of which the hits are given is the same after it is read to its end
+-- a file whose hits are given is the same after it is read to its end
 whole_same : StandingStays → (m later : RereadingMany) (hits : List Hit) (item : Item) (a b : Option (List ℕ)) (ahead : Ahead) (old read : List ℕ) (left : ℕ) → GoOn m later
     → old ≡ [] → OpensFile m hits item ahead → PutsOn later a b (step_of old ahead) (end_of read left) → GivesFile m hits item → read ≡ item.bytes
 whole_same stays m later hits item a b ahead old read left on new opened puts given =

@@ -1,4 +1,4 @@
--- A file of which the plain data are read again and written, one hit after another.
+-- A file whose plain data are read again and written, one hit after another.
 use Rattle.std.specs.Prelude.{◌≡◌, ℕ, ◌+◌, ◌≤◌, List, [], ◌∷◌, ◌++◌, length, Option}
 use Rattle.std.specs.Io.KnownBytes.{Appends}
 use Rattle.br_model.specs.File.{Item}
@@ -16,13 +16,13 @@ use Rattle.br_reread_parts.specs.declared.file_parts.Begun.{Begun}
 abbrev pub GivesFile : RereadingMany → List Hit → Item → Type 0
 GivesFile many hits item = GivesHits many hits × (item.bytes ≡ plain_bytes (fragments hits))
 
--- the data that came next were digested and written, and as many fewer bytes may follow
+-- the next data were digested and written, and the number of bytes that may follow is less by these
 pub record PutsWindow (before after : Option (List ℕ)) (old new : Begun) : Type 0 where
   pub read : new.read ≡ old.read ++ data_bytes old.window.items
   pub left : new.left + length (data_bytes old.window.items) ≡ old.left
   pub written : Appends before after (data_bytes old.window.items)
 
--- some bytes were written, so many at most
+-- some bytes were written, at most this number
 pub record WritesFew (most : ℕ) (before after : Option (List ℕ)) : Type 0 where
   pub bytes : List ℕ
   pub few : length bytes ≤ most

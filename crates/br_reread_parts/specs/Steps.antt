@@ -1,4 +1,4 @@
--- How far a file is written of which the plain data are read again.
+-- The progress of writing a file whose plain data are read again.
 use Rattle.std.specs.Prelude.{◌≡◌, ◌≤◌, ◌+◌, ◌-◌, ℕ, List, [], ◌++◌, length, Option, Some, None, Result, Ok, Err, ⊤}
 use Rattle.std.specs.Io.KnownBytes.{Appends}
 use Rattle.br_model.specs.File.{Item}
@@ -11,14 +11,15 @@ use Rattle.br_reread_parts.specs.Given.{GivesHits}
 use Rattle.br_reread_parts.specs.Windows.{data_bytes}
 use Rattle.br_reread_parts.specs.declared.ahead.Ahead.{Ahead}
 
--- the bytes of a file that are digested, those that come next, the number of bytes that may follow, and the hits after them
+-- the digested bytes of a file, the next data, the number of bytes that may follow, and the hits
+-- after them
 pub record Step : Type 0 where
   pub read : List ℕ
   pub next : List ℕ
   pub left : ℕ
   pub rest : List Hit
 
--- so many bytes are digested, and these data come next
+-- this number of bytes is digested, and these data are next
 abbrev pub step_of : List ℕ → Ahead → Step
 step_of read ahead = record { read = read; next = data_bytes ahead.window.items; left = ahead.left; rest = ahead.rest.now }
 
@@ -26,8 +27,8 @@ step_of read ahead = record { read = read; next = data_bytes ahead.window.items;
 abbrev pub end_of : List ℕ → ℕ → Step
 end_of read left = record { read = read; next = []; left = left; rest = [] }
 
--- A file was read on, and what was digested meanwhile was written. If what is left of it is given, its bytes
--- are those that were left.
+-- More of a file was read, and what was digested meanwhile was written. If the rest of the file is
+-- given, its bytes are those that were left.
 pub record PutsOn (many : RereadingMany) (before after : Option (List ℕ)) (old new : Step) : Type 0 where
   pub bytes : List ℕ
   pub read : new.read ≡ old.read ++ bytes
@@ -36,7 +37,7 @@ pub record PutsOn (many : RereadingMany) (before after : Option (List ℕ)) (old
   pub given : (later : RereadingMany) → GivesHits later old.rest → GivesHits later new.rest
   pub same : GivesHits many old.rest → bytes ++ (new.next ++ plain_bytes (fragments new.rest)) ≡ old.next ++ plain_bytes (fragments old.rest)
 
--- the same of a writer, from the data that came next on to those that come next now
+-- the same for a writer, from the data that were next to those that are next now
 abbrev pub PutsTo : {W : Type 0} → (W → Option (List ℕ)) → RereadingMany → W → W → List ℕ → Ahead → List ℕ → Ahead → Type 0
 PutsTo contents many before after read old now new = PutsOn many (contents before) (contents after) (step_of read old) (step_of now new)
 
@@ -45,16 +46,16 @@ abbrev pub PutsRest : {W : Type 0} → (W → Option (List ℕ)) → RereadingMa
 PutsRest contents many before after read old now new =
     PutsOn many (contents before) (contents after) (step_of read old) (end_of now new.left)
 
--- the data that came next were written, and those after them read
+-- the next data were written, and those after them read
 pub record WritesOn (many : RereadingMany) (before after : Option (List ℕ)) (old new : Ahead) : Type 0 where
   pub puts : (read : List ℕ) → PutsOn many before after (step_of read old) (step_of (read ++ data_bytes old.window.items) new)
   pub fewer : length new.rest.now ≤ length old.rest.now - 1
 
--- what comes next is all that is left: it was digested and written
+-- the next data are the last ones: they were digested and written
 abbrev pub EndsOn : Option (List ℕ) → Option (List ℕ) → List ℕ → List ℕ → Ahead → Ahead → Type 0
 EndsOn before after read now old new = (many : RereadingMany) → old.rest.now ≡ [] → PutsOn many before after (step_of read old) (end_of now new.left)
 
--- the first data of a file were read, and as many bytes may follow as it has
+-- the first data of a file were read, and as many bytes may follow as the file has
 pub record OpensFile (many : RereadingMany) (hits : List Hit) (item : Item) (ahead : Ahead) : Type 0 where
   pub left : ahead.left ≡ length item.bytes
   pub given : (later : RereadingMany) → GivesHits later hits → GivesHits later ahead.rest.now
@@ -62,7 +63,7 @@ pub record OpensFile (many : RereadingMany) (hits : List Hit) (item : Item) (ahe
 
 -- ---- two files
 
--- what follows if neither of two files failed, where the second one's fault is a result
+-- what follows if neither of two files failed; the second file's fault is a result
 abbrev pub IfBoth : Result (Option PartsFault) PartsFault → Type 0 → Type 0
 IfBoth (Ok None) claim = claim
 IfBoth (Ok (Some why)) claim = ⊤

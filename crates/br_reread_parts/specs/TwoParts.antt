@@ -1,4 +1,4 @@
--- Two files of which the plain data are read again and written side by side.
+-- Two files whose plain data are read again and written side by side.
 use Rattle.std.specs.Prelude.{◌≡◌, ℕ, List, Option, Some, None, Result, Ok, Err, ⊤}
 use Rattle.br_model.specs.File.{Item}
 use Rattle.br_model.specs.Meaning.{Hit}
@@ -14,7 +14,7 @@ use Rattle.br_reread_parts.specs.declared.both.PlainFile.{PlainFile}
 abbrev pub GivesTwo : RereadingMany → List Hit → List Hit → Item → Item → Type 0
 GivesTwo many hits more one other = GivesFile many hits one × GivesFile many more other
 
--- so are those of these two
+-- the same holds for these two files
 abbrev pub GivesPlain : RereadingMany → PlainFile → PlainFile → Type 0
 GivesPlain many one other = GivesTwo many one.hits.now other.hits.now one.item.now other.item.now
 
@@ -22,8 +22,8 @@ GivesPlain many one other = GivesTwo many one.hits.now other.hits.now one.item.n
 abbrev pub AreRead : List ℕ → List ℕ → Item → Type 0
 AreRead bytes read item = (bytes ≡ read) × AreAlike bytes item.bytes
 
--- The second file failed with this fault, or none, and the first was put with these bytes. What was read of the
--- second is put, too, if it is like the item.
+-- The second file failed with this fault, or did not fail, and the first was put with these bytes.
+-- The bytes read of the second file are put too, if it is like the item.
 abbrev pub EndsAs : TwoPut → Option PartsFault → List ℕ → List ℕ → Item → Type 0
 EndsAs (Both x y) None bytes read other = (x ≡ bytes) × AreRead y read other
 EndsAs (Both x y) (Some _) bytes read other = ⊥

@@ -1,4 +1,4 @@
-//! A file of which the data are written a window at a time, while those of the next window are read.
+//! A file whose data are written a window at a time, while those of the next window are read.
 ghost use Rattle.std.specs.Prelude.{◌≡◌, ◌++◌, IfOk, OnOk};
 ghost use Rattle.br_data.specs.ManyDrives.{GoOn};
 ghost use Rattle.br_sink.specs.FileParts.{AreAlike};
@@ -18,7 +18,8 @@ use std::alloc::Global;
 use std::io::Write;
 use std::thread::{Threads, join_mut};
 
-/// The data of a file that come next, the number of bytes that may follow with them, and the hits after them.
+/// The next data of a file, the number of bytes that may follow, these included, and the hits after
+/// them.
 #[derive(Drop)]
 pub(crate) struct Ahead<'h> {
     pub(crate) alloc: Global,
@@ -27,7 +28,7 @@ pub(crate) struct Ahead<'h> {
     pub(crate) rest: &'h [Hit],
 }
 
-/// Reads the first data of a file, of which as many bytes may follow as the item has.
+/// Reads the first data of a file. As many bytes may follow as the item has.
 ///
 /// # Errors
 ///
@@ -51,7 +52,7 @@ pub(crate) fn open_file<'h, D: Drive>(
     })
 }
 
-/// Writes the data that come next, and reads those after them.
+/// Writes the next data, and reads those after them.
 ///
 /// # Errors
 ///
@@ -79,7 +80,7 @@ pub(crate) fn write_ahead<D: Drive, W: Write>(
     Ok(())
 }
 
-/// Writes the data that come next and reads those after them, while another thread digests the former.
+/// Writes the next data and reads those after them, while another thread digests the former.
 ///
 /// # Errors
 ///
@@ -107,7 +108,7 @@ fn put_ahead_beside<D: Drive, W: Write>(
     written
 }
 
-/// Digests the data that come last, and writes them.
+/// Digests the last data, and writes them.
 ///
 /// # Errors
 ///
@@ -126,7 +127,8 @@ fn put_last_ahead<W: Write>(
     Ok(())
 }
 
-/// Writes what is left of a file, a window at a time. The data of the last window are digested in this thread.
+/// Writes the rest of a file, a window at a time. The data of the last window are digested in this
+/// thread.
 ///
 /// # Errors
 ///
@@ -150,12 +152,12 @@ pub(crate) fn put_rest<D: Drive, W: Write>(
     put_last_ahead(reading, ahead, writer)
 }
 
-/// Returns the bytes that were read, which are not in memory, if they are as many as those of the item and have
-/// the same digest.
+/// Returns the bytes that were read, which are not in memory, if they have the length and the
+/// digest of the item's bytes.
 ///
 /// # Errors
 ///
-/// `NoDriveLeft` if they are others.
+/// `NoDriveLeft` if they differ.
 pub(crate) fn finish(alloc: Global, reading: Reading, item: &Item) -> Result<FileBytes, PartsFault>
     ensures bytes { IfOk result (λ bytes. bytes ≡ reading) }
     ensures alike { IfOk result (λ bytes. AreAlike bytes item.now.bytes) }

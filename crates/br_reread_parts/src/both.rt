@@ -1,5 +1,5 @@
-//! Two files of which the data are written side by side, a window of each at a time. This thread writes the data of
-//! both and reads those of the next windows, while two other threads digest the former.
+//! Two files whose data are written side by side, a window of each at a time. This thread writes
+//! the data of both and reads those of the next windows, while two other threads digest the former.
 ghost use Rattle.std.specs.Prelude.{◌≡◌, ◌++◌, IfOk};
 ghost use Rattle.br_data.specs.ManyDrives.{GoOn};
 ghost use Rattle.br_reread_parts.specs.FileParts.{WritesFew};
@@ -24,14 +24,14 @@ pub struct PlainFile<'h, 'i> {
     pub item: &'i Item,
 }
 
-/// The bytes of two files that are digested.
+/// The digested bytes of two files.
 #[derive(Drop)]
 pub(crate) struct BothRead {
     pub(crate) one: Reading,
     pub(crate) other: Reading,
 }
 
-/// The data of two files that come next.
+/// The next data of two files.
 #[derive(Drop)]
 pub(crate) struct BothAhead<'h> {
     pub(crate) one: Ahead<'h>,
@@ -63,12 +63,12 @@ pub(crate) fn open_two<'h, D: Drive>(
     })
 }
 
-/// Writes the data that come next of two files, and reads those after them. Returns the fault of the second file,
-/// if it failed.
+/// Writes the next data of two files, and reads those after them. Returns the fault of the second
+/// file, if it failed.
 ///
 /// # Errors
 ///
-/// As `write_ahead`, of the first file.
+/// As `write_ahead` for the first file.
 #[tactic(auto, using(br_data::proofs::GoOnLaws::go_more, crate::proofs::PartLaws::few_none))]
 fn write_both_ahead<D: Drive, W: Write>(
     many: &mut OverMany<'_, D>,
@@ -90,8 +90,8 @@ fn write_both_ahead<D: Drive, W: Write>(
     }
 }
 
-/// Writes the data that come next of two files and reads those after them, while another thread digests those of
-/// the second. Returns the fault of the second file, if it failed.
+/// Writes the next data of two files and reads those after them, while another thread digests those
+/// of the second. Returns the fault of the second file, if it failed.
 ///
 /// # Errors
 ///
@@ -122,7 +122,7 @@ fn put_other_beside<D: Drive, W: Write>(
     written
 }
 
-/// Writes the data that come next of two files and reads those after them, while two other threads digest the
+/// Writes the next data of two files and reads those after them, while two other threads digest the
 /// former. Returns the fault of the second file, if it failed.
 ///
 /// # Errors
@@ -157,8 +157,8 @@ fn put_both_beside<D: Drive, W: Write>(
     written
 }
 
-/// Writes two files side by side, as long as hits of both are left. Returns the fault of the second file, if it
-/// failed: then it stops.
+/// Writes two files side by side, while both have hits left. Stops if the second file fails, and
+/// returns its fault.
 ///
 /// # Errors
 ///
@@ -188,7 +188,7 @@ fn put_while_both<D: Drive, W: Write>(
     Ok(None)
 }
 
-/// Writes what is left of the second file. Returns its fault, if it failed.
+/// Writes the rest of the second file. Returns its fault, if it failed.
 fn put_other_rest<D: Drive, W: Write>(
     rt: &impl Threads,
     many: &mut OverMany<'_, D>,
@@ -206,8 +206,8 @@ fn put_other_rest<D: Drive, W: Write>(
     }
 }
 
-/// Writes two files: side by side, until one of them ends, and then the other one alone. Returns the fault of the
-/// second file, if it failed: then the first one is written alone.
+/// Writes two files: side by side, until one of them ends, and then the other one alone. If the
+/// second file fails, writes the first one alone, and returns the fault.
 ///
 /// # Errors
 ///

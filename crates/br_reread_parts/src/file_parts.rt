@@ -1,5 +1,5 @@
-//! A file of which the plain data are read again while it is put. While the data of one window are digested
-//! in another thread they are written, and those of the next one are read: these two are in memory.
+//! A file whose plain data are read again while it is put. While another thread digests the data of
+//! one window, they are written, and those of the next one are read: these two are in memory.
 ghost use Rattle.std.specs.Prelude.{◌≡◌, ◌+◌, ◌≤◌, [], length, IfOk, OnErr, OnOk};
 ghost use Rattle.std.specs.Io.KnownBytes.{Appends};
 ghost use Rattle.br_join.specs.Plain.{plain_bytes};
@@ -23,8 +23,8 @@ use std::io;
 use std::io::{ErrorKind, Write};
 use std::thread::{Threads, join_mut};
 
-/// What was read of a file, digested and written, the data that come next, and the number of bytes that may
-/// follow with them.
+/// What was read of a file, digested and written; the next data; and the number of bytes that may
+/// follow, these included.
 #[derive(Drop)]
 struct Begun {
     read: Reading,
@@ -40,11 +40,11 @@ fn write_fault(error: io::Error) -> PartsFault {
     }
 }
 
-/// Returns the data of a hit in memory.
+/// Returns the data of a hit, in memory.
 ///
 /// # Errors
 ///
-/// `NoDriveLeft` if no drive gives as many bytes, and `Memory` if memory runs out.
+/// `NoDriveLeft` if no drive gives this number of bytes, and `Memory` if memory runs out.
 fn read_part<D: Drive>(
     alloc: Global,
     many: &mut OverMany<'_, D>,
@@ -105,12 +105,12 @@ pub(crate) fn read_window<D: Drive>(
     Ok(window)
 }
 
-/// Writes the bytes that follow.
+/// Writes the next bytes.
 ///
 /// # Errors
 ///
-/// `NoDriveLeft` if they are more than may follow. `Fault` if the writer failed, and `Memory` if memory
-/// ran out.
+/// `NoDriveLeft` if there are more than may follow. `Fault` if the writer failed, and `Memory` if
+/// memory ran out.
 fn write_next<W: Write>(left: &mut u64, bytes: &[u8], writer: &mut W) -> Result<(), PartsFault>
     ensures left { OnOk result (left.new + length bytes.now ≡ left.old) }
     ensures written { OnOk result (Appends (W.contents writer.old) (W.contents writer.new) bytes.now) }
@@ -186,7 +186,7 @@ pub(crate) fn write_and_read<D: Drive, W: Write>(
     read_window(alloc, many, next)
 }
 
-/// Writes the data that come next, and reads those after them, while another thread digests them.
+/// Writes the next data, and reads those after them, while another thread digests them.
 ///
 /// # Errors
 ///
@@ -219,7 +219,7 @@ fn put_beside<D: Drive, W: Write>(
     Ok(())
 }
 
-/// Digests the data that come last, and writes them.
+/// Digests the last data, and writes them.
 ///
 /// # Errors
 ///
@@ -233,8 +233,8 @@ fn put_last<W: Write>(begun: &mut Begun, writer: &mut W) -> Result<(), PartsFaul
     write_window(&mut begun.left, &begun.window, writer)
 }
 
-/// Reads the plain data of the hits, a window of them at a time, and writes them. Those of the last window,
-/// and so of a file that has no other, are digested in this thread, and the others in another one.
+/// Reads the plain data of the hits, a window at a time, and writes them. This thread digests those
+/// of the last window (in a small file it is the only one), and another thread digests the others.
 ///
 /// # Errors
 ///
@@ -266,12 +266,12 @@ fn write_hits<D: Drive, W: Write>(
     put_last(begun, writer)
 }
 
-/// Writes the plain data of the hits, if they are as many bytes as those of the item and have the same
-/// digest. Returns these bytes, which are not in memory.
+/// Writes the plain data of the hits, if they have the length and the digest of the item's bytes.
+/// Returns these bytes, which are not in memory.
 ///
 /// # Errors
 ///
-/// As `write_hits`, and `NoDriveLeft` if they are others.
+/// As `write_hits`, and `NoDriveLeft` if they differ.
 #[tactic(auto, using(crate::proofs::PartLaws::some_of_few))]
 fn write_file<D: Drive, W: Write>(
     rt: &impl Threads,
@@ -311,7 +311,7 @@ pub(crate) struct FileParts<'h, 'b, D: Drive, R> {
 }
 
 impl<'h, 'b, D: Drive, R: Threads> FileParts<'h, 'b, D, R> {
-    /// Returns those of the file with these hits.
+    /// Returns the source for the file with these hits.
     pub(crate) fn new(
         rt: &'h R,
         alloc: Global,
@@ -329,7 +329,7 @@ impl<'h, 'b, D: Drive, R: Threads> FileParts<'h, 'b, D, R> {
         }
     }
 
-    /// Returns what reads the data again.
+    /// Returns the drives that read the data again.
     pub(crate) fn into_many(self) -> OverMany<'b, D>
         ensures { result ≡ self.entry.many }
     {

@@ -1,4 +1,4 @@
-//! Files of which the plain data are read again while they are put, a window of them at a time.
+//! Files whose plain data are read again while they are put, a window at a time.
 #![tactic(auto)]
 
 mod ahead;

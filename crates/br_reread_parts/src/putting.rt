@@ -22,7 +22,7 @@ use std::thread::Threads;
 ///
 /// # Errors
 ///
-/// The sink has what it had; one that does not tell its files may hold a part of this one.
+/// The sink has what it had; one that does not report its files may hold a part of this one.
 ///
 /// - `NoDriveLeft` if no drive is left that gives such data.
 /// - `Fault` if the sink failed.
@@ -50,11 +50,12 @@ pub fn put_plain<D: Drive, S: Sink>(
     }
 }
 
-/// Puts two files like these into a sink, side by side. The plain data of their hits are read again while they are
-/// put. Returns `None`, and the sink has what it had, if it puts one file at a time.
+/// Puts two files like these into a sink, side by side. The plain data of their hits are read again
+/// while they are put. Returns `None`, and the sink has what it had, if it puts one file at a time.
 ///
-/// The two have different paths, and neither is below the other: a caller sees to that. If the first can't be put,
-/// neither is. Of a file that was not put, a sink that does not tell its files may hold a part.
+/// The caller makes sure that the two paths differ and that neither is below the other. If the
+/// first can't be put, neither is. Of a file that was not put, a sink that does not report its
+/// files may hold a part.
 pub fn put_two_plain<D: Drive, S: Sink>(
     rt: &impl Threads,
     alloc: Global,

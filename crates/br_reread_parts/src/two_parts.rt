@@ -1,4 +1,4 @@
-//! What reads the data of two files again, side by side, while both are put.
+//! Reads the data of two files again, side by side, while both are put.
 ghost use Rattle.std.specs.Prelude.{◌≡◌, None, Ok};
 ghost use Rattle.br_data.specs.ManyDrives.{GoOn};
 ghost use Rattle.br_sink.specs.TwoParts.{AreTwoAlike, AreTwoSame, WritesTwo};
@@ -15,7 +15,8 @@ use std::alloc::Global;
 use std::io::Write;
 use std::thread::Threads;
 
-/// Returns what became of two files, of which the first was put with these bytes, and the second read to its end.
+/// Returns the result for two files: the first was put with these bytes, and the second was read to
+/// its end.
 fn after_both(alloc: Global, one: FileBytes, reading: Reading, other: &Item) -> TwoPut
     ensures { EndsAs result None one reading other.now }
 {
@@ -25,8 +26,8 @@ fn after_both(alloc: Global, one: FileBytes, reading: Reading, other: &Item) -> 
     }
 }
 
-/// Returns what became of two files, of which the first was put with these bytes. The second failed with this fault,
-/// or was read to its end.
+/// Returns the result for two files: the first was put with these bytes, and the second failed with
+/// this fault, or was read to its end.
 fn after_first(
     alloc: Global,
     one: FileBytes,
@@ -42,8 +43,8 @@ fn after_first(
     }
 }
 
-/// Returns what became of two files, of which the first was read to its end. The second failed with this fault, or
-/// was read to its end.
+/// Returns the result for two files: the first was read to its end, and the second failed with this
+/// fault, or was read to its end.
 fn after_reading(
     alloc: Global,
     read: BothRead,
@@ -63,7 +64,7 @@ fn after_reading(
     }
 }
 
-/// Returns what became of two files after what could be read of them was written.
+/// Returns the result for two files after what could be read of them was written.
 fn two_put(
     alloc: Global,
     read: BothRead,
@@ -90,7 +91,7 @@ pub(crate) struct BothParts<'h, 'b, D: Drive, R> {
 }
 
 impl<'h, 'b, D: Drive, R: Threads> BothParts<'h, 'b, D, R> {
-    /// Returns those of the files with these hits.
+    /// Returns the source for the files with these hits.
     pub(crate) fn new(
         rt: &'h R,
         alloc: Global,
@@ -111,15 +112,15 @@ impl<'h, 'b, D: Drive, R: Threads> BothParts<'h, 'b, D, R> {
         }
     }
 
-    /// Returns what reads the data again.
+    /// Returns the drives that read the data again.
     pub(crate) fn into_many(self) -> OverMany<'b, D>
         ensures { result ≡ self.entry.many }
     {
         self.many
     }
 
-    /// Writes the plain data of two files, each if they are as many bytes as those of its item and have the same
-    /// digest.
+    /// Writes the plain data of two files, each if they have the length and the digest of its
+    /// item's bytes.
     fn write_two<W: Write>(
         &mut self,
         one: &Item,

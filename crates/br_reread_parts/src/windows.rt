@@ -1,4 +1,4 @@
-//! Windows: the hits that are read before the data of the ones before them are digested.
+//! Windows: the hits that are read before the data of the hits before them are digested.
 ghost use Rattle.std.specs.Prelude.{◌≡◌, ◌<◌, ◌≤◌, ◌++◌, ◌-◌, length, IfOk, OnOk};
 ghost use Rattle.br_reread_parts.specs.Windows.{data_bytes};
 
@@ -6,20 +6,22 @@ use br_data::{Data, Reading};
 use br_match::Hit;
 use std::alloc::{AllocError, Global};
 
-/// The number of bytes with which a window of a file that is digested is full. A single drive has four of them at
-/// once, and each of several has two.
+/// The size in bytes of a window of a file that is digested. A single drive has four of them at
+/// once, and each of several drives has two.
 pub const DIGESTED: usize = 1 << 20;
 
-/// The number of bytes with which a window of a file that is put is full. One file is put at a time, or two, so all
-/// drives together have two or four, and there is room for longer ones: a thread begins and ends for each.
+/// The size in bytes of a window of a file that is put. One or two files are put at a time, so all
+/// drives together have two or four windows, and there is room for longer ones: a thread begins and
+/// ends for each.
 pub(crate) const PUT: usize = 1 << 22;
 
-/// Returns the number of bytes that a hit has.
+/// Returns the number of bytes in a hit.
 fn len_of(hit: &Hit) -> usize {
     hit.data.len()
 }
 
-/// Returns how many of the first hits are in a window of this size: one at least, and no more than fill it.
+/// Returns the number of hits in the first window of this size: at least one, and no more than fill
+/// it.
 fn window_len(hits: &[Hit], size: usize) -> usize
     requires { 0 < length hits.now }
     ensures some { 0 < result }
@@ -41,7 +43,7 @@ pub struct Cut<'h> {
     pub rest: &'h [Hit],
 }
 
-/// Cuts off the first window, which is full with this number of bytes.
+/// Cuts off the first window, which is full at this number of bytes.
 pub fn cut_window(hits: &[Hit], size: usize) -> Cut<'_>
     ensures joined { result.window.now ++ result.rest.now ≡ hits.now }
     ensures fewer { length result.rest.now ≤ length hits.now - 1 }

@@ -175,7 +175,7 @@ front_more flags k os i o less is each =
     ∙ ap (λ (rs : List Restored). wanted_of flags (take i os) ++ rs) (one_flag k o)
 
 module _ (ways after : Ways) (flags : List Bool) (left : List (List ℕ)) (wanted : List Bool) (os : List (FileKey × Outcome)) (place : ℕ) (o : FileKey × Outcome) (less : place < length os) (is : get_or os place o ≡ o) (w : Walked ways flags left wanted os place) where
-  -- the outcomes that are left, of which the first is wanted or not
+  -- the outcomes that are left; the first is wanted or not
   rest_wanted : drop place wanted ≡ true ∷ drop (place + 1) wanted
       → wanted_of (drop place wanted) (drop place os) ≡ restored o ∷ wanted_of (drop (place + 1) wanted) (drop (place + 1) os)
   rest_wanted e =

@@ -21,7 +21,7 @@ use Rattle.br_sink.specs.declared.fault.SinkFault.TheVariants.{Memory, Fault as 
 
 -- ---- paths put one after another
 
--- the paths of files in front of other paths, the last first
+-- the paths of files before other paths, the last first
 abbrev pub paths_behind : List (List ℕ) → List model.Item → List (List ℕ)
 paths_behind paths [] = paths
 paths_behind paths (item ∷ more) = paths_behind (item.path ∷ paths) more
@@ -42,7 +42,7 @@ free_first : (b : Bool) (s : Stop) (r : Result (Unit {0}) Stop) → cond b (Err 
 free_first true s r h = absurd cc
 free_first false s r h = (refl, h)
 
--- files behind others that are apart
+-- files after others that are apart
 pub put_more : (paths : List (List ℕ)) (items more : List model.Item) → put_behind paths items ≡ Ok tt
     → put_behind paths (items ++ more) ≡ put_behind (paths_behind paths items) more
 unfolding put_behind
@@ -51,14 +51,14 @@ put_more paths (item ∷ items) more apart =
     let first = free_first (list_any (in_the_way item.path) paths) (stop_at paths) (put_behind (item.path ∷ paths) items) apart in
     ap (λ b. cond b (Err (stop_at paths)) (put_behind (item.path ∷ paths) (items ++ more))) first.0 ∙ put_more (item.path ∷ paths) items more first.1
 
--- one that is free behind those
+-- a free file after those
 pub apart_one_more : (items : List model.Item) (item : model.Item) → AreApart items → list_any (in_the_way item.path) (paths_behind [] items) ≡ false
     → AreApart (items ++ item ∷ [])
 unfolding put_behind
 apart_one_more items item apart free =
     put_more [] items (item ∷ []) apart ∙ ap (λ b. cond b (Err (stop_at (paths_behind [] items))) (Ok tt)) free
 
--- one in the way behind those
+-- a conflicting file after those
 pub stopped_at : (items more : List model.Item) (item : model.Item) → AreApart items → list_any (in_the_way item.path) (paths_behind [] items) ≡ true
     → put_behind [] (items ++ item ∷ more) ≡ Err (record { number = 81; done = length items })
 unfolding put_behind
@@ -88,7 +88,7 @@ pub items_one_more : (os : List (FileKey × Outcome)) (i : ℕ) (o : FileKey × 
 items_one_more os i o less is =
     ap items_in (take_more os i o less ∙ ap (λ (p : FileKey × Outcome). take i os ++ p ∷ []) is) ∙ items_of_both (take i os) (o ∷ [])
 
--- those before an outcome, its own, and those behind it
+-- the files before an outcome, its own, and those after it
 pub items_around : (os : List (FileKey × Outcome)) (i : ℕ) (o : FileKey × Outcome) → i < length os → get_or os i o ≡ o
     → items_in os ≡ items_in (take (i + 1) os) ++ items_in (drop (i + 1) os)
 items_around os i o less is = ap items_in (sym (take-append-drop (i + 1) os)) ∙ items_of_both (take (i + 1) os) (drop (i + 1) os)
@@ -166,7 +166,7 @@ pub not_true : (a b : Bool) → a ≡ not b → a ≡ true → b ≡ false
 not_true a true is h = absurd cc
 not_true a false is h = refl
 
--- the outcomes up to a file of which the path is in the way
+-- the outcomes up to a file whose path conflicts
 pub stand_before : (os : List (FileKey × Outcome)) (place files : ℕ) (item : model.Item) (rest : List model.Item)
     → place < length os → files ≡ length (items_in (take place os)) → items_in os ≡ items_in (take place os) ++ item ∷ rest → AreApart (items_in (take place os))
     → list_any (in_the_way item.path) (paths_behind [] (items_in (take place os))) ≡ true → StandApart os place files
@@ -210,7 +210,7 @@ memory_stop (item ∷ items) some = record {
   at_it = λ _. one_apart (item ∷ items);
 }
 
--- the files that outcomes in front have are the first files
+-- the files of the first outcomes are the first files
 pub taken_items : (os : List (FileKey × Outcome)) (place n : ℕ) → n ≤ length (items_in (take place os)) → take n (items_in os) ≡ take n (items_in (take place os))
 taken_items os place n few =
     let front : List model.Item = items_in (take place os) in
@@ -259,12 +259,12 @@ module _ (os : List (FileKey × Outcome)) (place files : ℕ) (stands : StandApa
     at_it = λ other. absurd (other refl);
   }
 
--- a stop for want of memory or of the sink says nothing of the model
+-- a stop for memory that ran out or for the sink says nothing of the model
 pub no_cause : (stop : Stop) (rs : List Restored) → (stop.number ≡ 1) ⊎ (stop.number ≡ 80) → IsRefusal (stop_cause stop) (delivery rs)
 no_cause stop rs (inl one) = rw one tt
 no_cause stop rs (inr eighty) = rw eighty tt
 
--- the stop at a file whose path is in the way is the model's
+-- the stop at a file whose path conflicts is the model's
 pub way_refused : (rs : List Restored) (files : ℕ) → put_behind [] (filter_map item_of rs) ≡ Err (record { number = 81; done = files })
     → IsRefusal (stop_cause (record { number = 81; done = files })) (delivery rs)
 unfolding delivery

@@ -15,7 +15,7 @@ append_nil (x ∷ xs) = ap (λ ys. x ∷ ys) (append_nil xs)
 
 -- ---- fields with a byte between two
 
--- a byte in front of every field but the first
+-- a byte before every field but the first
 joined : (byte : ℕ) (first : List ℕ) (fields : List (List ℕ)) → join_with_byte byte (first ∷ fields) ≡ first ++ flat_map (λ field. byte ∷ field) fields
 joined byte first [] = sym (append_nil first)
 joined byte first (field ∷ fields) = ap (λ t. first ++ byte ∷ t) (joined byte field fields)
@@ -34,12 +34,12 @@ stat_joined s ns text front same is =
     ap (λ (ms : List ℤ). front ++ commas (take 13 (drop 1 ms))) same ∙ ap (λ t. t ++ commas behind) first ∙ append_assoc text (signed_decimal s.dev) (commas behind)
     ∙ ap (λ t. text ++ t) (sym (joined 44 (signed_decimal s.dev) (map signed_decimal behind) ∙ ap (λ t. signed_decimal s.dev ++ t) (commas_map behind)))
 
--- pieces in front of a last one
+-- pieces before a last one
 abbrev before : List (List ℕ) → List ℕ → List ℕ
 before [] last = last
 before (piece ∷ pieces) last = piece ++ before pieces last
 
--- pieces that are written one behind the other
+-- pieces that are written one after another
 written : (text last : List ℕ) (pieces : List (List ℕ)) → fold (λ t piece. t ++ piece) text pieces ++ last ≡ text ++ before pieces last
 written text last [] = refl
 written text last (piece ∷ pieces) = written (text ++ piece) last pieces ∙ append_assoc text piece (before pieces last)

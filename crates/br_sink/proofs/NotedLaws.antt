@@ -1,4 +1,4 @@
--- The file among outcomes that has so many files before it.
+-- The file among outcomes that has a given number of files before it.
 use Rattle.std.proofs.Common.{◌≡◌, ℕ, ◌+◌, ◌<◌, List, [], ◌∷◌, ◌++◌, take, drop, length, ap, sym, subst, ◌∙◌, arith, get_or, length-append}
 use Rattle.std.proofs.Math.Seq.{take-append_seam}
 use Rattle.br_model.specs.File.{Item}
@@ -10,7 +10,7 @@ use Rattle.br_sink.proofs.DeliveryLaws.{items_at, items_file, items_fault, items
 use Rattle.br_sink.specs.KeepGoing.{IsFileAt}
 
 module _ (os : List (FileKey × Outcome)) (i : ℕ) (o : FileKey × Outcome) (less : i < length os) (is : o ≡ get_or os i o) where
-  -- it is at the place before which there are so many
+  -- it is at the place after this number of files
   pub file_here : (item : Item) (place left count : ℕ) → o.1 ≡ File item → place ≡ i → left ≡ 0 → left + length (items_in (take i os)) ≡ count
       → IsFileAt os count place item
   file_here item place left count file here none sum =

@@ -78,7 +78,7 @@ rest_is (suc place) (x ∷ xs) =
     let less : length (x ∷ xs) - suc place ≡ length xs - place = omega arith in
     ap (λ (k : ℕ). take k (drop place xs)) less ∙ rest_is place xs
 
--- so many are left
+-- this number is left
 pub length_left : {X : Type 0} (place : ℕ) (xs : List X) → place ≤ length xs → place + length (drop place xs) ≡ length xs
 length_left zero xs few = omega arith
 length_left (suc place) [] few = absurd (omega (arith, few))

@@ -16,18 +16,19 @@ abbrev pub is_free : List (List ℕ) → Option Item → Bool
 is_free paths None = true
 is_free paths (Some item) = not (list_any (in_the_way item.path) paths)
 
--- the path of a file before others
+-- appends the path of a file to other paths, at the front
 abbrev pub with_path : List (List ℕ) → Option Item → List (List ℕ)
 with_path paths None = paths
 with_path paths (Some item) = item.path ∷ paths
 
--- what is kept beside these paths: each outcome that conflicts neither with one of them nor with one kept before it
+-- what is kept, given these paths: each outcome that conflicts neither with one of them nor with
+-- one kept before
 abbrev pub apart_beside : List (List ℕ) → List Restored → List Restored
 apart_beside paths [] = []
 apart_beside paths (r ∷ rs) =
     if is_free paths (item_of r) then r ∷ apart_beside (with_path paths (item_of r)) rs else apart_beside paths rs
 
--- the paths of the files that are left out beside these paths
+-- the paths of the files that are left out, given these paths
 abbrev pub conflicts_beside : List (List ℕ) → List Restored → List (List ℕ)
 conflicts_beside paths [] = []
 conflicts_beside paths (r ∷ rs) =
@@ -51,8 +52,8 @@ ApartStayWhole = (rs : List Restored) → AreApart (filter_map item_of rs) → (
 
 -- ---- the search
 
--- Whichever paths are noted, an outcome that is wanted is kept if it conflicts with none of them, and then its path is noted, too. One
--- that is not wanted is not kept.
+-- Whichever paths are noted: a wanted outcome is kept if it conflicts with none of them, and then
+-- its path is noted too. An outcome that is not wanted is not kept.
 abbrev pub IsKept : Ways → Ways → Bool → Option Item → Bool → Type 0
 IsKept before after wanted item kept =
     (paths : List (List ℕ)) → Noted before paths

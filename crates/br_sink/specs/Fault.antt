@@ -18,6 +18,6 @@ cause_number stop.Fault = 80
 cause_number stop.Conflict = 81
 cause_number stop.NoDriveLeft = 70
 
--- the fault of a file, with the stream that it is about
+-- the fault of a file, with the stream that it names
 abbrev pub fault_of : ℕ → ℕ → model.Fault
 fault_of n s = record { number = n; stream = s }

@@ -1,4 +1,4 @@
--- Files of which the bytes are read again, part by part, while they are put.
+-- Files whose bytes are read again, part by part, while they are put.
 use Rattle.std.specs.Prelude.{◌≡◌, ℕ, ◌≤◌, List, length, Option}
 use Rattle.std.specs.Io.KnownBytes.{Appends}
 use Rattle.md5.specs.Md5.{md5}
@@ -19,7 +19,7 @@ abbrev pub parts_fault : SinkFault → PartsFault
 parts_fault sink.Memory = parts.Memory
 parts_fault sink.Fault = parts.Fault
 
--- as many bytes, with the same digest
+-- the same number of bytes, with the same digest
 abbrev pub AreAlike : List ℕ → List ℕ → Type 0
 AreAlike one other = (length one ≡ length other) × (md5 one ≡ md5 other)
 
@@ -34,7 +34,7 @@ with_bytes item bytes = record {
   skipped = item.skipped;
 }
 
--- some bytes were written, as many as these at most
+-- some bytes were written, at most as many as these
 pub record WritesSome (wanted : List ℕ) (before after : Option (List ℕ)) : Type 0 where
   pub bytes : List ℕ
   pub few : length bytes ≤ length wanted

@@ -2,7 +2,8 @@
 use Rattle.std.specs.Prelude.{ℕ, ◌+◌, ◌-◌, List, [], ◌∷◌, ◌++◌}
 use Rattle.br_model.specs.File.{Item}
 
--- the files that were put, the how manieth put from now on fails (0: none), and how often it has failed
+-- the files that were put, the index of the put that fails, counted from now on (0: none), and the
+-- number of failures
 pub record Kept : Type 0 where
   pub items : List Item
   pub fails_at : ℕ
@@ -12,7 +13,7 @@ pub record Kept : Type 0 where
 abbrev pub with_put : Item → Kept → Kept
 with_put item sink = record { items = sink.items ++ item ∷ []; fails_at = sink.fails_at - 1; failures = sink.failures }
 
--- the sink after a put that was refused for want of memory
+-- the sink after a put that was refused since memory ran out
 abbrev pub without_put : Kept → Kept
 without_put sink = record { items = sink.items; fails_at = sink.fails_at - 1; failures = sink.failures }
 

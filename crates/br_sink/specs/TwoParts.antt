@@ -1,4 +1,4 @@
--- Two files of which the bytes are read again, side by side, while both are put.
+-- Two files whose bytes are read again, side by side, while both are put.
 use Rattle.std.specs.Prelude.{◌≡◌, ℕ, List, [], ◌∷◌, Option, Some, None, ⊤}
 use Rattle.std.specs.Io.KnownBytes.{Appends}
 use Rattle.br_model.specs.File.{Item}
@@ -8,19 +8,20 @@ use Rattle.br_sink.specs.declared.file_parts.PartsFault.TheVariants as parts
 use Rattle.br_sink.specs.declared.two_parts.TwoPut.{TwoPut}
 use Rattle.br_sink.specs.declared.two_parts.TwoPut.TheVariants.{Both, One, Neither}
 
--- What was written of two files: all bytes of one that was put, and of one that was not some bytes, as many as it has at most.
+-- What was written of two files: all bytes of a file that was put, else at most as many bytes as
+-- the file has.
 abbrev pub WritesTwo : Item → Item → Option (List ℕ) → Option (List ℕ) → Option (List ℕ) → Option (List ℕ) → TwoPut → Type 0
 WritesTwo one other a b c d (Both x y) = Appends a b x × Appends c d y
 WritesTwo one other a b c d (One x why) = Appends a b x × WritesSome other.bytes c d
 WritesTwo one other a b c d (Neither why) = WritesSome one.bytes a b × WritesSome other.bytes c d
 
--- what was put of two files has as many bytes as was found, with the same digests
+-- each file that was put has as many bytes as were found, with the same digest
 abbrev pub AreTwoAlike : Item → Item → TwoPut → Type 0
 AreTwoAlike one other (Both x y) = AreAlike x one.bytes × AreAlike y other.bytes
 AreTwoAlike one other (One x why) = AreAlike x one.bytes
 AreTwoAlike one other (Neither why) = ⊤
 
--- what was put of two files has the bytes that were found
+-- each file that was put has the bytes that were found
 abbrev pub AreTwoSame : Item → Item → TwoPut → Type 0
 AreTwoSame one other (Both x y) = (x ≡ one.bytes) × (y ≡ other.bytes)
 AreTwoSame one other (One x why) = x ≡ one.bytes
@@ -33,13 +34,13 @@ two_put one other (Some (One x why)) = with_bytes one x ∷ []
 two_put one other (Some (Neither why)) = []
 two_put one other None = []
 
--- why one of two files was not put
+-- why a file of the two was not put
 abbrev pub why_of : TwoPut → Option PartsFault
 why_of (Both x y) = None
 why_of (One x why) = Some why
 why_of (Neither why) = Some why
 
--- one of two files was not put for a fault of the sink
+-- a file of the two was not put since the sink failed
 abbrev pub FailsTwo : Option TwoPut → Type 0
 FailsTwo None = ⊥
 FailsTwo (Some two) = why_of two ≡ Some parts.Fault

@@ -1,4 +1,4 @@
-//! What is kept of a delivery that leaves out conflicts.
+//! Laws of a delivery that leaves out conflicts.
 ghost use Rattle.br_sink.specs.ConflictsApart.{ApartStayWhole, KeptAreApart};
 
 /// No two of the files that are kept conflict.

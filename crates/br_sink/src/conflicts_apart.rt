@@ -8,16 +8,16 @@ use br_join::Outcome;
 use br_types::{FileKey, Path, Ways, is_next};
 use std::alloc::{AllocError, Global};
 
-/// Which of some outcomes are delivered, and which files are left out.
+/// The outcomes that are delivered, and the files that are left out.
 #[derive(Drop)]
 pub struct Apart {
-    /// Of each outcome if it is delivered.
+    /// For each outcome, true if it is delivered.
     pub flags: Vec<bool>,
     /// The paths of the files that are left out, in their order.
     pub left: Vec<Path>,
 }
 
-/// Returns if the outcome conflicts with none noted before, and then notes its path.
+/// Returns true if the outcome conflicts with none noted before. Then its path is noted.
 fn is_apart<'o>(ways: &mut Ways<'o>, key: FileKey, outcome: &'o Outcome) -> Result<bool, AllocError>
     ensures { IfOk result (IsKept ways.old ways.new true (item_of (restored (key, outcome.now)))) }
 {
@@ -27,7 +27,8 @@ fn is_apart<'o>(ways: &mut Ways<'o>, key: FileKey, outcome: &'o Outcome) -> Resu
     }
 }
 
-/// Returns if the outcome is delivered, if it is wanted, and then notes its path.
+/// Returns true if the outcome is wanted and conflicts with none noted before. Then its path is
+/// noted.
 fn is_kept<'o>(
     ways: &mut Ways<'o>,
     wanted: bool,
@@ -42,7 +43,7 @@ fn is_kept<'o>(
     is_apart(ways, key, outcome)
 }
 
-/// Returns if a file is left out.
+/// Returns true if a file is left out.
 fn is_out(wanted: bool, kept: bool) -> bool
     ensures { result ≡ (wanted && not kept) }
 {

@@ -1,4 +1,4 @@
-//! Files of a delivery, a list that only contracts read. It takes no bytes.
+//! Files of a delivery: a list for contracts only. It takes no bytes.
 ghost use Rattle.std.specs.Prelude.{◌≡◌, ◌++◌, ◌∷◌, [], List};
 ghost use Rattle.std.specs.Borrow.{ftrue};
 ghost use Rattle.br_model.specs.File as model;

@@ -37,8 +37,8 @@ pub fn stand_apart(
     Ok((place, files))
 }
 
-/// Puts the files among the outcomes into a sink, in their order, and passes over the faults. A file whose
-/// path was put before is put again.
+/// Puts the files among the outcomes into a sink, in their order, and skips the faults. A file
+/// whose path was put before is put again.
 ///
 /// # Errors
 ///

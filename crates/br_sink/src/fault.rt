@@ -7,7 +7,7 @@ use std::alloc::AllocError;
 use std::marker::Model;
 use thiserror::Error;
 
-/// Why a sink did not take a file.
+/// The reason why a sink did not take a file.
 #[derive(Clone, Copy, Debug, PartialEq, Eq, Error)]
 pub enum SinkFault {
     #[error("out of memory")]
@@ -36,7 +36,7 @@ impl From<AllocError> for SinkFault {
     }
 }
 
-/// Why a delivery stopped at a file.
+/// The reason why a delivery stopped at a file.
 #[derive(Clone, Copy, Debug, PartialEq, Eq, Error)]
 pub enum StopCause {
     #[error("out of memory")]
@@ -59,7 +59,7 @@ impl From<AllocError> for StopCause {
     }
 }
 
-/// After how many files a delivery stopped, and why.
+/// A stop of a delivery: the number of files before it, and the reason.
 #[derive(Debug, Drop, Error)]
 #[error("stopped after {done} files: {cause}")]
 pub struct SinkStop {
@@ -114,7 +114,7 @@ impl SinkStop {
         }
     }
 
-    /// Returns the number of files that were put before.
+    /// Returns the number of files that were put before the stop.
     pub fn done(&self) -> u64
         ensures { result ≡ self.now.done }
     {

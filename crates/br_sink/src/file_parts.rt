@@ -1,4 +1,4 @@
-//! Files of which the bytes are read again, part by part, while they are put.
+//! Files whose bytes are read again, part by part, while they are put.
 ghost use Rattle.std.specs.Prelude.{◌≡◌, Err, IfOk, OnErr};
 ghost use Rattle.std.specs.Io.KnownBytes.{Appends};
 ghost use Rattle.br_model.specs.File as model;
@@ -56,20 +56,20 @@ impl From<SinkFault> for PartsFault {
     }
 }
 
-/// What reads the bytes of a file again, one part after another.
+/// A source that reads the bytes of a file again, one part after another.
 pub trait Parts {
-    /// It gives the bytes of this file as they are.
+    /// It gives the bytes of this file unchanged.
     ghost gives: { Self → model.Item → Type 0 };
 
-    /// What it was before it read, and what it may be after that.
+    /// Its state before it read, and a state that it may have after that.
     ghost goes_on: { Self → Self → Type 0 };
 
-    /// Writes the bytes of the file, each part as it is read, and returns them; they are not in memory. They
-    /// are as many as those of the item, and have the same digest.
+    /// Writes the bytes of the file, each part as it is read, and returns them; they are not in
+    /// memory. They have the length and the digest of the item's bytes.
     ///
     /// # Errors
     ///
-    /// Some bytes may be written, as many as the item has at most.
+    /// Some bytes may be written, at most as many as the item has.
     ///
     /// - `NoDriveLeft` if no drive is left that gives such bytes.
     /// - `Fault` if the writer failed.
@@ -81,7 +81,7 @@ pub trait Parts {
         ensures front { OnErr result (WritesSome item.now.bytes (W.contents writer.old) (W.contents writer.new)) }
         ensures on { goes_on self.old self.new };
 
-    /// One that has read nothing went on.
+    /// The state may stay the same: then nothing was read.
     ghost stays: { (x : Self) → goes_on x x };
 }
 

@@ -1,4 +1,4 @@
-//! A sink around a sink, which goes on after a file at which that one fails.
+//! A sink around another sink. It goes on after a file at which that one fails.
 ghost use Rattle.std.specs.Prelude.{◌≡◌, ◌<◌, ◌≤◌, ◌∷◌, [], length, map, OnOk, OnErr, IfErr, IfOk, IfSome, Err, Some};
 ghost use Rattle.std.specs.Thread.{IsSync};
 ghost use Rattle.br_types.specs.declared.wanted.Stops.TheVariants.{AtFirst};
@@ -23,8 +23,8 @@ use std::marker::Model;
 use std::snapshot::Snapshot;
 use std::thread::Threads;
 
-/// A sink around a sink. With `Stops::Never` it takes a file at which that one fails, leaves it out and goes
-/// on. With `Stops::AtFirst` it stops there, as that one does.
+/// A sink around another sink. With `Stops::Never` it leaves out a file at which that one fails,
+/// and goes on. With `Stops::AtFirst` it stops there, as that one does.
 #[derive(Drop)]
 pub struct Leaving<S: Sink + Drop> {
     stops: Stops,
@@ -139,8 +139,8 @@ impl<S: Sink + Drop> Sink for Leaving<S> {
         )
     }
 
-    /// Puts two files side by side, as the sink inside does, if it stops at the first fault. Else it puts one
-    /// file at a time, since each may be left out by itself.
+    /// Puts two files side by side, as the sink inside does, if it stops at the first fault. Else
+    /// it puts one file at a time, since each may be left out alone.
     fn put_two<P: TwoParts>(
         &mut self,
         alloc: Global,

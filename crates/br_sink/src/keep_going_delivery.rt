@@ -22,7 +22,7 @@ use br_types::{FileKey, Stops};
 use std::alloc::Global;
 use std::thread::Threads;
 
-/// Returns if a delivery goes on after a stop for this reason.
+/// Returns true if a delivery goes on after a stop for this reason.
 fn goes_on(stops: Stops, cause: StopCause) -> bool
     ensures on { result ≡ true → cause_number cause ≡ 80 }
     ensures stop { result ≡ false → cause_number cause ≡ 80 → stops ≡ AtFirst }
@@ -34,8 +34,8 @@ fn goes_on(stops: Stops, cause: StopCause) -> bool
     }
 }
 
-/// Leaves out a file at which a sink failed. Returns the fault if it is not to be left out, or if memory ran
-/// out.
+/// Leaves out a file at which a sink failed. Returns the fault if the file is not to be left out,
+/// or if memory ran out.
 fn leave_at(stops: Stops, noted: &mut Noted, item: &Item, fault: SinkFault) -> Result<(), SinkFault>
     ensures left { OnOk result ((fault ≡ Fault) × Leaves noted.old noted.new item.now) }
     ensures none { OnErr result (Takes noted.old noted.new []) }
@@ -78,8 +78,8 @@ pub(crate) fn put_one<S: Sink>(
     }
 }
 
-/// Leaves out a file at which a sink failed while its bytes were read again. Returns the fault if it is not to
-/// be left out, or if memory ran out.
+/// Leaves out a file at which a sink failed while its bytes were read again. Returns the fault if
+/// the file is not to be left out, or if memory ran out.
 fn leave_parts_at(
     stops: Stops,
     noted: &mut Noted,
@@ -122,7 +122,7 @@ pub(crate) fn put_one_by_parts<S: Sink, P: Parts>(
     ensures kept { stops ≡ AtFirst → noted.new.left.items ≡ noted.old.left.items }
     ensures on { P.goes_on parts.old parts.new }
 {
-    // The copy first, so that nothing fails after the file was put.
+    // The copy is made first, so that nothing fails after the file was put.
     let mut made = copy_of(alloc, item)?;
     match sink.put_parts(alloc, item, parts) {
         Ok(bytes) => {
@@ -137,8 +137,8 @@ pub(crate) fn put_one_by_parts<S: Sink, P: Parts>(
     }
 }
 
-/// Puts two files like these into a sink, side by side, and notes those that were put. Returns `None` if the
-/// sink does not put these two so.
+/// Puts two files like these into a sink, side by side, and notes those that were put. Returns
+/// `None` if the sink does not put these two side by side.
 pub(crate) fn put_two_noted<S: Sink, P: TwoParts>(
     alloc: Global,
     sink: &mut S,
@@ -165,7 +165,8 @@ pub(crate) fn put_two_noted<S: Sink, P: TwoParts>(
     }
 }
 
-/// Leaves out the file at which a sink stopped. Returns the number of outcomes up to it, with it.
+/// Leaves out the file at which a sink stopped. Returns the number of outcomes up to this file,
+/// included.
 ///
 /// Returns the stop if no file is to be left out, or if memory ran out.
 fn pass(
@@ -196,8 +197,8 @@ fn pass(
     Ok(place + 1)
 }
 
-/// Puts files among the outcomes into a sink, all or those before the first at which it fails, which is left
-/// out. Returns the number of outcomes that are dealt with.
+/// Puts files among the outcomes into a sink: all, or those before the first at which it fails.
+/// That one is left out. Returns the number of outcomes that are dealt with.
 fn put_some<S: Sink, R: Threads + Sync>(
     threads: &R,
     stops: Stops,

@@ -1,4 +1,4 @@
-//! What is noted of a delivery that leaves out files.
+//! Notes of a delivery that leaves out files.
 ghost use Rattle.std.specs.Prelude.{◌≡◌, ◌++◌, ◌∷◌, ◌<◌, [], length, OnErr, OnOk, IfSome, IsSome, Some};
 ghost use Rattle.br_sink.specs.Delivery.{items_in};
 ghost use Rattle.br_sink.specs.FileParts.{with_bytes};

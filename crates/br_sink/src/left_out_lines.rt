@@ -17,9 +17,9 @@ fn push_line(text: &mut Vec<u8>, number: u32, path: &[u8]) -> Result<(), AllocEr
     Ok(())
 }
 
-/// Appends a line `left NUMBER PATH` for each of the paths, in their order. The number is that of the reason:
-/// 80 a sink that failed at the file, 81 a path that conflicts with one before. The path is escaped as in a
-/// manifest.
+/// Appends a line `left NUMBER PATH` for each of the paths, in their order. The number is that of
+/// the reason: 80 if the sink failed at the file, 81 if the path conflicts with one before. The
+/// path is escaped as in a manifest.
 ///
 /// If memory runs out, a part of the lines may have been appended.
 pub fn push_left(text: &mut Vec<u8>, number: u32, paths: &[Path]) -> Result<(), AllocError>

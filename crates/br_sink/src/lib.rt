@@ -1,12 +1,12 @@
-//! What a restore gives: its files, put into a sink, the manifest of them, and their totals.
+//! The results of a restore: its files, put into a sink, their manifest, and their totals.
 //!
-//! `Sink` is the trait of what takes files, and `MemSink` a sink over memory. `deliver` puts the
+//! `Sink` is the trait of what takes files, and `MemSink` a sink in memory. `deliver` puts the
 //! files of a restore into a sink in their order, and stops at the first path that conflicts with
 //! one already put.
 //!
-//! A delivery may leave out files. `keep_apart` finds before it which ones are left out since their
-//! paths conflict. `Leaving` is a sink around a sink: it goes on after a file at which that one
-//! fails.
+//! A delivery may leave out files. Before it, `keep_apart` finds the files that are left out since
+//! their paths conflict. `Leaving` is a sink around another sink: it goes on after a file at which
+//! that one fails.
 #![tactic(auto)]
 
 mod apart_laws;

@@ -13,7 +13,7 @@ use br_join::{FileBytes, Item, Outcome};
 use br_types::{FileKey, push_escaped, push_hexadecimal};
 use std::alloc::AllocError;
 
-/// The number of numbers that a file has.
+/// The count of numbers that a file has.
 const COUNT: usize = 14;
 
 /// Appends session and index.
@@ -47,7 +47,7 @@ fn numbers_of(stat: &Stat) -> [i64; COUNT]
     ]
 }
 
-/// Appends numbers with a comma in front of each.
+/// Appends numbers, each after a comma.
 fn push_more_numbers(text: &mut Vec<u8>, numbers: &[i64]) -> Result<(), AllocError>
     ensures { OnOk result (text.new.items ≡ text.old.items ++ flat_map (λ n. 44 ∷ signed_decimal n) numbers.now) }
 {
@@ -115,7 +115,7 @@ fn push_cause(text: &mut Vec<u8>, number: u32, stream: u32) -> Result<(), AllocE
     Ok(())
 }
 
-/// Appends the line of a file that is there.
+/// Appends the line of a file.
 fn push_file(text: &mut Vec<u8>, key: FileKey, item: &Item) -> Result<(), AllocError>
     ensures { OnOk result (text.new.items ≡ text.old.items ++ file_line (record { key = key; outcome = Ok item.now })) }
 {
@@ -137,7 +137,7 @@ fn push_fault(text: &mut Vec<u8>, key: FileKey, number: u32, stream: u32) -> Res
     Ok(())
 }
 
-/// Appends the line of an outcome: `F` or `X`, its key, and what there is to say of it.
+/// Appends the line of an outcome: `F` or `X`, its key, and its fields.
 pub(crate) fn push_line(
     text: &mut Vec<u8>,
     key: FileKey,

@@ -14,7 +14,7 @@ use std::alloc::{AllocError, Global};
 use std::io;
 use std::io::Write;
 
-/// The number of bytes from which on a part is written.
+/// The number of bytes from which a part is written.
 const PART_LEN: usize = 64 * 1024;
 
 /// The greatest number of bytes of a line besides its path and its link text.
@@ -42,7 +42,7 @@ pub fn manifest_room(alloc: Global, outcomes: &[(FileKey, Outcome)]) -> Result<V
     Vec::with_capacity(alloc, PART_LEN.saturating_add(longest))
 }
 
-/// Writes the text, and empties it, if it is as long as a part.
+/// Writes the text and empties it, if it has reached the length of a part.
 fn write_if_long<W: Write>(writer: &mut W, text: &mut Vec<u8>) -> io::Result<()>
     ensures { OnOk result (WritesPart (W.contents writer.old) (W.contents writer.new) text.new.items text.old.items) }
 {
@@ -54,7 +54,7 @@ fn write_if_long<W: Write>(writer: &mut W, text: &mut Vec<u8>) -> io::Result<()>
     Ok(())
 }
 
-/// Appends the line of an outcome to the text, and writes the text if it is as long as a part.
+/// Appends the line of an outcome to the text, and writes the text if it has the length of a part.
 fn write_line<W: Write>(
     writer: &mut W,
     text: &mut Vec<u8>,
@@ -68,7 +68,7 @@ fn write_line<W: Write>(
     write_if_long(writer, text)
 }
 
-/// Appends the lines of outcomes to the text, and writes it part by part. The last part is left in
+/// Appends the lines of outcomes to the text, and writes it part by part. The last part stays in
 /// the text.
 fn write_lines<W: Write>(
     writer: &mut W,
@@ -84,8 +84,8 @@ fn write_lines<W: Write>(
     Ok(())
 }
 
-/// Writes the manifest of a restore, which is that of `manifest`, in parts of some more than 64 KiB.
-/// The text is that of `manifest_room`; then no memory is taken.
+/// Writes the manifest of a restore, as `manifest` makes it, in parts of a little more than 64 KiB.
+/// If the text is from `manifest_room`, no memory is taken.
 ///
 /// # Errors
 ///

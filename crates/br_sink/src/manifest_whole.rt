@@ -35,11 +35,12 @@ pub(crate) fn push_totals(text: &mut Vec<u8>, report: Report) -> Result<(), Allo
 /// Returns the manifest of a restore: a line for each outcome in their order, and one for the totals. Fields
 /// are separated by one space, and each line ends with LF.
 ///
-/// The line of a file is `F`, session number, session time, index, type, path, the 14 numbers in decimal
-/// with commas between them, `=` with the link text, the length of the bytes, and their MD5 digest in
-/// hexadecimal. The line of a fault is `X`, the same three fields, and its number, after 65 with the stream.
-/// The last line is `total`, the number of files, the number of faults, and the number of records that were
-/// passed over in the files. Path and link text are escaped as `br_types::push_escaped` does it.
+/// The line of a file is `F`, session number, session time, index, type, path, the 14 numbers in
+/// decimal with commas between them, `=` with the link text, the length of the bytes, and their MD5
+/// digest in hexadecimal. The line of a fault is `X`, the same three fields, and its number; after
+/// 65 the stream follows. The last line is `total`, the number of files, the number of faults, and
+/// the number of records that were skipped in the files. Path and link text are escaped as
+/// `br_types::push_escaped` does it.
 #[tactic(auto, unfolding(br_model::specs::Manifest::manifest))]
 pub fn manifest(alloc: Global, outcomes: &[(FileKey, Outcome)]) -> Result<Vec<u8>, AllocError>
     ensures { IfOk result (λ text. text.items ≡ model.manifest (map restored outcomes.now)) }

@@ -10,7 +10,7 @@ use br_volume::Count;
 use std::alloc::{AllocError, Global};
 use std::marker::Model;
 
-/// A sink over memory. It keeps a copy of each file, which shares the file's bytes.
+/// A sink in memory. It keeps a copy of each file, which shares the file's bytes.
 #[derive(Drop)]
 pub struct MemSink {
     alloc: Global,
@@ -28,14 +28,15 @@ impl Model for MemSink {
 }
 
 impl MemSink {
-    /// A sink without files. It keeps the allocator, by which it grows.
+    /// Returns a sink without files. It keeps the allocator, by which it grows.
     pub fn new(alloc: Global) -> MemSink
         ensures { result ≡ record { items = []; fails_at = 0; failures = 0 } }
     {
         MemSink::failing_at(alloc, 0)
     }
 
-    /// A sink without files that fails once, at its `k`-th put, counted from 1; for 0 it never fails.
+    /// Returns a sink without files that fails once, at its `k`-th put, counted from 1; never if
+    /// `k` is 0.
     pub fn failing_at(alloc: Global, k: u64) -> MemSink
         ensures { result ≡ record { items = []; fails_at = k; failures = 0 } }
     {
@@ -47,7 +48,7 @@ impl MemSink {
         }
     }
 
-    /// The files that were put, in their order.
+    /// Returns the files that were put, in their order.
     pub fn items(&self) -> &[Item]
         ensures { result.now ≡ self.now.items }
     {
@@ -69,7 +70,7 @@ pub fn copy_of(alloc: Global, item: &Item) -> Result<Item, AllocError>
     })
 }
 
-/// Adds a copy of the file at the end. What is refused changes nothing.
+/// Adds a copy of the file at the end. After a refusal nothing has changed.
 fn push_copy(alloc: Global, items: &mut Vec<Item>, item: &Item) -> Result<(), AllocError>
     ensures ok { OnOk result (items.new.items ≡ items.old.items ++ item.now ∷ []) }
     ensures err { OnErr result (items.new.items ≡ items.old.items) }
@@ -85,7 +86,7 @@ impl Sink for MemSink {
 
     ghost failures = { λ s. s.failures };
 
-    /// Fails at the put that was chosen to fail, whatever the file.
+    /// Fails at the put that was chosen to fail, for any file.
     fn put(&mut self, item: &Item) -> Result<(), SinkFault>
         ensures put { OnOk result (HasMore (item.now ∷ []) (Some self.old.items) (Some self.new.items)) }
         ensures refused { OnErr result (Some self.new.items ≡ Some self.old.items) }

@@ -6,14 +6,14 @@ use br_join::Outcome;
 use br_types::FileKey;
 use std::marker::Model;
 
-/// How a restore ended.
+/// The totals of a restore.
 #[derive(Clone, Copy, PartialEq, Eq)]
 pub struct Report {
     /// The number of files.
     pub files: u64,
-    /// The number of faults in place of files.
+    /// The number of faults instead of files.
     pub faults: u64,
-    /// The number of records that were passed over in the files.
+    /// The number of records that were skipped in the files.
     pub skipped: u128,
 }
 
@@ -27,7 +27,7 @@ impl Model for Report {
     ghost inverse = { λ t. record { files = t.files; faults = t.faults; skipped = t.skipped } };
 }
 
-/// The totals of a restore: its files, its faults, and the records that were passed over in its files.
+/// Returns the totals of a restore: files, faults, and the records that were skipped in its files.
 #[tactic(auto, unfolding(br_model::specs::Manifest::totals_of))]
 pub fn totals(outcomes: &[(FileKey, Outcome)]) -> Report
     ensures { result ≡ totals_of (map restored outcomes.now) }

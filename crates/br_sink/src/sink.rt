@@ -18,8 +18,8 @@ use std::thread::Threads;
 
 /// What takes the files of a restore, one after another.
 pub trait Sink {
-    /// The files that were put so far, in their order, if the sink tells them: a sink over memory does, and
-    /// one over a folder does not.
+    /// The files that were put so far, in their order, if the sink reports them: a sink in memory
+    /// does, one over a folder does not.
     ghost has: { Self → Option (List model.Item) };
 
     /// The number of times that it has failed.
@@ -27,22 +27,23 @@ pub trait Sink {
 
     /// Adds a file to those that the sink has.
     ///
-    /// `Fault` if the sink failed, and `Memory` if memory ran out, which is no failure and is not counted. Then
-    /// the sink has what it had; one that does not tell its files, as a folder, may hold a part of the file.
+    /// `Fault` if the sink failed. `Memory` if memory ran out, which is no failure and is not
+    /// counted. Then the sink has what it had; one that does not report its files, as a folder, may
+    /// hold a part of the file.
     fn put(&mut self, item: &Item) -> Result<(), SinkFault>
         ensures put { OnOk result (HasMore (item.now ∷ []) (has self.old) (has self.new)) }
         ensures refused { OnErr result (has self.new ≡ has self.old) }
         ensures counted { failures self.old ≤ failures self.new }
         ensures failed { result ≡ Err Fault → failures self.old < failures self.new };
 
-    /// Adds the files among the outcomes to those that the sink has, in their order, and passes over the
+    /// Adds the files among the outcomes to those that the sink has, in their order, and skips the
     /// faults.
     ///
     /// The handle is for a sink that writes several at once.
     ///
-    /// Stops at the first file that can't be put: if the sink failed (80), or memory ran out (1). The stop
-    /// contains the number of files that were put before, and the sink has these; one that does not tell
-    /// its files, as a folder, may hold a part of the next.
+    /// Stops at the first file that can't be put: if the sink failed (80), or memory ran out (1).
+    /// The stop contains the number of files that were put before, and the sink has these; one that
+    /// does not report its files, as a folder, may hold a part of the next.
     fn put_all<R: Threads + Sync>(
         &mut self,
         _threads: &R,
@@ -66,11 +67,12 @@ pub trait Sink {
         Ok(())
     }
 
-    /// Adds a file like this one, of which the bytes are read again while it is put, and returns these. A sink
-    /// that keeps no files in memory has one part of them in memory at a time.
+    /// Adds a file like this one, whose bytes are read again while it is put, and returns these. A
+    /// sink that keeps no files in memory has one part of them in memory at a time.
     ///
-    /// `NoDriveLeft` if the bytes are not given as they were found. Then, and after `Fault` and `Memory`, the
-    /// sink has what it had; one that does not tell its files may hold a part of this one.
+    /// `NoDriveLeft` if the bytes are not given as they were found. Then, and after `Fault` and
+    /// `Memory`, the sink has what it had; one that does not report its files may hold a part of
+    /// this one.
     fn put_parts<P: Parts>(
         &mut self,
         alloc: Global,
@@ -90,12 +92,14 @@ pub trait Sink {
         Ok(whole.bytes)
     }
 
-    /// Adds two files like these, of which the bytes are read again while they are put, side by side. Returns
-    /// `None`, and has what it had, if it does not put these two so: then the caller puts one after the other.
+    /// Adds two files like these, whose bytes are read again while they are put, side by side.
+    /// Returns `None`, and has what it had, if it does not put these two side by side: then the
+    /// caller puts one after the other.
     ///
-    /// The paths of the two are apart: a caller sees to that. What comes of them is what comes of putting one
-    /// after the other. If the first one can't be put, neither is; if only the second can't, the first one is
-    /// put. Of a file that is not put, a sink that does not tell its files may hold a part.
+    /// The caller makes sure that the two paths do not conflict. The result is that of putting one
+    /// file after the other. If the first file can't be put, neither is; if only the second can't,
+    /// the first one is put. Of a file that is not put, a sink that does not report its files may
+    /// hold a part.
     fn put_two<P: TwoParts>(
         &mut self,
         _alloc: Global,

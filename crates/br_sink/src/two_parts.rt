@@ -1,4 +1,4 @@
-//! Two files of which the bytes are read again, side by side, while both are put.
+//! Two files whose bytes are read again, side by side, while both are put.
 ghost use Rattle.std.specs.Prelude.{◌≡◌};
 ghost use Rattle.br_model.specs.File as model;
 ghost use Rattle.br_sink.specs.TwoParts.{AreTwoAlike, AreTwoSame, WritesTwo, why_of};
@@ -7,7 +7,7 @@ use crate::file_parts::PartsFault;
 use br_join::{FileBytes, Item};
 use std::io::Write;
 
-/// What became of two files that were put side by side.
+/// The result of putting two files side by side.
 #[derive(Drop)]
 pub enum TwoPut {
     /// Both were put; these are their bytes, which are not in memory.
@@ -30,19 +30,20 @@ impl TwoPut {
     }
 }
 
-/// What reads the bytes of two files again, side by side.
+/// A source that reads the bytes of two files again, side by side.
 pub trait TwoParts {
-    /// It gives the bytes of these two files as they are.
+    /// It gives the bytes of these two files unchanged.
     ghost gives: { Self → model.Item → model.Item → Type 0 };
 
-    /// What it was before it read, and what it may be after that.
+    /// Its state before it read, and a state that it may have after that.
     ghost goes_on: { Self → Self → Type 0 };
 
-    /// Writes the bytes of two files, each part as it is read, and returns them; they are not in memory. They
-    /// are as many as those of the items, and have the same digests.
+    /// Writes the bytes of two files, each part as it is read, and returns them; they are not in
+    /// memory. They have the lengths and the digests of the items' bytes.
     ///
-    /// It stops at the first of the two files, in their order, whose bytes are not all written. Of a file that
-    /// is not put some bytes may be written, as many as the item has at most. The reason is
+    /// Stops at the first of the two files, in their order, whose bytes are not all written. Of a
+    /// file that is not put some bytes may be written, at most as many as the item has. The reason
+    /// is
     ///
     /// - `NoDriveLeft` if no drive is left that gives such bytes.
     /// - `Fault` if the writer failed.
@@ -60,6 +61,6 @@ pub trait TwoParts {
         ensures same { gives self.old one.now other.now → AreTwoSame one.now other.now result }
         ensures on { goes_on self.old self.new };
 
-    /// One that has read nothing went on.
+    /// The state may stay the same: then nothing was read.
     ghost stays: { (x : Self) → goes_on x x };
 }

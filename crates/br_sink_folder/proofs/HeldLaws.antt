@@ -131,7 +131,7 @@ module _ {W : Type 0} (contents : W → Option (List ℕ)) (root : List ℕ) whe
     written_set path left b c made set none.1 each.1,
   )
 
-  -- where nothing is, no file is open
+  -- if nothing is at a path, no file is open there
   none_open : (path : List ℕ) (b : Nodes) (made : List (Made W)) → node_at b path ≡ None → AllByRecursion (IsNew contents root b) made
       → NoneAt root path (items_of made)
   none_open path b [] free each = tt
@@ -342,7 +342,7 @@ module _ {W : Type 0} (contents : W → Option (List ℕ)) (root : List ℕ) whe
       subst (λ (l : List (Made W)). Holds (IsNew contents root) root items l a b) (sym none)
       (record { rest = λ path free. h path; apart = tt; last = tt; each = tt })
 
-  -- a loop that finishes them one by one: what is held is what it has not come to
+  -- a loop that finishes them one by one: what is held is what it has not reached
 
   pub held_step : (items : List Item) (made : List (Made W)) (i : ℕ) (old new : Made W) (nodes b c : Option Nodes) → i < length made
       → old ≡ get_or made i old → FinishesOne contents root old new b c → KeepsOutside root b c

@@ -13,7 +13,7 @@ use Rattle.br_sink_folder.specs.declared.window.Made.{Made}
 use Rattle.br_sink_folder.proofs.BelowLaws.{adds_both, adds_same}
 use Rattle.br_sink_folder.proofs.HeldLaws.{all_more, set_own}
 
--- where no file was, none is
+-- a path without a file still has none
 
 lacks_same : (path : List ℕ) (a b : Nodes) → (node_at a path ≡ None) ⊎ (node_at a path ≡ Some (Else Folder))
     → node_at b path ≡ node_at a path → LacksFile b path

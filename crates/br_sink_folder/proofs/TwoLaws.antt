@@ -20,7 +20,7 @@ use Rattle.br_sink_folder.proofs.BelowLaws.{differs}
 use Rattle.br_sink_folder.proofs.HeldLaws.{apart_if, folder_left, put_apart, put_own, set_apart, set_own, still_opened}
 use Rattle.br_sink_folder.proofs.RemovalLaws.{no_file_still}
 
--- files that were made where nothing was
+-- files that were made at paths where nothing was
 
 pub makes_free : (root path : List ℕ) (contents : Option (List ℕ)) (a b c : Option Nodes) → AddsFolders root a b → IsFree b path
     → MakesFile path contents b c → MakesFree root path contents a c
@@ -74,7 +74,7 @@ record AreOpen (root one other : List ℕ) (n k : ℕ) (earlier later : Nodes) :
   pub second : node_at later other ≡ Some (Opened k)
   pub apart : one ≡ other → ⊥
 
--- If the nodes are told, the two files tell the numbers of those that are open.
+-- If the nodes are known, the two files give the numbers of those that are open.
 abbrev AreOpenAs : List ℕ → List ℕ → List ℕ → Option (List ℕ) → Option (List ℕ) → Option Nodes → Option Nodes → Type 0
 AreOpenAs root one other first second None None = ⊤
 AreOpenAs root one other first second (Some earlier) (Some later) =

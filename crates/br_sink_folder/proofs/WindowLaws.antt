@@ -7,7 +7,7 @@ use Rattle.br_sink_folder.specs.Window.{AreBelow}
 use Rattle.br_sink_folder.specs.declared.window.Made.{Made}
 use Rattle.br_sink_folder.proofs.HeldLaws.{all_more}
 
--- what stands below a place stands below a later one
+-- what is below a place is below a later one
 pub below_more : {W : Type 0} (m n : ℕ) (made : List (Made W)) → m ≤ n → AreBelow m made → AreBelow n made
 below_more m n made more below = λ k d less. let b = below k d less in omega (arith, b, more)
 

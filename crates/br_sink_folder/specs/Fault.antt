@@ -13,13 +13,13 @@ abbrev pub folder_fault_number : FolderFault → ℕ
 folder_fault_number Memory = 1
 folder_fault_number NotEmpty = 81
 
--- why there is no sink over the folder at a path: if the maker of its files does not fail by itself, no
--- folder is there or it is not empty
+-- why there is no sink over the folder at a path: if the maker of its files does not fail by
+-- itself, there is no folder or it is not empty
 abbrev pub IsRefused : Type 0 → Option Nodes → List ℕ → FolderFault → Type 0
 IsRefused steady nodes path Memory = ⊤
 IsRefused steady nodes path NotEmpty = steady → IsNoFolder nodes path ⊎ IsEmptyAt nodes path false
 
--- the sink's fault for that of its files: want of memory is no failure of the sink
+-- the sink's fault for a fault of its files: memory that ran out is no failure of the sink
 abbrev pub sink_fault : DiskFault → SinkFault
 sink_fault disk.Memory = sink.Memory
 sink_fault disk.NotFound = sink.Fault

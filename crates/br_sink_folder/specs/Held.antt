@@ -1,5 +1,5 @@
--- What a delivery of several files leaves below its folder, and what it has left while some of them
--- are held open.
+-- What a delivery of several files leaves below its folder, also while some of the files are held
+-- open.
 use Rattle.std.specs.Prelude.{◌≡◌, ℕ, ◌<◌, ◌⊎◌, Bool, ◌&&◌, if◌then◌else◌, List, [], ◌∷◌, ◌++◌, length, map, fold, slice_index_or}
 use Rattle.std.specs.Prelude.{bytes_eq, true, Option, Some, None, Result, Ok, OnErr, OnOk, ⊤}
 use Rattle.std.specs.List.{AllByRecursion}
@@ -14,21 +14,21 @@ use Rattle.br_sink_folder.specs.declared.window.Made.{Made}
 abbrev pub is_put_at : List ℕ → List ℕ → Item → Bool
 is_put_at root path item = bytes_eq (root ++ item.path) path && has_bytes item.kind
 
--- the bytes that a path has after one more item was put
+-- the bytes of a path after one more item was put
 abbrev pub bytes_after : List ℕ → List ℕ → Option (List ℕ) → Item → Option (List ℕ)
 bytes_after root path was item = if is_put_at root path item then Some item.bytes else was
 
--- the bytes that a path has after these items were put, one after another, if a file was put there
+-- the bytes of a path after these items were put, one after another, if a file was put there
 abbrev pub bytes_put : List ℕ → List Item → List ℕ → Option (List ℕ)
 bytes_put root items path = fold (bytes_after root path) None items
 
--- what a path has where these bytes were put, or none: then what it had, or a new folder
+-- what a path has if these bytes were put there; if none were: what it had, or a new folder
 abbrev pub IsLeft : List ℕ → List ℕ → Option (List ℕ) → Nodes → Nodes → Type 0
 IsLeft root path (Some bytes) earlier later = node_at later path ≡ Some (Bytes bytes)
 IsLeft root path None earlier later = (node_at later path ≡ node_at earlier path) ⊎ IsNewFolder root path earlier later
 
--- If the nodes are told, each path at which a file was put has the bytes of the last one, and of
--- all other paths only those of new folders are changed.
+-- If the nodes are known, each path at which a file was put has the bytes of the last one. All
+-- other paths are unchanged, except for new folders.
 abbrev pub LeavesFiles : List ℕ → List Item → Option Nodes → Option Nodes → Type 0
 LeavesFiles root items None None = ⊤
 LeavesFiles root items (Some earlier) (Some later) = (path : List ℕ) → IsLeft root path (bytes_put root items path) earlier later
@@ -43,7 +43,7 @@ items_of made = map (λ (m : Made _). m.item.now) made
 abbrev pub NoneAt : List ℕ → List ℕ → List Item → Type 0
 NoneAt root path items = AllByRecursion (λ (item : Item). root ++ item.path ≡ path → ⊥) items
 
--- no two of these files have one path
+-- no two of these files have the same path
 abbrev pub HaveOwnPaths : List ℕ → List Item → Type 0
 HaveOwnPaths root [] = ⊤
 HaveOwnPaths root (item ∷ items) = NoneAt root (root ++ item.path) items × HaveOwnPaths root items
@@ -62,11 +62,11 @@ IsOpenWith {W} contents root bytes nodes m =
 abbrev pub IsNew : {W : Type 0} → (W → Option (List ℕ)) → List ℕ → Nodes → Made W → Type 0
 IsNew contents root nodes m = IsOpenWith contents root [] nodes m
 
--- the file has its bytes, unless its answer is a fault
+-- the file has its bytes, unless its result is a fault
 abbrev pub IsWritten : {W : Type 0} → (W → Option (List ℕ)) → List ℕ → Nodes → Made W → Type 0
 IsWritten contents root nodes m = m.answer ≡ Ok tt → IsOpenWith contents root m.item.now.bytes nodes m
 
--- These items were put, but for the files that are held open.
+-- These items were put, except for the files that are held open.
 pub record Holds {W : Type 0} (P : Nodes → Made W → Type 0) (root : List ℕ) (items : List Item)
     (held : List (Made W)) (earlier later : Nodes) : Type 0 where
   pub rest : (path : List ℕ) → NoneAt root path (items_of held) → IsLeft root path (bytes_put root items path) earlier later
@@ -74,7 +74,7 @@ pub record Holds {W : Type 0} (P : Nodes → Made W → Type 0) (root : List ℕ
   pub last : AreLast root items (items_of held)
   pub each : AllByRecursion (P later) held
 
--- If the nodes are told, that is so of them.
+-- If the nodes are known, this holds of them.
 abbrev pub HoldsOver : {W : Type 0} → (Nodes → Made W → Type 0) → List ℕ → List Item → List (Made W) → Option Nodes → Option Nodes
     → Type 0
 HoldsOver P root items held None None = ⊤
@@ -82,41 +82,43 @@ HoldsOver P root items held (Some earlier) (Some later) = Holds P root items hel
 HoldsOver P root items held None (Some later) = ⊥
 HoldsOver P root items held (Some earlier) None = ⊥
 
--- if items were put, but for the new files that are held open, they still are, but for those that are held open now
+-- if items were put, except for the new files that are held open, they still are, except for those
+-- that are held open now
 abbrev pub HoldsStill : {W A E : Type 0} → (W → Option (List ℕ)) → List ℕ → List (Made W) → List (Made W) → Option Nodes → Option Nodes
     → Result A E → Type 0
 HoldsStill contents root held left before after result =
     (items : List Item) (nodes : Option Nodes) → HoldsOver (IsNew contents root) root items held nodes before
     → OnOk result (HoldsOver (IsNew contents root) root items left nodes after)
 
--- and so is one item more
+-- and so is one more item
 abbrev pub HoldsMore : {W A E : Type 0} → (W → Option (List ℕ)) → List ℕ → Item → List (Made W) → List (Made W) → Option Nodes → Option Nodes
     → Result A E → Type 0
 HoldsMore contents root item held left before after result =
     (items : List Item) (nodes : Option Nodes) → HoldsOver (IsNew contents root) root items held nodes before
     → OnOk result (HoldsOver (IsNew contents root) root (items ++ item ∷ []) left nodes after)
 
--- and so is one file more that has bytes
+-- and so is one more file with bytes
 abbrev pub HoldsFile : {W A E : Type 0} → (W → Option (List ℕ)) → List ℕ → Item → List (Made W) → List (Made W) → Option Nodes → Option Nodes
     → Result A E → Type 0
 HoldsFile contents root item held left before after result =
     (items : List Item) (nodes : Option Nodes) → has_bytes item.kind ≡ true → HoldsOver (IsNew contents root) root items held nodes before
     → OnOk result (HoldsOver (IsNew contents root) root (items ++ item ∷ []) left nodes after)
 
--- if items were put, but for the files that are held open, and this holds of each of these, all are left
+-- if items were put, except for the files that are held open, and this holds of each of these, all
+-- are left
 abbrev pub LeavesHeld : {W A E : Type 0} → (Nodes → Made W → Type 0) → List ℕ → List (Made W) → Option Nodes → Option Nodes
     → Result A E → Type 0
 LeavesHeld P root held before after result =
     (items : List Item) (nodes : Option Nodes) → HoldsOver P root items held nodes before → OnOk result (LeavesFiles root items nodes after)
 
--- and so is one item more
+-- and so is one more item
 abbrev pub LeavesMore : {W A E : Type 0} → (Nodes → Made W → Type 0) → List ℕ → Item → List (Made W) → Option Nodes → Option Nodes
     → Result A E → Type 0
 LeavesMore P root item held before after result =
     (items : List Item) (nodes : Option Nodes) → HoldsOver P root items held nodes before
     → OnOk result (LeavesFiles root (items ++ item ∷ []) nodes after)
 
--- folders were made on the way of a file, and then the file, where nothing was
+-- folders were made on the way of a file, and then the file; nothing was there before
 abbrev pub MakesOne : {W : Type 0} → (W → Option (List ℕ)) → List ℕ → Made W → Option Nodes → Option Nodes → Type 0
 MakesOne {W} contents root m earlier later =
     (file : W) × (middle : Option Nodes) × (m.file ≡ Some file) × AddsFolders root earlier middle
@@ -128,13 +130,13 @@ AppendsSome contents None later bytes = ⊤
 AppendsSome contents (Some old) None bytes = ⊥
 AppendsSome contents (Some old) (Some new) bytes = Appends (contents old) (contents new) bytes
 
--- the first of the bytes, maybe none, were appended to the file, if there is one
+-- a first part of the bytes, perhaps none, was appended to the file, if there is one
 abbrev pub AppendsFrontSome : {W : Type 0} → (W → Option (List ℕ)) → Option W → Option W → List ℕ → Type 0
 AppendsFrontSome contents None later bytes = ⊤
 AppendsFrontSome contents (Some old) None bytes = ⊥
 AppendsFrontSome contents (Some old) (Some new) bytes = AppendsFront (contents old) (contents new) bytes
 
--- the file has its bytes now, or the first of them if its answer is a fault
+-- the file has its bytes now, or a first part of them if its result is a fault
 pub record WritesOne {W : Type 0} (contents : W → Option (List ℕ)) (old new : Made W) : Type 0 where
   pub item : new.item.now ≡ old.item.now
   pub place : new.place ≡ old.place
@@ -151,16 +153,17 @@ abbrev pub FinishesSome : {W : Type 0} → (W → Option (List ℕ)) → List �
 FinishesSome contents path None earlier later = ⊤
 FinishesSome contents path (Some file) earlier later = IsFinished path (contents file) earlier later
 
--- if the answer that is kept is no fault, none was kept before, and the file is finished
+-- if the kept result is no fault, none was kept before, and the file is finished
 abbrev pub FinishesOne : {W : Type 0} → (W → Option (List ℕ)) → List ℕ → Made W → Made W → Option Nodes → Option Nodes → Type 0
 FinishesOne contents root old new earlier later =
     new.answer ≡ Ok tt → (old.answer ≡ Ok tt) × FinishesSome contents (root ++ old.item.now.path) old.file earlier later
 
--- no answer is a fault
+-- no result is a fault
 abbrev pub AreAnswered : {W : Type 0} → List (Made W) → Type 0
 AreAnswered made = AllByRecursion (λ (m : Made _). m.answer ≡ Ok tt) made
 
--- if items were put, but for the written files that are held open, all are left, unless the answer of one is a fault
+-- if items were put, except for the written files that are held open, all are left, unless the
+-- result of one is a fault
 abbrev pub FinishesHeld : {W : Type 0} → (W → Option (List ℕ)) → List ℕ → List (Made W) → List (Made W) → Option Nodes → Option Nodes → Type 0
 FinishesHeld contents root old new before after =
     (items : List Item) (nodes : Option Nodes) → HoldsOver (IsWritten contents root) root items old nodes before

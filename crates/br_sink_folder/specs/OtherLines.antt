@@ -1,4 +1,4 @@
--- The lines of what else is in a folder.
+-- The lines of other things in a folder.
 use Rattle.std.specs.Prelude.{ℕ, List, ◌++◌, flat_map, codes}
 use Rattle.br_model.specs.Text.{line, escaped}
 

@@ -1,4 +1,4 @@
--- What a folder has beside the files of a delivery.
+-- What a folder has besides the files of a delivery.
 use Rattle.std.specs.Prelude.{◌≡◌, ℕ, Bool, not, ◌||◌, List, map, bytes_eq}
 use Rattle.std.specs.List.{list_any}
 use Rattle.br_model.specs.File.{Item}
@@ -20,6 +20,6 @@ is_other paths found = not (list_any (is_on_way found) paths)
 abbrev pub paths_in : List (FileKey × Outcome) → List (List ℕ)
 paths_in outcomes = map (λ (item : Item). item.path) (items_in outcomes)
 
--- the set has just these paths and those of the folders on their way
+-- the set has exactly these paths and those of the folders on their way
 abbrev pub Has : Known → List (List ℕ) → Type 0
 Has known paths = (q : List ℕ) → has_path (λ k. k.now) known.paths q ≡ list_any (is_on_way q) paths

@@ -1,4 +1,4 @@
--- What a delivery that is resumed leaves.
+-- What a resumed delivery leaves.
 use Rattle.std.specs.Prelude.{◌≡◌, ℕ, List, [], ◌∷◌, length, Option, ⊤}
 use Rattle.md5.specs.Md5.{md5}
 use Rattle.br_model.specs.File.{Item}
@@ -13,7 +13,7 @@ pub record InResuming : Type 0 where
   pub start : Start
   pub folder : InFolder
 
--- a file of the same type and path, with as many bytes and the same digest
+-- a file of the same type and path, whose bytes have the same length and digest
 pub record IsLike (other item : Item) : Type 0 where
   pub kind : other.kind ≡ item.kind
   pub path : other.path ≡ item.path
@@ -31,7 +31,7 @@ AreLike (other ∷ others) [] = ⊥
 abbrev pub PutsLike : List ℕ → Item → Option Nodes → Option Nodes → Type 0
 PutsLike root item earlier later = (other : Item) × IsLike other item × PutsItem root other earlier later
 
--- the file is put with these bytes in place of its own
+-- the file is put with these bytes instead of its own
 abbrev pub PutsBytes : List ℕ → Item → List ℕ → Option Nodes → Option Nodes → Type 0
 PutsBytes root item bytes earlier later = PutsItem root (with_bytes item bytes) earlier later
 

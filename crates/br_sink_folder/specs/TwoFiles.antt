@@ -12,7 +12,7 @@ use Rattle.br_sink_folder.specs.declared.two_files.NewFile.{NewFile}
 use Rattle.br_sink_folder.specs.declared.two_files.Pair.{Pair}
 use Rattle.br_sink_folder.specs.declared.two_files.Paths.{Paths}
 
--- a new file's own path is that of an item below the folder
+-- the path of a new file is that of an item below the folder
 pub record IsNewBelow {W : Type 0} (root path : List ℕ) (new : NewFile W) : Type 0 where
   pub whole : string_bytes new.path ≡ root ++ path
   pub below : IsBelow root (string_bytes new.path)
@@ -22,12 +22,12 @@ pub record HavePathsBelow (paths : Paths) : Type 0 where
   pub one : IsBelow paths.root.now paths.one.now
   pub other : IsBelow paths.root.now paths.other.now
 
--- folders were made on the way of a file, and then the file, where nothing was
+-- folders were made on the way of a file, and then the file, as a new one
 abbrev pub MakesFree : List ℕ → List ℕ → Option (List ℕ) → Option Nodes → Option Nodes → Type 0
 MakesFree root path contents earlier later =
     (middle : Option Nodes) × AddsFolders root earlier middle × IsFree middle path × MakesFile path contents middle later
 
--- so one file was made, and then another
+-- one file was made so, and then another
 abbrev pub MakesTwo : List ℕ → List ℕ → List ℕ → Option (List ℕ) → Option (List ℕ) → Option Nodes → Option Nodes → Type 0
 MakesTwo root one other first second earlier later =
     (middle : Option Nodes) × MakesFree root one first earlier middle × MakesFree root other second middle later
@@ -37,12 +37,13 @@ abbrev pub FinishesTwo : List ℕ → List ℕ → Option (List ℕ) → Option 
 FinishesTwo one other first second earlier later =
     (middle : Option Nodes) × IsFinished one first earlier middle × IsFinished other second middle later
 
--- one file is finished at its path, and then nothing but folders and what is at the path of another is changed
+-- one file is finished at its path; then nothing is changed except for folders and the path of
+-- another
 abbrev pub FinishesFirst : List ℕ → List ℕ → List ℕ → Option (List ℕ) → Option Nodes → Option Nodes → Type 0
 FinishesFirst root one other first earlier later =
     (middle : Option Nodes) × IsFinished one first earlier middle × ChangesOne root other middle later
 
--- what was closed of two files, if both were put, or the first one
+-- what was closed of two files, if both were put, or only the first one
 abbrev pub ClosesTwo : List ℕ → List ℕ → List ℕ → Option (List ℕ) → Option (List ℕ) → Option Nodes → Option Nodes → TwoPut → Type 0
 ClosesTwo root one other first second earlier later (Both x y) = FinishesTwo one other first second earlier later
 ClosesTwo root one other first second earlier later (One x why) = FinishesFirst root one other first earlier later
@@ -53,18 +54,19 @@ abbrev pub ClosesPaths : Paths → Option (List ℕ) → Option (List ℕ) → O
 ClosesPaths paths first second earlier later result =
     ClosesTwo paths.root.now paths.one.now paths.other.now first second earlier later result
 
--- If the nodes are told, the path has a file of these bytes.
+-- If the nodes are known, the path has a file of these bytes.
 abbrev pub IsWholeAt : List ℕ → List ℕ → Option Nodes → Type 0
 IsWholeAt path bytes None = ⊤
 IsWholeAt path bytes (Some nodes) = node_at nodes path ≡ Some (Bytes bytes)
 
--- What is left below the folder: both files, if both were put; else the first one, if it was put.
+-- What is left below the folder: both files, if both were put, else the first one, if it was put.
 abbrev pub LeavesTwo : List ℕ → Item → Item → Option Nodes → Option Nodes → TwoPut → Type 0
 LeavesTwo root one other earlier later (Both x y) = LeavesFiles root (with_bytes one x ∷ with_bytes other y ∷ []) earlier later
 LeavesTwo root one other earlier later (One x why) = IsWholeAt (root ++ one.path) x later
 LeavesTwo root one other earlier later (Neither why) = ⊤
 
--- what is left of two new files of this pair, if both have bytes, whatever was there before they were made
+-- what is left of two new files of this pair if both have bytes, whatever was there before they
+-- were made
 abbrev pub LeavesNew : {W : Type 0} → (W → Option (List ℕ)) → Pair → NewFile W → NewFile W → Option Nodes → Option Nodes → TwoPut → Type 0
 LeavesNew contents pair first second made later result =
     has_bytes pair.one.now.kind ≡ true → has_bytes pair.other.now.kind ≡ true → (earlier : Option Nodes)
@@ -75,13 +77,13 @@ LeavesNew contents pair first second made later result =
 abbrev pub AreBothRemoved : (List ℕ → Type 0) → List ℕ → List ℕ → Option Nodes → Type 0
 AreBothRemoved refused one other nodes = IsRemoved refused nodes one × IsRemoved refused nodes other
 
--- so is what was not put of two files
+-- the same holds for the files of two that were not put
 abbrev pub IsRestRemoved : (List ℕ → Type 0) → List ℕ → List ℕ → Option Nodes → TwoPut → Type 0
 IsRestRemoved refused one other nodes (Both x y) = ⊤
 IsRestRemoved refused one other nodes (One x why) = IsRemoved refused nodes other
 IsRestRemoved refused one other nodes (Neither why) = AreBothRemoved refused one other nodes
 
--- so is what was not put of this pair
+-- the same holds for the files of this pair that were not put
 abbrev pub IsPairRemoved : (List ℕ → Type 0) → Pair → Option Nodes → TwoPut → Type 0
 IsPairRemoved refused pair nodes result =
     IsRestRemoved refused (pair.root.now ++ pair.one.now.path) (pair.root.now ++ pair.other.now.path) nodes result
@@ -92,7 +94,7 @@ first_of (Both x y) = Some x
 first_of (One x why) = Some x
 first_of (Neither why) = None
 
--- what is put after two files were closed, with the bytes that were written: these two, or fewer
+-- what is put after two files were closed, with the bytes that were written: both, or fewer
 abbrev pub PutsAtMost : TwoPut → TwoPut → Type 0
 PutsAtMost written (Both x y) = written ≡ Both x y
 PutsAtMost written (One x why) = first_of written ≡ Some x

@@ -12,7 +12,7 @@ use std::alloc::Global;
 use std::io;
 use std::io::ErrorKind;
 
-/// Returns the sink's fault for that of its files.
+/// Returns the sink's fault for a fault of its files.
 pub(crate) fn fault_of(fault: DiskFault) -> SinkFault
     ensures { result ≡ sink_fault fault }
 {
@@ -24,7 +24,7 @@ pub(crate) fn fault_of(fault: DiskFault) -> SinkFault
     }
 }
 
-/// Returns the sink's fault for that of a write.
+/// Returns the sink's fault for a fault of a write.
 pub(crate) fn write_fault(error: io::Error) -> SinkFault {
     match error.kind() {
         ErrorKind::OutOfMemory => SinkFault::Memory,
@@ -43,7 +43,7 @@ fn make_folder<M: FileMaker>(maker: &mut M, path: &str) -> Result<(), SinkFault>
     }
 }
 
-/// Makes the folder at a front of the path.
+/// Makes the folder at the first part of the path, which ends at `at`.
 #[tactic(auto, using(crate::proofs::BelowLaws::front_below, crate::proofs::BelowLaws::adds_same))]
 fn make_front<M: FileMaker>(
     maker: &mut M,
@@ -61,7 +61,7 @@ fn make_front<M: FileMaker>(
     }
 }
 
-/// Returns whether a name ends before this place of the path.
+/// Returns whether a name ends just before this place of the path.
 fn ends_name(path: &[u8], at: usize) -> bool
     requires some { 0 < at }
     requires within { at < length path.now }
@@ -69,8 +69,8 @@ fn ends_name(path: &[u8], at: usize) -> bool
     path[at] == b'/' && path[at - 1] != b'/'
 }
 
-/// Makes the folders that are missing on the way to a path below the folder. It builds no path, so that
-/// a file can be removed again if memory is out.
+/// Makes the folders that are missing on the way to a path below the folder. It builds no path, so
+/// that a file can be removed again after memory ran out.
 #[tactic(auto, using(crate::proofs::BelowLaws::adds_more, crate::proofs::BelowLaws::adds_same))]
 pub(crate) fn make_way<M: FileMaker>(maker: &mut M, root: &str, path: &str) -> Result<(), SinkFault>
     requires below { IsBelow root.now path.now }
@@ -115,7 +115,7 @@ pub(crate) fn folder_below(alloc: Global, root: &str, path: &str) -> Result<Stri
     Ok(whole)
 }
 
-/// Makes a file. `Fault` if anything has its name.
+/// Makes a file. `Fault` if something has its name already.
 #[tactic(auto, using(crate::proofs::BelowLaws::made_keeps, crate::proofs::BelowLaws::same_others))]
 pub(crate) fn make_file<M: FileMaker>(maker: &mut M, path: &str) -> Result<M::New, SinkFault>
     ensures free { OnOk result (IsFree (M.nodes maker.old) path.now) }
@@ -154,7 +154,7 @@ fn clear<M: FileMaker>(maker: &mut M, path: &str) -> Result<(), SinkFault>
     }
 }
 
-/// Makes a file, in the place of an earlier one.
+/// Makes a file, which replaces an earlier one.
 #[tactic(auto, using(crate::proofs::BelowLaws::made_new, crate::proofs::BelowLaws::made_keeps, crate::proofs::BelowLaws::keeps_more, crate::proofs::RemovalLaws::unmade_same, crate::proofs::RemovalLaws::unmade_cleared))]
 pub(crate) fn make_anew<M: FileMaker>(maker: &mut M, path: &str) -> Result<M::New, SinkFault>
     ensures made { IfOk result (λ file. MakesNew path.now (M.New.contents file) (M.nodes maker.old) (M.nodes maker.new)) }

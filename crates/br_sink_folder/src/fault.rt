@@ -5,7 +5,7 @@ ghost use Rattle.br_sink_folder.specs.declared.fault.FolderFault.TheVariants.{Me
 use std::alloc::AllocError;
 use thiserror::Error;
 
-/// Why there is no sink over a folder.
+/// The reason why there is no sink over a folder.
 #[derive(Clone, Copy, Debug, PartialEq, Eq, Error)]
 pub enum FolderFault {
     #[error("out of memory")]

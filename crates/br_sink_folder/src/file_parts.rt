@@ -1,4 +1,4 @@
-//! How a file is put of which the bytes are read again, part by part, while it is written.
+//! Puts a file whose bytes are read again, part by part, while it is written.
 ghost use Rattle.std.specs.Prelude.{◌≡◌, true, false, IfOk, OnErr, OnOk};
 ghost use Rattle.std.specs.Str.{IsUtf8};
 ghost use Rattle.br_model.specs.File.{has_bytes};
@@ -39,8 +39,8 @@ fn write_parts<M: FileMaker, P: Parts>(
     Ok(bytes)
 }
 
-/// Writes the file, and makes the folders on its way. What was made of a file that could not be
-/// written is removed again, as far as that works.
+/// Writes the file, and makes the folders on its way. If the file could not be written, what was
+/// made of it is removed again, as far as possible.
 #[tactic(auto, using(crate::proofs::BelowLaws::outside_then, crate::proofs::BelowLaws::outside_twice, crate::proofs::BelowLaws::outside_undone, crate::proofs::BelowLaws::put_parts_below, crate::proofs::RemovalLaws::gives_added, crate::proofs::RemovalLaws::gives_unmade, crate::proofs::RemovalLaws::gives_unwritten))]
 fn write_file<M: Remover, P: Parts>(
     alloc: Global,
@@ -70,7 +70,7 @@ fn write_file<M: Remover, P: Parts>(
     }
 }
 
-/// Puts an item that has no bytes on disk, as its type says.
+/// Puts an item without bytes on disk, as its type requires.
 #[tactic(auto, using(crate::proofs::BelowLaws::adds_same, crate::proofs::BelowLaws::outside_same, crate::proofs::RemovalLaws::gives_same))]
 fn write_other<M: Remover>(
     alloc: Global,
@@ -92,7 +92,7 @@ fn write_other<M: Remover>(
     Ok(bytes)
 }
 
-/// Puts the item on disk, as its type says, with its bytes as they are read again.
+/// Puts the item on disk, as its type requires, with its bytes as they are read again.
 pub(crate) fn put_item<M: Remover, P: Parts>(
     alloc: Global,
     maker: &mut M,

@@ -29,7 +29,7 @@ pub(crate) fn check_there<M: FileMaker>(maker: &M, path: &str) -> Result<(), Fol
     }
 }
 
-/// Returns whether the file at the path has as many bytes as these, and the same digest.
+/// Returns whether the file at the path has the length and the digest of these bytes.
 fn has_bytes_of<M: Comparer>(
     alloc: Global,
     maker: &mut M,
@@ -47,7 +47,7 @@ fn has_bytes_of<M: Comparer>(
     }
 }
 
-/// Returns whether a file is at the path that has as many bytes as these, and the same digest.
+/// Returns whether a file is at the path and has the length and the digest of these bytes.
 #[tactic(auto, using(crate::proofs::ThereLaws::lacks_kind, crate::proofs::ThereLaws::lacks_free))]
 fn is_file_of<M: Comparer>(
     alloc: Global,
@@ -66,8 +66,8 @@ fn is_file_of<M: Comparer>(
     }
 }
 
-/// Returns whether a file like the item's is at its path. Makes the folders on its way. Whatever is at
-/// the path stays.
+/// Returns whether a file like the item's is at its path. Makes the folders on its way. Whatever is
+/// at the path stays.
 #[tactic(auto, using(crate::proofs::ThereLaws::there_at, crate::proofs::ThereLaws::missing_at, crate::proofs::ThereLaws::added_before))]
 fn is_there<M: Comparer>(
     alloc: Global,

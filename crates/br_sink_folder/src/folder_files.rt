@@ -1,4 +1,4 @@
-//! How a sink over a folder puts several files at once.
+//! Puts several files at once into a folder.
 ghost use Rattle.std.specs.Prelude.{◌≡◌, ℕ, ◌<◌, ◌≤◌, true, false, [], length, All, IfOk, OnErr, OnOk, IfErr};
 ghost use Rattle.std.specs.Str.{IsUtf8};
 ghost use Rattle.br_model.specs.File.{has_bytes};
@@ -68,7 +68,7 @@ fn hold<'i, W: Write + Drop, M: FileMaker<New = W>>(
     ensures name { OnOk result (is_directory item.now.path ≡ false) }
     ensures outside { KeepsOutside root.now (M.nodes maker.old) (M.nodes maker.new) }
 {
-    // Room first, so that each file that was made is held.
+    // Room is made first, so that each file that was made is held.
     window.make_room()?;
     let one = make(window.alloc, maker, root, item, place)?;
     window.hold(one);
@@ -101,7 +101,7 @@ fn put_alone<'i, W: Write + Drop, M: ManyWriter<New = W>>(
     }
 }
 
-/// Holds a new file in the window, and writes the window if it is full. Anything else is put alone.
+/// Holds a new file in the window, and writes the window if it is full. Other items are put alone.
 #[tactic(auto, using(crate::proofs::BelowLaws::outside_more, crate::proofs::HeldLaws::over_folders, crate::proofs::HeldLaws::over_again))]
 fn put_file<'i, W: Write + Drop, M: ManyWriter<New = W>>(
     maker: &mut M,
@@ -127,7 +127,7 @@ fn put_file<'i, W: Write + Drop, M: ManyWriter<New = W>>(
     window.write_if_full(maker, threads, root)
 }
 
-/// Puts the item on disk, or holds it in the window, as its type says.
+/// Puts the item on disk, or holds it in the window, as its type requires.
 #[tactic(auto, using(crate::proofs::BelowLaws::outside_same, crate::proofs::HeldLaws::over_without, crate::proofs::HeldLaws::over_again))]
 fn put_next<'i, W: Write + Drop, M: ManyWriter<New = W>>(
     maker: &mut M,

@@ -46,7 +46,7 @@ fn add_file<'p>(set: &mut BTreeSet<&'p [u8]>, path: &'p [u8]) -> Result<(), Allo
 }
 
 impl<'p> Known<'p> {
-    /// Knows no paths.
+    /// Returns a set without paths.
     pub fn new(alloc: Global) -> Known<'p>
         ensures { Has result [] }
     {

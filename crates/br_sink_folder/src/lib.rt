@@ -1,8 +1,8 @@
-//! The delivery of files into a folder: `FolderSink` is the sink over one, whose files any maker
-//! makes that says how several of them are written.
+//! The delivery of files into a folder. `FolderSink` is the sink; its files come from any maker
+//! that defines how several of them are written.
 //!
-//! `Resuming` is a sink over a folder that may hold what an earlier delivery put there: files that
-//! are there already stay as they are. `others_in` names what a folder has beside the files of a
+//! `Resuming` is a sink over a folder that may hold files of an earlier delivery: files that are
+//! there already stay as they are. `others_in` names what a folder has besides the files of a
 //! delivery, and `push_others` appends a line for each.
 #![tactic(auto)]
 

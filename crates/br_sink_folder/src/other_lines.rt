@@ -1,4 +1,4 @@
-//! The lines of what else is in a folder.
+//! The lines of other things in a folder.
 ghost use Rattle.std.specs.Prelude.{◌≡◌, ◌++◌, map, string_bytes, OnOk};
 ghost use Rattle.br_sink_folder.specs.OtherLines.{other_line, other_lines};
 

@@ -1,4 +1,4 @@
-//! The walk through a folder. No clause can say what a folder has.
+//! Lists a folder. No clause can say what a folder has.
 
 use crate::known_paths::{Known, known_of};
 use br_join::Outcome;
@@ -8,8 +8,9 @@ use std::fs::DirEntry;
 use std::rt::Files;
 use std::{fs, io};
 
-/// What is still to be listed below a folder, and what was found that is no file of the delivery and no folder
-/// on the way to one. Each path is that below the folder, and begins with `/`.
+/// What is still to be listed below a folder, and what was found that is neither a file of the
+/// delivery nor a folder on the way to one. Each path is the one below the folder, and begins with
+/// `/`.
 #[derive(Drop)]
 struct Walk<'p> {
     known: Known<'p>,
@@ -25,7 +26,8 @@ fn joined(alloc: Global, first: &str, second: &str) -> io::Result<String> {
 }
 
 impl<'p> Walk<'p> {
-    /// Takes what is at a path: names it, or lists it later if it is a folder on the way to a file.
+    /// Takes what is at a path: names it, or keeps it for listing if it is a folder on the way to a
+    /// file.
     fn take(&mut self, path: String, is_folder: bool) -> io::Result<()> {
         if self.known.is_other(path.as_bytes()) {
             self.others.push(path)?;
@@ -54,9 +56,9 @@ impl<'p> Walk<'p> {
     }
 }
 
-/// Returns the paths of what is in the folder at `root` and is neither a file among the outcomes nor a folder
-/// on the way to one, in byte order. Each is the path below the root, and begins with `/`. Of a folder that is
-/// named nothing else is looked at. No link is followed.
+/// Returns the paths of what is in the folder at `root` and is neither a file among the outcomes
+/// nor a folder on the way to one, in byte order. Each is the path below the root, and begins with
+/// `/`. The contents of a named folder are not listed. No link is followed.
 ///
 /// # Errors
 ///

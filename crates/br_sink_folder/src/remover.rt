@@ -13,16 +13,16 @@ use std::alloc::Global;
 
 /// A maker of files that removes them again.
 ///
-/// No maker says what it means that a removal was refused. So a function over any remover can only
-/// meet "no file is at the path, or its removal was refused" by trying to remove it. Each maker is
-/// one.
+/// No maker defines what a refused removal means. So a function over any remover can only meet "no
+/// file is at the path, or its removal was refused" by trying to remove it. Each maker is a
+/// remover.
 pub(crate) trait Remover: FileMaker {
     ghost use Rattle.std.specs.Prelude.{⊤};
 
     /// What is at this path could not be removed.
     ghost is_refused: { List ℕ → Type 0 } = { λ _. ⊤ };
 
-    /// Removes the file at a path below the folder. The names on its way are tested anew.
+    /// Removes the file at a path below the folder. The names on its way are tested again.
     fn take_away(&mut self, root: &str, path: &str) -> Result<(), SinkFault>
         requires below { IsBelow root.now path.now }
         ensures removed { OnOk result (HasNoFile path.now (Self.nodes self.new)) }
@@ -53,7 +53,7 @@ impl<M: FileMaker> Remover for M {
     }
 }
 
-/// Removes the file at a path below the folder again, as far as that works.
+/// Removes the file at a path below the folder again, as far as possible.
 pub(crate) fn take_back<M: Remover>(maker: &mut M, root: &str, path: &str)
     requires below { IsBelow root.now path.now }
     ensures removed { IsRemoved M.is_refused (M.nodes maker.new) path.now }
@@ -64,7 +64,7 @@ pub(crate) fn take_back<M: Remover>(maker: &mut M, root: &str, path: &str)
     let _ = maker.take_away(root, path);
 }
 
-/// Removes the file of an item again, as far as that works.
+/// Removes the file of an item again, as far as possible.
 pub(crate) fn take_item_back<M: Remover>(alloc: Global, maker: &mut M, root: &str, item: &Item)
     ensures removed { IsRemoved M.is_refused (M.nodes maker.new) (root.now ++ item.now.path) }
     ensures others { MakesNoFile (M.nodes maker.old) (M.nodes maker.new) }

@@ -29,9 +29,9 @@ use std::alloc::Global;
 use std::marker::Model;
 use std::thread::Threads;
 
-/// A sink over a folder. If the delivery is resumed, the folder may hold files: one that has as many bytes
-/// and the same digest as the file to be put stays as it is, and one that differs is removed and made anew.
-/// What has no file of the delivery in its place stays as it is.
+/// A sink over a folder. If the delivery is resumed, the folder may hold files: one with the length
+/// and the digest of the file to put stays as it is, and one that differs is removed and made anew.
+/// Anything in the folder that is not in the place of a delivered file stays as it is.
 #[derive(Drop)]
 pub struct Resuming<M: FileMaker + Drop> {
     start: Start,
@@ -46,7 +46,7 @@ impl<M: FileMaker + Drop> Model for Resuming<M> {
     ghost view = { λ s. record { start = s.start; folder = s.folder } };
 }
 
-/// Makes the sink over the folder itself.
+/// Makes the sink over the folder.
 fn folder_sink<M: FileMaker + Drop>(
     alloc: Global,
     maker: M,
@@ -66,8 +66,8 @@ fn folder_sink<M: FileMaker + Drop>(
 }
 
 impl<M: FileMaker + Drop> Resuming<M> {
-    /// A sink over the folder with this path, whose files are made by this maker. The folder is empty, unless
-    /// the delivery is resumed. Nothing is written yet.
+    /// Creates a sink over the folder with this path. This maker makes its files. The folder is
+    /// empty, unless the delivery is resumed. Nothing is written yet.
     ///
     /// `NotEmpty` if the folder does not exist, can't be read, or has something in it that it may not have.
     pub fn new(
@@ -87,7 +87,7 @@ impl<M: FileMaker + Drop> Resuming<M> {
         Ok(Resuming { start, folder })
     }
 
-    /// Gives the maker of its files back.
+    /// Returns the maker of its files.
     pub fn into_maker(self) -> M
         ensures { M.nodes result ≡ self.folder.nodes }
     {
@@ -119,8 +119,8 @@ impl<M: ManyWriter + Comparer + Drop> Sink for Resuming<M> {
         }
     }
 
-    /// Puts each of the files, as `put`. If the delivery is resumed, one after another, else as the sink over
-    /// the folder puts them.
+    /// Puts each of the files, as `put` does: one after another if the delivery is resumed, else as
+    /// the sink over the folder puts them.
     #[tactic(auto, using(crate::proofs::LikeLaws::leaves_same))]
     fn put_all<R: Threads + Sync>(
         &mut self,
@@ -144,8 +144,8 @@ impl<M: ManyWriter + Comparer + Drop> Sink for Resuming<M> {
         }
     }
 
-    /// Puts a file like this one, of which the bytes are read again while it is written. If the delivery is
-    /// resumed and a file like it is there already, that one stays, and nothing is read again.
+    /// Puts a file like this one, whose bytes are read again while it is written. If the delivery
+    /// is resumed and a file like it is there already, that one stays, and nothing is read again.
     #[tactic(auto, using(crate::proofs::LikeLaws::puts_parts))]
     fn put_parts<P: Parts>(
         &mut self,

@@ -1,4 +1,4 @@
-//! How files are put into a folder that may hold some of them.
+//! Puts files into a folder that may hold some of them.
 ghost use Rattle.std.specs.Prelude.{◌≡◌, ◌<◌, ◌≤◌, true, false, length, IfOk, OnOk, IfErr, Err};
 ghost use Rattle.br_model.specs.File.{has_bytes};
 ghost use Rattle.br_sink.specs.Delivery.{IsStopBelow, items_in};
@@ -39,8 +39,8 @@ pub(crate) fn put_missing<M: ManyWriter + Comparer + Drop>(
     }
 }
 
-/// Puts a file like this one, of which the bytes are read again while it is written, unless it is there
-/// already: then they are not read.
+/// Puts a file like this one, whose bytes are read again while it is written. If it is there
+/// already, the bytes are not read.
 #[tactic(auto, using(crate::proofs::LikeLaws::outside_only, crate::proofs::LikeLaws::adds_both, crate::proofs::LikeLaws::stays_there))]
 pub(crate) fn put_missing_parts<M: ManyWriter + Comparer + Drop, P: Parts>(
     alloc: Global,
@@ -69,8 +69,8 @@ pub(crate) fn put_missing_parts<M: ManyWriter + Comparer + Drop, P: Parts>(
     }
 }
 
-/// Puts the files among the outcomes, unless they are there already, each in its turn: of a path that
-/// comes twice the file that is there may be that of either.
+/// Puts the files among the outcomes, one after another, unless they are there already. If a path
+/// occurs twice, the file that is there may be that of either.
 pub(crate) fn put_each<M: ManyWriter + Comparer + Drop>(
     sink: &mut FolderSink<M>,
     outcomes: &[(FileKey, Outcome)],

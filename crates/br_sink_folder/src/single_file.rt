@@ -1,4 +1,4 @@
-//! How a file or a folder is put alone.
+//! Puts a file or a folder alone.
 ghost use Rattle.std.specs.Prelude.{◌≡◌, ◌++◌, true, false, OnErr, OnOk, Ok};
 ghost use Rattle.std.specs.Str.{IsUtf8};
 ghost use Rattle.br_model.specs.File.{has_bytes};
@@ -15,8 +15,8 @@ use br_join::Item;
 use br_sink::SinkFault;
 use std::alloc::Global;
 
-/// Writes the file, and makes the folders on its way. What was made of a file that could not be
-/// written is removed again, as far as that works.
+/// Writes the file, and makes the folders on its way. If the file could not be written, what was
+/// made of it is removed again, as far as possible.
 #[tactic(auto, using(crate::proofs::BelowLaws::outside_then, crate::proofs::BelowLaws::outside_twice, crate::proofs::BelowLaws::outside_undone, crate::proofs::BelowLaws::put_below, crate::proofs::RemovalLaws::gives_added, crate::proofs::RemovalLaws::gives_unmade, crate::proofs::RemovalLaws::gives_unwritten))]
 fn write_file<M: Remover>(
     alloc: Global,
@@ -58,7 +58,7 @@ fn write_folder<M: FileMaker>(
     make_way(maker, root, path.as_str())
 }
 
-/// Puts the item on disk, as its type says.
+/// Puts the item on disk, as its type requires.
 #[tactic(auto, using(crate::proofs::BelowLaws::outside_added, crate::proofs::BelowLaws::outside_same, crate::proofs::RemovalLaws::gives_added))]
 pub(crate) fn write_item<M: Remover>(
     alloc: Global,

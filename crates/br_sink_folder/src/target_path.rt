@@ -1,4 +1,4 @@
-//! Where a file is put below a folder.
+//! The place of a file below a folder.
 ghost use Rattle.std.specs.Prelude.{◌≡◌, ◌++◌, false, OnOk, IfOk, string_bytes};
 ghost use Rattle.std.specs.Str.{IsUtf8};
 ghost use Rattle.br_model.specs.Name.{is_directory};
@@ -23,7 +23,7 @@ pub(crate) fn text_of(item: &Item) -> Result<&str, SinkFault>
     }
 }
 
-/// Returns the path of a file as text. `Fault` if it is not UTF-8, or a folder's.
+/// Returns the path of a file as text. `Fault` if it is not UTF-8, or is a folder's.
 fn file_text_of(item: &Item) -> Result<&str, SinkFault>
     ensures text { OnOk result (IsUtf8 item.now.path) }
     ensures name { OnOk result (is_directory item.now.path ≡ false) }
@@ -35,7 +35,7 @@ fn file_text_of(item: &Item) -> Result<&str, SinkFault>
     text_of(item)
 }
 
-/// Returns the path of a file below the folder. It makes the folders on its way.
+/// Returns the path of a file below the folder. Makes the folders on its way.
 #[tactic(auto, using(crate::proofs::BelowLaws::outside_added, crate::proofs::BelowLaws::adds_same))]
 pub(crate) fn path_of<M: FileMaker>(
     alloc: Global,

@@ -1,4 +1,4 @@
-//! How two files are put side by side, of which the bytes are read again while both are written.
+//! Puts two files side by side. Their bytes are read again while both are written.
 ghost use Rattle.std.specs.Prelude.{◌≡◌, ◌++◌, true, false, ℕ, List, Option, IfOk, IfSome, IsSome, OnErr, OnOk, string_bytes};
 ghost use Rattle.std.specs.Str.{IsUtf8};
 ghost use Rattle.br_model.specs.File.{has_bytes};
@@ -72,8 +72,8 @@ fn make_new<M: FileMaker>(
     Ok(NewFile { file, path })
 }
 
-/// Creates the second file, if nothing has its name. If that fails, the first is removed again, as far as
-/// that works.
+/// Creates the second file, if nothing has its name. If that fails, removes the first again, as far
+/// as possible.
 #[tactic(auto, using(crate::proofs::BelowLaws::outside_more))]
 fn make_second<M: Remover>(
     alloc: Global,
@@ -100,7 +100,7 @@ fn make_second<M: Remover>(
     }
 }
 
-/// Removes both files again, as far as that works.
+/// Removes both files again, as far as possible.
 #[tactic(auto, using(crate::proofs::BelowLaws::outside_more, crate::proofs::TwoLaws::both_removed))]
 fn take_both_back<M: Remover>(maker: &mut M, paths: &Paths<'_>)
     requires below { HavePathsBelow paths.now }
@@ -111,7 +111,7 @@ fn take_both_back<M: Remover>(maker: &mut M, paths: &Paths<'_>)
     take_back(maker, paths.root, paths.other);
 }
 
-/// Closes the first file. If that fails, both are removed again, as far as that works.
+/// Closes the first file. If that fails, removes both again, as far as possible.
 #[tactic(auto, using(crate::proofs::BelowLaws::outside_first, crate::proofs::BelowLaws::outside_set))]
 fn close_first<M: Remover>(maker: &mut M, paths: &Paths<'_>, file: M::New) -> Result<(), PartsFault>
     requires below { HavePathsBelow paths.now }
@@ -128,7 +128,7 @@ fn close_first<M: Remover>(maker: &mut M, paths: &Paths<'_>, file: M::New) -> Re
     }
 }
 
-/// Closes the second file. If that fails, it is removed again, as far as that works.
+/// Closes the second file. If that fails, removes it again, as far as possible.
 #[tactic(auto, using(crate::proofs::BelowLaws::outside_first, crate::proofs::BelowLaws::outside_set, crate::proofs::RemovalLaws::changes_kept, crate::proofs::RemovalLaws::changes_more))]
 fn close_second<M: Remover>(
     maker: &mut M,
@@ -150,8 +150,8 @@ fn close_second<M: Remover>(
     }
 }
 
-/// Closes two files that were written. Those that can't be closed are removed again, as far as that
-/// works.
+/// Closes two files that were written. Those that can't be closed are removed again, as far as
+/// possible.
 #[tactic(auto, using(crate::proofs::BelowLaws::outside_more, crate::proofs::TwoLaws::finishes_two, crate::proofs::TwoLaws::finishes_first))]
 fn close_both<M: Remover>(
     maker: &mut M,
@@ -176,7 +176,7 @@ fn close_both<M: Remover>(
     }
 }
 
-/// Closes the first of two files, of which the other was not written and is removed again. If the first
+/// Closes the first of two files. The other was not written and is removed again. If the first
 /// can't be closed, both are removed.
 #[tactic(auto, using(crate::proofs::BelowLaws::outside_more, crate::proofs::TwoLaws::finishes_first))]
 fn close_one<M: Remover>(
@@ -200,7 +200,7 @@ fn close_one<M: Remover>(
     TwoPut::One { one, why }
 }
 
-/// Closes two files, as far as they were written. The others are removed again, as far as that works.
+/// Closes two files, as far as they were written. The others are removed again, as far as possible.
 fn close_pair<M: Remover>(
     maker: &mut M,
     paths: &Paths<'_>,
@@ -224,7 +224,8 @@ fn close_pair<M: Remover>(
     }
 }
 
-/// Writes two new files, and closes them. Those that were not put are removed again, as far as that works.
+/// Writes two new files, and closes them. Those that were not put are removed again, as far as
+/// possible.
 #[tactic(auto, using(crate::proofs::TwoLaws::paths_below, crate::proofs::TwoLaws::rest_removed, crate::proofs::TwoLaws::two_left, crate::proofs::TwoLaws::two_alike, crate::proofs::TwoLaws::two_same))]
 fn write_pair<M: Remover, P: TwoParts>(
     maker: &mut M,
@@ -258,8 +259,8 @@ fn write_pair<M: Remover, P: TwoParts>(
     close_pair(maker, &paths, file, other_file, written)
 }
 
-/// Puts two files on disk, with their bytes as they are read again. `None`, and none of them is left, if
-/// they are not two files with bytes that can be made where nothing is.
+/// Puts two files on disk, with their bytes as they are read again. Returns `None`, and leaves
+/// neither, if they are not two files with bytes that can both be made as new files.
 #[tactic(auto, using(crate::proofs::BelowLaws::outside_more, crate::proofs::BelowLaws::outside_same, crate::proofs::RemovalLaws::gives_added, crate::proofs::RemovalLaws::gives_same))]
 pub(crate) fn put_pair<M: Remover, P: TwoParts>(
     alloc: Global,

@@ -27,11 +27,11 @@ use std::thread::Threads;
 /// The largest number of files that are held open.
 const MOST: usize = 16;
 
-/// The number of bytes from which on threads are worth their start.
+/// The number of bytes from which threads are worth starting.
 const MANY_BYTES: u64 = 1 << 20;
 
-/// A new file on disk, the item whose bytes it is to contain, and the number of files before it.
-/// The file is none once it is finished.
+/// A new file on disk, the item with its bytes, and the number of files before it. The file is
+/// `None` once it is finished.
 #[derive(Drop)]
 pub struct Made<'i, W: Write + Drop> {
     pub(crate) file: Option<W>,
@@ -40,8 +40,8 @@ pub struct Made<'i, W: Write + Drop> {
     pub(crate) answer: Result<(), SinkFault>,
 }
 
-/// Writes the bytes of an item to its file, if there is one. If that fails, some of the first bytes
-/// may have been written.
+/// Writes the bytes of an item to its file, if there is one. If that fails, a first part of the
+/// bytes may have been written.
 fn write_bytes<W: Write>(file: &mut Option<W>, item: &Item) -> Result<(), SinkFault>
     ensures all { OnOk result (AppendsSome W.contents file.old file.new item.now.bytes) }
     ensures front { OnErr result (AppendsFrontSome W.contents file.old file.new item.now.bytes) }
@@ -111,7 +111,7 @@ fn close_some<M: FileMaker>(
 }
 
 impl<'i, W: Write + Drop> Made<'i, W> {
-    /// Writes its bytes, and keeps the answer.
+    /// Writes its bytes, and keeps the result.
     fn write(&mut self)
         ensures place { self.new.place ≡ self.old.place }
         ensures written { WritesOne W.contents self.old self.new }
@@ -119,7 +119,7 @@ impl<'i, W: Write + Drop> Made<'i, W> {
         self.answer = write_bytes(&mut self.file, self.item);
     }
 
-    /// Closes the file, and keeps the answer, unless one was kept already.
+    /// Closes the file, and keeps the result, unless one was kept already.
     fn finish<M: FileMaker<New = W>>(&mut self, alloc: Global, maker: &mut M, root: &str)
         ensures place { self.new.place ≡ self.old.place }
         ensures item { self.new.item.now ≡ self.old.item.now }
@@ -131,15 +131,16 @@ impl<'i, W: Write + Drop> Made<'i, W> {
     }
 }
 
-/// Returns the number of threads in which this number of bytes is written.
+/// Returns the number of threads to write this number of bytes in.
 fn thread_count(bytes: u64) -> usize
     ensures { 0 < result }
 {
     if bytes < MANY_BYTES { 1 } else { MOST }
 }
 
-/// A maker of files, and how several of its new files are written. A method of a trait may not send
-/// to threads what it knows by its bounds alone, so each maker says it for its own files.
+/// A maker of files that defines how several of its new files are written. A method of a trait
+/// can't send to threads what it knows only by its bounds, so each maker defines it for its own
+/// files.
 pub trait ManyWriter: FileMaker {
     /// Writes the files, in this number of threads.
     fn write_each<T: Threads + Sync>(threads: &T, made: &mut [Made<'_, Self::New>], count: usize)
@@ -192,7 +193,7 @@ fn finish_each<W: Write + Drop, M: FileMaker<New = W>>(
     }
 }
 
-/// Removes the file again if it is at the place or after it, as far as that works.
+/// Removes the file again if it is at the place or after it, as far as possible.
 #[tactic(auto, using(crate::proofs::BelowLaws::outside_same, crate::proofs::RemovalLaws::no_file_same))]
 fn remove_one<W: Write + Drop, M: Remover<New = W>>(
     alloc: Global,
@@ -210,7 +211,7 @@ fn remove_one<W: Write + Drop, M: Remover<New = W>>(
     }
 }
 
-/// Removes the files from this place on again, as far as that works.
+/// Removes the files from this place on again, as far as possible.
 #[tactic(auto, using(crate::proofs::BelowLaws::outside_more, crate::proofs::BelowLaws::outside_same))]
 fn remove_from<W: Write + Drop, M: Remover<New = W>>(
     alloc: Global,
@@ -294,7 +295,7 @@ pub(crate) struct Window<'i, W: Write + Drop> {
 }
 
 impl<'i, W: Write + Drop> Window<'i, W> {
-    /// No files.
+    /// Returns a window without files.
     pub(crate) fn new(alloc: Global) -> Window<'i, W>
         ensures { result.made.items ≡ [] }
     {
@@ -305,7 +306,7 @@ impl<'i, W: Write + Drop> Window<'i, W> {
         }
     }
 
-    /// Returns if it holds as many as it may.
+    /// Returns true if it is full.
     pub(crate) fn is_full(&self) -> bool
         ensures few { result ≡ false → length self.now.made.items < 16 }
         ensures full { result ≡ true → 16 ≤ length self.now.made.items }
@@ -336,8 +337,8 @@ impl<'i, W: Write + Drop> Window<'i, W> {
         self.bytes = self.bytes.saturating_add(bytes);
     }
 
-    /// Writes all files and closes them, and holds none. It stops at the first that could not be
-    /// written, which is removed again, as those after it are.
+    /// Writes all files and closes them, and holds none. Stops at the first that could not be
+    /// written; it and those after it are removed again.
     pub(crate) fn write<M: ManyWriter<New = W> + Remover, T: Threads + Sync>(
         &mut self,
         maker: &mut M,

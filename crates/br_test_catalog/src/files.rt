@@ -6,7 +6,7 @@ use br_test_support::Case;
 use std::os::unix::fs::{PermissionsExt, symlink};
 use std::{fs, io};
 
-/// Does a step by the trait alone, and prints what that gave.
+/// Takes a step through the trait, and prints the result.
 fn make<M: FileMaker>(case: &mut Case, maker: &mut M, word: &str, path: &str, bytes: &[u8]) {
     match word {
         "look" => shown(case, &maker.look(path)),
@@ -26,8 +26,8 @@ fn make<M: FileMaker>(case: &mut Case, maker: &mut M, word: &str, path: &str, by
     }
 }
 
-/// Makes a link to a path, removes a folder with all that is in it, or prints the permissions or the bytes of a file,
-/// without a maker.
+/// Makes a link to a path, removes a folder with everything in it, or prints the permissions or the
+/// bytes of a file, without a maker.
 fn ask(rt: &HostRuntime, case: &mut Case, word: &str, path: &str, target: &str) -> io::Result<()> {
     match word {
         "link" => symlink(rt, target, path),
@@ -45,7 +45,7 @@ fn ask(rt: &HostRuntime, case: &mut Case, word: &str, path: &str, target: &str) 
     }
 }
 
-/// Does a step as `WORD:PATH` or `WORD:PATH:TEXT` says.
+/// Takes the step `WORD:PATH` or `WORD:PATH:TEXT`.
 fn step(rt: &HostRuntime, case: &mut Case, field: &str) {
     let (word, rest) = case.split(field, ':');
     let (path, text) = rest.split_once(':').unwrap_or((rest, "-"));
@@ -60,7 +60,7 @@ fn step(rt: &HostRuntime, case: &mut Case, field: &str) {
     make(case, &mut maker, word, path, &bytes);
 }
 
-/// Does steps one after the other.
+/// Takes steps one after another.
 pub(crate) fn run(rt: &HostRuntime, case: &mut Case, steps: &[&str]) {
     for field in steps {
         step(rt, case, field);

@@ -1,5 +1,5 @@
-//! What a keeper over memory returns, what a session sees meanwhile, and what is left on the volumes and in the
-//! catalogue.
+//! The results of a keeper in memory, what a session sees meanwhile, and what is left on the
+//! volumes and in the catalogue.
 
 use crate::mem_jobs::MemJobs;
 use crate::saved_jobs::saved_job;
@@ -12,7 +12,8 @@ use std::sync::Wait;
 
 pub(crate) type MemKeeper = Keeper<MemJobs, MemStore>;
 
-/// Prints the number of a receipt and that of its job, `none` if nothing was published, or the number of the refusal.
+/// Prints the number of a receipt and that of its job; `none` if nothing was published; or the
+/// number of the refusal.
 fn push_receipt(case: &mut Case, given: &Result<Option<Receipt>, KeeperFault>) {
     match given {
         Ok(Some(receipt)) => {
@@ -25,7 +26,7 @@ fn push_receipt(case: &mut Case, given: &Result<Option<Receipt>, KeeperFault>) {
     }
 }
 
-/// Commits the job of a text of lines, and prints what that returned.
+/// Commits the job in a text of lines, and prints the result.
 fn commit<R: Wait>(rt: &R, case: &mut Case, keeper: &mut MemKeeper, text: &str) {
     let text = case.text_of(text);
     let text = str::from_utf8(&text).unwrap_or("");
@@ -39,7 +40,8 @@ fn commit<R: Wait>(rt: &R, case: &mut Case, keeper: &mut MemKeeper, text: &str) 
     push_receipt(case, &given);
 }
 
-/// Takes a snapshot, and prints how many jobs it has and the number of the last, or that none is given.
+/// Takes a snapshot, and prints the number of its jobs and the number of the last one, or that
+/// there is no snapshot.
 fn see(case: &mut Case, session: Session) -> Session {
     match session.snapshot() {
         Ok(snapshot) => {
@@ -71,7 +73,7 @@ fn ask_of_volume(case: &mut Case, keeper: &mut MemKeeper, word: &str, name: &str
     }
 }
 
-/// Does a step, and prints what it returned.
+/// Takes a step, and prints the result.
 fn act<R: Wait>(
     rt: &R,
     case: &mut Case,
@@ -89,7 +91,7 @@ fn act<R: Wait>(
     session
 }
 
-/// Does steps one after the other.
+/// Takes steps one after another.
 fn act_each<R: Wait>(
     rt: &R,
     case: &mut Case,
@@ -130,9 +132,9 @@ fn push_jobs(case: &mut Case, jobs: &[JobRows]) {
     }
 }
 
-/// Runs a call: makes a keeper of sixteen sessions over a catalogue without jobs, does the steps, and prints what one
-/// of the sessions sees after the keeper has ended, and what is left. `NUMBER:KEPT` says which append fails, 0 for
-/// none, and how many of its bytes are kept.
+/// Runs a call: makes a keeper with sixteen sessions over a catalogue without jobs, takes the
+/// steps, and prints what one of the sessions sees after the keeper has ended, and what is left.
+/// `NUMBER:KEPT` tells which append fails (0 for none), and the number of its bytes that are kept.
 pub(crate) fn run<R: Wait>(rt: &R, case: &mut Case, failure: &str, steps: &[&str]) {
     let alloc = case.alloc();
     let (number, kept) = case.split(failure, ':');

@@ -1,6 +1,6 @@
 //! Runs rows over files of the system, volumes in folders of a disk that fails or is full, commits
-//! by a keeper over memory, callers of a served keeper, and what sessions see meanwhile. It prints
-//! the rows that gave something else than wanted.
+//! by a keeper in memory, callers of a served keeper, and what sessions see meanwhile. It prints
+//! the rows that gave something else than expected.
 #![tactic(auto)]
 
 mod files;
@@ -16,7 +16,7 @@ use std::io;
 use std::sync::Wait;
 use std::thread::Threads;
 
-/// Does what the fields of a call say, and prints what it gave.
+/// Carries out a call with its fields, and prints the result.
 fn run_fields<R: Threads + Wait + Copy + Send + 'static>(
     rt: &HostRuntime,
     threads: R,
@@ -36,7 +36,7 @@ fn run_fields<R: Threads + Wait + Copy + Send + 'static>(
     }
 }
 
-/// Runs the row of a line, if it has one.
+/// Runs the row of a line, if there is one.
 fn run_line<R: Threads + Wait + Copy + Send + 'static>(
     rt: &HostRuntime,
     threads: R,

@@ -1,9 +1,9 @@
-//! A catalogue over memory.
+//! A catalogue in memory.
 use br_history::{History, JobRows};
 use br_keeper::{JobStore, JobStoreFault};
 use std::alloc::Global;
 
-/// Jobs in memory. Nothing is said of them.
+/// Jobs in memory. No contract says anything about them.
 #[derive(Drop)]
 pub(crate) struct MemJobs {
     pub(crate) alloc: Global,

@@ -1,4 +1,4 @@
-//! Jobs that are to be committed, as the lines of a script give them.
+//! Jobs to be committed, as the lines of a script.
 
 use br_history::{Draft, SavedJob, read_head};
 use std::alloc::Global;
@@ -10,7 +10,8 @@ use std::alloc::Global;
 /// 24 + 12 + 8: three of 64 bytes and one of 44.
 const FILE: &[u8] = b"putd 3 /a 6d65737361676520646967657374 - A A IGk B A A A A A A A A A A";
 
-/// Makes the job of these lines: what the first one says after `job`, and those of the places.
+/// Makes the job of these lines: the fields of its first line after `job`, and the lines of the
+/// places.
 pub(crate) fn saved_job(alloc: Global, text: &str) -> Option<SavedJob> {
     let mut lines = text.split('\n');
     let mut draft = Draft::new(alloc, read_head(alloc, lines.next()?.as_bytes()).ok()?);
@@ -21,7 +22,8 @@ pub(crate) fn saved_job(alloc: Global, text: &str) -> Option<SavedJob> {
     draft.end().ok()?
 }
 
-/// Makes the job with this number, whose session has the number, too. Its first block goes to A, the others to B.
+/// Makes the job with this number, which is also that of its session. Its first block goes to A,
+/// the others to B.
 pub(crate) fn numbered(alloc: Global, id: u32) -> Option<SavedJob> {
     let text = format!(in alloc; "{id} B F T 100 {id} 100 64 c f\nplace A 1\nplace B 0").ok()?;
     saved_job(alloc, text.as_str())

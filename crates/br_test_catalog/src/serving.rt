@@ -1,5 +1,5 @@
-//! What callers of a served keeper get, each in a thread of its own, and what sessions in other threads see
-//! meanwhile.
+//! The results of the callers of a served keeper, each in its own thread, and what sessions in
+//! other threads see meanwhile.
 ghost use Rattle.std.specs.Prelude.{◌≡◌, ◌<◌, [], IfSome};
 ghost use Rattle.br_keeper.specs.Sessions.{AllKnow};
 
@@ -16,13 +16,13 @@ use std::marker::Brand;
 use std::sync::Wait;
 use std::thread::{JoinHandle, Threads, spawn, yield_now};
 
-/// The jobs of the first caller are numbered from 1 on, and those of the second one from 1,001 on.
+/// The jobs of the first caller are numbered from 1, those of the second one from 1,001.
 const BEFORE_SECOND: u32 = 1000;
 
 /// The last job of each caller, or the number before its first.
 type Seen = (u32, u32);
 
-/// Returns the last job of each caller, if these are their first jobs, those of each in its order.
+/// Returns the last job of each caller, if these are the first jobs of each, in its order.
 fn seen_in(jobs: &[JobRows]) -> Option<Seen> {
     let mut seen = (0, BEFORE_SECOND);
     for rows in jobs {
@@ -38,8 +38,8 @@ fn seen_in(jobs: &[JobRows]) -> Option<Seen> {
     Some(seen)
 }
 
-/// Takes a snapshot. Returns the last job of each caller in it, or `None` if they are not in order or no snapshot is
-/// given.
+/// Takes a snapshot. Returns the last job of each caller in it, or `None` if they are not in order
+/// or there is no snapshot.
 fn look(session: Session) -> Option<(Session, Seen)>
     ensures { IfSome result (λ r. r.0.book ≡ session.book) }
 {
@@ -84,8 +84,8 @@ fn ask<K: Naming, R: Wait>(
     }
 }
 
-/// Has `count` jobs committed one after the other, with the numbers that follow `before`. Returns whether it found
-/// each in the next snapshot. The sender is gone then.
+/// Has `count` jobs committed one after another, with the numbers after `before`. Returns whether
+/// it found each in the next snapshot. The sender is dropped at the end.
 fn call<K: Naming, R: Wait>(
     rt: &R,
     alloc: Global,
@@ -109,7 +109,7 @@ fn call<K: Naming, R: Wait>(
     true
 }
 
-/// Starts a caller in a thread of its own. It returns whether it found all its jobs.
+/// Starts a caller in its own thread. The thread returns whether it found all its jobs.
 fn start<K: Naming + Send + Sync + 'static, R: Threads + Wait + Copy + Send + 'static>(
     rt: R,
     alloc: Global,
@@ -132,8 +132,8 @@ fn start<K: Naming + Send + Sync + 'static, R: Threads + Wait + Copy + Send + 's
     }
 }
 
-/// Takes snapshots until one has all jobs. Returns false if one has jobs out of order, or fewer than the one before,
-/// or is not given.
+/// Takes snapshots until one has all jobs. Returns false if there is no snapshot, or one has jobs
+/// out of order or fewer than the previous one.
 fn watch<R: Wait>(rt: &R, session: Session, all: Seen) -> bool {
     let mut session = session;
     let mut before = (0, 0);
@@ -151,7 +151,7 @@ fn watch<R: Wait>(rt: &R, session: Session, all: Seen) -> bool {
     false
 }
 
-/// Starts a watcher of each session, in a thread of its own.
+/// Starts a watcher of each session, each in its own thread.
 fn start_watchers<R: Threads + Wait + Copy + Send + 'static>(
     rt: R,
     alloc: Global,
@@ -177,7 +177,7 @@ fn end<R: Threads>(rt: &R, thread: Option<JoinHandle<bool>>) -> bool {
     }
 }
 
-/// Waits for watchers, and returns how many were right.
+/// Waits for watchers, and returns the number of them that were right.
 fn count_right<R: Threads>(rt: &R, watchers: Vec<Option<JoinHandle<bool>>>) -> u32 {
     let mut count: u32 = 0;
     for watcher in watchers {
@@ -209,8 +209,8 @@ fn serve_both<K: Naming + Send + Sync + 'static, R: Threads + Wait + Copy + Send
     (keeper, end(&rt, other) && found)
 }
 
-/// Serves two callers with the last two sessions, while the others watch. Returns how many watchers were right if
-/// both callers found all their jobs.
+/// Serves two callers with the last two sessions, while the others watch. Returns the number of
+/// watchers that were right if both callers found all their jobs.
 fn serve_sessions<R: Threads + Wait + Copy + Send + 'static>(
     rt: R,
     alloc: Global,
@@ -239,8 +239,9 @@ fn serve_sessions<R: Threads + Wait + Copy + Send + 'static>(
     (keeper, right)
 }
 
-/// Runs a call: serves two callers that have this number of jobs committed, while this number of sessions watch.
-/// Prints how many watchers were right, if both callers found all their jobs, and the number of jobs in the catalogue.
+/// Runs a call: serves two callers that have this number of jobs committed, while this number of
+/// sessions watch. Prints the number of watchers that were right, if both callers found all their
+/// jobs, and the number of jobs in the catalogue.
 pub(crate) fn run<R: Threads + Wait + Copy + Send + 'static>(
     rt: R,
     case: &mut Case,

@@ -1,4 +1,4 @@
-//! Volumes in a folder of a disk over memory.
+//! Volumes in a folder of a disk in memory.
 
 use crate::shown::shown;
 use br_fs::{FilePath, Kind, MemDisk};
@@ -6,7 +6,8 @@ use br_test_support::Case;
 use br_volume::{Drive, FolderDrive, FolderStore, VolumeStore};
 use std::alloc::{AllocError, Global};
 
-/// The files of the disk: the volumes V, W and E are in the folder `d`, and one file is beside it.
+/// The files of the disk: the volumes V, W and E are in the folder `d`, and one more file is
+/// outside.
 const FILES: [(&[u8], &[u8]); 4] = [
     (b"V", b"beside"),
     (b"d/V", b"abcde"),
@@ -14,7 +15,7 @@ const FILES: [(&[u8], &[u8]); 4] = [
     (b"d/E", b""),
 ];
 
-/// Makes a disk with these files, and with a folder D and a pipe P beside the volumes.
+/// Makes a disk with these files, and with a folder D and a pipe P among the volumes.
 fn mem_disk(alloc: Global) -> Result<MemDisk, AllocError> {
     let mut files = Vec::new(alloc);
     for (path, bytes) in FILES {
@@ -26,9 +27,9 @@ fn mem_disk(alloc: Global) -> Result<MemDisk, AllocError> {
     Ok(MemDisk::new(alloc, files, others))
 }
 
-/// Makes the disk of a row. `short` is `MOST:INTERRUPTS`: reads and writes are of at most MOST bytes, and the next
-/// INTERRUPTS ones are interrupted. `end` is `calls:N` or `room:N` if calls fail after N of them, or the disk is
-/// full after N bytes.
+/// Makes the disk of a row. `short` is `MOST:INTERRUPTS`: reads and writes are of at most MOST
+/// bytes, and the next INTERRUPTS ones are interrupted. `end` is `calls:N` if calls fail after N of
+/// them, or `room:N` if the disk is full after N bytes.
 fn disk_of(case: &mut Case, short: &str, end: &str) -> Option<MemDisk> {
     let Ok(mut disk) = mem_disk(case.alloc()) else {
         case.fail("out of memory");
@@ -44,7 +45,7 @@ fn disk_of(case: &mut Case, short: &str, end: &str) -> Option<MemDisk> {
     Some(disk)
 }
 
-/// Reads by the trait alone as `NAME:ADDR:SIZE` says, and prints what that gave.
+/// Reads `NAME:ADDR:SIZE` through the trait, and prints the result.
 fn read(case: &mut Case, drive: &mut impl Drive, buf: &mut Vec<u8>, field: &str) {
     let (name, rest) = case.split(field, ':');
     let (addr, size) = case.split(rest, ':');
@@ -70,8 +71,8 @@ fn read_all(case: &mut Case, disk: MemDisk, reads: &[&str]) {
     }
 }
 
-/// Appends by the trait alone as `NAME:TEXT` says, or asks for the length of the volume NAME. Prints what that
-/// returned.
+/// Appends `NAME:TEXT` through the trait, or asks for the length of the volume NAME. Prints the
+/// result.
 fn ask(case: &mut Case, store: &mut impl VolumeStore, field: &str) {
     let (name, text) = field.split_once(':').unwrap_or((field, ""));
     let Some(vol) = case.vol_of(name) else {

@@ -1,17 +1,17 @@
-//! A catalogue over memory, which copies the jobs that it is given.
+//! A catalogue in memory, which copies the jobs that it gets.
 use br_history::{History, JobRows};
 use br_keeper::{JobStore, JobStoreFault};
 use br_volume::MemStore;
 use std::alloc::Global;
 
-/// Jobs in memory. Nothing is said of them.
+/// Jobs in memory. No contract says anything about them.
 #[derive(Drop)]
 pub(crate) struct CopiedJobs {
     alloc: Global,
     pub(crate) history: History,
 }
 
-/// What a keeper works on, and leaves.
+/// What a keeper works on, and leaves behind.
 pub(crate) type Kept = (CopiedJobs, MemStore);
 
 /// Returns a catalogue without jobs and a store without volumes.

@@ -1,8 +1,8 @@
-//! Jobs as the lines of a script give them.
+//! Jobs as the lines of a script.
 use br_history::{Draft, SavedJob, read_head};
 use std::alloc::Global;
 
-/// A job: what its first line says after `job`, and its other lines.
+/// A job: the fields of its first line after `job`, and its other lines.
 pub(crate) type Job = (&'static str, &'static [&'static str]);
 
 // Each job saves one file, `message digest`, in blocks of 64, 64 and 44 bytes.
@@ -42,7 +42,7 @@ pub(crate) const FOURTH: Job = (
     ],
 );
 
-/// Makes the job that these lines give, or none if memory runs out.
+/// Makes the job of these lines, or none if memory runs out.
 pub(crate) fn saved_job(alloc: Global, job: Job) -> Option<SavedJob> {
     let mut draft = Draft::new(alloc, read_head(alloc, job.0.as_bytes()).ok()?);
     for line in job.1 {

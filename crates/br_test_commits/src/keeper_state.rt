@@ -1,4 +1,4 @@
-//! What is there after a call, and what a keeper leaves.
+//! The state after a call, and what a keeper leaves.
 use crate::copied_jobs::{CopiedJobs, Kept};
 use br_history::JobRows;
 use br_keeper::{Keeper, KeeperFault, Receipt, Session};
@@ -34,8 +34,8 @@ fn tell_volumes<R: Print>(rt: &R, keeper: &MemKeeper) -> io::Result<()> {
     Ok(())
 }
 
-/// Prints the number of jobs in a snapshot and the last of them, if a snapshot is given. Returns the
-/// session.
+/// Prints the number of jobs in a snapshot and the last of them, if there is a snapshot. Returns
+/// the session.
 fn tell_seen<R: Print>(rt: &R, session: Session) -> (Session, io::Result<()>) {
     match session.snapshot() {
         Ok(snapshot) => {
@@ -48,7 +48,7 @@ fn tell_seen<R: Print>(rt: &R, session: Session) -> (Session, io::Result<()>) {
     }
 }
 
-/// Prints what is there. Returns the session.
+/// Prints the state. Returns the session.
 pub(crate) fn tell_state<R: Print>(
     rt: &R,
     keeper: &MemKeeper,

@@ -1,6 +1,5 @@
-//! Commits jobs by a keeper over memory, and prints after each call what it returned and what is
-//! there then. `acceptance/keeping.py` runs it with each of its requests for memory refused in
-//! turn.
+//! Commits jobs by a keeper in memory, and prints after each call its result and the state.
+//! `acceptance/keeping.py` runs it with each of its requests for memory refused in turn.
 #![tactic(auto)]
 
 mod copied_jobs;
@@ -13,7 +12,7 @@ use crate::job_drafts::{FIRST, FOURTH, SECOND, THIRD};
 use crate::one_keeper::{Deed, run};
 use std::io;
 
-/// What follows the commit of the first job, each after the other.
+/// What follows the commit of the first job, one after another.
 const ONE_BY_ONE: &[Deed] = &[
     Deed::Republish,
     Deed::Commit(FIRST),
@@ -23,10 +22,10 @@ const ONE_BY_ONE: &[Deed] = &[
     Deed::Commit(THIRD),
 ];
 
-/// What another keeper does over what is left. It begins with the fourth job.
+/// What another keeper does with what is left. It begins with the fourth job.
 const AGAIN: &[Deed] = &[Deed::Commit(THIRD), Deed::Commit(SECOND), Deed::Republish];
 
-/// Commits alone: each publishes the job that waits.
+/// Only commits: each publishes the job that waits.
 const AT_ONCE: &[Deed] = &[
     Deed::Commit(FIRST),
     Deed::Commit(SECOND),

@@ -1,4 +1,4 @@
-//! A keeper that is called by one caller.
+//! A keeper with one caller.
 ghost use Rattle.std.specs.Prelude.{◌≡◌};
 
 use crate::copied_jobs::Kept;
@@ -9,7 +9,7 @@ use br_types::VolName;
 use std::io;
 use std::sync::Wait;
 
-/// What is done: a job is committed, what waits is published, or a byte is appended to the volume C.
+/// A deed: a job is committed, what waits is published, or a byte is appended to the volume C.
 #[derive(Clone, Copy)]
 pub(crate) enum Deed {
     Commit(Job),
@@ -17,7 +17,7 @@ pub(crate) enum Deed {
     Append,
 }
 
-/// Commits a job, and prints what that returned.
+/// Commits a job, and prints the result.
 fn commit<R: Print + Wait + AllocGlobal>(
     rt: &R,
     keeper: &mut MemKeeper,
@@ -30,7 +30,7 @@ fn commit<R: Print + Wait + AllocGlobal>(
     tell_receipt(rt, &keeper.commit(rt, job))
 }
 
-/// Publishes the job that waits, and prints what that returned.
+/// Publishes the job that waits, and prints the result.
 fn republish<R: Print + Wait + AllocGlobal>(rt: &R, keeper: &mut MemKeeper) -> io::Result<()> {
     match keeper.republish(rt) {
         Ok(Some(receipt)) => {
@@ -41,7 +41,7 @@ fn republish<R: Print + Wait + AllocGlobal>(rt: &R, keeper: &mut MemKeeper) -> i
     }
 }
 
-/// Appends a byte to the volume C, and prints what that returned.
+/// Appends a byte to the volume C, and prints the result.
 fn append<R: Print + Wait + AllocGlobal>(rt: &R, keeper: &mut MemKeeper) -> io::Result<()> {
     let Ok(vol) = VolName::new(rt.alloc(), b"C") else {
         return print!(rt; "no name");
@@ -52,7 +52,7 @@ fn append<R: Print + Wait + AllocGlobal>(rt: &R, keeper: &mut MemKeeper) -> io::
     }
 }
 
-/// Does one deed, and prints what it returned.
+/// Does one deed, and prints the result.
 fn act<R: Print + Wait + AllocGlobal>(
     rt: &R,
     keeper: &mut MemKeeper,
@@ -65,7 +65,7 @@ fn act<R: Print + Wait + AllocGlobal>(
     }
 }
 
-/// Does the deeds, and prints after each what it returned and what is there.
+/// Does the deeds, and prints after each the result and the state.
 fn act_each<R: Print + Wait + AllocGlobal>(
     rt: &R,
     keeper: &mut MemKeeper,
@@ -80,7 +80,7 @@ fn act_each<R: Print + Wait + AllocGlobal>(
     Ok(())
 }
 
-/// Commits a job, and prints what that returned. Returns the session, which then knows that the job is
+/// Commits a job, and prints the result. Returns the session, which then knows that the job is
 /// published.
 fn learn<R: Print + Wait + AllocGlobal>(
     rt: &R,

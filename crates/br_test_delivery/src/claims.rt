@@ -1,4 +1,4 @@
-//! Which numbers seats draw, in turn and in threads.
+//! The numbers that seats draw, in turn and in threads.
 ghost use Rattle.std.specs.Prelude.{◌≡◌, true};
 
 use br_claim::{ClaimFault, ClaimSeat, Claims};
@@ -8,7 +8,7 @@ use std::io::Write;
 use std::sync::Wait;
 use std::thread::{Threads, join};
 
-/// Prints the number that a seat of these claims draws, and it stays one of theirs.
+/// Prints the number that a seat of these claims draws. The seat stays one of theirs.
 fn draw(case: &mut Case, claims: &Claims, seat: &mut ClaimSeat)
     requires { seat.old.claims ≡ claims.now.claims }
     ensures { seat.new.claims ≡ seat.old.claims }
@@ -18,7 +18,7 @@ fn draw(case: &mut Case, claims: &Claims, seat: &mut ClaimSeat)
     case.text(" ");
 }
 
-/// Prints what gathering seats returned: the numbers of each, or the number of the refusal.
+/// Prints the result of gathering seats: the numbers of each, or the number of the refusal.
 fn push_gathered(case: &mut Case, gathered: Result<Vec<Vec<u32>>, ClaimFault>) {
     let gathered = gathered.map_err(|fault| fault.number());
     if write!(case.out(), "{gathered:?}").is_err() {
@@ -56,7 +56,7 @@ fn in_turn(case: &mut Case, n: u32) -> Result<(), AllocError> {
     Ok(())
 }
 
-/// Prints by which number claims of `n` numbers are refused of which a seat is missing.
+/// Prints the number of the refusal of claims of `n` numbers that lack a seat.
 fn missing(case: &mut Case, n: u32) -> Result<(), AllocError> {
     let mut claims = Claims::new(case.alloc(), n)?;
     let s = claims.seat()?;
@@ -76,7 +76,7 @@ fn drained(claims: &Claims, mut seat: ClaimSeat) -> ClaimSeat
     seat
 }
 
-/// Returns the numbers that two threads draw of these, a list for each.
+/// Returns the numbers that two threads draw from these, a list for each.
 fn shared_out(
     threads: &(impl Threads + Wait + Sync),
     alloc: Global,
@@ -118,7 +118,7 @@ fn in_threads(
     Ok(())
 }
 
-/// Runs a call of this number of numbers.
+/// Runs a call with this number of numbers.
 pub(crate) fn run(case: &mut Case, threads: &(impl Threads + Wait + Sync), call: &[&str]) {
     match call {
         [call, n] => {

@@ -1,5 +1,6 @@
-//! Steps with a sink over memory, which fails at a put, or outcomes that are put into a folder over memory, whose calls
-//! fail; and a manifest. A step is `put:FILE`, `all:OUTCOMES`, which are put at once, or `deliver:OUTCOMES`.
+//! Steps with a sink in memory that fails at a put, or outcomes that are put into a folder in
+//! memory whose calls fail; and a manifest. A step is `put:FILE`, `all:OUTCOMES`, which are put in
+//! one call, or `deliver:OUTCOMES`.
 
 use crate::items::{item_of, outcomes_of};
 use br_fs::{FileMaker, Kind, MemMaker};
@@ -22,7 +23,7 @@ fn push_end(case: &mut Case, end: &Result<(), SinkStop>) {
     }
 }
 
-/// Prints the numbers of files, faults and records that were passed over.
+/// Prints the numbers of files, faults and skipped records.
 fn push_report(case: &mut Case, report: Report) {
     let Report {
         files,
@@ -34,7 +35,7 @@ fn push_report(case: &mut Case, report: Report) {
     }
 }
 
-/// Prints the manifest of outcomes of the files from index 1 on, and their totals.
+/// Prints the manifest of outcomes, whose indexes begin with 1, and their totals.
 pub(crate) fn whole_manifest(case: &mut Case, call: &[&str]) {
     let [outcomes] = call else {
         return case.fail("a call has another number of fields");
@@ -47,7 +48,7 @@ pub(crate) fn whole_manifest(case: &mut Case, call: &[&str]) {
     push_report(case, totals(&outcomes));
 }
 
-/// Puts a file. Prints the number of the refusal, 0 if it is put.
+/// Puts a file. Prints the number of the refusal; 0 if it is put.
 fn push_put(case: &mut Case, sink: &mut MemSink, field: &str) {
     if let Some(item) = item_of(case, field) {
         match sink.put(&item) {
@@ -57,7 +58,7 @@ fn push_put(case: &mut Case, sink: &mut MemSink, field: &str) {
     }
 }
 
-/// Puts outcomes at once, and prints how that ends.
+/// Puts outcomes in one call, and prints the result.
 fn push_all(
     case: &mut Case,
     threads: &(impl Threads + Sync),
@@ -100,7 +101,8 @@ fn take_steps(
     }
 }
 
-/// Takes steps with a sink over memory that fails at its `k`-th put; `-` is one that never does. Prints also its files.
+/// Takes steps with a sink in memory that fails at its `k`-th put; `-` for one that never does.
+/// Prints also its files.
 pub(crate) fn memory(case: &mut Case, threads: &(impl Threads + Sync), call: &[&str]) {
     let [k, steps @ ..] = call else {
         return case.fail("a call has another number of fields");
@@ -118,7 +120,7 @@ pub(crate) fn memory(case: &mut Case, threads: &(impl Threads + Sync), call: &[&
     }
 }
 
-/// Makes a maker that has the folder /into, and nothing in it. Its calls fail after this number of them.
+/// Makes a maker with the empty folder /into. Its calls fail after this number of them.
 fn maker_of(case: &mut Case, calls: &str) -> MemMaker {
     let mut maker = MemMaker::new(case.alloc());
     if maker.plant("/into", Kind::Folder).is_err() {
@@ -128,8 +130,8 @@ fn maker_of(case: &mut Case, calls: &str) -> MemMaker {
     maker
 }
 
-/// Prints what is at a path: the bytes of a file, `part` of one that was not finished, or `none`. No call fails from
-/// here on.
+/// Prints what is at a path: the bytes of a file, `part` of one that was not finished, or `none`.
+/// No call fails afterwards.
 fn push_at(case: &mut Case, maker: &mut MemMaker, path: &str) {
     maker.fail_after(u64::MAX);
     match maker.look(path) {
@@ -142,7 +144,7 @@ fn push_at(case: &mut Case, maker: &mut MemMaker, path: &str) {
     case.text(" ");
 }
 
-/// Puts outcomes into a folder. Prints also what is at paths then.
+/// Puts outcomes into a folder. Prints also what is then at paths.
 pub(crate) fn folder(case: &mut Case, threads: &(impl Threads + Sync), call: &[&str]) {
     let [calls, paths, outcomes] = call else {
         return case.fail("a call has another number of fields");

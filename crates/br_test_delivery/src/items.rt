@@ -9,7 +9,7 @@ use br_test_support::Case;
 use br_types::{FileIndex, FileKey, Path, SessionKey};
 use std::alloc::AllocError;
 
-/// The numbers, the link and the skipped records of a file that has none.
+/// The numbers, the link and the skipped records of a file whose field has none.
 const PLAIN: &str = "A_A_A_A_A_A_A_A_A_A_A_A_A,-,0";
 
 /// Returns the key of the file with this index, of session 1, 100.
@@ -44,7 +44,7 @@ fn file_bytes(case: &mut Case, field: &str) -> Option<FileBytes> {
     bytes
 }
 
-/// Reads a file of this type, of which this number of records was passed over.
+/// Reads a file of this type; this number of its records was skipped.
 fn item_with(
     case: &mut Case,
     (kind, skipped): (u32, u64),
@@ -90,7 +90,7 @@ fn outcome_of(case: &mut Case, field: &str) -> Option<Outcome> {
     })
 }
 
-/// Reads outcomes, of files with the indexes from 1 on.
+/// Reads outcomes; the indexes of their files begin with 1.
 pub(crate) fn outcomes_of(case: &mut Case, field: &str) -> Vec<(FileKey, Outcome)> {
     let mut outcomes = Vec::new(case.alloc());
     let mut index = 1u32;

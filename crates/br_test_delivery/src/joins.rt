@@ -1,4 +1,4 @@
-//! Which files a joiner makes of what is found of two pieces.
+//! The files that a joiner makes from what is found of two pieces.
 
 use crate::items::key_of;
 use crate::matches::pieces_of;
@@ -68,7 +68,8 @@ fn push_ready(case: &mut Case, joiner: &Joiner) {
     case.text(if joiner.ready() { "ready " } else { "open " });
 }
 
-/// Prints the number of a refusal, and how many hits come back with it and the data of the last of them.
+/// Prints the number of a refusal, the number of hits that are returned with it, and the data of
+/// the last hit.
 fn push_refused(case: &mut Case, fault: JoinFault, hits: &[Hit]) {
     case.refused(fault.number());
     case.text(" ");
@@ -135,8 +136,8 @@ fn take(case: &mut Case, joiner: &mut Joiner, call: &str, piece: u32, hits: Vec<
     }
 }
 
-/// Takes, closes or finishes as a field says: `take:PIECE/HITS`, `batch:PIECE/HITS`, `close:PIECE/`
-/// or `files`.
+/// Takes, closes or finishes, as in `take:PIECE/HITS`, `batch:PIECE/HITS`, `close:PIECE/` or
+/// `files`.
 fn step(case: &mut Case, threads: &(impl Threads + Sync), joiner: &mut Joiner, field: &str) {
     if field == "files" {
         push_files(case, threads, joiner);
@@ -149,8 +150,9 @@ fn step(case: &mut Case, threads: &(impl Threads + Sync), joiner: &mut Joiner, f
     }
 }
 
-/// Takes steps with a joiner of the pieces 0 and 1, of the volumes A and B, that has room for a number of bytes, `-`
-/// for any. Prints before and after each whether it is ready.
+/// Takes steps with a joiner of the pieces 0 and 1, of the volumes A and B, that has room for a
+/// number of bytes; `-` for any number. Prints before and after each step whether the joiner is
+/// ready.
 pub(crate) fn run(case: &mut Case, threads: &(impl Threads + Sync), call: &[&str]) {
     let [room, steps @ ..] = call else {
         return case.fail("a call has another number of fields");

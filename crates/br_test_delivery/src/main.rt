@@ -1,7 +1,8 @@
-//! Runs rows over what only a call shows of matching, joining and delivering: drives that fail, pieces that a joiner does
-//! not know, the room of a joiner, sinks that fail, what is told of a restore, why a file could not be written or read,
-//! and numbers that threads draw. It prints the rows that gave something else than wanted. `acceptance/delivery_rows.py`
-//! and `acceptance/rows.py` have the rows that the program shows.
+//! Runs rows over what only a call shows of matching, joining and delivering: drives that fail,
+//! pieces that a joiner does not know, the room of a joiner, sinks that fail, the reports of a
+//! restore, why a file could not be written or read, and numbers that threads draw. It prints the
+//! rows that gave something else than expected. `acceptance/delivery_rows.py` and
+//! `acceptance/rows.py` have the rows that the program shows.
 #![tactic(auto)]
 
 mod claims;
@@ -18,7 +19,7 @@ use std::io;
 use std::sync::Wait;
 use std::thread::Threads;
 
-/// Does what a step says and prints what it gave.
+/// Carries out a step and prints the result.
 fn run(case: &mut Case, rt: &HostRuntime, threads: &(impl Threads + Wait + Sync), step: &[&str]) {
     let Some((name, call)) = step.split_first() else {
         return case.fail("there is no step");
@@ -36,7 +37,7 @@ fn run(case: &mut Case, rt: &HostRuntime, threads: &(impl Threads + Wait + Sync)
     }
 }
 
-/// Runs the row of a line, if it has one: its steps, one after another.
+/// Runs the row of a line, if there is one: its steps, one after another.
 fn run_line(
     rt: &HostRuntime,
     threads: &(impl Threads + Wait + Sync),

@@ -1,4 +1,5 @@
-//! Which records of a volume the pieces of a bootstrap find, and how a walk over it goes.
+//! The records of a volume that the pieces of a bootstrap find, and the course of a walk over the
+//! volume.
 
 use crate::texts::text_of;
 use br_bsr::read_bootstrap;
@@ -18,8 +19,8 @@ fn push_volume(case: &mut Case, volumes: &mut Vec<(VolName, Vec<u8>)>, name: &st
     }
 }
 
-/// Makes a drive over a volume V1 with these bytes, and one E without bytes. It fails from its `k`-th call on; `-` is
-/// one that never does.
+/// Makes a drive over a volume V1 with these bytes, and an empty volume E. It fails from its `k`-th
+/// call on; `-` for one that never does.
 fn drive_of(case: &mut Case, k: &str, bytes: &str) -> MemDrive {
     let mut volumes = Vec::new(case.alloc());
     push_volume(case, &mut volumes, "V1", bytes);
@@ -45,7 +46,7 @@ pub(crate) fn pieces_of(case: &mut Case, text: &str) -> Vec<Piece> {
     pieces.unwrap_or(Vec::new(case.alloc()))
 }
 
-/// Prints the number, the volume and the address of a refusal, or what is wrong in words.
+/// Prints the number, the volume and the address of a refusal, or in words what is wrong.
 fn push_fault(case: &mut Case, shown: &str, fault: &PieceFault) {
     if shown == "words" {
         if write!(case.out(), "{fault}; ").is_err() {
@@ -90,8 +91,8 @@ fn push_piece(case: &mut Case, shown: &str, drive: &mut MemDrive, piece: &Piece)
     }
 }
 
-/// Prints what the pieces of a bootstrap find; of `bytes` the number that a drive gives, and of `failing K` the spots
-/// on one that fails.
+/// Prints what the pieces of a bootstrap find; for `bytes` the number of bytes that a drive gives,
+/// and for `failing K` the spots on one that fails.
 pub(crate) fn found(case: &mut Case, name: &str, call: &[&str]) {
     let [first, bytes, text] = call else {
         return case.fail("a call has another number of fields");
@@ -137,8 +138,8 @@ fn push_step(case: &mut Case, walk: &mut Walk<'_>, drive: &mut MemDrive) {
     case.text(" ");
 }
 
-/// Runs a walk from an address on, or a new one. Prints of five calls the number of hits, and the address before the
-/// first and after each.
+/// Runs a walk from an address on, or a new one. Prints for five calls the number of hits, and the
+/// address before the first call and after each.
 fn push_walk(case: &mut Case, from: &str, drive: &mut MemDrive, piece: &Piece) {
     let walk = match from {
         "new" => Walk::new(case.alloc(), piece),

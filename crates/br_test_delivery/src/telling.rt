@@ -1,4 +1,4 @@
-//! What is told of a restore while it runs, what passes a writer that is watched, why a file could not be
+//! The reports of a running restore, the lines that pass a watched writer, why a file could not be
 //! written or read, and what refusals mean.
 use crate::files;
 use br_bsr::write_bootstrap;
@@ -12,8 +12,8 @@ use br_types::push_number;
 use std::alloc::{AllocError, Global};
 use std::io::{self, Write};
 
-/// Appends the reason why a file could not be written into the folder `into` or read from it, or why a folder or a
-/// new file with this name is not taken.
+/// Appends the reason why a file could not be written into the folder `into` or read from it, or
+/// why a folder or a new file with this name is refused.
 fn push_reason(
     text: &mut Vec<u8>,
     rt: &HostRuntime,
@@ -56,8 +56,8 @@ fn write_parts(
     Ok(())
 }
 
-/// Tells the outcomes that passed a writer. Appends the number of keys that are kept, the keys of the outcomes that are
-/// no files, and the bootstrap that is kept.
+/// Reports the outcomes that passed a writer. Appends the number of kept keys, the keys of the
+/// outcomes that are no files, and the kept bootstrap.
 fn push_passed(
     text: &mut Vec<u8>,
     alloc: Global,
@@ -80,7 +80,7 @@ fn push_passed(
     Ok(())
 }
 
-/// Writes lines, in parts of this length, to a writer that is watched and has a log, and appends what passed.
+/// Writes lines, in parts of this length, to a watched writer with a log, and appends what passed.
 fn pass(
     text: &mut Vec<u8>,
     rt: &HostRuntime,
@@ -102,7 +102,7 @@ fn number_of(case: &mut Case, field: &str) -> Option<u64> {
     Some(case.u64_of(field))
 }
 
-/// Runs a step. Of one that is told here it prints the text.
+/// Runs a step. If its output is a text, prints the text.
 pub(crate) fn run(case: &mut Case, rt: &HostRuntime, step: &[&str]) {
     let mut text = Vec::new(case.alloc());
     let is_made = match step {

@@ -1,9 +1,9 @@
-//! Fields that are texts of lines, in which a part `$NAME` is the bytes of that name, and those of a part `#DIGITS` are
-//! not changed.
+//! Fields that are texts of lines. In them a part `$NAME` is the bytes of that name, and the bytes
+//! of a part `#DIGITS` are unchanged.
 
 use br_test_support::Case;
 
-/// A block of two whole records of file 1 of session 1, 100: attributes of 38 bytes, and the data
+/// A block with two whole records of file 1 of session 1, 100: attributes of 38 bytes, and the data
 /// `hello`.
 static BLOCK: &[u8] = b"\0\0\0\0\0\0\0\x5b\0\0\0\0BB02\0\0\0\x01\0\0\0\x64\
     \0\0\0\x01\0\0\0\x01\0\0\0\x261 3 /a\0A A IGk B A A A F A A A A A A\0\0\
@@ -12,7 +12,7 @@ static BLOCK: &[u8] = b"\0\0\0\0\0\0\0\x5b\0\0\0\0BB02\0\0\0\x01\0\0\0\x64\
 /// The header of that block after its size.
 static REST: &[u8] = b"\0\0\0\0BB02\0\0\0\x01\0\0\0\x64";
 
-/// Its attributes: those of a file /a of type 3, mode 33188 and size 5.
+/// The attributes in it: those of a file /a of type 3, mode 33188 and size 5.
 static FILE: &[u8] = b"1 3 /a\0A A IGk B A A A F A A A A A A\0\0";
 
 /// The attributes of the files 1 and 2, which are /a and /b of size 14.

@@ -1,4 +1,4 @@
-//! Bytes of fragments that are held, or read again from a drive over memory.
+//! Bytes of fragments that are held, or read again from a drive in memory.
 ghost use Rattle.std.specs.Prelude.{Some};
 ghost use Rattle.br_data.specs.KnownBlocks.{IsKnown};
 
@@ -9,7 +9,7 @@ use br_test_support::Case;
 use br_volume::MemDrive;
 use std::sync::ArcSlice;
 
-/// Makes the data of these bytes. They are let go unless the word is `held`.
+/// Makes data with these bytes. They are let go unless the word is `held`.
 fn data_of(case: &mut Case, word: &str, bytes: &str) -> Option<Data> {
     let bytes = case.bytes_of(bytes);
     match ArcSlice::from_vec(bytes) {
@@ -51,7 +51,7 @@ fn push_data(
     }
 }
 
-/// Prints the bytes that were found at a place as `WORD:NAME:ADDR:ORDINAL:BYTES` says.
+/// Prints the bytes that were found at a place, for `WORD:NAME:ADDR:ORDINAL:BYTES`.
 fn read(case: &mut Case, again: &mut Again, drive: &mut MemDrive, field: &str)
     requires known { IsKnown (Some drive.old.volumes) again.old }
     ensures known { IsKnown (Some drive.new.volumes) again.new }

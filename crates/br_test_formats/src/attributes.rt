@@ -1,4 +1,4 @@
-//! Which records are attributes, and how numbers and records are read and written.
+//! Records of attributes, and the reading and writing of numbers and records.
 
 use crate::printing::push;
 use br_attr::{Attr, Stat, read_number, write_attributes, write_number};
@@ -21,7 +21,7 @@ fn push_written(case: &mut Case, attr: &Attr) {
     case.made(stat.write(alloc));
 }
 
-/// Reads the record of the file with this index, and prints what it holds, or as it is written
+/// Reads the record of the file with this index, and prints its contents, or as it is written
 /// again.
 fn read(case: &mut Case, call: &str, index: &str, record: &str) {
     let Some(index) = case.index_of(index) else {

@@ -1,4 +1,4 @@
-//! Which bytes are headers of blocks, and what faults say.
+//! Headers of blocks, and the messages of faults.
 
 use crate::printing::push;
 use br_block::{BlockFault, BlockHead};

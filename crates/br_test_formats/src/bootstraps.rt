@@ -1,4 +1,4 @@
-//! What the groups of a bootstrap select and count, and how it is written.
+//! The selections and counts of the groups of a bootstrap, and its text.
 
 use crate::printing::shown;
 use br_bsr::{Bootstrap, Group, counts_of, read_bootstrap, write_bootstrap};

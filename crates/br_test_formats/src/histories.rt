@@ -1,11 +1,11 @@
-//! Which rows make a job; copies of jobs and their rows; jobs at places of a history.
+//! Rows that make a job; copies of jobs and their rows; jobs at places of a history.
 
 use crate::jobs::{history_of, job_of, made};
 use crate::printing::shown;
 use br_history::History;
 use br_test_support::Case;
 
-/// Prints whether the rows of a job are taken.
+/// Prints whether the rows of a job are accepted.
 fn rows(case: &mut Case, field: &str) {
     match made(case, field) {
         Some(Ok(_job)) => case.text("taken"),

@@ -1,9 +1,9 @@
-//! Runs rows over names, attributes and headers of blocks, what the groups of a bootstrap select,
-//! drives over memory, bytes that are read again, for their digest and when they are written, a
-//! record that is packed, long files that are saved, jobs that no catalogue can hold, copies of jobs, what histories and views
-//! have at a place, and plans that are made of paths. It prints the rows that gave something else
-//! than wanted. `acceptance/format_rows.py` and `acceptance/selection_rows.py` run the other rows over
-//! formats and over the selection.
+//! Runs rows over names, attributes and headers of blocks, the selections of the groups of a
+//! bootstrap, drives in memory, bytes that are read again, for their digest and when they are
+//! written, a record that is packed, long files that are saved, jobs that no catalogue can hold,
+//! copies of jobs, the contents of histories and views at a place, and plans for paths. It prints
+//! the rows that gave something else than expected. `acceptance/format_rows.py` and
+//! `acceptance/selection_rows.py` run the other rows over formats and over the selection.
 #![tactic(auto)]
 
 mod again;
@@ -23,7 +23,7 @@ mod volumes;
 use br_test_support::{Case, Rows, fields_of};
 use std::io;
 
-/// Does what a call says and prints what it gave.
+/// Carries out a call and prints the result.
 fn run(case: &mut Case, fields: &[&str]) {
     match fields {
         ["types", call @ ..] => names::run(case, call),
@@ -45,14 +45,14 @@ fn run(case: &mut Case, fields: &[&str]) {
     }
 }
 
-/// Does what the call of a row says.
+/// Carries out the call of a row.
 fn run_call(case: &mut Case, call: &str) {
     if let Some(fields) = fields_of(case, call) {
         run(case, &fields);
     }
 }
 
-/// Runs the row of a line, if it has one.
+/// Runs the row of a line, if there is one.
 fn run_line(rt: &HostRuntime, rows: &mut Rows, line: &str) -> io::Result<()> {
     if let Some(row) = rows.read(rt, line)? {
         let mut case = Case::new(rt.alloc());

@@ -31,7 +31,7 @@ fn set_name(case: &mut Case, names: &mut Names, field: &str) {
     }
 }
 
-/// Sets the paths of files, looks up a file, and prints a copy of all.
+/// Sets the paths of files, looks up a file, and prints a copy of everything.
 fn names(case: &mut Case, asked: &str, fields: &[&str]) {
     let mut names = Names::new(case.alloc());
     for field in fields {

@@ -1,4 +1,4 @@
-//! Which blocks a record is packed into.
+//! The blocks that a record is packed into.
 ghost use Rattle.std.specs.Prelude.{◌≡◌, ◌<◌, ◌^◌, length, IfOk};
 
 use crate::sessions::{Head, head_of};

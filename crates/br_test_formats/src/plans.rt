@@ -1,4 +1,4 @@
-//! What a plan reads and names.
+//! The contents of a plan.
 
 use crate::jobs::{add_job, history_of, path_of, request_of};
 use br_bsr::write_bootstrap;
@@ -8,7 +8,7 @@ use br_test_support::Case;
 use br_types::Path;
 use std::alloc::AllocError;
 
-/// Reads paths with `,` between them; `-` is none.
+/// Reads paths with `,` between them; `-` for none.
 fn paths_of(case: &mut Case, field: &str) -> Vec<Path> {
     let mut paths = Vec::new(case.alloc());
     for part in field.split(',') {

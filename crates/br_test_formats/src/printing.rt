@@ -1,10 +1,10 @@
-//! How what a call returned is printed.
+//! Prints the results of calls.
 
 use br_test_support::Case;
 use std::fmt::Debug;
 use std::io::Write;
 
-/// Prints a value as it is shown for debugging.
+/// Prints a value with `{:?}`.
 pub(crate) fn shown<T: Debug>(case: &mut Case, value: &T) {
     if write!(case.out(), "{value:?} ").is_err() {
         case.fail("out of memory");

@@ -1,4 +1,4 @@
-//! Which files can be saved, and the blocks and the span that a long file is written as.
+//! Files that can be saved, and the blocks and the span that a long file is written as.
 ghost use Rattle.std.specs.Prelude.{◌≡◌, true, []};
 ghost use Rattle.br_block.specs.Building.{IsBlockLimit};
 ghost use Rattle.br_session.specs.Outcome.{ArePlaces};
@@ -36,7 +36,7 @@ fn file_of(case: &mut Case, field: &str) -> Option<Result<SavedFile, SessionFaul
     file
 }
 
-/// Makes a file, and prints whether a digest of it is wanted.
+/// Makes a file, and prints whether it needs a digest.
 fn file(case: &mut Case, field: &str) {
     match file_of(case, field) {
         Some(Ok(file)) => case.test(file.digest()),
@@ -66,7 +66,7 @@ fn is_one(places: &[Place]) -> bool
     }
 }
 
-/// Prints bytes, of long ones the first and the last.
+/// Prints bytes; if they are many, only the first and the last.
 fn push_long(case: &mut Case, bytes: &[u8]) {
     match (bytes.get(..90), bytes.get(bytes.len().saturating_sub(16)..)) {
         (Some(front), Some(end)) if 200 < bytes.len() => {
@@ -91,7 +91,7 @@ fn push_written(case: &mut Case, written: &Written) {
     shown(case, &written.spans);
 }
 
-/// What a session is written with: its number and time, and the greatest length of its blocks.
+/// The header of a session: its number and time, and the greatest length of its blocks.
 #[derive(Drop)]
 pub(crate) struct Head {
     pub(crate) session: SessionKey,
@@ -99,7 +99,7 @@ pub(crate) struct Head {
     ghost bounds: { IsBlockLimit limit },
 }
 
-/// Makes such a head, if the limit is one.
+/// Makes such a header, if the limit is valid.
 fn head_with(session: SessionKey, limit: u32) -> Option<Head> {
     if 64 <= limit && limit <= 64_512 {
         Some(Head { session, limit })
@@ -108,7 +108,7 @@ fn head_with(session: SessionKey, limit: u32) -> Option<Head> {
     }
 }
 
-/// Reads such a head as `ID:TIME:LIMIT`.
+/// Reads such a header as `ID:TIME:LIMIT`.
 pub(crate) fn head_of(case: &mut Case, field: &str) -> Option<Head> {
     let (id, rest) = case.split(field, ':');
     let (time, limit) = case.split(rest, ':');

@@ -1,4 +1,4 @@
-//! What the view of a job has.
+//! The contents of the view of a job.
 ghost use Rattle.br_model.specs.Job.{no_pair};
 
 use crate::jobs::{job_of, path_of};

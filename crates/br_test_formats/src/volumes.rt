@@ -1,4 +1,4 @@
-//! Drives over memory.
+//! Drives in memory.
 
 use crate::printing::shown;
 use br_test_support::Case;
@@ -17,7 +17,7 @@ fn push_volume(case: &mut Case, volumes: &mut Volumes, field: &str) {
     }
 }
 
-/// Makes volumes from a text as `V:BYTES,W:BYTES`; `-` is none.
+/// Makes volumes from a text as `V:BYTES,W:BYTES`; `-` for none.
 fn volumes_of(case: &mut Case, field: &str) -> Volumes {
     let mut volumes = Vec::new(case.alloc());
     if field != "-" {
@@ -49,7 +49,7 @@ fn push_volumes(case: &mut Case, volumes: &[(VolName, Vec<u8>)]) {
     }
 }
 
-/// Reads by the trait alone as `NAME:ADDR:SIZE` says, and prints what that gave, and the buffer.
+/// Reads `NAME:ADDR:SIZE` through the trait, and prints the result, and the buffer.
 fn read(case: &mut Case, drive: &mut impl Drive, buf: &mut Vec<u8>, field: &str) {
     let (name, rest) = case.split(field, ':');
     let (addr, size) = case.split(rest, ':');
@@ -66,8 +66,8 @@ fn read(case: &mut Case, drive: &mut impl Drive, buf: &mut Vec<u8>, field: &str)
     }
 }
 
-/// Reads with one buffer, which is not empty at first, and prints what each read gave; then the volumes
-/// that the drive gives back and the bytes that it gave.
+/// Reads with one buffer, which is not empty at first, and prints the result of each read; then the
+/// volumes that the drive returns and the number of bytes that it gave.
 pub(crate) fn read_all(case: &mut Case, kind: &str, volumes: &str, tails: &str, reads: &[&str]) {
     let mut drive = drive_of(case, kind, volumes, tails);
     let mut buf = case.bytes_of("50*b");

@@ -1,9 +1,10 @@
-//! Drives over the volumes of a shelf, which fail, grow or change.
+//! Drives over the volumes of a shelf. They fail, grow or change.
 //!
-//! A field of drives is `-` for none, or words with `,` between them: `sound`, the call from which a drive fails,
-//! counted from 1, `k` for the number of the row, `grows:AB` for a drive that appends a byte to these volumes, one
-//! before each call after the first, or `turned:20.63` for one whose volumes are changed after this number of
-//! calls, at this place of each read. `16*sound` are sixteen of that drive.
+//! A field of drives is `-` for none, or words with `,` between them: `sound`; the number of the
+//! call from which a drive fails, counted from 1; `k` for the number of the row; `grows:AB` for a
+//! drive that appends a byte to these volumes, one before each call after the first; or
+//! `turned:20.63` for one whose volumes change after this number of calls, at this place of each
+//! read. `16*sound` are sixteen of that drive.
 ghost use Rattle.std.specs.Prelude.{◌≡◌, None, true};
 ghost use Rattle.br_pool.specs.Pool.{AreDrives};
 
@@ -13,7 +14,8 @@ use br_types::VolName;
 use br_volume::{Drive, DriveFault, Got, MemDrive};
 use std::alloc::AllocError;
 
-/// A drive whose volumes are changed after this number of calls: the byte at this place of each read is another.
+/// A drive whose volumes change after this number of calls: the byte at this place of each read
+/// differs.
 #[derive(Drop)]
 pub(crate) struct Turned {
     drive: MemDrive,
@@ -65,7 +67,7 @@ fn tails_of(case: &mut Case, names: &str) -> Vec<(VolName, Vec<u8>)> {
     tails
 }
 
-/// Makes the drive over memory of a word.
+/// Makes the drive in memory for a word.
 fn memory_of(case: &mut Case, shelf: &Shelf, k: u64, word: &str) -> MemDrive {
     let volumes = shelf.volumes(case);
     if let Some(names) = word.strip_prefix("grows:") {

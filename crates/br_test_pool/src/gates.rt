@@ -1,4 +1,4 @@
-//! Gates that hold pieces until others have come so far.
+//! Gates that hold pieces until others have reached a point.
 
 use br_pool::Gate;
 use br_test_support::Case;
@@ -6,11 +6,11 @@ use std::sync::atomic::{AtomicU64, Ordering};
 use std::thread;
 use std::time::{Clock, Duration};
 
-/// More than any number of pieces. It is seen once a piece was held in vain, and then none is held.
+/// A number above that of any pieces. It is seen after a piece was held in vain; then none is held.
 const IN_VAIN: u64 = 1 << 40;
 
-/// A gate that holds a piece until `count` others were read, or each piece until `count` have entered. It counts the
-/// pieces for which that came.
+/// A gate that holds a piece until `count` others were read, or each piece until `count` have
+/// entered. It counts the pieces for which this happened.
 #[derive(Drop)]
 pub(crate) struct Holding<'r, C: Clock> {
     clock: &'r C,
@@ -21,8 +21,8 @@ pub(crate) struct Holding<'r, C: Clock> {
     held: AtomicU64,
 }
 
-/// Makes the gate of a field: `open`, `one:PIECE` for one that holds a piece until two others were read, or
-/// `all:COUNT`.
+/// Makes the gate of a field: `open`, `one:PIECE` for one that holds a piece until two others were
+/// read, or `all:COUNT`.
 pub(crate) fn gate_of<'r, C: Clock>(case: &mut Case, clock: &'r C, field: &str) -> Holding<'r, C> {
     let (piece, count) = match field.split_once(':') {
         Some(("one", piece)) => (Some(case.u32_of(piece)), 2),
@@ -38,7 +38,7 @@ pub(crate) fn gate_of<'r, C: Clock>(case: &mut Case, clock: &'r C, field: &str) 
     }
 }
 
-/// Prints the number of the pieces that were held, if there are some.
+/// Prints the number of pieces that were held, if there are any.
 pub(crate) fn push_held<C: Clock>(case: &mut Case, gate: &Holding<'_, C>) {
     let held = gate.held.load(Ordering::SeqCst);
     if held > 0 {

@@ -1,8 +1,9 @@
 //! The machine of restores and backups, on given events.
 //!
-//! An event is `commit:JOB`, `plan:MOMENT` for a restore of all that was there before a moment, or one of the restore
-//! with a number: `claim:PLAN:PIECE`, `read:PLAN:PIECE:COMMITS`, `fail:PLAN:PIECE`, `finish:PLAN:PIECE`,
-//! `take:PLAN:PLACE` and `deliver:PLAN`. A job is the text of its lines, without the word `job`.
+//! An event is `commit:JOB`, `plan:MOMENT` for a restore of everything before a moment, or one of
+//! the restore with a number: `claim:PLAN:PIECE`, `read:PLAN:PIECE:COMMITS`, `fail:PLAN:PIECE`,
+//! `finish:PLAN:PIECE`, `take:PLAN:PLACE` and `deliver:PLAN`. A job is the text of its lines,
+//! without the word `job`.
 
 use crate::shelf::Shelf;
 use crate::streams::push_manifest;
@@ -29,7 +30,7 @@ fn job_of(case: &mut Case, shelf: &Shelf, field: &str) -> Option<SavedJob> {
     draft.end().ok()?
 }
 
-/// Makes the request for what was there before a moment.
+/// Makes the request for the state before a moment.
 fn request_of(case: &Case, moment: u64) -> Option<Request> {
     Some(Request {
         client: Name::new(case.alloc(), b"c").ok()?,
@@ -38,7 +39,7 @@ fn request_of(case: &Case, moment: u64) -> Option<Request> {
     })
 }
 
-/// Makes the script that marks all.
+/// Makes the script that marks everything.
 fn script(case: &mut Case) -> Option<Vec<Command>> {
     let mut script = Vec::new(case.alloc());
     let command = Command::read(case.alloc(), b"mark *").ok()?;
@@ -93,7 +94,7 @@ fn events_of(case: &mut Case, shelf: &Shelf, fields: &[&str]) -> Vec<Event> {
     events
 }
 
-/// Prints a reply: of files that are delivered, their manifest.
+/// Prints a reply; for delivered files, their manifest.
 fn push_reply(case: &mut Case, shelf: &Shelf, reply: &Reply) {
     match reply {
         Reply::Done => case.text("done "),

@@ -1,6 +1,6 @@
-//! Runs rows over pools of drives, of which some fail, grow or change, over restores by them, over
-//! the stream of tar, and over the machine of restores and backups on given events. It prints the
-//! rows that gave something else than wanted.
+//! Runs rows over pools of drives, some of which fail, grow or change, over restores by them, over
+//! the tar stream, and over the machine of restores and backups on given events. It prints the rows
+//! that gave something else than expected.
 #![tactic(auto)]
 
 mod drives;
@@ -19,7 +19,7 @@ use std::sync::Wait;
 use std::thread::Threads;
 use std::time::Clock;
 
-/// Does what a call says, with this number for a field `k`, and prints what it gave.
+/// Carries out a call, with this number for a field `k`, and prints the result.
 fn call<R: Clock + Threads + Wait + Sync>(
     case: &mut Case,
     threads: &R,
@@ -45,7 +45,7 @@ fn call<R: Clock + Threads + Wait + Sync>(
     }
 }
 
-/// Prints what a call gives, or the name of that text.
+/// Prints the result of a call, or the name of that text.
 fn named<R: Clock + Threads + Wait + Sync>(
     case: &mut Case,
     threads: &R,
@@ -61,8 +61,8 @@ fn named<R: Clock + Threads + Wait + Sync>(
     shelf.push_gave(case, own.gave().trim_ascii_end());
 }
 
-/// Prints what a call gives with each of these numbers for a field `k`: the first number of those that give the
-/// same, and what they give.
+/// Prints the results of a call with each of these numbers for a field `k`: the first number of
+/// those with the same result, and the result.
 fn each<R: Clock + Threads + Wait + Sync>(
     case: &mut Case,
     threads: &R,
@@ -104,7 +104,7 @@ fn run<R: Clock + Threads + Wait + Sync>(
     }
 }
 
-/// Does what the call of a row says.
+/// Carries out the call of a row.
 fn run_call<R: Clock + Threads + Wait + Sync>(
     case: &mut Case,
     threads: &R,
@@ -116,7 +116,7 @@ fn run_call<R: Clock + Threads + Wait + Sync>(
     }
 }
 
-/// Runs the row of a line, if it has one. The rows of each name begin with an empty shelf.
+/// Runs the row of a line, if there is one. The rows of each name begin with an empty shelf.
 fn run_line<R: Clock + Threads + Wait + Sync>(
     rt: &HostRuntime,
     threads: &R,

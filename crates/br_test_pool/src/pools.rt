@@ -1,4 +1,4 @@
-//! What pools of drives find.
+//! The findings of pools of drives.
 ghost use Rattle.std.specs.Prelude.{IfOk};
 ghost use Rattle.br_match.specs.Come.{AreOfBootstrap};
 ghost use Rattle.br_pool.specs.Pool.{AreDrives, AreNumbered};
@@ -94,7 +94,8 @@ fn found_by<R: Clock + Threads + Sync>(
     Ok(run_pool(threads, alloc, &pieces, drives, gate))
 }
 
-/// Prints what drives find by a bootstrap, or the refusal, and the number of the pieces that the gate held.
+/// Prints what drives find by a bootstrap, or the refusal, and the number of pieces that the gate
+/// held.
 pub(crate) fn run<R: Clock + Threads + Sync>(
     case: &mut Case,
     threads: &R,

@@ -1,4 +1,4 @@
-//! Restores by a bootstrap, with a bounded room for data.
+//! Restores by a bootstrap, with limited room for data.
 ghost use Rattle.br_pool.specs.Pool.{AreDrives};
 
 use crate::drives::{Turned, are_drives, drives_of};
@@ -19,7 +19,7 @@ const FOLDER: &str = "/into";
 /// The paths that files may have there.
 const PATHS: [&str; 3] = ["/into/a", "/into/b", "/into/c"];
 
-/// Prints how a restore ended, or its refusal.
+/// Prints the end of a restore, or its refusal.
 fn push_end(case: &mut Case, run: &Result<Extracted, ExtractFault>) {
     let mut line = Vec::new(case.alloc());
     let done = match run {
@@ -37,7 +37,7 @@ fn push_end(case: &mut Case, run: &Result<Extracted, ExtractFault>) {
     push_line(case, &line);
 }
 
-/// Prints what an end is called.
+/// Prints the name of an end.
 fn push_name(case: &mut Case, end: &RestoreEnd) {
     match end {
         RestoreEnd::AllFiles => case.text("AllFiles "),
@@ -50,7 +50,8 @@ fn push_name(case: &mut Case, end: &RestoreEnd) {
     }
 }
 
-/// Restores by a bootstrap, with room for this number of bytes of data. Prints how that ends, and the manifest.
+/// Restores by a bootstrap, with room for this number of bytes of data. Prints the end, and the
+/// manifest.
 fn run_into<S: Sink + Drop>(
     case: &mut Case,
     threads: &(impl Threads + Wait + Sync),
@@ -141,8 +142,8 @@ fn restore(
     }
 }
 
-/// Restores by a bootstrap over drives, with room for this number of bytes of data or `all`, into `memory`, a
-/// `folder` in memory, or no sink. Prints how that ends, the manifest, and the files there.
+/// Restores by a bootstrap over drives, with room for this number of bytes of data or `all`, into
+/// `memory`, a `folder` in memory, or no sink. Prints the end, the manifest, and the files there.
 pub(crate) fn run(
     case: &mut Case,
     threads: &(impl Threads + Wait + Sync),

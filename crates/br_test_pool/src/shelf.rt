@@ -1,10 +1,11 @@
-//! The texts and volumes that rows give for those after them. A part `$NAME` of a field is the text of that name.
+//! The texts and volumes that rows keep for those after them. A part `$NAME` of a field is the text
+//! of that name.
 
 use br_test_support::Case;
 use br_types::VolName;
 use std::alloc::{AllocError, Global};
 
-/// The greatest number of bytes that are printed as they are.
+/// The greatest number of bytes that are printed in full.
 const MAX_SHOWN: usize = 10_000;
 
 /// Texts, each after its name, and volumes.
@@ -75,7 +76,7 @@ impl Shelf {
         case.done(self.texts.push((name, text)).map_err(AllocError::from));
     }
 
-    /// Puts volumes in place of those before, of fields `VOLUME:BYTES`, and prints their lengths.
+    /// Replaces the volumes by those of fields `VOLUME:BYTES`, and prints their lengths.
     pub(crate) fn set_volumes(&mut self, case: &mut Case, fields: &[&str]) {
         let mut volumes = Vec::new(case.alloc());
         for field in fields {
@@ -110,7 +111,7 @@ impl Shelf {
         }
     }
 
-    /// Prints the name of a text, the text if it has none, or its length if it is long, and a blank.
+    /// Prints the name of a text, else the text, or its length if it is long; then a blank.
     pub(crate) fn push_text(&self, case: &mut Case, text: &[u8]) {
         if self.push_name(case, text) {
             case.text(" ");
@@ -122,7 +123,7 @@ impl Shelf {
         }
     }
 
-    /// Prints what a call gave, or the name of that text.
+    /// Prints the result of a call, or the name of that text.
     pub(crate) fn push_gave(&self, case: &mut Case, gave: &[u8]) {
         if !self.push_name(case, gave) {
             let done = case.out().extend_from_slice(gave);

@@ -1,4 +1,4 @@
-//! What a joiner has of the hits that a pool of drives streams into it.
+//! The hits that a pool of drives streams into a joiner.
 ghost use Rattle.std.specs.Prelude.{◌<◌, IfOk};
 ghost use Rattle.br_join.specs.Joining.{IsMadeFor};
 ghost use Rattle.br_match.specs.Come.{AreOfBootstrap};
@@ -57,7 +57,7 @@ pub(crate) fn push_manifest(case: &mut Case, shelf: &Shelf, outcomes: &[(FileKey
     }
 }
 
-/// Prints the manifest of what the joiner has, if all its pieces are closed.
+/// Prints the manifest of the joiner's files, if all its pieces are closed.
 fn push_joined(
     case: &mut Case,
     threads: &(impl Threads + Sync),
@@ -73,7 +73,8 @@ fn push_joined(
     }
 }
 
-/// Streams pieces into a joiner by drives, and then by others. Prints how that ends, and the manifest.
+/// Streams pieces into a joiner by drives, and then by others. Prints the results, and the
+/// manifest.
 fn stream<R: Clock + Threads + Wait + Sync>(
     case: &mut Case,
     threads: &R,
@@ -92,7 +93,7 @@ fn stream<R: Clock + Threads + Wait + Sync>(
     Ok(())
 }
 
-/// Reads the room of a queue, which is for one batch at least.
+/// Reads the room of a queue, which is for at least one batch.
 fn room_of(case: &mut Case, field: &str) -> usize
     ensures { 0 < result }
 {
@@ -123,9 +124,9 @@ fn stream_text<R: Clock + Threads + Wait + Sync>(
     Ok(())
 }
 
-/// Streams the pieces of a bootstrap into a joiner by drives, and then by others if there are any, through a gate
-/// and a queue with this room. Prints of both how that ends, then the manifest of what the joiner has, and the
-/// number of the pieces that the gate held.
+/// Streams the pieces of a bootstrap into a joiner by drives, and then by others if there are any,
+/// through a gate and a queue with this room. Prints both results, then the manifest of the
+/// joiner's files, and the number of pieces that the gate held.
 pub(crate) fn run<R: Clock + Threads + Wait + Sync>(
     case: &mut Case,
     threads: &R,

@@ -1,4 +1,4 @@
-//! Streams of tar.
+//! Tar streams.
 //!
 //! A file is `PATH;TYPE;NUMBERS;LINK;BYTES`, and `!NUMBER` is a fault.
 
@@ -60,7 +60,7 @@ fn outcomes_of(case: &mut Case, shelf: &Shelf, fields: &[&str]) -> Vec<(FileKey,
     outcomes
 }
 
-/// Puts files into the sink, one after another, and prints the number of those that have no entry.
+/// Puts files into the sink, one after another, and prints the number of those without an entry.
 fn put_each(case: &mut Case, sink: &mut TarSink<Vec<u8>>, outcomes: &[(FileKey, Outcome)]) {
     for (_key, outcome) in outcomes {
         if let Outcome::File(item) = outcome
@@ -88,7 +88,7 @@ fn push_stream(case: &mut Case, stream: Vec<u8>, is_whole: bool) {
     }
 }
 
-/// Writes the stream of files in one of the ways to do so, and prints its length and digest.
+/// Writes the stream of files in one of the possible ways, and prints its length and digest.
 pub(crate) fn run(
     case: &mut Case,
     threads: &(impl Threads + Sync),

@@ -2,8 +2,8 @@ use br_types::{FileIndex, VolName, byte_by, push_escaped, unescape};
 use std::alloc::{AllocError, Global};
 use std::io::Write;
 
-/// A row that is run. It holds what the row gave so far, and remembers the first thing that went
-/// wrong, so that what reads its fields and prints into it has no error to pass on.
+/// A running row. It holds what the row gave so far, and remembers the first error, so that the
+/// functions that read its fields and print into it need not return errors.
 #[derive(Drop)]
 pub struct Case {
     alloc: Global,
@@ -31,7 +31,7 @@ fn byte_of(pair: &[u8]) -> Option<u8> {
 }
 
 impl Case {
-    /// Makes a row that gave nothing yet.
+    /// Makes a row that has not given anything yet.
     pub fn new(alloc: Global) -> Case {
         Case {
             alloc,
@@ -45,22 +45,22 @@ impl Case {
         self.alloc
     }
 
-    /// Returns what the row gave.
+    /// Returns the output of the row.
     pub fn gave(&self) -> &[u8] {
         &self.gave
     }
 
-    /// Returns what to print into.
+    /// Returns the buffer to print into.
     pub fn out(&mut self) -> &mut Vec<u8> {
         &mut self.gave
     }
 
-    /// Returns what went wrong first.
+    /// Returns the first error.
     pub fn fault(&self) -> Option<&'static str> {
         self.fault
     }
 
-    /// Marks the row as one that failed, for this reason if it is the first.
+    /// Marks the row as failed, for this reason if it is the first.
     pub fn fail(&mut self, fault: &'static str) {
         if self.fault.is_none() {
             self.fault = Some(fault);
@@ -96,7 +96,7 @@ impl Case {
         }
     }
 
-    /// Prints numbers, and a blank after each.
+    /// Prints numbers, with a blank after each.
     pub fn numbers(&mut self, numbers: &[i64]) {
         for number in numbers {
             self.signed(*number);
@@ -135,7 +135,7 @@ impl Case {
         }
     }
 
-    /// Prints bytes that a call made.
+    /// Prints the bytes that a call returned.
     pub fn made(&mut self, bytes: Result<Vec<u8>, AllocError>) {
         match bytes {
             Ok(bytes) => self.bytes(&bytes),

@@ -2,14 +2,14 @@ use crate::Case;
 use std::alloc::{AllocError, Global};
 use std::io::{self, Write};
 
-/// A row: what it says to do, and what that has to give.
+/// A row: its call, and what the call has to give.
 #[derive(Clone, Copy)]
 pub struct Row<'l> {
     pub call: &'l str,
     wanted: &'l str,
 }
 
-/// The rows so far: the name of those that are read now, how many there are, and how many hold.
+/// The rows so far: the name of those that are read now, their number, and the number that hold.
 #[derive(Drop)]
 pub struct Rows {
     name: String,
@@ -17,8 +17,7 @@ pub struct Rows {
     held: u64,
 }
 
-/// Returns the fields of a call, of which the first is its name. Marks the row as failed if memory
-/// ran out.
+/// Returns the fields of a call; the first is its name. Marks the row as failed if memory ran out.
 pub fn fields_of<'c>(case: &mut Case, call: &'c str) -> Option<Vec<&'c str>> {
     match call.split(' ').collect(case.alloc()) {
         Ok(fields) => Some(fields),
@@ -29,7 +28,7 @@ pub fn fields_of<'c>(case: &mut Case, call: &'c str) -> Option<Vec<&'c str>> {
     }
 }
 
-/// Splits a line into what it says to do and what that has to give.
+/// Splits a line into the call and what it has to give.
 fn row_of(line: &str) -> Row<'_> {
     match line.split_once(" = ") {
         Some((call, wanted)) => Row { call, wanted },
@@ -41,7 +40,7 @@ fn row_of(line: &str) -> Row<'_> {
 }
 
 impl Rows {
-    /// Makes a count of rows that have no name yet.
+    /// Makes a count of rows without a name.
     pub fn new(alloc: Global) -> Rows {
         Rows {
             name: String::new(alloc),
@@ -50,7 +49,7 @@ impl Rows {
         }
     }
 
-    /// Prints how many of the rows with this name hold, if there are any.
+    /// Prints the number of rows with this name that hold, if there are any.
     pub fn end<R: Print>(&self, rt: &R) -> io::Result<()> {
         if self.count == 0 {
             return Ok(());
@@ -66,7 +65,7 @@ impl Rows {
         Ok(())
     }
 
-    /// Reads a line. Returns its row, if it has one.
+    /// Reads a line. Returns its row, if there is one.
     pub fn read<'l, R: Print + AllocGlobal>(
         &mut self,
         rt: &R,
@@ -82,7 +81,7 @@ impl Rows {
         Ok(Some(row_of(line.trim_ascii_end())))
     }
 
-    /// Counts a row, and prints it if it failed or gave something else than wanted. Blanks at the
+    /// Counts a row, and prints it if it failed or gave something else than expected. Blanks at the
     /// end do not count.
     pub fn compare<R: Print>(&mut self, rt: &R, row: Row<'_>, case: &Case) -> io::Result<()> {
         self.count = self.count.saturating_add(1);

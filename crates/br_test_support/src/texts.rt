@@ -3,7 +3,7 @@
 use crate::Case;
 use std::alloc::AllocError;
 
-/// Returns the byte that a byte of a field means.
+/// Returns the meaning of a byte of a field.
 fn read(byte: u8) -> u8 {
     match byte {
         b'_' => b' ',

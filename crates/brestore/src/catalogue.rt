@@ -1,4 +1,4 @@
-//! The catalogues in the files of SQLite.
+//! Catalogues in files of SQLite.
 
 ghost use Rattle.std.specs.Prelude.{◌≡◌, IfOk};
 ghost use Rattle.sqlite.specs.Files.{over_files};
@@ -16,7 +16,7 @@ use br_store::{HostSight, LookFault, Store, StoreFault, StoredJobs, fold, look};
 use sqlite::{Alter, Connection, File, FileStore};
 use std::alloc::Global;
 
-/// Returns why the file of a catalogue was not shown as a fault of a catalogue.
+/// Returns the fault of looking at a catalogue's file, as a fault of a catalogue.
 fn look_fault(fault: LookFault) -> CatalogueFault
     ensures { catalogue_number result ≡ look_number fault }
 {
@@ -53,7 +53,7 @@ fn load_from<S: Alter + Drop>(alloc: Global, conn: Connection<S>) -> Result<Hist
     Store::open(alloc, conn)?.load_history()
 }
 
-/// Loads the jobs in the file of a catalogue. Only reads the file.
+/// Loads the jobs in the file of a catalogue. The file is only read.
 fn load(rt: &HostRuntime, db: &str) -> Result<History, CatalogueFault> {
     let mut sight = HostSight::new(rt, db).map_err(look_fault)?;
     match look(rt.alloc(), &mut sight) {
@@ -62,7 +62,7 @@ fn load(rt: &HostRuntime, db: &str) -> Result<History, CatalogueFault> {
     }
 }
 
-/// Puts all that was committed to a catalogue into its file.
+/// Writes all that was committed to a catalogue into its file.
 fn close(conn: Connection<FileStore<File>>) -> Result<(), CatalogueFault> {
     match fold(conn) {
         Ok(_files) => Ok(()),
@@ -77,7 +77,8 @@ fn open_file(rt: &HostRuntime, db: &str) -> Result<Connection<FileStore<File>>, 
     Ok(Connection::open(rt, db)?)
 }
 
-/// Returns why a file that `migrate` takes for no catalogue of version 1 is refused: its rows may not obey its tables.
+/// Returns why `migrate` refuses a file as no catalogue of version 1: its rows may not obey its
+/// tables.
 fn refusal_of(rt: &HostRuntime, db: &str) -> CatalogueFault {
     match open_file(rt, db) {
         Ok(conn) => {
@@ -98,7 +99,7 @@ fn open_store(rt: &HostRuntime, db: &str) -> Result<FileStore<File>, CatalogueFa
     }
 }
 
-/// Puts all that was committed into the file, and shuts it.
+/// Writes all that was committed into the file, and closes it.
 fn end(store: FileStore<File>) -> Result<(), CatalogueFault> {
     match br_catalog_migrate::fold(store) {
         Ok(_files) => Ok(()),
@@ -106,8 +107,8 @@ fn end(store: FileStore<File>) -> Result<(), CatalogueFault> {
     }
 }
 
-/// Makes the catalogue of version 1 in a file one of version 2. Returns the number of its jobs. Afterwards the file alone is the
-/// catalogue, also if it was refused.
+/// Changes the catalogue of version 1 in a file to version 2. Returns the number of its jobs.
+/// Afterwards the file alone is the catalogue, even after a refusal.
 fn migrate(rt: &HostRuntime, db: &str) -> Result<u64, CatalogueFault> {
     let mut store = open_store(rt, db)?;
     let migrated = br_catalog_migrate::migrate(rt.alloc(), &mut store);
@@ -119,7 +120,7 @@ fn migrate(rt: &HostRuntime, db: &str) -> Result<u64, CatalogueFault> {
     }
 }
 
-/// The catalogues in the files of SQLite.
+/// The catalogues in files of SQLite.
 #[derive(Drop)]
 pub struct CatalogueFiles<'r> {
     rt: &'r HostRuntime,

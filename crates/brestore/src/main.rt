@@ -2,8 +2,8 @@
 //!
 //! `extract` runs a bootstrap over the volumes of a folder. `console` lets the operator mark files
 //! as they were at a moment, and restores them. Both write the restored files into another folder,
-//! if one is given. `jobs` lists the jobs of a catalogue. `explain` says what a refusal number
-//! means. `migrate` makes a catalogue of version 1 one of version 2. `serve` runs a script from
+//! if one is given. `jobs` lists the jobs of a catalogue. `explain` prints what a refusal number
+//! means. `migrate` changes a catalogue of version 1 to version 2. `serve` runs a script from
 //! standard input, over a catalogue and a folder of volumes, or in memory; without a command the
 //! program does the same in memory.
 //!
@@ -26,7 +26,8 @@ use std::thread::Threads;
 /// The exit status for a fault of the command line.
 const BAD_COMMAND: u8 = 2;
 
-/// Returns the words of the command line, with the program's name first; `None` if one of them is not UTF-8.
+/// Returns the words of the command line, the program's name first; `None` if one of them is not
+/// UTF-8.
 fn words_of<R: Env + AllocGlobal>(rt: &R) -> io::Result<Option<Vec<String>>> {
     match std::env::args(rt) {
         Ok(words) => Ok(Some(words.collect(rt.alloc())?)),
@@ -35,7 +36,7 @@ fn words_of<R: Env + AllocGlobal>(rt: &R) -> io::Result<Option<Vec<String>>> {
     }
 }
 
-/// Does what the command line asks for, in as many threads as `threads` starts. Returns the exit status.
+/// Carries out the command line, in as many threads as `threads` starts. Returns the exit status.
 fn run(rt: &HostRuntime, threads: &(impl Threads + Wait + Sync)) -> io::Result<u8> {
     let Some(words) = words_of(rt)? else {
         eprintln!(rt; "brestore: an argument is not UTF-8")?;
@@ -57,8 +58,8 @@ fn run(rt: &HostRuntime, threads: &(impl Threads + Wait + Sync)) -> io::Result<u
     }
 }
 
-/// Runs the program. The exit status is 0 if nothing was refused and every outcome is a file, else 1; 2 for a fault of the command
-/// line, 3 if the program's own files or streams failed.
+/// Runs the program. The exit status is 0 if nothing was refused and every outcome is a file, else
+/// 1; 2 for a fault of the command line, 3 if the program's own files or streams failed.
 fn main(rt: HostRuntime) -> ExitCode {
     match run(&rt, &rt) {
         Ok(status) => ExitCode::from(status),

@@ -4,7 +4,7 @@ use Rattle.br_join.specs.Outcome.{restored}
 use Rattle.br_sink.specs.ManifestParts.{WritesPart}
 use Rattle.br_sink.proofs.manifest_parts.write_lines.Given as goal
 
--- the lines so far are written but for the last part
+-- the lines so far are written, except for the last part
 abbrev pub invariant-loop-key : goal.invariant-loop-key
 invariant-loop-key g l =
     WritesPart (g.W.Write.contents l.initial.writer) (g.W.Write.contents l.writer) l.text.items

@@ -6,7 +6,7 @@ use Rattle.br_sink_folder.specs.Window.{AreBelow}
 use Rattle.br_sink_folder.specs.Below.{KeepsOutside}
 use Rattle.br_sink_folder.proofs.folder_files.put_each.Given as goal
 
--- the files so far are counted, and those that are held open stand among them
+-- the files so far are counted, and those that are held open are among them
 abbrev pub invariant-loop-outcome : goal.invariant-loop-outcome
 invariant-loop-outcome g l =
     record {
